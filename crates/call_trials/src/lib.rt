@@ -7,4 +7,4 @@ mod library_calls;
 mod two_workers;
 
 pub use library_calls::{Call, LIMITS, SUM, calls, came_to};
-pub use two_workers::{act_many, run_both};
+pub use two_workers::{act_in_turn, act_many, finish_twice, keeps_the_mark, run_both};

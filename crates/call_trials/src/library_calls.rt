@@ -19,12 +19,12 @@ use instruction_text::CharactersText;
 use name_tables::built_in::BuiltInClass;
 use name_tables::lookups::NameTables;
 use orders::read_source;
-use schedule_text::{Item, insert_at, write_schedule};
+use schedule_text::{Item, insert_at, read_schedule, write_schedule};
 use std::alloc::Global;
 use std::collections::HashMap;
 use std::io;
 use std::thread::Threads;
-use word_flip::Flip;
+use word_flip::{Advance, Copy, Flip, Retire};
 
 /// Adds 2 and 3, and prints the sum.
 pub static SUM: &str =
@@ -58,7 +58,7 @@ pub fn came_to(name: &'static str, is_as_expected: bool) -> Call
 }
 
 /// Makes the calls. One that wants memory counts as one that came to something else.
-pub fn calls(threads: &(impl Threads + Sync), alloc: Global) -> [Call; 10] {
+pub fn calls(threads: &(impl Threads + Sync), alloc: Global) -> [Call; 11] {
     [
         came_to(
             "a source that is too long",
@@ -77,6 +77,10 @@ pub fn calls(threads: &(impl Threads + Sync), alloc: Global) -> [Call; 10] {
         came_to(
             "a slot that another seat loads",
             is_loaded_by_another(alloc).unwrap_or(false),
+        ),
+        came_to(
+            "a word through all stages",
+            takes_a_word_through_all_stages(alloc).unwrap_or(false),
         ),
         came_to(
             "epochs",
@@ -121,8 +125,30 @@ fn writes_schedules(alloc: Global) -> Result<bool, NoMemory> {
     let refused = write_schedule(alloc, &[once(Event::Gc), once(Event::Step(16))]).err();
     Ok(
         text.is_some_and(|text| text.as_str() == "s15*2 g a0 s15")
-            && refused.map(|error| error.number()) == Some(502),
+            && refused.map(|error| error.number()) == Some(502)
+            && is_read_back(alloc),
     )
+}
+
+/// Whether four events are written as three items, and read again as these.
+fn is_read_back(alloc: Global) -> bool {
+    let (step, ack) = (Event::Step(0), Event::Ack(0));
+    let events = [once(step), once(step), once(Event::Gc), once(ack)];
+    let Ok(text) = write_schedule(alloc, &events) else {
+        return false;
+    };
+    let Ok(items) = read_schedule(alloc, text.as_str().as_bytes()) else {
+        return false;
+    };
+    match items.as_slice() {
+        [first, second, third] => {
+            text.as_str() == "s0*2 g a0"
+                && (first.event, first.count) == (step, 2)
+                && (second.event, second.count) == (Event::Gc, 1)
+                && (third.event, third.count) == (ack, 1)
+        }
+        _ => false,
+    }
 }
 
 /// Whether events are put among others, and not where there would be too many.
@@ -186,6 +212,36 @@ fn is_loaded_by_another(alloc: Global) -> Result<bool, NoMemory> {
     let (loaded, second) = flip.load(second, 1, 0);
     let (nothing, _second) = flip.load(second, 0, 0);
     Ok(loaded == Some(1) && nothing.is_none())
+}
+
+/// Whether a flip of one word and one seat answers each call as its stage wants it: the word is copied before the first stage is posted and not
+/// after it, no stage is posted before the seat has taken up the one before, and the first copy is retired in the last stage alone.
+fn takes_a_word_through_all_stages(alloc: Global) -> Result<bool, NoMemory> {
+    let (flip, copier, mut writers) = Flip::new(alloc, 1, 1, &[0], 1)?;
+    let Some(writer) = writers.pop() else {
+        return Ok(false);
+    };
+    let (unfinished, copier) = flip.advance(copier);
+    let (copied, copier) = flip.copy_word(copier, 0, 0);
+    let (first, copier) = flip.advance(copier);
+    let (past, copier) = flip.copy_word(copier, 0, 0);
+    let (late, copier) = flip.advance(copier);
+    let (unretired, copier) = flip.retire(copier, 0, 0);
+    let (one, writer) = flip.flip_ack(writer);
+    let (second, copier) = flip.advance(copier);
+    let (late_again, copier) = flip.retire(copier, 0, 0);
+    let (two, _writer) = flip.flip_ack(writer);
+    let (retired, copier) = flip.retire(copier, 0, 0);
+    let (last, _copier) = flip.advance(copier);
+    Ok(
+        unfinished == Advance::Unfinished
+            && (copied == Copy::Copied && past == Copy::Past)
+            && (first == Advance::Posted && second == Advance::Posted)
+            && (late == Advance::Late && last == Advance::Last)
+            && (unretired == Retire::Late && late_again == Retire::Late)
+            && retired == Retire::Retired
+            && (one, two) == (1, 2),
+    )
 }
 
 /// Whether the plain machine runs the sum, and shows where it stands. None where the sum has no tree or memory is wanted.

@@ -7,7 +7,7 @@ ghost use Rattle.shared_machine.specs.Worlds.{AgreesWith, HasRun, IfDid, added, 
 
 use cil_model::events::Event;
 use cil_model::memory::NoMemory;
-use shared_machine::{Answer, Blank, Machine, Opening, Outcome, Shared, Ticket, stop};
+use shared_machine::{Answer, Blank, Machine, Opening, Outcome, Shared, Ticket, Unfinished, stop};
 use std::alloc::Global;
 use std::sync::Wait;
 use std::thread::{Threads, join};
@@ -139,6 +139,100 @@ pub fn act_many<M: Opening + Send + Sync, R: Threads + Wait + Sync>(
     );
     mark(rt, &shared);
     finish_both(alloc, shared, one, other)
+}
+
+/// Worker 1 has the collector do an event, and then worker 0 has thread 0 step. The run ends with their tickets in this order or in the other
+/// one.
+pub fn act_in_turn<M: Opening, R: Wait>(
+    rt: &R,
+    alloc: Global,
+    blank: Blank,
+    core: Machine,
+    is_reversed: bool,
+) -> Result<Option<Outcome>, NoMemory>
+    requires book { blank.table.shared.table_id ≡ M.table }
+    requires core { core ≡ M.opening }
+    requires workers { M.workers ≡ 2 }
+{
+    let Some((shared, one, other)) = open_both::<M>(alloc, blank, core)? else {
+        return Ok(None);
+    };
+    let (_collected, other) = shared.act(rt, alloc, other, Event::Gc);
+    let (_stepped, one) = shared.act(rt, alloc, one, Event::Step(0));
+    if is_reversed {
+        finish_both(alloc, shared, one, other)
+    } else {
+        finish_both(alloc, shared, other, one)
+    }
+}
+
+/// The run ends with one ticket alone, which is refused, and then with both. None where the refusal has another number or does not give the
+/// ticket back.
+pub fn finish_twice<M: Opening>(
+    alloc: Global,
+    blank: Blank,
+    core: Machine,
+) -> Result<Option<Outcome>, NoMemory>
+    requires book { blank.table.shared.table_id ≡ M.table }
+    requires core { core ≡ M.opening }
+    requires workers { M.workers ≡ 2 }
+{
+    let Some((shared, one, other)) = open_both::<M>(alloc, blank, core)? else {
+        return Ok(None);
+    };
+    let mut tickets = Vec::new(alloc);
+    tickets.push(one)?;
+    match shared.finish(tickets) {
+        Ok(_) => Ok(None),
+        Err(unfinished) => finish_again(unfinished, other),
+    }
+}
+
+/// Ends a run that was refused for want of one ticket, with that ticket.
+fn finish_again<M: Opening>(
+    unfinished: Unfinished<M>,
+    ticket: Ticket<M>,
+) -> Result<Option<Outcome>, NoMemory> {
+    if unfinished.number() != 601 || unfinished.tickets.len() != 1 {
+        return Ok(None);
+    }
+    let Unfinished {
+        shared,
+        mut tickets,
+    } = unfinished;
+    tickets.push(ticket)?;
+    match shared.finish(tickets) {
+        Ok(outcome) => Ok(Some(outcome)),
+        Err(_) => Ok(None),
+    }
+}
+
+/// Whether the stop mark is not set at first nor by an event, and is set by `stop`.
+pub fn keeps_the_mark<M: Opening, R: Wait>(
+    rt: &R,
+    alloc: Global,
+    blank: Blank,
+    core: Machine,
+) -> Result<bool, NoMemory>
+    requires book { blank.table.shared.table_id ≡ M.table }
+    requires core { core ≡ M.opening }
+    requires workers { M.workers ≡ 2 }
+{
+    let Some((shared, one, other)) = open_both::<M>(alloc, blank, core)? else {
+        return Ok(false);
+    };
+    let at_first = is_marked(rt, &shared);
+    let (_stepped, one) = shared.act(rt, alloc, one, Event::Step(0));
+    let after_an_event = is_marked(rt, &shared);
+    mark(rt, &shared);
+    let outcome = finish_both(alloc, shared, one, other)?;
+    Ok(!at_first && !after_an_event && outcome.is_some_and(|outcome| outcome.stopped))
+}
+
+/// Whether the stop mark is set.
+fn is_marked<M: Opening, R: Wait>(rt: &R, shared: &Shared<M>) -> bool {
+    let world = shared.lock(rt);
+    world.is_stopped()
 }
 
 /// Does the same event again and again, each time under a lock of its own. The ticket that comes back is the same worker's.

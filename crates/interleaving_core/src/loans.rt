@@ -1,6 +1,6 @@
 //! The top frame of a thread outside of its machine, and local instructions on it.
 
-ghost use Rattle.std.specs.Prelude.{◌≡◌, ◌↔◌, ◌<◌, ◌≤◌, ◌-◌, ℕ, IfOk, IsTrue, Some, slice_get, true};
+ghost use Rattle.std.specs.Prelude.{◌≡◌, ◌↔◌, ◌<◌, ◌≤◌, ◌-◌, ℕ, IfOk, IsTrue, Some, slice_get, true, false};
 ghost use Rattle.threads_monitors.specs.Frames.{Frame, Frames, with_running};
 ghost use Rattle.simulation.specs.interpreter.Local.{AreLocalSteps, IsNextLocal, IsReadySomewhere, alone, frames_over};
 ghost use Rattle.threads_monitors.specs.Threads.{is_live_at};
@@ -213,7 +213,8 @@ impl Engine {
     /// Whether the next instruction of a live thread is a local one; false for any other thread.
     pub(crate) fn is_next_local(&self, thread: u8) -> bool
         requires { (left : ℕ) (m : Frames) → slice_get self.now.threads.items thread ≡ Some (live_thread left m) → IsReadySomewhere self.now.program m.room m.running }
-        ensures { (left : ℕ) (m : Frames) → slice_get self.now.threads.items thread ≡ Some (live_thread left m) → IsNextLocal self.now.program m.room m.running result }
+        ensures live { (left : ℕ) (m : Frames) → slice_get self.now.threads.items thread ≡ Some (live_thread left m) → IsNextLocal self.now.program m.room m.running result }
+        ensures others { is_live_at self.now.threads.items thread ≡ false → result ≡ false }
     {
         match self.thread(thread) {
             Some(theirs) => match &theirs.standing {

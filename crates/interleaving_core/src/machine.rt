@@ -174,7 +174,8 @@ impl Machine {
 
     /// Whether the next instruction of a live thread is a local one, so that a loan of its frame can do it; false for any other thread.
     pub fn is_next_local(&self, thread: u8) -> bool
-        ensures { (left : ℕ) (m : Frames) → slice_get self.now.threads thread ≡ Some (live_thread left m) → IsNextLocal self.now.tree m.room m.running result }
+        ensures live { (left : ℕ) (m : Frames) → slice_get self.now.threads thread ≡ Some (live_thread left m) → IsNextLocal self.now.tree m.room m.running result }
+        ensures others { is_live_at self.now.threads thread ≡ false → result ≡ false }
     {
         let _engine = &self.engine;
         self.engine.is_next_local(thread)

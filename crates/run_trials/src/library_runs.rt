@@ -5,9 +5,12 @@ use crate::loan_runs::{
     Question, answers, does_all, does_one, leaves_the_fault, leaves_the_last_step,
 };
 use crate::worker_runs::{records_one_worker, replays_workers};
-use call_trials::{Call, LIMITS, SUM, act_many, came_to, run_both};
+use call_trials::{
+    Call, LIMITS, SUM, act_in_turn, act_many, came_to, finish_twice, keeps_the_mark, run_both,
+};
 use cil_model::events::Event;
 use cil_model::limits::Limits;
+use cil_model::reports::Report;
 use orders::{read_source, read_text};
 use schedule_text::Item;
 use shared_machine::Blank;
@@ -20,7 +23,7 @@ use std::sync::Wait;
 use std::thread::Threads;
 
 /// Makes the calls. One that wants memory counts as one that came to something else.
-pub fn run_calls(threads: &(impl Threads + Wait + Sync), alloc: Global) -> [Call; 17] {
+pub fn run_calls(threads: &(impl Threads + Wait + Sync), alloc: Global) -> [Call; 20] {
     [
         came_to("a reader that fails", tells_of_readers(alloc)),
         came_to(
@@ -34,6 +37,18 @@ pub fn run_calls(threads: &(impl Threads + Wait + Sync), alloc: Global) -> [Call
         came_to(
             "two threads that act often",
             acts_often(threads, alloc).unwrap_or(false),
+        ),
+        came_to(
+            "tickets in either order",
+            acts_in_turn(threads, alloc).unwrap_or(false),
+        ),
+        came_to(
+            "a ticket that is missing",
+            finishes_twice(alloc).unwrap_or(false),
+        ),
+        came_to(
+            "the stop mark",
+            keeps_its_mark(threads, alloc).unwrap_or(false),
         ),
         came_to(
             "local instructions on a loan",
@@ -172,6 +187,47 @@ fn acts_often(threads: &(impl Threads + Wait + Sync), alloc: Global) -> Result<b
     let events = (Event::Step(0), Event::Ack(0));
     let end = act_many::<Brand, _>(threads, alloc, blank, core, events, 20_000)?;
     Ok(end.is_some_and(|outcome| is_done(&outcome)))
+}
+
+/// Whether the history has the entries of two workers in the order in which they acted, in whatever order their tickets come back.
+fn acts_in_turn(waits: &impl Wait, alloc: Global) -> Result<bool, Failure> {
+    Ok(has_both_entries(waits, alloc, false)? && has_both_entries(waits, alloc, true)?)
+}
+
+fn has_both_entries(waits: &impl Wait, alloc: Global, is_reversed: bool) -> Result<bool, Failure> {
+    let blank = Blank::new(alloc)?;
+    let core = machine_of(alloc, SUM, LIMITS)?;
+    let end = act_in_turn::<Brand, _>(waits, alloc, blank, core, is_reversed)?;
+    Ok(end.is_some_and(|outcome| is_in_turn(&outcome)))
+}
+
+/// Whether worker 1 did an event of the collector, and then worker 0 a step of thread 0.
+fn is_in_turn(outcome: &Outcome) -> bool {
+    match outcome.history.runs() {
+        [first, second] => {
+            (first.entry.worker, first.entry.event, first.entry.report)
+                == (1, Event::Gc, Report::Worked)
+                && (second.entry.worker, second.entry.event, second.entry.report)
+                    == (0, Event::Step(0), Report::Ran)
+                && times(outcome) == 2
+        }
+        _ => false,
+    }
+}
+
+/// Whether a run with one ticket alone is refused by 601, gives all back, and ends with both.
+fn finishes_twice(alloc: Global) -> Result<bool, Failure> {
+    let blank = Blank::new(alloc)?;
+    let core = machine_of(alloc, SUM, LIMITS)?;
+    let end = finish_twice::<Brand>(alloc, blank, core)?;
+    Ok(end.is_some_and(|outcome| times(&outcome) == 0))
+}
+
+/// Whether the stop mark is set by `stop` alone.
+fn keeps_its_mark(waits: &impl Wait, alloc: Global) -> Result<bool, Failure> {
+    let blank = Blank::new(alloc)?;
+    let core = machine_of(alloc, SUM, LIMITS)?;
+    Ok(keeps_the_mark::<Brand, _>(waits, alloc, blank, core)?)
 }
 
 fn is_done(outcome: &Outcome) -> bool {

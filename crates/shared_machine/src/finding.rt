@@ -18,12 +18,12 @@ pub(crate) struct Findings {
     pub is_last: bool,
 }
 
-/// Whether the thread of each number is live.
+/// Whether the thread of each number is live. It asks those that were started alone.
 fn live_threads(machine: &Machine) -> [bool; MOST_THREADS]
     ensures { (thread : ℕ) (d : Bool) → thread < MOST_THREADS → slice_index_or result thread d ≡ is_live_at machine.now.threads thread }
 {
     let mut live = [false; MOST_THREADS];
-    for thread in 0..MOST_THREADS {
+    for thread in 0..machine.started() {
         live[thread] = machine.is_live(thread as u8);
     }
     live

@@ -27,11 +27,13 @@ pub struct Shared<M: Opening> {
 }
 
 impl<M: Opening> Model for Shared<M> {
-    ghost use Rattle.std.specs.Prelude.{ℕ};
+    ghost use Rattle.std.specs.Prelude.{◌≡◌, ℕ};
 
     ghost Value = { ℕ };
 
     ghost view = { λ s. s.workers };
+
+    ghost invariant = { λ s. s.workers ≡ M.workers };
 }
 
 /// A run that did not end, since a worker's ticket is missing: all that `finish` took, as it was.
@@ -121,7 +123,7 @@ impl<M: Opening> Shared<M> {
             }
         }
         let Shared { world, workers: _ } = self;
-        Ok(world.into_inner().end(tickets))
+        Ok(world.into_inner().into_outcome(tickets))
     }
 }
 

@@ -353,7 +353,8 @@ impl<M: Opening> World<M> {
 
     /// What holds whenever the lock is free. It does nothing; its contract says so.
     pub fn laws(&self)
-        ensures { IsSound M.opening M.workers self.now.core self.now.history self.now.book }
+        ensures sound { IsSound M.opening M.workers self.now.core self.now.history self.now.book }
+        ensures ran { HasRun M.opening (events_of self.now.history) (reports_of self.now.history) self.now.core }
     {
         let _stopped = &self.stopped;
     }
@@ -372,8 +373,9 @@ impl<M: Opening> World<M> {
         self.stopped
     }
 
-    /// Takes the world apart, with the tickets that came back, whose counts are those of their workers' entries.
-    pub(crate) fn end(self, tickets: Vec<Ticket<M>>) -> Outcome
+    /// Ends the run: what is left of it, with the stop mark as it is. The counts of the tickets that came back are those of their workers'
+    /// entries.
+    pub fn into_outcome(self, tickets: Vec<Ticket<M>>) -> Outcome
         ensures world { (result.history.entries ≡ self.history) × (result.machine ≡ self.core) × (result.stopped ≡ self.stopped) }
         ensures ran { HasRun M.opening (events_of result.history.entries) (reports_of result.history.entries) result.machine }
         ensures theirs { AreOf M.workers result.history.entries }

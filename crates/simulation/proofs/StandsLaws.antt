@@ -1,7 +1,9 @@
 -- What follows where a machine represents a state of the reference machine.
 use Rattle.std.proofs.Common.{◌≡◌, ◌≢◌, ◌<◌, ℕ, zero, suc, true, false, List, [], ◌∷◌, map, length, Option, Some, None, option_map, slice_get, is_none, refl, sym, ap, ◌∙◌, arith}
+use Rattle.std.specs.Prelude.{◌+◌, Bool, cond, unwrap_or}
+use Rattle.std.proofs.lemmas.List.{length-map}
 use Rattle.std.proofs.lemmas.Option.{option_and_then_some, same_Some}
-use Rattle.std.specs.List.{zip}
+use Rattle.std.specs.List.{count_by, fold, zip}
 use Rattle.std.specs.Option.{option_map_or}
 use Rattle.interpreter.specs.cil_model.declared.types.ClassName.{ClassName}
 use Rattle.interpreter.specs.cil_model.declared.trees.Code.{Code}
@@ -12,7 +14,7 @@ use Rattle.interpreter.specs.cil_model.declared.limits.Limits.{Limits}
 use Rattle.interpreter.specs.cil_model.declared.reports.End.{End}
 use Rattle.interpreter.specs.cil_model.declared.reports.Report.{Report}
 use Rattle.interpreter.specs.cil_model.Bodies.{code_of, entry_points}
-use Rattle.interpreter.specs.reference_machine.States.{Frame as StateFrame, State, Thread as StateThread}
+use Rattle.interpreter.specs.reference_machine.States.{Frame as StateFrame, State, Thread as StateThread, is_live as is_live_in, is_live_thread}
 use Rattle.interpreter.specs.reference_machine.Runs.{opening, opening_at, run, thread_part}
 use Rattle.interpreter.specs.threads_monitors.Threads.{end_in, end_of, is_live, is_live_at}
 use Rattle.interpreter.specs.threads_monitors.declared.threads.Standing.{Standing}
@@ -41,6 +43,36 @@ ends_agree tree limits name (t ∷ ts) (u ∷ us) h = ap (λ e. e ∷ map end_of
 ends_agree tree limits name [] (u ∷ us) h = absurd h
 ends_agree tree limits name (t ∷ ts) [] h = absurd h
 
+-- whether a thread of a number is live, and how many are, follows from how the threads have ended
+same_first : (a b : Option End) (xs ys : List (Option End)) → a ∷ xs ≡ b ∷ ys → a ≡ b
+same_first a b xs ys e = cc
+
+same_rest : (a b : Option End) (xs ys : List (Option End)) → a ∷ xs ≡ b ∷ ys → xs ≡ ys
+same_rest a b xs ys e = cc
+
+none_first : {X : Type 0} → (a : Option End) (xs : List (Option End)) → [] ≡ a ∷ xs → X
+none_first a xs e = absurd (cc e)
+
+abbrev ended : StateThread → Option End
+ended u = u.ended
+
+live_by_ends : (ts : List Thread) (us : List StateThread) → map end_of ts ≡ map ended us → (t : ℕ) → is_live_at ts t ≡ unwrap_or (option_map is_live_thread (slice_get us t)) false
+live_by_ends [] [] e t = refl
+live_by_ends (x ∷ ts) (u ∷ us) e zero = ap is_none (same_first (end_of x) (ended u) (map end_of ts) (map ended us) e)
+live_by_ends (x ∷ ts) (u ∷ us) e (suc t) = live_by_ends ts us (same_rest (end_of x) (ended u) (map end_of ts) (map ended us) e) t
+live_by_ends [] (u ∷ us) e t = none_first (ended u) (map ended us) e
+live_by_ends (x ∷ ts) [] e t = none_first (end_of x) (map end_of ts) (sym e)
+
+count_from : (n : ℕ) (ts : List Thread) (us : List StateThread) → map end_of ts ≡ map ended us
+    → fold (λ (a : ℕ) (x : Thread). a + cond (is_live x) 1 0) n ts ≡ fold (λ (a : ℕ) (u : StateThread). a + cond (is_live_thread u) 1 0) n us
+count_from n [] [] e = refl
+count_from n (x ∷ ts) (u ∷ us) e =
+    let first = ap is_none (same_first (end_of x) (ended u) (map end_of ts) (map ended us) e) in
+    let rest = same_rest (end_of x) (ended u) (map end_of ts) (map ended us) e in
+    ap (λ (b : Bool). fold (λ (a : ℕ) (y : Thread). a + cond (is_live y) 1 0) (n + cond b 1 0) ts) first ∙ count_from (n + cond (is_live_thread u) 1 0) ts us rest
+count_from n [] (u ∷ us) e = none_first (ended u) (map ended us) e
+count_from n (x ∷ ts) [] e = none_first (end_of x) (map end_of ts) (sym e)
+
 module _ (c : Content) (s : State) (r : Represents c s) where
   -- the threads stand alike
   pub ends_stand : map end_of c.threads ≡ map (λ (u : StateThread). u.ended) s.threads
@@ -48,6 +80,15 @@ module _ (c : Content) (s : State) (r : Represents c s) where
 
   pub printed_stands : c.printed ≡ s.printed
   printed_stands = r.stands.by.memory.printed_is
+
+  pub live_stand : (t : ℕ) → is_live_at c.threads t ≡ is_live_in s t
+  live_stand t = live_by_ends c.threads s.threads ends_stand t
+
+  pub count_stands : count_by is_live c.threads ≡ count_by is_live_thread s.threads
+  count_stands = count_from 0 c.threads s.threads ends_stand
+
+  pub started_stand : length c.threads ≡ length s.threads
+  started_stand = sym (length-map c.threads end_of) ∙ ap length ends_stand ∙ length-map s.threads (λ (u : StateThread). u.ended)
 
 -- ---- budgets
 

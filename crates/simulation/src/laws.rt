@@ -1,7 +1,7 @@
 //! Laws of machines. Each function has an empty body, and its contract is the law.
 
-ghost use Rattle.std.specs.Prelude.{◌≡◌, ◌≢◌, ◌↔◌, ◌<◌, ◌≤◌, ◌-◌, ◌++◌, replicate, ℕ, true, false, IsTrue, List, [], ◌∷◌, Some, length, slice_get};
-ghost use Rattle.std.specs.List.{zip};
+ghost use Rattle.std.specs.Prelude.{◌≡◌, ◌≢◌, ◌↔◌, ◌<◌, ◌≤◌, ◌-◌, ◌++◌, replicate, ℕ, true, false, IsTrue, List, [], ◌∷◌, Some, length, map, slice_get};
+ghost use Rattle.std.specs.List.{count_by, zip};
 ghost use Rattle.interpreter.specs.cil_model.declared.trees.Tree.{Tree};
 ghost use Rattle.interpreter.specs.cil_model.declared.limits.Limits.{Limits};
 ghost use Rattle.interpreter.specs.cil_model.declared.events.Event.{Event};
@@ -13,7 +13,7 @@ ghost use Rattle.interpreter.specs.cil_model.Legality.{IsLegal};
 ghost use Rattle.interpreter.specs.cil_model.Ranges.{are_in_range};
 ghost use Rattle.interpreter.specs.cil_model.Typings.{IsAccepted};
 ghost use Rattle.interpreter.specs.reference_machine.Cycles.{BeginsNewestCycle};
-ghost use Rattle.interpreter.specs.reference_machine.States.{State};
+ghost use Rattle.interpreter.specs.reference_machine.States.{State, is_live, is_live_thread};
 ghost use Rattle.interpreter.specs.reference_machine.Steps.{step, Answers};
 ghost use Rattle.interpreter.specs.reference_machine.Runs.{IsStateAfter, is_refusal, opening};
 ghost use Rattle.interpreter.specs.object_memory.declared.addresses.Addr.{Addr as AnyAddr};
@@ -21,7 +21,7 @@ ghost use Rattle.collector.specs.Marking.{is_closed};
 ghost use Rattle.collector.specs.Phases.{is_marked_address};
 ghost use Rattle.collector.specs.phase_handshake.Handshakes.{IsWaiting, all_seen, is_open, own_phase};
 ghost use Rattle.interpreter.specs.threads_monitors.Frames.{Frame, Frames};
-ghost use Rattle.interpreter.specs.threads_monitors.Threads.{is_live_at};
+ghost use Rattle.interpreter.specs.threads_monitors.Threads.{end_of, is_live as is_live_machine, is_live_at};
 ghost use Rattle.interpreter.specs.threads_monitors.declared.threads.Standing.TheVariants.{Live};
 ghost use Rattle.interpreter.specs.threads_monitors.declared.threads.Thread.{Thread};
 ghost use Rattle.interpreter.specs.Instructions.{IsDone, Answer};
@@ -41,6 +41,16 @@ ghost use Rattle.simulation.specs.Ready.{IsReady, IsAnswerable};
 pub fn openings_represent()
     ensures { (tree : Tree) (limits : Limits) → IsAccepted tree → IsTrue (are_in_range limits) →
         (c : Content) × (s : State) × (opening_content tree limits ≡ Some c) × (opening tree limits ≡ Some s) × Represents c s }
+{}
+
+/// A machine shows what the state that it represents has: the bytes printed, how each thread has ended, which threads are live, how many of
+/// them there are, and how many were started.
+pub fn machines_show_their_state()
+    ensures printed { (c : Content) (s : State) → Represents c s → c.printed ≡ s.printed }
+    ensures ends { (c : Content) (s : State) → Represents c s → map end_of c.threads ≡ map (λ t. t.ended) s.threads }
+    ensures live { (c : Content) (s : State) → Represents c s → (t : ℕ) → is_live_at c.threads t ≡ is_live s t }
+    ensures count { (c : Content) (s : State) → Represents c s → count_by is_live_machine c.threads ≡ count_by is_live_thread s.threads }
+    ensures started { (c : Content) (s : State) → Represents c s → length c.threads ≡ length s.threads }
 {}
 
 /// Where a machine represents a state, each live thread is at an instruction whose rule has an answer: no operand is missing or of

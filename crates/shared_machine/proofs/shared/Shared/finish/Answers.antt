@@ -12,10 +12,10 @@ pub returns-clause-exact : goal.returns-clause-exact
 returns-clause-exact g c = λ worker below. c.loop-worker.invariant worker (omega (arith, below, c.self.view_is, c.loop-worker-test.false))
 
 pub returns-clause-ran : goal.returns-clause-ran
-returns-clause-ran g c = c.end.ensures.ran
+returns-clause-ran g c = c.into_outcome.ensures.ran
 
 pub returns-clause-theirs : goal.returns-clause-theirs
-returns-clause-theirs g c = c.end.ensures.theirs
+returns-clause-theirs g c = c.into_outcome.ensures.theirs
 
 pub returns-clause-counts : goal.returns-clause-counts
-returns-clause-counts g c = c.end.ensures.counts
+returns-clause-counts g c = c.into_outcome.ensures.counts

@@ -1,5 +1,5 @@
 use Rattle.shared_machine.proofs.Histories.{has_run}
-use Rattle.shared_machine.proofs.world.World.end.Goals as goal
+use Rattle.shared_machine.proofs.world.World.into_outcome.Goals as goal
 
 pub returns-clause-ran : goal.returns-clause-ran
 returns-clause-ran g c = has_run _ _ _ c.self.invariant.sound.turns
