@@ -7,13 +7,14 @@ mod answers;
 mod calls;
 mod cases;
 mod groups;
+mod hostile_sources;
 mod outcomes;
 mod records;
 mod reports;
 mod texts;
 
 use driver::{Device, Failure, report};
-use machine_comparison::{try_programs, try_schedules};
+use machine_comparison::{try_insertions, try_programs, try_schedules};
 use std::io;
 use std::process::ExitCode;
 use std::sync::Wait;
@@ -58,8 +59,9 @@ fn trials(rt: &HostRuntime, threads: &(impl Threads + Wait + Sync)) -> Result<us
         differing = differing.saturating_add(groups::try_group(rt, threads, group)?);
     }
     let calls = calls::try_calls(rt, threads)?;
-    let schedules = try_schedules(rt)?;
+    let sources = hostile_sources::try_hostile_sources(rt)?;
+    let schedules = try_schedules(rt)?.saturating_add(try_insertions(rt)?);
     let programs = try_programs(rt)?;
-    let made_up = schedules.saturating_add(programs);
+    let made_up = schedules.saturating_add(programs).saturating_add(sources);
     Ok(differing.saturating_add(calls).saturating_add(made_up))
 }

@@ -4,7 +4,7 @@ use crate::outcomes::Files;
 use cil_model::limits::Limits;
 use cil_model::reports::{End, Report};
 use driver::{Device, Failure, Run, report, run_events};
-use machine_comparison::{difference, difference_by_chance};
+use machine_comparison::{difference, difference_by_chance, difference_by_moves};
 use orders::Order;
 use schedule_text::read_schedule;
 use std::alloc::Global;
@@ -43,8 +43,8 @@ fn run_of<'a>(order: &Order<'a>, files: &'a Files) -> Option<(Limits, &'a [u8])>
     }
 }
 
-/// Adds what the plain machine tells else of the events of an order, and of those of a schedule that is made up; nothing where both
-/// machines agree, or nothing runs.
+/// Adds what the plain machine reports else of the events of a command, of those of a generated schedule, and of the schedules that come of
+/// the command's by moving one event; nothing where both machines agree, or nothing runs.
 pub fn add_differences(
     alloc: Global,
     order: &Order<'_>,
@@ -57,7 +57,18 @@ pub fn add_differences(
     let source = files.source.as_slice();
     add_difference(difference(alloc, source, limits, text), "its", out)?;
     let by_chance = difference_by_chance(alloc, source, limits);
-    add_difference(by_chance, "a made-up", out)
+    add_difference(by_chance, "a made-up", out)?;
+    let by_moves = difference_by_moves(alloc, source, limits, text);
+    add_difference(unless_refused(by_moves), "a changed", out)
+}
+
+/// What was found. None where the source, the limits or the schedule are refused: then nothing runs.
+fn unless_refused(found: Result<Option<String>, Failure>) -> Result<Option<String>, Failure> {
+    match found {
+        Ok(difference) => Ok(difference),
+        Err(Failure::Refused(_)) | Err(Failure::OutOfRange(_)) => Ok(None),
+        Err(failure) => Err(failure),
+    }
 }
 
 /// Adds a difference that was found by a schedule.
