@@ -1,4 +1,5 @@
-// The class Cilvm.Thread for Mono, so that a source for cilvm that starts threads runs there too (docs/PROFILE.md, "On Mono").
+// The class Cilvm.Thread for Mono, so that sources for cilvm that start threads, and programs in C# with threads
+// of this class, run there too (docs/PROFILE.md, "On Mono"; docs/FROM_CSHARP.md).
 using System;
 using System.Threading;
 using Host = System.Threading.Thread;

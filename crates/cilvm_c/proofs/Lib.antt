@@ -1,0 +1,2 @@
+mod EventsDone
+mod SessionLaws

@@ -1,0 +1,27 @@
+-- What comes of a source that a host opens (this profile).
+use Rattle.std.specs.Prelude.{◌≡◌, ◌⊎◌, [], ℕ, List, Some, None}
+use Rattle.cil_model.specs.declared.limits.Limits.{Limits}
+use Rattle.interleaving_core.specs.simulation.MachineContents.{Content}
+use Rattle.source_runs.specs.Runs.{HasRunTo, IsLetIn, IsNotAccepted, IsNotRun}
+use Rattle.source_runs.specs.declared.failure.Failure.{Failure}
+use Rattle.cilvm_c.specs.Codes.{failure_code}
+use Rattle.cilvm_c.specs.Sessions.{Held}
+use Rattle.cilvm_c.specs.declared.limits.HostLimits.{HostLimits}
+
+-- the limits of the machine
+abbrev pub run_limits : HostLimits → Limits
+run_limits l = record { words = l.words; max_words = l.max_words; budget = l.budget; depth = l.depth }
+
+-- 0 of an accepted source, else the number of why it is not
+abbrev pub IsChecked : List ℕ → ℕ → Type 0
+IsChecked source code = ((code ≡ 0) × IsLetIn source) ⊎ ((failure : Failure) × (code ≡ failure_code failure) × IsNotAccepted source failure)
+
+-- 0 where the session has the machine of an accepted source, before its first event; else it is closed, and the number says why no machine was made
+abbrev pub IsOpening : List ℕ → Limits → ℕ → ℕ → Held → Type 0
+IsOpening source limits printed code new =
+    ((code ≡ 0) × ((c : Content) × (new ≡ record { machine = Some c; most_printed = printed; reason = [] }) × HasRunTo source limits [] [] c))
+    ⊎ ((new.machine ≡ None) × ((failure : Failure) × (code ≡ failure_code failure) × IsNotRun source limits failure))
+
+-- the same by the limits of a host
+abbrev pub IsOpeningBy : List ℕ → HostLimits → ℕ → Held → Type 0
+IsOpeningBy source limits code new = IsOpening source (run_limits limits) limits.printed code new
