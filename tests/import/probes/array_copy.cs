@@ -1,0 +1,1 @@
+using System; class P { static void Main() { int[] a = { 1, 2, 3, 0 }; Array.Copy(a, 0, a, 1, 3); Console.WriteLine(a[3]); Console.WriteLine(a[0]); int[] b = new int[2]; Array.Copy(a, b, 2); Console.WriteLine(b[1]); } }

@@ -1,0 +1,1 @@
+using System; class P { static bool Same(object a, object b) { return a.Equals(b); } static void Main() { Console.WriteLine(Same(5, 5)); Console.WriteLine(Same(5, 5L)); Console.WriteLine(Same("a", "a")); Console.WriteLine(Same(new P(), new P())); } }

@@ -1,0 +1,1 @@
+using System; class Worker : Cilvm.Thread { public int n; public override void Run() { n += 21; } } class P { static void Main() { Worker w = new Worker(); w.Start(); w.Join(); Console.WriteLine(w.n); } }

@@ -1,0 +1,1 @@
+using System; class P { static int F(int x) { try { if (x < 0) return -1; return x * 2; } finally { Console.WriteLine("out"); } } static void Main() { Console.WriteLine(F(4)); Console.WriteLine(F(-1)); } }

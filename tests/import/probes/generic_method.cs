@@ -1,0 +1,1 @@
+using System; class P { static void Swap<T>(ref T a, ref T b) { T t = a; a = b; b = t; } static void Main() { int x = 1, y = 2; Swap(ref x, ref y); Console.WriteLine(x); string s = "a", t = "b"; Swap(ref s, ref t); Console.WriteLine(s); } }

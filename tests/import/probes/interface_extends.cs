@@ -1,0 +1,2 @@
+using System; interface IShape { int Area(); } interface ISolid : IShape { int Height(); } class Box : ISolid { public int Area() { return 6; } public int Height() { return 2; } }
+class P { static int Volume(ISolid s) { return s.Area() * s.Height(); } static int Twice(IShape s) { return s.Area() * 2; } static int Both(ISolid s) { return Volume(s) + Twice(s); } static void Main() { Console.WriteLine(Both(new Box())); } }

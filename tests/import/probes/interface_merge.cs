@@ -1,0 +1,2 @@
+using System; interface INumber { int Get(); } class One : INumber { public int Get() { return 1; } } class Two : INumber { public int Get() { return 2; } }
+class P { static int Pick(bool first, int k) { return Times(first ? (INumber)new One() : new Two(), k); } static int Times(INumber n, int k) { return n.Get() * k; } static void Main() { Console.WriteLine(Pick(true, 10)); Console.WriteLine(Pick(false, 10)); } }

@@ -1,0 +1,1 @@
+using System; using System.Threading; class P { static int n; static void Count() { for (int i = 0; i < 50; i++) Interlocked.Increment(ref n); } static void Main() { Thread a = new Thread(Count), b = new Thread(Count); a.Start(); b.Start(); a.Join(); b.Join(); Console.WriteLine(n); } }

@@ -1,0 +1,1 @@
+using System; class P { static void Main() { int[][] a = new int[3][]; for (int i = 0; i < 3; i++) { a[i] = new int[i + 1]; a[i][i] = i * 10; } Console.WriteLine(a[2][2]); Console.WriteLine(a[1].Length); } }

@@ -1,0 +1,1 @@
+using System; class P { static int Main(string[] args) { Console.WriteLine(args.Length); return 3; } }

@@ -1,0 +1,1 @@
+using System; class P { static int F(int x) { return 1; } static int F(bool x) { return 2; } static int F(char x) { return 3; } static void Main() { Console.WriteLine(F(0)); Console.WriteLine(F(true)); Console.WriteLine(F('a')); Console.WriteLine('a'); Console.WriteLine(true); } }

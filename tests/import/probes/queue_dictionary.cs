@@ -1,0 +1,2 @@
+using System; using System.Collections.Generic; class P { static void Main() { Queue<string> q = new Queue<string>(); for (int i = 0; i < 7; i++) { q.Enqueue("x"); q.Enqueue("y"); q.Dequeue(); } Console.WriteLine(q.Count); Console.WriteLine(q.Dequeue());
+ Dictionary<string, int> d = new Dictionary<string, int>(); d.Add("one", 1); d["two"] = 2; Console.WriteLine(d["two"]); int v; if (d.TryGetValue("one", out v)) Console.WriteLine(v); Console.WriteLine(d.ContainsKey("three")); } }

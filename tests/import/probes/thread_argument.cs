@@ -1,0 +1,1 @@
+using System; using System.Threading; class P { int n; void Work(object o) { n = (int)o * 2; } static void Main() { P p = new P(); Thread t = new Thread(new ParameterizedThreadStart(p.Work)); t.Start(21); t.Join(); Console.WriteLine(p.n); } }

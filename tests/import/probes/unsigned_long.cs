@@ -1,0 +1,1 @@
+using System; class P { static void Main() { ulong a = ulong.MaxValue, b = 0x8000000000000001; Console.WriteLine(a / b); Console.WriteLine(a % b); Console.WriteLine(a % 10); Console.WriteLine(a > b); uint c = uint.MaxValue; Console.WriteLine((long)c); Console.WriteLine(c >> 28); } }

@@ -1,0 +1,1 @@
+class P { static int F(int x) { return x; } }

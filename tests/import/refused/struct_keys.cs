@@ -1,0 +1,1 @@
+using System; using System.Collections.Generic; struct V { public int x; } class P { static void Main() { Dictionary<V, int> d = new Dictionary<V, int>(); V v = new V(); d[v] = 1; object o = v, p = v; Console.WriteLine(o.Equals(p)); } }
