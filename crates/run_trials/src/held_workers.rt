@@ -44,8 +44,8 @@ const STEPS_MEANWHILE: u64 = 1_000;
 /// How often the collector waits at the end of them, at least.
 const WAITS_MEANWHILE: u64 = 10;
 
-/// The passes at which a worker is held, one in each run. Both threads live by then, and these are several cycles of the collector, so that
-/// no phase is missed, in whatever order the workers come.
+/// The passes at which a worker is held, one in each run, up to the first run behind which all phases were seen. Both threads live by then, and
+/// these are several cycles of the collector, so that no phase is missed, in whatever order the workers come.
 const HELD_PASSES: std::ops::Range<u32> = 20..220;
 
 /// The phases for whose acknowledgement the collector waits.
@@ -242,7 +242,12 @@ fn phase_of_held(
     }
 }
 
-/// The phases for which the collector waited while a worker was held, at most one a run, each at another pass.
+/// Whether these are all phases for whose acknowledgement the collector waits.
+fn are_all(seen: &[Phase]) -> bool {
+    PHASES.iter().all(|phase| seen.contains(phase))
+}
+
+/// The phases for which the collector waited while a worker was held, at most one a run, each at another pass, until all were seen.
 fn phases_of_held(
     threads: &(impl Threads + Wait + Sync),
     alloc: Global,
@@ -250,6 +255,9 @@ fn phases_of_held(
 ) -> Result<Vec<Phase>, Failure> {
     let mut seen = Vec::with_capacity(alloc, HELD_PASSES.len()).map_err(NoMemory::from)?;
     for pass in HELD_PASSES {
+        if are_all(seen.as_slice()) {
+            break;
+        }
         if let Some(phase) = phase_of_held(threads, alloc, held, pass)? {
             seen.push(phase).map_err(NoMemory::from)?;
         }
@@ -265,10 +273,5 @@ pub(crate) fn waits_in_each_phase(
     held: u8,
 ) -> Result<bool, Failure> {
     let seen = phases_of_held(threads, alloc, held)?;
-    for phase in PHASES {
-        if !seen.as_slice().contains(&phase) {
-            return Ok(false);
-        }
-    }
-    Ok(true)
+    Ok(are_all(seen.as_slice()))
 }
