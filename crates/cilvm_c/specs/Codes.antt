@@ -11,8 +11,8 @@ use Rattle.interleaving_core.specs.declared.waits.Wait.TheVariants.{Monitor, Joi
 use Rattle.schedule_text.specs.Errors.{number_of as schedule_number_of}
 use Rattle.schedule_text.specs.declared.errors.ScheduleError.{ScheduleError}
 use Rattle.schedule_text.specs.declared.errors.ScheduleError.TheVariants.{OutOfMemory as UnscheduledForMemory}
-use Rattle.source_runs.specs.declared.failure.Failure.{Failure}
-use Rattle.source_runs.specs.declared.failure.Failure.TheVariants.{Refused, OutOfRange, Memory, Device}
+use Rattle.acceptance.specs.declared.failure.Failure.{Failure}
+use Rattle.acceptance.specs.declared.failure.Failure.TheVariants.{Refused, OutOfRange, Memory, Device}
 use Rattle.cilvm_c.specs.declared.codes.Code.{Code}
 use Rattle.cilvm_c.specs.declared.codes.Code.TheVariants.{Ran, Blocked, Absent, Acked, NothingPosted, Worked, Waiting, CycleDone, Done, Budget, NullReference, IndexOutOfRange, ArrayTypeMismatch, InvalidCast, DivideByZero, Arithmetic, Overflow, OutOfMemory, TooManyThreads, StackOverflow, ArgumentNull, SynchronizationLock, ThreadState, Full, Closed, NoMemory}
 

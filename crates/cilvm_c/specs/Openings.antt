@@ -2,8 +2,8 @@
 use Rattle.std.specs.Prelude.{◌≡◌, ◌⊎◌, [], ℕ, List, Some, None}
 use Rattle.cil_model.specs.declared.limits.Limits.{Limits}
 use Rattle.interleaving_core.specs.simulation.MachineContents.{Content}
-use Rattle.source_runs.specs.Runs.{HasRunTo, IsLetIn, IsNotAccepted, IsNotRun}
-use Rattle.source_runs.specs.declared.failure.Failure.{Failure}
+use Rattle.acceptance.specs.Sources.{IsLetIn, IsMade, IsNotAccepted, IsNotRun}
+use Rattle.acceptance.specs.declared.failure.Failure.{Failure}
 use Rattle.cilvm_c.specs.Codes.{failure_code}
 use Rattle.cilvm_c.specs.Sessions.{Held}
 use Rattle.cilvm_c.specs.declared.limits.HostLimits.{HostLimits}
@@ -19,7 +19,7 @@ IsChecked source code = ((code ≡ 0) × IsLetIn source) ⊎ ((failure : Failure
 -- 0 where the session has the machine of an accepted source, before its first event; else it is closed, and the number says why no machine was made
 abbrev pub IsOpening : List ℕ → Limits → ℕ → ℕ → Held → Type 0
 IsOpening source limits printed code new =
-    ((code ≡ 0) × ((c : Content) × (new ≡ record { machine = Some c; most_printed = printed; reason = [] }) × HasRunTo source limits [] [] c))
+    ((code ≡ 0) × ((c : Content) × (new ≡ record { machine = Some c; most_printed = printed; reason = [] }) × IsMade source limits c))
     ⊎ ((new.machine ≡ None) × ((failure : Failure) × (code ≡ failure_code failure) × IsNotRun source limits failure))
 
 -- the same by the limits of a host

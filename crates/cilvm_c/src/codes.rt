@@ -3,10 +3,10 @@
 ghost use Rattle.std.specs.Prelude.{◌≡◌};
 ghost use Rattle.cilvm_c.specs.Codes.{end_code, failure_code, fault_code, has_ran, number_of, report_code, schedule_code, standing_code, wait_code};
 
+use acceptance::Failure;
 use cil_model::reports::{End, Fault, Report};
 use interleaving_core::Wait;
 use schedule_text::ScheduleError;
-use source_runs::Failure;
 
 /// What a call answers, or else the number of a refusal, from 101 on and apart from these. A number keeps its meaning from version to version;
 /// others may be added.

@@ -12,8 +12,8 @@ ghost use Rattle.cilvm_c.specs.contracts.sessions.Session as row;
 use crate::codes::{Code, failure_code, number_of};
 use crate::limits::{HostLimits, run_limits};
 use crate::sessions::Session;
+use acceptance::accept;
 use cil_model::events::Event;
-use source_runs::accept;
 use std::alloc::Global;
 
 /// The version of the library: 65,536 times the major number, 256 times the minor one, and the patch.

@@ -1,20 +1,19 @@
 //! A session: a machine that may be closed, the allocator that its events take memory from, and why the last source was refused.
 
 ghost use Rattle.std.specs.Prelude.{◌≡◌, ◌≤◌, ◌⊎◌, [], IfErr, IfOk, None, drop, length, take};
-ghost use Rattle.source_runs.specs.Runs.{HasRunTo, IsNotRun};
 ghost use Rattle.cilvm_c.specs.Openings.{IsOpening};
 ghost use Rattle.cilvm_c.specs.Sessions.{AreUsed, IsRead, live_in, printed_by, standing_of, wait_of, used_in};
 ghost use Rattle.cilvm_c.specs.Steps.{HasDoneOne, HasRun, HasStepped};
 
 use crate::codes::{Code, failure_code, number_of, schedule_code, standing_code, wait_code};
 use crate::running::{act_by_code, make_steps, run_text};
+use acceptance::{Failure, machine_of};
 use cil_model::events::Event;
 use cil_model::limits::Limits;
 use cil_model::memory::NoMemory;
 use diagnostics::{explain, explain_limits, explain_schedule};
 use interleaving_core::Machine;
 use schedule_text::ScheduleError;
-use source_runs::{Failure, accept};
 use std::alloc::Global;
 use std::marker::Model;
 
@@ -207,16 +206,6 @@ fn copy_from(bytes: &[u8], from: usize, to: &mut [u8]) -> usize
     };
     to[..count].copy_from_slice(&rest[..count]);
     count
-}
-
-/// The machine of a source, before its first event.
-fn machine_of(alloc: Global, source: &[u8], limits: Limits) -> Result<Machine, Failure>
-    ensures made { IfOk result (HasRunTo source.now limits [] []) }
-    ensures refused { IfErr result (IsNotRun source.now limits) }
-{
-    let verified = accept(alloc, source)?;
-    let machine = Machine::new(alloc, verified, limits)?;
-    Ok(machine)
 }
 
 /// The name that explanations have for a source.

@@ -10,8 +10,8 @@ use Rattle.source_runs.specs.reference_machine.States.{State}
 use Rattle.cil_model.specs.declared.events.Event.{Event}
 use Rattle.cil_model.specs.declared.limits.Limits.{Limits}
 use Rattle.cil_model.specs.declared.reports.Report.{Report}
-use Rattle.source_runs.specs.Failures.{IsOfWriting, is_refusal}
-use Rattle.source_runs.specs.declared.failure.Failure.{Failure}
+use Rattle.acceptance.specs.Failures.{IsOfWriting, is_refusal}
+use Rattle.acceptance.specs.declared.failure.Failure.{Failure}
 use Rattle.event_trace.specs.Traces.{IsTraced}
 use Rattle.source_runs.specs.Runs.{IsReady, IsRunBy}
 use Rattle.driver.specs.Outcomes.{AreThreadsExplained, HasRun, HasTraced, IsExplanation, IsMachineShown, IsMachineShownInPart, IsRunInPart, IsShown, IsThreadText, IsTracedThenInPart}

@@ -16,7 +16,7 @@ use Rattle.schedule_text.specs.Items.{is_numbered}
 use Rattle.outputs.specs.Beginnings.{AppendsBeginning}
 use Rattle.outputs.proofs.BeginningLaws.{begins_first, begins_second, begins_whole}
 use Rattle.source_runs.proofs.simulation.StandsLaws.{ends_stand, printed_stands}
-use Rattle.source_runs.specs.Runs.{HasRunTo}
+use Rattle.acceptance.specs.Sources.{HasRunTo}
 use Rattle.source_runs.proofs.RunLemmas.{comes_to}
 use Rattle.source_runs.specs.shared_machine.Histories.{events_of, reports_of}
 use Rattle.source_runs.specs.shared_machine.declared.history.Entry.{Entry}

@@ -19,8 +19,8 @@ use Rattle.source_runs.specs.reference_machine.States.{State}
 use Rattle.cil_model.specs.declared.reports.End.{End}
 use Rattle.cil_model.specs.declared.reports.Report.{Report}
 use Rattle.source_runs.specs.simulation.MachineContents.{Content}
-use Rattle.source_runs.specs.Failures.{is_refusal, message_of}
-use Rattle.source_runs.specs.Failures.{IsOfWriting, status_of_failure}
+use Rattle.acceptance.specs.Failures.{is_refusal, message_of}
+use Rattle.acceptance.specs.Failures.{IsOfWriting, status_of_failure}
 use Rattle.outputs.specs.Beginnings.{AppendsBeginning}
 use Rattle.orders.specs.Orders.{is_explained}
 use Rattle.driver.specs.Records.{IsRecordOf, refusal_of, status_with, text_of}
@@ -29,11 +29,12 @@ use Rattle.driver.specs.declared.recording.Record.{Record}
 use Rattle.source_runs.specs.shared_machine.Histories.{events_of, reports_of}
 use Rattle.source_runs.specs.shared_machine.declared.history.Entry.{Entry}
 use Rattle.source_runs.specs.shared_machine.Work.{IsOwnOf}
-use Rattle.source_runs.specs.declared.failure.Failure.{Failure}
-use Rattle.source_runs.specs.declared.failure.Failure.TheVariants.{Memory, Device}
+use Rattle.acceptance.specs.declared.failure.Failure.{Failure}
+use Rattle.acceptance.specs.declared.failure.Failure.TheVariants.{Memory, Device}
 use Rattle.orders.specs.declared.order.Order.{Order}
 use Rattle.orders.specs.declared.order.Order.TheVariants.{Check, Run, Replay, Trace, Threads, Flip}
-use Rattle.source_runs.specs.Runs.{IsLetIn, IsNotAccepted, IsNotRun, IsNotRunBy, ComesTo, ComesToBy, IsOpened, IsReady}
+use Rattle.acceptance.specs.Sources.{IsLetIn, IsNotAccepted, IsNotRun, IsOpened}
+use Rattle.source_runs.specs.Runs.{IsNotRunBy, ComesTo, ComesToBy, IsReady}
 
 -- the lines of each live thread of a machine, and of those that are deadlocked
 abbrev pub AreThreadsExplained : Content → List ℕ → Type 0

@@ -6,10 +6,10 @@ ghost use Rattle.event_trace.specs.Traces.{IsTraced, IsTracedInPart};
 ghost use Rattle.flip_trial.specs.Trial.{place_count};
 ghost use Rattle.outputs.specs.Beginnings.{AppendsBeginning};
 ghost use Rattle.schedule_text.specs.Items.{events_of};
-ghost use Rattle.source_runs.specs.Failures.{IsOfWriting, is_refusal};
+ghost use Rattle.acceptance.specs.Failures.{IsOfWriting, is_refusal};
 ghost use Rattle.orders.specs.Orders.{record_file_of};
 ghost use Rattle.driver.specs.Outcomes.{HasNotRun, HasRun, HasTraced, IsChecked, IsDone, IsNotChecked, failure_of_tracing};
-ghost use Rattle.source_runs.specs.Runs.{IsLetIn};
+ghost use Rattle.acceptance.specs.Sources.{IsLetIn};
 ghost use Rattle.driver.specs.Outcomes.{IsNotDone, IsDoneInPart, IsOutcome, IsOutcomeOrCut};
 ghost use Rattle.driver.specs.Outcomes.{IsRunInPart, IsTellingCut, IsTraceInPart, IsTracedThenInPart, IsTried, trial_text};
 

@@ -3,7 +3,7 @@
 ghost use Rattle.std.specs.Prelude.{◌≡◌, ◌++◌, IfErr, IfOk, List, ℕ, OnErr, OnOk, true};
 ghost use Rattle.std.specs.Io.KnownBytes.{Appends};
 ghost use Rattle.outputs.specs.Beginnings.{AppendsBeginning};
-ghost use Rattle.source_runs.specs.Failures.{message_of, status_of_failure};
+ghost use Rattle.acceptance.specs.Failures.{message_of, status_of_failure};
 ghost use Rattle.driver.specs.Outcomes.{IsExplanation, is_told_why};
 
 use cil_model::limits::Limits;

@@ -5,7 +5,7 @@ ghost use Rattle.std.specs.List.{list_all};
 ghost use Rattle.std.specs.Io.KnownBytes.{Appends};
 ghost use Rattle.outputs.specs.Beginnings.{AppendsBeginning};
 ghost use Rattle.schedule_text.specs.Items.{is_numbered};
-ghost use Rattle.source_runs.specs.Failures.{IsOfWriting};
+ghost use Rattle.acceptance.specs.Failures.{IsOfWriting};
 ghost use Rattle.source_runs.specs.shared_machine.Histories.{events_of};
 ghost use Rattle.driver.specs.Records.{IsKept, IsRecordOf, refusal_of};
 

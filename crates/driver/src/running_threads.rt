@@ -1,7 +1,7 @@
 //! Has workers run a source.
 
 ghost use Rattle.std.specs.Prelude.{◌≡◌, ◌⊎◌, IfErr, IfOk, OnErr, true};
-ghost use Rattle.source_runs.specs.Failures.{is_refusal};
+ghost use Rattle.acceptance.specs.Failures.{is_refusal};
 ghost use Rattle.driver.specs.Outcomes.{HasNotRunThreads, HasRunThreads, IsRunByWorkersInPart};
 
 use crate::recording::{keep, record_of};

@@ -4,7 +4,7 @@ ghost use Rattle.std.specs.Prelude.{◌≡◌, ◌++◌, ◌∷◌, [], ℕ, cod
 ghost use Rattle.std.specs.List.{list_all, list_any};
 ghost use Rattle.std.specs.Io.KnownBytes.{Appends};
 ghost use Rattle.outputs.specs.Beginnings.{AppendsBeginning};
-ghost use Rattle.source_runs.specs.Failures.{IsOfWriting};
+ghost use Rattle.acceptance.specs.Failures.{IsOfWriting};
 ghost use Rattle.driver.specs.Outcomes.{IsMachineShown, IsMachineShownInPart, IsThreadText, trial_text};
 ghost use Rattle.driver.specs.Threads.{is_done, is_live, line_of, lines_from, status_of};
 

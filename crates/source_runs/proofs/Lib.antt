@@ -1,3 +1,0 @@
-pub use Rattle.shared_machine.proofs.simulation as simulation
-pub use Rattle.shared_machine.proofs.interleaving_core as interleaving_core
-pub mod RunLemmas

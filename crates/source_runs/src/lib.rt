@@ -1,16 +1,14 @@
 //! Takes the bytes of a source to what its run leaves: the source, its limits and its schedule are accepted, and a machine runs it.
-//! `accept` returns a program only for a source that has a tree, which is legal and has a typing of each method; `run_source` runs it by the text of
-//! a schedule, `run_events` by items, `run_threads` by workers until no thread is live; otherwise they say why not, the faults of the source
-//! first. `laws`: a source, a text and limits have one run, and a replay of a record is the same run.
+//! `run_source` runs it by the text of a schedule, `run_events` by items, `run_threads` by workers until no thread is live; otherwise they
+//! say why not, the faults of the source first. `laws`: a source, a text and limits have one run, and a replay of a record is the same run.
 #![tactic(auto)]
 
-mod failure;
 pub mod laws;
 mod running;
 mod threads;
 
-pub use failure::{Failure, report, status_of_failure, tell};
-pub use running::{accept, open, run_events, run_source};
+pub use acceptance::{Failure, accept, report, status_of_failure, tell};
+pub use running::{open, run_events, run_source};
 pub use shared_machine::{
     Answer, Gate, History, Machine, OpenGate, Opening, Outcome, Run, Shared, stop, write_record,
 };

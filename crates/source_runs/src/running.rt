@@ -4,18 +4,17 @@ ghost use Rattle.std.specs.Prelude.{◌≡◌, IfErr, IfOk};
 ghost use Rattle.schedule_text.specs.Items.{events_of as events_in};
 ghost use Rattle.shared_machine.specs.Histories.{events_of, reports_of};
 ghost use Rattle.shared_machine.specs.interleaving_core.Histories.{HasDone};
-ghost use Rattle.source_runs.specs.Runs.{HasRunTo, IsAcceptedSource, IsNotAccepted};
-ghost use Rattle.source_runs.specs.Runs.{IsNotRun, IsNotRunBy, IsNotRunWithin, IsReady, IsRunBy};
+ghost use Rattle.acceptance.specs.Sources.{HasRunTo, IsNotRun, IsNotRunWithin};
+ghost use Rattle.source_runs.specs.Runs.{IsNotRunBy, IsReady, IsRunBy};
 
-use crate::failure::Failure;
+use acceptance::{Failure, accept, machine_of};
 use cil_model::limits::Limits;
-use class_layout::lay_out;
 use schedule_text::{Item, read_schedule};
 use shared_machine::{Blank, Machine, Outcome, run_alone};
 use std::alloc::Global;
 use std::marker::Brand;
 use std::sync::Wait;
-use verifier::{Verified, verify};
+use verifier::Verified;
 
 /// Runs a source by the events that a schedule's text writes, as `run_events` runs those of its items.
 ///
@@ -68,17 +67,6 @@ pub fn run_events(
     run(rt, alloc, verified, limits, items)
 }
 
-/// The verified program of a source, whose tree is the one that the bytes have. It is legal, and each of its methods has a typing.
-pub fn accept(alloc: Global, source: &[u8]) -> Result<Verified, Failure>
-    ensures accepted { IfOk result (IsAcceptedSource source.now) }
-    ensures refused { IfErr result (IsNotAccepted source.now) }
-{
-    let tree = ilasm_reader::read(alloc, source)?;
-    let program = metadata::resolve(alloc, tree)?;
-    let layout = lay_out(alloc, &program)?;
-    Ok(verify(alloc, program, layout)?)
-}
-
 /// The machine of a program after the events of these items, which one worker performs.
 fn run(
     rt: &impl Wait,
@@ -109,8 +97,7 @@ pub fn open(
     ensures opened { IfOk result (λ run. IsReady source.now limits text.now (events_in run.1.items) run.0) }
     ensures refused { IfErr result (IsNotRunBy source.now limits text.now) }
 {
-    let verified = accept(alloc, source)?;
-    let machine = Machine::new(alloc, verified, limits)?;
+    let machine = machine_of(alloc, source, limits)?;
     let items = read_schedule(alloc, text)?;
     Ok((machine, items))
 }

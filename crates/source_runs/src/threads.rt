@@ -2,15 +2,14 @@
 
 ghost use Rattle.std.specs.Prelude.{◌≡◌, ◌≤◌, All, IfErr, IfOk};
 ghost use Rattle.std.specs.List.{count_by};
-ghost use Rattle.source_runs.specs.Runs.{HasRunTo, IsNotRun, IsNotRunWithin};
+ghost use Rattle.acceptance.specs.Sources.{HasRunTo, IsNotRun, IsNotRunWithin};
 ghost use Rattle.shared_machine.specs.simulation.threads_monitors.Threads.{is_live};
 ghost use Rattle.shared_machine.specs.Histories.{events_of, reports_of};
 ghost use Rattle.shared_machine.specs.interleaving_core.Histories.{HasDone};
 ghost use Rattle.shared_machine.specs.declared.shared.TheConstants.{MOST_WORKERS};
 ghost use Rattle.shared_machine.specs.Work.{IsOwnOf};
 
-use crate::failure::Failure;
-use crate::running::accept;
+use acceptance::{Failure, accept};
 use cil_model::limits::Limits;
 use shared_machine::{Blank, Gate, Machine, Outcome, run_together};
 use std::alloc::Global;

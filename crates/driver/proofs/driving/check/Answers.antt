@@ -1,6 +1,6 @@
 use Rattle.std.proofs.Common.{inl, inr, subst, sym}
 use Rattle.driver.specs.Outcomes.{IsNotChecked}
-use Rattle.source_runs.proofs.RunLemmas.{handed_on}
+use Rattle.acceptance.proofs.SourceLemmas.{handed_on}
 use Rattle.driver.proofs.driving.check.Goals as goal
 
 pub returns-in_err-accept-clause-failed : goal.returns-in_err-accept-clause-failed

@@ -1,6 +1,6 @@
 use Rattle.std.proofs.Common.{refl, subst}
 use Rattle.std.specs.Prelude.{◌≡◌, ◌⊎◌, IfErr, IfOk, OnErr}
-use Rattle.source_runs.proofs.RunLemmas.{if_err, if_ok, on_err, on_err_of}
+use Rattle.acceptance.proofs.SourceLemmas.{if_err, if_ok, on_err, on_err_of}
 use Rattle.driver.specs.Outcomes.{HasNotRun, HasRun, HasRunThreads, IsRunByWorkersInPart, IsRunInPart}
 use Rattle.driver.proofs.OutcomeLemmas.{by_either, no_refusal}
 use Rattle.driver.proofs.driving.perform.Goals as goal

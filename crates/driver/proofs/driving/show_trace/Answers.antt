@@ -2,8 +2,8 @@ use Rattle.std.proofs.Common.{inl, inr, refl, subst, sym}
 use Rattle.event_trace.specs.Traces.{IsTraced, IsTracedInPart}
 use Rattle.schedule_text.specs.Items.{events_of}
 use Rattle.driver.specs.Outcomes.{HasNotRun, IsTraceInPart}
-use Rattle.source_runs.specs.Failures.{IsOfWriting}
-use Rattle.source_runs.proofs.RunLemmas.{handed_on, if_err, if_ok, on_err, on_err_of}
+use Rattle.acceptance.specs.Failures.{IsOfWriting}
+use Rattle.acceptance.proofs.SourceLemmas.{handed_on, if_err, if_ok, on_err, on_err_of}
 use Rattle.driver.proofs.OutcomeLemmas.{has_traced, no_refusal, traced_in_part}
 use Rattle.driver.proofs.driving.show_trace.Goals as goal
 

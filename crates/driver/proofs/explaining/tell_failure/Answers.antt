@@ -1,6 +1,6 @@
 use Rattle.std.proofs.Common.{[], subst}
 use Rattle.outputs.proofs.BeginningLaws.{begins_first, begins_second}
-use Rattle.source_runs.specs.Failures.{message_of}
+use Rattle.acceptance.specs.Failures.{message_of}
 use Rattle.driver.specs.Outcomes.{IsExplanation}
 use Rattle.driver.proofs.OutcomeLemmas.{for_err, no_explanation}
 use Rattle.driver.proofs.explaining.tell_failure.Goals as goal

@@ -1,8 +1,8 @@
 use Rattle.std.proofs.Common.{◌∙◌, inl, inr, refl, subst, sym}
 use Rattle.std.proofs.lemmas.Result.{IfOk-from_err}
 use Rattle.driver.specs.Outcomes.{HasNotRunThreads}
-use Rattle.source_runs.specs.Failures.{IsOfWriting}
-use Rattle.source_runs.proofs.RunLemmas.{handed_on, if_err, if_ok, on_err, on_err_of}
+use Rattle.acceptance.specs.Failures.{IsOfWriting}
+use Rattle.acceptance.proofs.SourceLemmas.{handed_on, if_err, if_ok, on_err, on_err_of}
 use Rattle.driver.proofs.OutcomeLemmas.{no_refusal}
 use Rattle.driver.proofs.WorkerLemmas.{all_numbered, has_run_threads, threads_in_part, threads_then_in_part}
 use Rattle.driver.proofs.running_threads.show_threads.Goals as goal

@@ -4,7 +4,7 @@ use Rattle.outputs.specs.Beginnings.{AppendsBeginning}
 use Rattle.outputs.proofs.BeginningLaws.{begins_nothing, begins_whole}
 use Rattle.source_runs.specs.simulation.threads_monitors.Threads.{end_of}
 use Rattle.driver.specs.Threads.{lines_from, status_of}
-use Rattle.source_runs.proofs.RunLemmas.{on_err}
+use Rattle.acceptance.proofs.SourceLemmas.{on_err}
 use Rattle.driver.proofs.OutcomeLemmas.{none_shown}
 use Rattle.driver.proofs.showing.show.Goals as goal
 

@@ -1,6 +1,6 @@
 use Rattle.std.proofs.Common.{inl, subst, sym}
 use Rattle.source_runs.specs.Runs.{IsNotRunBy}
-use Rattle.source_runs.proofs.RunLemmas.{handed_on}
+use Rattle.acceptance.proofs.SourceLemmas.{handed_on}
 use Rattle.source_runs.proofs.running.run_source.Goals as goal
 
 pub returns-in_err-run_events-in-Err-clause-refused : goal.returns-in_err-run_events-in-Err-clause-refused

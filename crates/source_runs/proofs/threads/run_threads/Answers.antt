@@ -1,6 +1,6 @@
 use Rattle.std.proofs.Common.{inl, inr, subst, sym}
-use Rattle.source_runs.specs.Runs.{IsNotRun}
-use Rattle.source_runs.proofs.RunLemmas.{handed_on, if_ok, if_err}
+use Rattle.acceptance.specs.Sources.{IsNotRun}
+use Rattle.acceptance.proofs.SourceLemmas.{handed_on, if_ok, if_err}
 use Rattle.source_runs.proofs.threads.run_threads.Goals as goal
 
 pub returns-in_err-verified-clause-refused : goal.returns-in_err-verified-clause-refused

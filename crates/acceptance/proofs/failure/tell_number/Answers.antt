@@ -2,8 +2,8 @@ use Rattle.std.proofs.Common.{◌≡◌, ◌∙◌, ◌++◌, ◌∷◌, [], cod
 use Rattle.outputs.specs.Beginnings.{AppendsBeginning}
 use Rattle.outputs.proofs.BeginningLaws.{begins_first, begins_second}
 use Rattle.std.specs.Io.KnownBytes.{Appends}
-use Rattle.source_runs.proofs.RunLemmas.{on_err, on_err_of}
-use Rattle.source_runs.proofs.failure.tell_number.Goals as goal
+use Rattle.acceptance.proofs.SourceLemmas.{on_err, on_err_of}
+use Rattle.acceptance.proofs.failure.tell_number.Goals as goal
 
 pub returns-in_err-write_whole-clause-begun : goal.returns-in_err-write_whole-clause-begun
 returns-in_err-write_whole-clause-begun g c =

@@ -3,19 +3,19 @@
 ghost use Rattle.std.specs.Prelude.{◌≡◌, OnErr, OnOk, true};
 ghost use Rattle.std.specs.Io.KnownBytes.{Appends};
 ghost use Rattle.outputs.specs.Beginnings.{AppendsBeginning};
-ghost use Rattle.source_runs.specs.Failures.{IsFailureOfDevice, IsOfWriting, IsReported, failure_of_making};
-ghost use Rattle.source_runs.specs.Failures.{failure_of_reading, failure_of_resolving};
-ghost use Rattle.source_runs.specs.Failures.{failure_of_schedule, failure_of_verifying};
-ghost use Rattle.source_runs.specs.Failures.{is_refusal, message_of, number_line, status_of_failure};
-ghost use Rattle.source_runs.specs.declared.failure.Failure.TheVariants.{Memory};
+ghost use Rattle.acceptance.specs.Failures.{IsFailureOfDevice, IsOfWriting, IsReported, failure_of_making};
+ghost use Rattle.acceptance.specs.Failures.{failure_of_reading, failure_of_resolving};
+ghost use Rattle.acceptance.specs.Failures.{failure_of_schedule, failure_of_verifying};
+ghost use Rattle.acceptance.specs.Failures.{is_refusal, message_of, number_line, status_of_failure};
+ghost use Rattle.acceptance.specs.declared.failure.Failure.TheVariants.{Memory};
 
 use cil_model::memory::NoMemory;
 use ilasm_reader::ReadError;
+use interleaving_core::Refused;
 use itoa::Buffer;
 use metadata::MetaError;
 use outputs::{NotWritten, Output};
 use schedule_text::ScheduleError;
-use shared_machine::Refused;
 use std::alloc::AllocError;
 use std::io;
 use std::io::ErrorKind;

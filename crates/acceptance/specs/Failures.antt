@@ -15,14 +15,14 @@ use Rattle.metadata.specs.declared.program.MetaError.TheVariants.{OutOfMemory as
 use Rattle.verifier.specs.Numbers.{typing_number_of}
 use Rattle.verifier.specs.declared.refusals.VerifyError.{VerifyError}
 use Rattle.verifier.specs.declared.refusals.VerifyError.TheVariants.{OutOfMemory as UnverifiedForMemory}
-use Rattle.shared_machine.specs.interleaving_core.Refusals.{number_of as making_number_of}
-use Rattle.shared_machine.specs.interleaving_core.declared.machine.Refused.{Refused as NotMade}
-use Rattle.shared_machine.specs.interleaving_core.declared.machine.Refused.TheVariants.{OutOfMemory as NotMadeForMemory}
+use Rattle.interleaving_core.specs.Refusals.{number_of as making_number_of}
+use Rattle.interleaving_core.specs.declared.machine.Refused.{Refused as NotMade}
+use Rattle.interleaving_core.specs.declared.machine.Refused.TheVariants.{OutOfMemory as NotMadeForMemory}
 use Rattle.schedule_text.specs.Errors.{number_of as schedule_number_of}
 use Rattle.schedule_text.specs.declared.errors.ScheduleError.{ScheduleError}
 use Rattle.schedule_text.specs.declared.errors.ScheduleError.TheVariants.{OutOfMemory as UnscheduledForMemory}
-use Rattle.source_runs.specs.declared.failure.Failure.{Failure}
-use Rattle.source_runs.specs.declared.failure.Failure.TheVariants.{Refused, OutOfRange, Memory, Device}
+use Rattle.acceptance.specs.declared.failure.Failure.{Failure}
+use Rattle.acceptance.specs.declared.failure.Failure.TheVariants.{Refused, OutOfRange, Memory, Device}
 
 -- ---- what the error of a layer becomes: its number, but for want of memory
 

@@ -1,5 +1,5 @@
-use Rattle.source_runs.proofs.RunLemmas.{accepted_source, handed_on, untyped_source}
-use Rattle.source_runs.proofs.running.accept.Goals as goal
+use Rattle.acceptance.proofs.SourceLemmas.{accepted_source, handed_on, untyped_source}
+use Rattle.acceptance.proofs.sources.accept.Goals as goal
 
 pub returns-in_err-verify-clause-refused : goal.returns-in_err-verify-clause-refused
 returns-in_err-verify-clause-refused c =

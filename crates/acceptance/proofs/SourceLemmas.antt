@@ -1,0 +1,57 @@
+-- What an error that a `?` hands on is, and why a source or its limits are refused.
+use Rattle.std.proofs.Common.{◌≡◌, ℕ, Bool, true, false, List, Result, Ok, Err, refl, sym, ◌∙◌, subst, inl, inr}
+use Rattle.std.specs.Prelude.{◌↔◌, IfErr, IfOk, IsErrAnd, OnErr}
+use Rattle.cil_model.specs.Legality.{IsLegal}
+use Rattle.cil_model.specs.Ranges.{are_in_range}
+use Rattle.cil_model.specs.Sources.{HasTree, IsAnswer}
+use Rattle.cil_model.specs.Typings.{IsAccepted}
+use Rattle.cil_model.specs.declared.limits.Limits.{Limits}
+use Rattle.cil_model.specs.declared.trees.Tree.{Tree}
+use Rattle.interleaving_core.specs.declared.machine.Refused.{Refused as NotMade}
+use Rattle.interleaving_core.specs.declared.machine.Refused.TheVariants.{Limits as BadLimits, OutOfMemory as NotMadeForMemory}
+use Rattle.verifier.specs.Verdicts.{IsVerdict}
+use Rattle.verifier.specs.declared.refusals.VerifyError.{VerifyError}
+use Rattle.acceptance.specs.Failures.{failure_of_making, failure_of_verifying}
+use Rattle.acceptance.specs.Sources.{IsAcceptedSource, IsNotAccepted, IsNotRunWithin}
+use Rattle.acceptance.specs.declared.failure.Failure.{Failure}
+
+pub handed_on : {T E : Type 0} {P gives : E → Type 0} (r : Result T E) → IsErrAnd r gives → ((e : E) → gives e → P e) → IfErr r P
+handed_on (Ok x) h f = tt
+handed_on (Err e) h f = f e h
+
+pub if_ok : {T E : Type 0} {P Q : T → Type 0} (r : Result T E) → IfOk r P → ((x : T) → P x → Q x) → IfOk r Q
+if_ok (Ok x) h f = f x h
+if_ok (Err e) h f = tt
+
+pub if_err : {T E : Type 0} {P Q : E → Type 0} (r : Result T E) → IfErr r P → ((e : E) → P e → Q e) → IfErr r Q
+if_err (Ok x) h f = tt
+if_err (Err e) h f = f e h
+
+pub on_err : {T E : Type 0} {P : Type 0} (r : Result T E) → P → OnErr r P
+on_err (Ok x) p = tt
+on_err (Err e) p = p
+
+pub on_err_of : {T E : Type 0} {P Q : Type 0} (r : Result T E) → OnErr r P → (P → Q) → OnErr r Q
+on_err_of (Ok x) p f = tt
+on_err_of (Err e) p f = f p
+
+-- a program that was verified
+pub accepted_source : (source : List ℕ) (tree program verified : Tree) → IsAnswer source (HasTree tree) → program ≡ tree → IsVerdict program (Ok verified) → IsAcceptedSource source verified
+accepted_source source tree program verified read same verdict =
+    subst (IsAcceptedSource source) (sym (verdict.0 ∙ same)) (record { read = read; accepted = subst IsAccepted same verdict.1 })
+
+-- a program that was not
+pub untyped_source : (source : List ℕ) (tree program : Tree) (error : VerifyError) (failure : Failure) → IsAnswer source (HasTree tree) → program ≡ tree → IsLegal tree
+    → IsVerdict program (Err error) → failure ≡ failure_of_verifying error → IsNotAccepted source failure
+untyped_source source tree program error failure read same legal verdict told =
+    inr (tree, read, inr (inl (legal, (error, subst (λ (t : Tree). IsVerdict t (Err error)) same verdict, told))))
+
+-- a machine that was not made: its limits, or else memory
+pub not_made : {T : Type 0} (limits : Limits) (error : NotMade) (failure : Failure) → (◌≡◌ {A = Result T NotMade} (Err error) (Err BadLimits)) ↔ (are_in_range limits ≡ false) → failure ≡ failure_of_making error
+    → IsNotRunWithin limits failure
+not_made limits BadLimits failure within told = inl (within.0 refl, told)
+not_made limits NotMadeForMemory failure within told = by_range (are_in_range limits) refl
+  where
+    by_range : (b : Bool) → are_in_range limits ≡ b → IsNotRunWithin limits failure
+    by_range true in_range = inr (in_range, told)
+    by_range false beyond = let wrong = within.1 beyond in absurd cc

@@ -1,0 +1,4 @@
+pub use Rattle.interleaving_core.specs as interleaving_core
+pub use Rattle.interleaving_core.specs.simulation as simulation
+pub mod Failures
+pub mod Sources

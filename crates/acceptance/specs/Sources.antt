@@ -1,0 +1,83 @@
+-- What comes of a source and its limits before the first event: the machine of an accepted program, or why there is none (this profile).
+use Rattle.std.specs.Prelude.{◌≡◌, ◌≢◌, ◌⊎◌, [], ℕ, true, false, List, Some, Err}
+use Rattle.cil_model.specs.Legality.{IsLegal, least_broken}
+use Rattle.cil_model.specs.Ranges.{are_in_range}
+use Rattle.cil_model.specs.Sources.{HasTree, IsAnswer}
+use Rattle.cil_model.specs.Typings.{IsAccepted}
+use Rattle.cil_model.specs.declared.events.Event.{Event}
+use Rattle.cil_model.specs.declared.limits.Limits.{Limits}
+use Rattle.cil_model.specs.declared.reports.Report.{Report}
+use Rattle.cil_model.specs.declared.trees.Tree.{Tree}
+use Rattle.ilasm_reader.specs.Answers.{IsReadAnswer}
+use Rattle.ilasm_reader.specs.declared.reading.ReadError.{ReadError}
+use Rattle.metadata.specs.RuleNumbers.{number_of as legality_number_of}
+use Rattle.metadata.specs.declared.program.MetaError.{MetaError}
+use Rattle.metadata.specs.declared.program.MetaError.TheVariants.{OutOfMemory as NoMemoryForNames}
+use Rattle.verifier.specs.Verdicts.{IsVerdict}
+use Rattle.verifier.specs.declared.refusals.VerifyError.{VerifyError}
+use Rattle.interleaving_core.specs.Histories.{HasDone}
+use Rattle.interleaving_core.specs.simulation.MachineContents.{Content}
+use Rattle.interleaving_core.specs.simulation.StandsFor.{Represents}
+use Rattle.interleaving_core.specs.simulation.Turns.{opening_content}
+use Rattle.interleaving_core.specs.simulation.reference_machine.Runs.{opening}
+use Rattle.interleaving_core.specs.simulation.reference_machine.States.{State}
+use Rattle.interleaving_core.specs.declared.machine.Refused.TheVariants.{Limits as BadLimits}
+use Rattle.acceptance.specs.Failures.{failure_of_making, failure_of_reading, failure_of_resolving, failure_of_verifying}
+use Rattle.acceptance.specs.declared.failure.Failure.{Failure}
+use Rattle.acceptance.specs.declared.failure.Failure.TheVariants.{Memory}
+
+-- ---- the source
+
+-- the bytes have this tree, and it is an accepted program
+pub record IsAcceptedSource (source : List ℕ) (tree : Tree) : Type 0 where
+  pub read : IsAnswer source (HasTree tree)
+  pub accepted : IsAccepted tree
+
+-- the bytes have a tree that is an accepted program
+abbrev pub IsLetIn : List ℕ → Type 0
+IsLetIn source = (tree : Tree) × IsAcceptedSource source tree
+
+-- a tree is no legal program: the least rule that it breaks has the number that is told, but for want of memory
+abbrev pub IsIllegal : Tree → Failure → Type 0
+IsIllegal tree failure = (error : MetaError) × (error ≢ NoMemoryForNames → least_broken tree ≡ Some (legality_number_of error)) × (failure ≡ failure_of_resolving error)
+
+-- a legal program is not accepted: this is the first method without a typing, but for want of memory
+abbrev pub IsUntyped : Tree → Failure → Type 0
+IsUntyped tree failure = IsLegal tree × ((error : VerifyError) × IsVerdict tree (Err error) × (failure ≡ failure_of_verifying error))
+
+-- why a source is not accepted: its bytes have no tree, or the tree is no legal program, or a method of it has no typing; or memory is wanted
+abbrev pub IsNotAccepted : List ℕ → Failure → Type 0
+IsNotAccepted source failure =
+    ((error : ReadError) × IsReadAnswer source (Err error) × (failure ≡ failure_of_reading error))
+    ⊎ ((tree : Tree) × IsAnswer source (HasTree tree) × (IsIllegal tree failure ⊎ (IsUntyped tree failure ⊎ (failure ≡ Memory))))
+
+-- ---- the machine
+
+-- a machine has run a list of events: the bytes have a tree that is an accepted program, and a machine that was made for it has done the events, with
+-- all that this says
+abbrev pub HasRunTo : List ℕ → Limits → List Event → List Report → Content → Type 0
+HasRunTo source limits events reports content = (tree : Tree) × IsAcceptedSource source tree × HasDone tree limits events reports content
+
+-- why an accepted program was not run: its limits come first, then memory
+abbrev pub IsNotRunWithin : Limits → Failure → Type 0
+IsNotRunWithin limits failure =
+    ((are_in_range limits ≡ false) × (failure ≡ failure_of_making BadLimits))
+    ⊎ ((are_in_range limits ≡ true) × (failure ≡ Memory))
+
+-- why no machine has run a list of events, whichever it is: the source, then the limits and memory
+abbrev pub IsNotRun : List ℕ → Limits → Failure → Type 0
+IsNotRun source limits failure = IsNotAccepted source failure ⊎ (IsLetIn source × IsNotRunWithin limits failure)
+
+-- a machine holds exactly what a program begins with, which represents the opening state
+pub record IsOpened (tree : Tree) (limits : Limits) (machine : Content) : Type 0 where
+  pub same_program : machine.tree ≡ tree
+  pub same_limits : machine.limits ≡ limits
+  pub begins : opening_content tree limits ≡ Some machine
+  pub represents : (state : State) × (opening tree limits ≡ Some state) × Represents machine state
+
+-- the bytes have a tree that is an accepted program, and a machine was made for it, which has done nothing
+pub record IsMade (source : List ℕ) (limits : Limits) (machine : Content) : Type 0 where
+  pub tree : Tree
+  pub is_accepted : IsAcceptedSource source tree
+  pub done : HasDone tree limits [] [] machine
+  pub opened : IsOpened tree limits machine
