@@ -4,9 +4,8 @@ ghost use Rattle.std.specs.Prelude.{◌≡◌, ◌+◌, ◌*◌, ◌<◌, ◌≤
 ghost use Rattle.word_flip.specs.Tokens.{IsCopierOf};
 ghost use Rattle.flip_trial.specs.Trial.{place_count, IsFlipOf, IsSameCopier};
 
-use crate::seat::MOST_TURNS;
+use crate::seat::{MOST_TURNS, yield_after};
 use crate::sizes::{Sizes, Slot};
-use std::thread::yield_now;
 use word_flip::{Advance, Copier, Copy, Flip, Retire};
 
 /// What the copier came to.
@@ -25,13 +24,13 @@ fn copy_slot(flip: &Flip, copier: Copier, sizes: Sizes, slot: Slot) -> (bool, Co
     ensures { IsSameCopier copier result.1 }
 {
     let mut copier = copier;
-    for _ in 0..MOST_TURNS {
+    for turn in 0..MOST_TURNS {
         let (answer, after) = flip.copy_word(copier, slot.object, slot.slot);
         if answer == Copy::Copied {
             return (true, after);
         }
         copier = after;
-        yield_now();
+        yield_after(turn);
     }
     (false, copier)
 }
@@ -58,13 +57,13 @@ fn advance_all(flip: &Flip, copier: Copier) -> (bool, Copier)
     ensures { IsSameCopier copier result.1 }
 {
     let mut copier = copier;
-    for _ in 0..MOST_TURNS {
+    for turn in 0..MOST_TURNS {
         let (answer, after) = flip.advance(copier);
         copier = after;
         if answer == Advance::Last {
             return (true, copier);
         }
-        yield_now();
+        yield_after(turn);
     }
     (false, copier)
 }
@@ -76,13 +75,13 @@ fn retire_slot(flip: &Flip, copier: Copier, sizes: Sizes, slot: Slot) -> (bool, 
     ensures { IsSameCopier copier result.1 }
 {
     let mut copier = copier;
-    for _ in 0..MOST_TURNS {
+    for turn in 0..MOST_TURNS {
         let (answer, after) = flip.retire(copier, slot.object, slot.slot);
         copier = after;
         if answer == Retire::Retired {
             return (true, copier);
         }
-        yield_now();
+        yield_after(turn);
     }
     (false, copier)
 }

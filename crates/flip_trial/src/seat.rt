@@ -9,7 +9,10 @@ use std::thread::yield_now;
 use word_flip::{Flip, Writer};
 
 /// No waiting loop takes more turns than this.
-pub(crate) const MOST_TURNS: u32 = 50_000_000;
+pub(crate) const MOST_TURNS: u32 = 1_000_000;
+
+/// The most yields in a turn.
+const MOST_YIELDS: u32 = 64;
 
 /// The last stage.
 const RECLAIM: u64 = 2;
@@ -60,18 +63,27 @@ fn keep_all(flip: &Flip, writer: Writer, sizes: Sizes, round: u16) -> (u64, Writ
     (kept, writer)
 }
 
+/// Lets other threads of the host run after a turn of a waiting loop: it yields once after the first turn, once more after each later one, and
+/// at most 64 times. So where processors are few or taken away, a million turns last as long as the others need, and not as long as the
+/// loop needs.
+pub(crate) fn yield_after(turn: u32) {
+    for _ in 0..=turn.min(MOST_YIELDS - 1) {
+        yield_now();
+    }
+}
+
 /// Takes up the posted stage until it is the last, and answers whether it came in time.
 fn await_reclaim(flip: &Flip, writer: Writer) -> bool
     requires { IsWriterOf flip.now writer }
 {
     let mut writer = writer;
-    for _ in 0..MOST_TURNS {
+    for turn in 0..MOST_TURNS {
         let (stage, after) = flip.flip_ack(writer);
         if stage == RECLAIM {
             return true;
         }
         writer = after;
-        yield_now();
+        yield_after(turn);
     }
     false
 }

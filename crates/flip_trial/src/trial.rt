@@ -175,7 +175,7 @@ fn run_flip(
 /// posted stage, round by round, while the calling thread copies each slot, advances to the last stage and retires each
 /// first copy.
 ///
-/// Each loop that waits takes at most 50,000,000 turns. All threads are joined. Want of memory, or of a thread, is the
+/// Each loop that waits takes at most 1,000,000 turns, and yields up to 64 times after each. All threads are joined. Want of memory, or of a thread, is the
 /// only error.
 pub fn run(rt: &impl Threads, alloc: Global, sizes: Sizes) -> Result<Outcome, AllocError>
     ensures kept { IfOk result (λ outcome. outcome.kept ≡ sizes.rounds * place_count sizes) }

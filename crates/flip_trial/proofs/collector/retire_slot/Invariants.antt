@@ -1,5 +1,5 @@
 use Rattle.flip_trial.specs.Trial.{IsSameCopier}
 use Rattle.flip_trial.proofs.collector.retire_slot.Given as goal
 
-abbrev pub invariant-loop : goal.invariant-loop
-invariant-loop l = IsSameCopier l.initial.copier l.copier
+abbrev pub invariant-loop-turn : goal.invariant-loop-turn
+invariant-loop-turn l = IsSameCopier l.initial.copier l.copier

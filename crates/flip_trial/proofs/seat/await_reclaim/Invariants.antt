@@ -1,5 +1,5 @@
 use Rattle.flip_trial.specs.Trial.{IsSameSeat}
 use Rattle.flip_trial.proofs.seat.await_reclaim.Given as goal
 
-abbrev pub invariant-loop : goal.invariant-loop
-invariant-loop l = IsSameSeat l.initial.writer l.writer
+abbrev pub invariant-loop-turn : goal.invariant-loop-turn
+invariant-loop-turn l = IsSameSeat l.initial.writer l.writer
