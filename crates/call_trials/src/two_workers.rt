@@ -28,7 +28,7 @@ fn open_both<M: Opening>(
     blank: Blank,
     core: Machine,
 ) -> Result<Option<(Shared<M>, Ticket<M>, Ticket<M>)>, NoMemory>
-    requires book { blank.table.shared.table_id ≡ M.table }
+    requires book { blank ≡ M.table }
     requires core { core ≡ M.opening }
     requires workers { M.workers ≡ 2 }
     ensures { IfOk result (λ made. IfSome made (λ m. (m.1 ≡ record { worker = 0; count = 0 }) × (m.2 ≡ record { worker = 1; count = 0 }))) }
@@ -102,7 +102,7 @@ pub fn run_both<M: Opening + Send + Sync, R: Threads + Wait + Sync>(
     first: Event,
     second: Event,
 ) -> Result<Option<(Answer, Answer, Outcome)>, NoMemory>
-    requires book { blank.table.shared.table_id ≡ M.table }
+    requires book { blank ≡ M.table }
     requires core { core ≡ M.opening }
     requires workers { M.workers ≡ 2 }
     ensures ran { IfOk result (λ end. IfSome end (λ x. HasRun M.opening (events_of x.2.history.entries) (reports_of x.2.history.entries) x.2.machine)) }
@@ -124,7 +124,7 @@ pub fn act_many<M: Opening + Send + Sync, R: Threads + Wait + Sync>(
     events: (Event, Event),
     times: u32,
 ) -> Result<Option<Outcome>, NoMemory>
-    requires book { blank.table.shared.table_id ≡ M.table }
+    requires book { blank ≡ M.table }
     requires core { core ≡ M.opening }
     requires workers { M.workers ≡ 2 }
 {
@@ -150,7 +150,7 @@ pub fn act_in_turn<M: Opening, R: Wait>(
     core: Machine,
     is_reversed: bool,
 ) -> Result<Option<Outcome>, NoMemory>
-    requires book { blank.table.shared.table_id ≡ M.table }
+    requires book { blank ≡ M.table }
     requires core { core ≡ M.opening }
     requires workers { M.workers ≡ 2 }
 {
@@ -173,7 +173,7 @@ pub fn finish_twice<M: Opening>(
     blank: Blank,
     core: Machine,
 ) -> Result<Option<Outcome>, NoMemory>
-    requires book { blank.table.shared.table_id ≡ M.table }
+    requires book { blank ≡ M.table }
     requires core { core ≡ M.opening }
     requires workers { M.workers ≡ 2 }
 {
@@ -214,7 +214,7 @@ pub fn keeps_the_mark<M: Opening, R: Wait>(
     blank: Blank,
     core: Machine,
 ) -> Result<bool, NoMemory>
-    requires book { blank.table.shared.table_id ≡ M.table }
+    requires book { blank ≡ M.table }
     requires core { core ≡ M.opening }
     requires workers { M.workers ≡ 2 }
 {

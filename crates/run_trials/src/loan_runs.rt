@@ -34,7 +34,7 @@ fn open_alone<M: Opening>(
     blank: Blank,
     core: Machine,
 ) -> Result<Option<(Shared<M>, Ticket<M>)>, NoMemory>
-    requires book { blank.table.shared.table_id ≡ M.table }
+    requires book { blank ≡ M.table }
     requires core { core ≡ M.opening }
     requires workers { M.workers ≡ 1 }
 {
@@ -54,7 +54,7 @@ fn run_on_loan<M: Opening, R: Wait>(
     core: Machine,
     most: u32,
 ) -> Result<Option<(u32, Answer)>, NoMemory>
-    requires book { blank.table.shared.table_id ≡ M.table }
+    requires book { blank ≡ M.table }
     requires core { core ≡ M.opening }
     requires workers { M.workers ≡ 1 }
 {
@@ -151,7 +151,7 @@ fn is_so<M: Opening, R: Wait>(
     core: Machine,
     question: Question,
 ) -> Result<bool, NoMemory>
-    requires book { blank.table.shared.table_id ≡ M.table }
+    requires book { blank ≡ M.table }
     requires core { core ≡ M.opening }
     requires workers { M.workers ≡ 1 }
 {

@@ -66,7 +66,7 @@ pub fn run_alone<M: Opening, R: Wait>(
     core: Machine,
     items: &[Item],
 ) -> Result<Outcome, NoMemory>
-    requires book { blank.table.shared.table_id ≡ M.table }
+    requires book { blank ≡ M.table }
     requires core { core ≡ M.opening }
     requires alone { M.workers ≡ 1 }
     ensures events { IfOk result (λ outcome. events_of outcome.history.entries ≡ events_in items.now) }

@@ -10,14 +10,24 @@ use std::alloc::{AllocError, Global};
 use std::marker::{Model, PhantomData};
 use std::mem;
 
-/// A book that no type names yet, so that a type can name it: `open` gives it the name that its caller picked for it.
+/// A book that no type names yet, so that a type can name it: `open` gives it the name that its caller picked for it. To contracts it is the
+/// table that the name has to be of.
 #[derive(Drop)]
 pub struct Blank {
     table: Desk,
     seat: Pass,
-    ghost one_word: { table.shared.table_id.words ≡ 1 },
-    ghost same: { seat.table_id ≡ table.shared.table_id },
-    ghost empty: { seat.me ≡ (keeper [], []) },
+}
+
+impl Model for Blank {
+    ghost use Rattle.std.specs.Prelude.{◌≡◌, []};
+    ghost use Rattle.atomic_table.specs.Seated.{TableId};
+    ghost use Rattle.shared_machine.specs.Counts.{keeper};
+
+    ghost Value = { TableId };
+
+    ghost view = { λ b. b.table.shared.table_id };
+
+    ghost invariant = { λ b. (b.table.shared.table_id.words ≡ 1) × (b.seat.table_id ≡ b.table.shared.table_id) × (b.seat.me ≡ (keeper [], [])) };
 }
 
 /// The count of each worker that was dealt a ticket. To contracts it is the list of the counts, by the workers' numbers.
@@ -71,7 +81,7 @@ impl Blank {
 
     /// The same book under the name that a type has for it. No worker has a ticket yet.
     pub fn open<M: Naming>(self) -> Book<M>
-        requires { self.table.shared.table_id ≡ M.table }
+        requires { self ≡ M.table }
         ensures { result ≡ [] }
     {
         let Blank { table, seat } = self;

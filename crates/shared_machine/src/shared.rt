@@ -65,7 +65,7 @@ impl<M: Opening> Shared<M> {
         core: Machine,
         workers: u8,
     ) -> Result<(Shared<M>, Vec<Ticket<M>>), NoMemory>
-        requires book { blank.table.shared.table_id ≡ M.table }
+        requires book { blank ≡ M.table }
         requires core { core ≡ M.opening }
         requires workers { (1 ≤ workers) × (workers ≤ MOST_WORKERS) × (workers ≡ M.workers) }
         ensures { IfOk result (λ made. (made.0 ≡ workers) × (made.1.items ≡ fresh workers)) }

@@ -39,7 +39,7 @@ pub fn run_together<M: Opening + Send + Sync, R: Threads + Wait + Sync, G: Gate 
     workers: u8,
     gate: &G,
 ) -> Result<Outcome, NoMemory>
-    requires book { blank.table.shared.table_id ≡ M.table }
+    requires book { blank ≡ M.table }
     requires core { core ≡ M.opening }
     requires workers { (1 ≤ workers) × (workers ≤ MOST_WORKERS) × (workers ≡ M.workers) }
     ensures ran { IfOk result (λ outcome. HasRun M.opening (events_of outcome.history.entries) (reports_of outcome.history.entries) outcome.machine) }

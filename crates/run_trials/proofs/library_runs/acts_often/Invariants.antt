@@ -4,4 +4,4 @@ abbrev pub ghosts-act_many-M-Opening : goal.ghosts-act_many-M-Opening
 ghosts-act_many-M-Opening g a = record { opening = a.core; workers = 2 }
 
 abbrev pub ghosts-act_many-M-Naming : goal.ghosts-act_many-M-Naming
-ghosts-act_many-M-Naming g a = record { table = a.blank.table.shared.table_id }
+ghosts-act_many-M-Naming g a = record { table = a.blank }

@@ -4,4 +4,4 @@ abbrev pub ghosts-run_both-M-Opening : goal.ghosts-run_both-M-Opening
 ghosts-run_both-M-Opening g a = record { opening = a.core; workers = 2 }
 
 abbrev pub ghosts-run_both-M-Naming : goal.ghosts-run_both-M-Naming
-ghosts-run_both-M-Naming g a = record { table = a.blank.table.shared.table_id }
+ghosts-run_both-M-Naming g a = record { table = a.blank }

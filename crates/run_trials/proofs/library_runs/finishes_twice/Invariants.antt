@@ -4,4 +4,4 @@ abbrev pub ghosts-finish_twice-M-Opening : goal.ghosts-finish_twice-M-Opening
 ghosts-finish_twice-M-Opening a = record { opening = a.core; workers = 2 }
 
 abbrev pub ghosts-finish_twice-M-Naming : goal.ghosts-finish_twice-M-Naming
-ghosts-finish_twice-M-Naming a = record { table = a.blank.table.shared.table_id }
+ghosts-finish_twice-M-Naming a = record { table = a.blank }

@@ -4,4 +4,4 @@ abbrev pub ghosts-act_in_turn-M-Opening : goal.ghosts-act_in_turn-M-Opening
 ghosts-act_in_turn-M-Opening g a = record { opening = a.core; workers = 2 }
 
 abbrev pub ghosts-act_in_turn-M-Naming : goal.ghosts-act_in_turn-M-Naming
-ghosts-act_in_turn-M-Naming g a = record { table = a.blank.table.shared.table_id }
+ghosts-act_in_turn-M-Naming g a = record { table = a.blank }

@@ -4,4 +4,4 @@ abbrev pub ghosts-keeps_the_mark-M-Opening : goal.ghosts-keeps_the_mark-M-Openin
 ghosts-keeps_the_mark-M-Opening g a = record { opening = a.core; workers = 2 }
 
 abbrev pub ghosts-keeps_the_mark-M-Naming : goal.ghosts-keeps_the_mark-M-Naming
-ghosts-keeps_the_mark-M-Naming g a = record { table = a.blank.table.shared.table_id }
+ghosts-keeps_the_mark-M-Naming g a = record { table = a.blank }

@@ -4,4 +4,4 @@ abbrev pub ghosts-is_so-M-Opening : goal.ghosts-is_so-M-Opening
 ghosts-is_so-M-Opening g a = record { opening = a.core; workers = 1 }
 
 abbrev pub ghosts-is_so-M-Naming : goal.ghosts-is_so-M-Naming
-ghosts-is_so-M-Naming g a = record { table = a.blank.table.shared.table_id }
+ghosts-is_so-M-Naming g a = record { table = a.blank }

@@ -4,4 +4,4 @@ abbrev pub ghosts-run_on_loan-M-Opening : goal.ghosts-run_on_loan-M-Opening
 ghosts-run_on_loan-M-Opening g a = record { opening = a.core; workers = 1 }
 
 abbrev pub ghosts-run_on_loan-M-Naming : goal.ghosts-run_on_loan-M-Naming
-ghosts-run_on_loan-M-Naming g a = record { table = a.blank.table.shared.table_id }
+ghosts-run_on_loan-M-Naming g a = record { table = a.blank }

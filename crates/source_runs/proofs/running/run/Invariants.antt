@@ -5,4 +5,4 @@ abbrev pub ghosts-run_alone-M-Opening : goal.ghosts-run_alone-M-Opening
 ghosts-run_alone-M-Opening g a = record { opening = a.core; workers = 1 }
 
 abbrev pub ghosts-run_alone-M-Naming : goal.ghosts-run_alone-M-Naming
-ghosts-run_alone-M-Naming g a = record { table = a.blank.table.shared.table_id }
+ghosts-run_alone-M-Naming g a = record { table = a.blank }

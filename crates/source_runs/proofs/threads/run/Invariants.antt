@@ -5,4 +5,4 @@ abbrev pub ghosts-run_together-M-Opening : goal.ghosts-run_together-M-Opening
 ghosts-run_together-M-Opening g a = record { opening = a.core; workers = a.workers }
 
 abbrev pub ghosts-run_together-M-Naming : goal.ghosts-run_together-M-Naming
-ghosts-run_together-M-Naming g a = record { table = a.blank.table.shared.table_id }
+ghosts-run_together-M-Naming g a = record { table = a.blank }
