@@ -56,14 +56,13 @@ pub fn copy_step(progress: &mut Progress, heap: &mut Heap, layout: &Layout) -> b
     match progress.attempt.stage {
         Stage::Begins => begin_word(progress, heap, layout, twin.found, twin.copy),
         Stage::Loaded => {
-            let attempt = progress.attempt;
             store_word(
                 heap,
                 layout,
                 twin.found.object,
                 twin.copy,
                 progress.copied_words,
-                attempt,
+                &progress.attempt,
             );
             progress.place = twin.found.place;
             progress.attempt.stage = Stage::Stored;
@@ -82,34 +81,27 @@ fn begin_word(progress: &mut Progress, heap: &mut Heap, layout: &Layout, next: F
     ensures { (tree : Tree) → IsLayout tree layout.now → (c : Cell) → cell_in heap.old.spaces.old next.object ≡ Some c → (progress.new, heap.new) ≡ word_begun tree progress.old heap.old next.object c copy }
 {
     let word = progress.copied_words;
-    let attempt = load_word(heap, next.object, word, progress.attempt);
-    if attempt.failed_checks < MOST_FAILED_CHECKS {
+    load_word(heap, next.object, word, &mut progress.attempt);
+    if progress.attempt.failed_checks < MOST_FAILED_CHECKS {
         progress.place = next.place;
-        progress.attempt = attempt;
     } else {
+        let attempt = progress.attempt;
         pass_word(progress, heap, next);
-        store_word(heap, layout, next.object, copy, word, attempt);
+        store_word(heap, layout, next.object, copy, word, &attempt);
     }
 }
 
-/// The attempt with a word of an old object loaded: word 0 is the monitor, word n + 1 slot n.
-fn load_word(heap: &Heap, object: Addr, word: u32, attempt: Attempt) -> Attempt
+/// Loads a word of an old object into an attempt: word 0 is the monitor, word n + 1 slot n.
+fn load_word(heap: &Heap, object: Addr, word: u32, attempt: &mut Attempt)
     requires there { IsSome (cell_in heap.now.spaces.old object) }
     requires slot { (c : Cell) → cell_in heap.now.spaces.old object ≡ Some c → word ≤ length c.slots }
-    ensures { (c : Cell) → cell_in heap.now.spaces.old object ≡ Some c → result ≡ with_loaded c word attempt }
+    ensures { (c : Cell) → cell_in heap.now.spaces.old object ≡ Some c → attempt.new ≡ with_loaded c word attempt.old }
 {
+    attempt.stage = Stage::Loaded;
     if word == 0 {
-        Attempt {
-            stage: Stage::Loaded,
-            monitor: heap.cell_monitor(object),
-            ..attempt
-        }
+        attempt.monitor = heap.cell_monitor(object);
     } else {
-        Attempt {
-            stage: Stage::Loaded,
-            word: heap.slot(object, word - 1),
-            ..attempt
-        }
+        attempt.word = heap.slot(object, word - 1);
     }
 }
 
@@ -123,23 +115,22 @@ fn check_word(progress: &mut Progress, heap: &Heap, next: Found)
     requires few { progress.old.attempt.failed_checks < MOST_FAILED_CHECKS }
     ensures { (c : Cell) → cell_in heap.now.spaces.old next.object ≡ Some c → progress.new ≡ word_checked progress.old heap.now.spaces.old next.object c }
 {
-    let attempt = progress.attempt;
-    if has_loaded(heap, next.object, progress.copied_words, attempt) {
+    if has_loaded(heap, next.object, progress.copied_words, &progress.attempt) {
         pass_word(progress, heap, next);
     } else {
         progress.place = next.place;
         progress.attempt = Attempt {
-            failed_checks: attempt.failed_checks + 1,
+            failed_checks: progress.attempt.failed_checks + 1,
             ..Attempt::none()
         };
     }
 }
 
 /// Whether an old object still has the word that was loaded.
-fn has_loaded(heap: &Heap, object: Addr, word: u32, attempt: Attempt) -> bool
+fn has_loaded(heap: &Heap, object: Addr, word: u32, attempt: &Attempt) -> bool
     requires there { IsSome (cell_in heap.now.spaces.old object) }
     requires slot { (c : Cell) → cell_in heap.now.spaces.old object ≡ Some c → word ≤ length c.slots }
-    ensures { (c : Cell) → cell_in heap.now.spaces.old object ≡ Some c → result ≡ has_loaded attempt c word }
+    ensures { (c : Cell) → cell_in heap.now.spaces.old object ≡ Some c → result ≡ has_loaded attempt.now c word }
 {
     if word == 0 {
         is_same_monitor(heap.cell_monitor(object), attempt.monitor)
@@ -185,10 +176,10 @@ fn pass_word(progress: &mut Progress, heap: &Heap, next: Found)
 }
 
 /// Stores what was loaded of a word of an old object in its other copy: word 0 is the monitor, word n + 1 slot n. Nothing else changes.
-fn store_word(heap: &mut Heap, layout: &Layout, from: Addr, to: Addr, word: u32, attempt: Attempt)
+fn store_word(heap: &mut Heap, layout: &Layout, from: Addr, to: Addr, word: u32, attempt: &Attempt)
     requires monitors { IsSome (cell_in heap.old.spaces.old from) × IsSome (cell_at heap.old.spaces to) }
-    requires slots { 0 < word → IsForwardable layout.now heap.old from (word - 1) attempt.word × (word ≤ length (slots_at heap.old.spaces to)) }
-    ensures { (tree : Tree) → IsLayout tree layout.now → (c : Cell) → cell_in heap.old.spaces.old from ≡ Some c → heap.new ≡ word_stored tree heap.old attempt c to word }
+    requires slots { 0 < word → IsForwardable layout.now heap.old from (word - 1) attempt.now.word × (word ≤ length (slots_at heap.old.spaces to)) }
+    ensures { (tree : Tree) → IsLayout tree layout.now → (c : Cell) → cell_in heap.old.spaces.old from ≡ Some c → heap.new ≡ word_stored tree heap.old attempt.now c to word }
 {
     if word == 0 {
         heap.set_cell_monitor(to, attempt.monitor);

@@ -9,7 +9,7 @@ pub store_word-requires-clause-slots : goal.store_word-requires-clause-slots
 store_word-requires-clause-slots c = λ some. (
     let r = c.requires.slots some in
     let p = c.args.progress.now in
-    let word = loaded_word r.0.cell p.copied_words p.attempt c.load_word-attempt.result (c.load_word-attempt.ensures r.0.cell r.0.at) some in (
+    let word = loaded_word r.0.cell p.copied_words p.attempt c.load_word.new.attempt (c.load_word.ensures r.0.cell r.0.at) some in (
       record {
         tree = r.0.tree;
         laid = r.0.laid;
@@ -20,14 +20,14 @@ store_word-requires-clause-slots c = λ some. (
       r.1,
     ))
 
-pub returns-then-attempt-lt-MOST_FAILED_CHECKS : goal.returns-then-attempt-lt-MOST_FAILED_CHECKS
-returns-then-attempt-lt-MOST_FAILED_CHECKS c = λ tree laid cell at.
+pub returns-then-progress-lt-MOST_FAILED_CHECKS : goal.returns-then-progress-lt-MOST_FAILED_CHECKS
+returns-then-progress-lt-MOST_FAILED_CHECKS c = λ tree laid cell at.
     let p = c.args.progress.now in
     let o = c.args.heap.now in
-    ap (λ n. (record p { place = n; attempt = c.load_word-attempt.result }, o)) (ap (λ (f : Found). f.place) c.requires.place)
-    ∙ begun_loads tree p o c.args.next.object cell c.args.copy c.load_word-attempt.result (c.load_word-attempt.ensures cell at) c.if-attempt-lt-MOST_FAILED_CHECKS.true
+    ap (λ n. (record p { place = n; attempt = c.load_word.new.attempt }, o)) (ap (λ (f : Found). f.place) c.requires.place)
+    ∙ begun_loads tree p o c.args.next.object cell c.args.copy c.load_word.new.attempt (c.load_word.ensures cell at) c.if-progress-lt-MOST_FAILED_CHECKS.true
 
-pub returns-else-attempt-lt-MOST_FAILED_CHECKS : goal.returns-else-attempt-lt-MOST_FAILED_CHECKS
-returns-else-attempt-lt-MOST_FAILED_CHECKS c = λ tree laid cell at.
+pub returns-else-progress-lt-MOST_FAILED_CHECKS : goal.returns-else-progress-lt-MOST_FAILED_CHECKS
+returns-else-progress-lt-MOST_FAILED_CHECKS c = λ tree laid cell at.
     rw (c.pass_word.ensures cell at, c.store_word.ensures tree laid cell at)
-    (begun_stores tree c.args.progress.now c.args.heap.now c.args.next.object cell c.args.copy c.load_word-attempt.result (c.load_word-attempt.ensures cell at) c.if-attempt-lt-MOST_FAILED_CHECKS.false)
+    (begun_stores tree c.args.progress.now c.args.heap.now c.args.next.object cell c.args.copy c.load_word.new.attempt (c.load_word.ensures cell at) c.if-progress-lt-MOST_FAILED_CHECKS.false)
