@@ -114,7 +114,7 @@ impl Space {
         ensures own { IsSome (cell_in self.now address) → result ≡ true }
         ensures range { result ≡ true → (self.now.start ≤ address.number) × (address.number < self.now.start + MOST_WORDS) }
     {
-        self.start <= address.number && address.number - self.start < MOST_WORDS
+        address.number.wrapping_sub(self.start) < MOST_WORDS
     }
 
     /// The object that begins behind so many words of the block. None where these are the words of all objects.
