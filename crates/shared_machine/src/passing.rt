@@ -1,6 +1,7 @@
 //! A worker's pass.
 
-ghost use Rattle.std.specs.Prelude.{◌≡◌, ◌<◌, ℕ};
+ghost use Rattle.std.specs.Prelude.{◌≡◌, ◌<◌, ◌≤◌, ℕ};
+ghost use Rattle.cil_model.specs.declared.limits.TheConstants.{MOST_THREADS};
 ghost use Rattle.cil_model.specs.declared.events.Event.TheVariants.{Step as StepOf};
 ghost use Rattle.shared_machine.specs.Work.{HasWorked, IsHeraldOf, IsOwn, IsSeatOf, is_driven_by};
 
@@ -10,7 +11,6 @@ use crate::finding::{Findings, found_in};
 use crate::shared::Shared;
 use crate::world::{Lent, Opening, World, check_in, lend, perform, run_local, stop};
 use cil_model::events::Event;
-use cil_model::limits::MOST_THREADS;
 use cil_model::reports::Report;
 use epoch_words::{Epochs, Herald, Seat};
 use std::alloc::Global;
@@ -79,7 +79,12 @@ fn is_driven_by(workers: u8, worker: u8, thread: u8) -> bool
     requires { 0 < workers }
     ensures { result ≡ is_driven_by workers worker thread }
 {
-    thread % workers == worker
+    // A division costs more than the rest of a look at a thread.
+    if workers == 1 {
+        worker == 0
+    } else {
+        thread % workers == worker
+    }
 }
 
 /// Does an event as `perform` does it. Where it is one of the worker's own, the worker has done nothing else.
@@ -149,11 +154,12 @@ fn step_each<'s, M: Opening, R: Wait>(
     workers: u8,
     found: &Findings,
 ) -> (Progress, MutexGuard<'s, World<M>>)
-    requires { 0 < workers }
+    requires some { 0 < workers }
+    requires few { found.now.started ≤ MOST_THREADS }
     ensures { HasWorked workers ticket.old ticket.new }
 {
     let mut progress = Progress::None;
-    for thread in 0..MOST_THREADS {
+    for thread in 0..found.started {
         let number = thread as u8;
         if found.live[thread] && is_driven_by(workers, ticket.worker(), number) {
             let (came, held) = go_on(rt, alloc, shared, world, ticket, number);
@@ -176,10 +182,11 @@ fn acknowledge_each<M: Opening>(
     workers: u8,
     found: &Findings,
 ) -> Progress
-    requires { 0 < workers }
+    requires some { 0 < workers }
+    requires few { found.now.started ≤ MOST_THREADS }
     ensures { HasWorked workers ticket.old ticket.new }
 {
-    for thread in 0..MOST_THREADS {
+    for thread in 0..found.started {
         let number = thread as u8;
         if found.live[thread] && is_driven_by(workers, ticket.worker(), number) {
             let answer = ask(alloc, world, ticket, Event::Ack(number));
@@ -192,44 +199,33 @@ fn acknowledge_each<M: Opening>(
 }
 
 /// Polls, and, where the number is newer than the last one acknowledged, has each of the worker's threads acknowledge, and then
-/// acknowledges itself.
+/// acknowledges itself. It gives back the seat and the number that is acknowledged now.
 fn acknowledge<M: Opening>(
     alloc: Global,
     epochs: &Epochs,
     world: &mut World<M>,
-    worker: Worker<M>,
+    ticket: &mut Ticket<M>,
+    seat: Seat,
+    acknowledged: u64,
     workers: u8,
     found: &Findings,
-) -> (Progress, Worker<M>)
+) -> (Progress, Seat, u64)
     requires some { 0 < workers }
-    requires here { IsSeatOf epochs.now worker.seat × IsHeraldOf epochs.now worker.herald }
-    ensures here { IsSeatOf epochs.now result.1.seat × IsHeraldOf epochs.now result.1.herald }
-    ensures worked { HasWorked workers worker.ticket result.1.ticket }
+    requires few { found.now.started ≤ MOST_THREADS }
+    requires here { IsSeatOf epochs.now seat }
+    ensures here { IsSeatOf epochs.now result.1 }
+    ensures worked { HasWorked workers ticket.old ticket.new }
 {
-    let Worker {
-        mut ticket,
-        seat,
-        mut acknowledged,
-        herald,
-    } = worker;
-    let (posted, mut seat) = epochs.poll(seat);
-    let mut progress = Progress::None;
-    if posted > acknowledged {
-        progress = acknowledge_each(alloc, world, &mut ticket, workers, found);
-        if progress.lasts() {
-            seat = epochs.ack(seat);
-            acknowledged = posted;
-        }
+    let (posted, seat) = epochs.poll(seat);
+    if posted <= acknowledged {
+        return (Progress::None, seat, acknowledged);
     }
-    (
-        progress,
-        Worker {
-            ticket,
-            seat,
-            acknowledged,
-            herald,
-        },
-    )
+    let progress = acknowledge_each(alloc, world, ticket, workers, found);
+    if progress.lasts() {
+        (progress, epochs.ack(seat), posted)
+    } else {
+        (progress, seat, acknowledged)
+    }
 }
 
 /// Posts the next number, where the herald is here.
@@ -282,29 +278,42 @@ pub(crate) fn pass<M: Opening, R: Wait>(
     ensures here { IsSeatOf epochs.now result.1.seat × IsHeraldOf epochs.now result.1.herald }
     ensures worked { HasWorked workers worker.ticket result.1.ticket }
 {
+    let Worker {
+        mut ticket,
+        seat,
+        acknowledged,
+        mut herald,
+    } = worker;
     let mut world = shared.lock(rt);
     let found = found_in(&*world);
-    let (mut progress, mut worker) = acknowledge(
+    let (mut progress, seat, acknowledged) = acknowledge(
         alloc,
         epochs,
         &mut *world,
-        worker,
+        &mut ticket,
+        seat,
+        acknowledged,
         workers,
         &found,
     );
     if progress.lasts() {
-        let ticket = &mut worker.ticket;
-        let (came, held) = step_each(rt, alloc, shared, world, ticket, workers, &found);
+        let (came, held) = step_each(rt, alloc, shared, world, &mut ticket, workers, &found);
         world = held;
         progress = progress.then(came);
     }
     if progress.lasts() {
-        let (ticket, herald) = (&mut worker.ticket, &mut worker.herald);
-        progress = progress.then(collect(alloc, epochs, &mut *world, ticket, herald));
+        let came = collect(alloc, epochs, &mut *world, &mut ticket, &mut herald);
+        progress = progress.then(came);
     }
     if !progress.lasts() {
         stop(&mut *world);
     }
     let is_last = found.is_last;
+    let worker = Worker {
+        ticket,
+        seat,
+        acknowledged,
+        herald,
+    };
     (Passed { progress, is_last }, worker)
 }
