@@ -7,5 +7,7 @@ pub mod Refusals
 pub mod Statics
 pub mod Positions
 pub mod Waits
+pub mod Monitors
+pub mod Forwards
 pub mod Histories
 pub mod Loans

@@ -17,12 +17,14 @@ ghost use Rattle.simulation.specs.MachineContents.{mutator_of};
 ghost use Rattle.simulation.specs.Ready.{CanFinish};
 ghost use Rattle.simulation.specs.Turns.{IsTurn, TakesMemory, answered, counted, finish, live_thread, seated, started, thread_for};
 ghost use Rattle.interleaving_core.specs.Views.{CanGoOn, content_of, end_at};
+ghost use Rattle.interleaving_core.specs.Monitors.{next_monitor};
 ghost use Rattle.interleaving_core.specs.Positions.{position_at};
 ghost use Rattle.interleaving_core.specs.Waits.{wait_at};
 ghost use Rattle.interleaving_core.specs.Finishing.{IsInstructed};
 
 use crate::beginnings::beginning_on;
 use crate::cycle_memory::CycleMemory;
+use crate::monitors::monitor_in;
 use crate::positions::{Position, position_in};
 use crate::steps::{answer, instruct, leave_if_ended, seat_started};
 use crate::waits::{Wait, wait_in};
@@ -240,6 +242,18 @@ impl Engine {
     {
         match &self.thread(thread)?.standing {
             Standing::Live(frames) => wait_in(self, thread, frames),
+            Standing::Ended(_) => None,
+        }
+    }
+
+    /// The object whose monitor the thread's next instruction is for. None where it is for none, and where the thread has ended or was
+    /// never started.
+    pub fn monitor_of(&self, thread: u8) -> Option<Addr>
+        requires ready { CanGoOn self.now }
+        ensures { result ≡ next_monitor (content_of self.now) thread }
+    {
+        match &self.thread(thread)?.standing {
+            Standing::Live(frames) => monitor_in(&self.program, frames),
             Standing::Ended(_) => None,
         }
     }

@@ -9,7 +9,10 @@ ghost use Rattle.reference_machine.specs.States.{State};
 ghost use Rattle.object_memory.specs.Cells.{used_words};
 ghost use Rattle.object_memory.specs.Objects.{used_space, whole_space};
 ghost use Rattle.threads_monitors.specs.Threads.{end_of, is_live, is_live_at};
+ghost use Rattle.simulation.specs.instructions.barriers.Barriers.{are_same};
+ghost use Rattle.interleaving_core.specs.Forwards.{forwarded};
 ghost use Rattle.interleaving_core.specs.Histories.{DoesMore, HasDone};
+ghost use Rattle.interleaving_core.specs.Monitors.{next_monitor};
 ghost use Rattle.interleaving_core.specs.Views.{end_at, phase_at};
 ghost use Rattle.interleaving_core.specs.Positions.{position_at};
 ghost use Rattle.interleaving_core.specs.Waits.{wait_at};
@@ -19,6 +22,7 @@ ghost use Rattle.simulation.specs.interpreter.Local.{IsNextLocal};
 ghost use Rattle.threads_monitors.specs.Frames.{Frames};
 ghost use Rattle.interleaving_core.specs.Loans.{Begins, IsAtOrigin};
 ghost use Rattle.cil_model.specs.declared.events.Event.TheVariants.{Step as StepOf};
+ghost use Rattle.cil_model.specs.declared.phases.Phase.TheVariants.{Copy as CopyOf};
 ghost use Rattle.cil_model.specs.declared.reports.Report.TheVariants.{Ran as RanOf};
 ghost use Rattle.interleaving_core.specs.Refusals.{number_of};
 ghost use Rattle.simulation.specs.Runs.{AreTurns, FollowsReference};
@@ -35,6 +39,7 @@ use cil_model::memory::NoMemory;
 use cil_model::phases::Phase;
 use cil_model::reports::{End, Report};
 use cil_model::trees::Tree;
+use object_memory::Addr;
 use std::alloc::{AllocError, Global};
 use std::marker::Model;
 use thiserror::Error;
@@ -250,6 +255,38 @@ impl Machine {
     {
         let _engine = &self.engine;
         self.engine.wait_of(thread)
+    }
+
+    /// The object whose monitor the next instruction of a thread enters or leaves (ECMA-335 I.12.6.5), as the thread refers to it. None
+    /// where it does neither or does it with null, and where the thread has ended or was never started. It takes no memory.
+    ///
+    /// While a cycle is open two addresses may be of one object (`is_same`), and once it has ended, some are of none (`forwarded`).
+    pub fn monitor_of(&self, thread: u8) -> Option<Addr>
+        ensures { result ≡ next_monitor self.now thread }
+    {
+        let _engine = &self.engine;
+        self.engine.monitor_of(thread)
+    }
+
+    /// The address that an object has once the open cycle has ended: of an old object that of its new copy, of an object of the new space
+    /// its own, and so of a literal. None of an old object without a copy, of null, of what is no object's address, and of all but
+    /// literals while no cycle is open. From `ThreadFlip` on each object that a thread can still reach has one.
+    ///
+    /// It may be asked of any address. While a cycle is open it takes as long as there are objects; it takes no memory.
+    pub fn forwarded(&self, address: Addr) -> Option<Addr>
+        ensures { result ≡ forwarded self.now.objects address }
+    {
+        let _engine = &self.engine;
+        self.engine.forwarded(address)
+    }
+
+    /// Whether two addresses are of one object, or equal: as `ceq` compares them in the phase `Copy` (ECMA-335 III.1.5, table 4). It may be
+    /// asked of any two, and takes as long as `forwarded`.
+    pub fn is_same(&self, first: Addr, second: Addr) -> bool
+        ensures { result ≡ are_same CopyOf self.now.objects first second }
+    {
+        let _engine = &self.engine;
+        self.engine.is_same(first, second)
     }
 
     /// The program that it runs, as a tree, which is the same for ever.

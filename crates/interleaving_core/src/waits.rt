@@ -48,7 +48,7 @@ fn called_member(operation: &Operation) -> Option<MemberNumber>
 }
 
 /// The built-in member that the running frame is about to call, by what it does. None where its next instruction calls no such member.
-fn action_at(program: &LoadedProgram, frames: &FrameMemory) -> Option<Action>
+pub(crate) fn action_at(program: &LoadedProgram, frames: &FrameMemory) -> Option<Action>
     requires place { IsSome (line_at program.now frames.now) }
     ensures action { option_map action_named result ≡ action_at program.now frames.now }
     ensures at { (operation : AnyOperation) × IsAt program.now frames.now operation }
@@ -59,7 +59,7 @@ fn action_at(program: &LoadedProgram, frames: &FrameMemory) -> Option<Action>
 }
 
 /// The topmost value of the running frame's stack, where it is a reference. None where there is none.
-fn top_reference(frames: &FrameMemory) -> Option<Addr>
+pub(crate) fn top_reference(frames: &FrameMemory) -> Option<Addr>
     ensures { result ≡ top_reference frames.now.running.stack }
 {
     if frames.stack_height() == 0 {
