@@ -1,0 +1,138 @@
+-- Pictures, event by event.
+use Rattle.std.proofs.Common.{◌≡◌, ◌+◌, ◌<◌, ◌≤◌, ◌⊎◌, ℕ, List, [], ◌∷◌, ◌++◌, length, take, get_or, replicate, Option, inl, inr, refl, sym, ap, subst, ◌∙◌, arith, zero-add}
+use Rattle.std.proofs.Math.Seq.{take-append_seam}
+use Rattle.std.proofs.lemmas.List.{append_assoc, length-append, take_all}
+use Rattle.std.specs.Io.KnownBytes.{Appends}
+use Rattle.cil_model.specs.declared.events.Event.{Event}
+use Rattle.cil_model.specs.declared.reports.Report.{Report}
+use Rattle.schedule_text.specs.Items.{events_of}
+use Rattle.schedule_text.specs.declared.items.Item.{Item}
+use Rattle.schedule_text.proofs.SoFar.{so_far, so_far_all, so_far_before, so_far_more, so_far_none}
+use Rattle.interleaving_core.specs.simulation.MachineContents.{Content}
+use Rattle.interleaving_core.specs.simulation.Runs.{AreTurns}
+use Rattle.interleaving_core.specs.simulation.Turns.{IsTurn}
+use Rattle.interleaving_core.proofs.Following.{SameProgram, turns_length, turns_more, turns_program}
+use Rattle.outputs.specs.Beginnings.{AppendsBeginning}
+use Rattle.run_picture.specs.Pictures.{IsDrawing, IsDrawn, IsPicture, IsPictureInPart}
+use Rattle.run_picture.specs.Paths.{HasRow}
+use Rattle.run_picture.specs.Rows.{drawn_rows, number_in, numbers_of}
+use Rattle.run_picture.specs.Windows.{clamped}
+use Rattle.run_picture.specs.declared.rows.TheConstants.{ROWS}
+use Rattle.run_picture.specs.declared.windows.Window.{Window}
+use Rattle.run_picture.proofs.RowLaws.{many_drawn, numbers_more, row_drawn, rows_empty}
+
+-- the events are done, and the rows draw those in the window
+pub record SketchedSoFar (c : Content) (es : List Event) (d : Content) (w : Window) (rows : List (List ℕ)) : Type 0 where
+  pub reports : List Report
+  pub turns : AreTurns c es d reports
+  pub many : length rows ≡ ROWS
+  pub drawn : (row : ℕ) → row < ROWS → get_or rows row [] ≡ numbers_of w row 0 es reports
+
+pub sketch_begun : (c : Content) (w : Window) (rows : List (List ℕ)) → rows ≡ replicate ROWS [] → length rows ≡ ROWS → SketchedSoFar c [] c w rows
+sketch_begun c w rows e many = record { reports = []; turns = (refl, refl); many = many; drawn = λ row within. rows_empty rows row e within }
+
+pub sketch_step : (c d after : Content) (es : List Event) (w : Window) (n : ℕ) (e : Event) (r : Report) (rows more : List (List ℕ)) → n ≡ length es → SketchedSoFar c es d w rows → IsTurn d e (after, r) →
+    more ≡ drawn_rows w n e r rows → SketchedSoFar c (es ++ e ∷ []) after w more
+sketch_step c d after es w n e r rows more is h turn drew = record {
+  reports = h.reports ++ r ∷ [];
+  turns = turns_more c d after es h.reports e r h.turns turn;
+  many = ap length drew ∙ many_drawn w n e r rows ∙ h.many;
+  drawn = λ row within.
+      ap (λ (l : List (List ℕ)). get_or l row []) drew ∙ row_drawn w n e r rows row h.many ∙ ap (λ l. l ++ number_in w row n e r) (h.drawn row within)
+      ∙ ap (λ m. numbers_of w row 0 es h.reports ++ number_in w row m e r) (is ∙ sym (zero-add (length es)))
+      ∙ sym (numbers_more w row 0 es h.reports e r (turns_length c d es h.reports h.turns));
+}
+
+pub same_so_far : (c d : Content) (es : List Event) (w : Window) (rows : List (List ℕ)) → SketchedSoFar c es d w rows → SameProgram c d
+same_so_far c d es w rows h = turns_program c d es h.reports h.turns
+
+-- ---- all events are done
+
+module _ (c d : Content) (es : List Event) (window : Window) (rows : List (List ℕ)) (text : List ℕ) (h : SketchedSoFar c es d (clamped window) rows) (drawn : IsDrawn text rows) where
+  drawing : IsDrawing window es h.reports text
+  drawing = record {
+    formed = drawn.formed;
+    rows = λ row within. subst (HasRow text) (h.drawn row within) (drawn.paths row (omega (arith, h.many, within)));
+  }
+
+  pub all_drawn : (out out' : Option (List ℕ)) → Appends out out' text → (reports : List Report) × IsPicture c es d reports window out out'
+  all_drawn out out' k = (h.reports, record { turns = h.turns; each = turns_length c d es h.reports h.turns; text = text; drawing = drawing; appended = k })
+
+  pub write_cut : (out out' : Option (List ℕ)) → AppendsBeginning out out' text → IsPictureInPart c es d window out out'
+  write_cut out out' k = record {
+    count = length es;
+    within = omega arith;
+    reports = h.reports;
+    turns = subst (λ l. AreTurns c l d h.reports) (sym (take_all (length es) es (omega arith))) h.turns;
+    begun = inr (text, drawing, refl, k);
+  }
+
+-- ---- not all events are done
+
+pub nothing_done : (c : Content) (es : List Event) (window : Window) (out : Option (List ℕ)) → IsPictureInPart c es c window out out
+nothing_done c es window out = record { count = 0; within = omega arith; reports = []; turns = (refl, refl); begun = inl refl }
+
+-- no more events are done
+pub stopped_before : (c d after : Content) (all es rest : List Event) (w window : Window) (rows : List (List ℕ)) (out : Option (List ℕ)) → all ≡ es ++ rest → SketchedSoFar c es d w rows → after ≡ d → IsPictureInPart c all after window out out
+stopped_before c d after all es rest w window rows out split h same =
+    let front : es ≡ take (length es) all = sym (ap (take (length es)) split ∙ take-append_seam es rest) in
+    record {
+      count = length es;
+      within = omega (arith, ap length split, length-append es rest);
+      reports = h.reports;
+      turns = subst (λ l. AreTurns c l after h.reports) front (subst (λ y. AreTurns c es y h.reports) (sym same) h.turns);
+      begun = inl refl;
+    }
+
+-- the next event isn't done, or it is
+pub stopped_at : (c d after : Content) (all es : List Event) (e : Event) (rest : List Event) (w window : Window) (rows : List (List ℕ)) (out : Option (List ℕ)) → all ≡ es ++ e ∷ rest → SketchedSoFar c es d w rows →
+    (after ≡ d) ⊎ ((r : Report) × IsTurn d e (after, r)) → IsPictureInPart c all after window out out
+stopped_at c d after all es e rest w window rows out split h (inl same) = stopped_before c d after all es (e ∷ rest) w window rows out split h same
+stopped_at c d after all es e rest w window rows out split h (inr done) =
+    let whole : all ≡ (es ++ e ∷ []) ++ rest = split ∙ sym (append_assoc es (e ∷ []) rest) in
+    let front : es ++ e ∷ [] ≡ take (length (es ++ e ∷ [])) all = sym (ap (take (length (es ++ e ∷ []))) whole ∙ take-append_seam (es ++ e ∷ []) rest) in
+    record {
+      count = length (es ++ e ∷ []);
+      within = omega (arith, ap length whole, length-append (es ++ e ∷ []) rest);
+      reports = h.reports ++ done.0 ∷ [];
+      turns = subst (λ l. AreTurns c l after (h.reports ++ done.0 ∷ [])) front (turns_more c d after es h.reports e done.0 h.turns done.1);
+      begun = inl refl;
+    }
+
+-- ---- item by item
+
+module _ (c d : Content) (items : List Item) (i : ℕ) (w : Window) (rows : List (List ℕ)) where
+  pub sketched_none : (e : Event) → SketchedSoFar c (events_of (take i items)) d w rows → SketchedSoFar c (so_far items i e 0) d w rows
+  sketched_none e h = subst (λ es. SketchedSoFar c es d w rows) (sym (so_far_none items i e)) h
+
+  pub sketched_time : (e : Event) (k n : ℕ) (r : Report) (after : Content) (more : List (List ℕ)) (own : Window) → own ≡ w → n ≡ length (so_far items i e k) → SketchedSoFar c (so_far items i e k) d w rows → IsTurn d e (after, r) →
+      more ≡ drawn_rows own n e r rows → SketchedSoFar c (so_far items i e (k + 1)) after w more
+  sketched_time e k n r after more own same is h turn drew =
+      subst (λ es. SketchedSoFar c es after w more) (so_far_more items i e k)
+      (sketch_step c d after (so_far items i e k) w n e r rows more is h turn (drew ∙ ap (λ (v : Window). drawn_rows v n e r rows) same))
+
+  pub sketched_item : (x : Item) (k : ℕ) → i < length items → (get_or items i x).count ≤ k → k ≤ (get_or items i x).count → SketchedSoFar c (so_far items i (get_or items i x).event k) d w rows →
+      SketchedSoFar c (events_of (take (i + 1) items)) d w rows
+  sketched_item x k below past within h =
+      let all : k ≡ (get_or items i x).count = omega (arith, past, within) in
+      subst (λ es. SketchedSoFar c es d w rows) (ap (λ m. so_far items i (get_or items i x).event m) all ∙ so_far_all items i x below) h
+
+  pub item_cut : (x : Item) (k : ℕ) (after : Content) (window : Window) (out : Option (List ℕ)) → i < length items → k < (get_or items i x).count → SketchedSoFar c (so_far items i (get_or items i x).event k) d w rows →
+      (after ≡ d) ⊎ ((r : Report) × IsTurn d (get_or items i x).event (after, r)) → IsPictureInPart c (events_of items) after window out out
+  item_cut x k after window out below few h cut =
+      let e = (get_or items i x).event in
+      stopped_at c d after (events_of items) (so_far items i e k) e _ w window rows out (so_far_before items i x below k few) h cut
+
+-- ---- how many events there are so far
+
+module _ (items : List Item) (i n : ℕ) where
+  pub number_none : (e : Event) → n ≡ length (events_of (take i items)) → n ≡ length (so_far items i e 0)
+  number_none e is = is ∙ ap length (sym (so_far_none items i e))
+
+  pub number_time : (e : Event) (k next : ℕ) → next ≡ n + 1 → n ≡ length (so_far items i e k) → next ≡ length (so_far items i e (k + 1))
+  number_time e k next more is = more ∙ ap (λ m. m + 1) is ∙ sym (length-append (so_far items i e k) (e ∷ [])) ∙ ap length (so_far_more items i e k)
+
+  pub number_item : (x : Item) (k : ℕ) → i < length items → (get_or items i x).count ≤ k → k ≤ (get_or items i x).count → n ≡ length (so_far items i (get_or items i x).event k) → n ≡ length (events_of (take (i + 1) items))
+  number_item x k below past within is =
+      let all : k ≡ (get_or items i x).count = omega (arith, past, within) in
+      is ∙ ap length (ap (λ m. so_far items i (get_or items i x).event m) all ∙ so_far_all items i x below)

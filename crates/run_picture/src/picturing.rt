@@ -1,0 +1,140 @@
+//! Runs a machine by the events that items stand for, and draws those of a window.
+
+ghost use Rattle.std.specs.Prelude.{◌≡◌, ◌⊎◌, ◌+◌, IfOk, OnErr, OnOk, List, [], replicate, string_bytes};
+ghost use Rattle.cil_model.specs.declared.reports.Report.{Report as AnyReport};
+ghost use Rattle.interleaving_core.specs.simulation.Turns.{IsTurn};
+ghost use Rattle.schedule_text.specs.Items.{events_of};
+ghost use Rattle.event_trace.specs.Places.{ArePlacesOf};
+ghost use Rattle.run_picture.specs.Pictures.{IsDrawn, IsPicture, IsPictureInPart};
+ghost use Rattle.run_picture.specs.Rows.{drawn_rows};
+ghost use Rattle.run_picture.specs.declared.rows.TheConstants.{ROWS};
+
+use crate::document::document;
+use crate::errors::PictureError;
+use crate::layout::Layout;
+use crate::rows::{Rows, row_of};
+use crate::scene::Scene;
+use crate::seeing::{Before, Done};
+use crate::windows::Window;
+use cil_model::events::Event;
+use cil_model::memory::NoMemory;
+use cil_model::reports::Report;
+use event_trace::MethodPlaces;
+use interleaving_core::Machine;
+use outputs::Output;
+use schedule_text::Item;
+use std::alloc::{AllocError, Global};
+
+/// Does the events that these items stand for in order, as `Machine::run` does, and writes a picture of those of the window: one document
+/// of SVG, which is put together in memory and written once, at the end.
+///
+/// Of a window with more events than `MOST_EVENTS` the first ones are drawn, and where it has none, the picture is of none. It takes memory for
+/// the document and what is gathered for it, and no more than the machine itself for events. It stops at the first want of memory, before
+/// anything is written, with `Memory`; with `Device` where the write fails, of which a beginning of the document is left.
+pub fn picture<W: Output>(
+    alloc: Global,
+    machine: &mut Machine,
+    items: &[Item],
+    window: Window,
+    out: &mut W,
+) -> Result<(), PictureError>
+    ensures drawn { OnOk result ((reports : List AnyReport) × IsPicture machine.old (events_of items.now) machine.new reports window (W.contents out.old) (W.contents out.new)) }
+    ensures same { (machine.new.tree ≡ machine.old.tree) × (machine.new.limits ≡ machine.old.limits) }
+    ensures stopped { OnErr result (IsPictureInPart machine.old (events_of items.now) machine.new window (W.contents out.old) (W.contents out.new)) }
+{
+    let methods = MethodPlaces::new(alloc, machine.tree())?;
+    let mut sketch = Sketch::new(alloc, machine, window.clamped())?;
+    let mut number = 0;
+    for item in items {
+        for _time in 0..item.count {
+            sketch.perform(alloc, machine, &methods, number, item.event)?;
+            number = next_number(number)?;
+        }
+    }
+    let document = sketch.document(alloc, machine, number)?;
+    out.write_whole(document.as_str().as_bytes())?;
+    Ok(())
+}
+
+/// The number of the next event. `Memory` where no `usize` holds it.
+fn next_number(number: usize) -> Result<usize, PictureError>
+    ensures { IfOk result (λ next. next ≡ number + 1) }
+{
+    match number.checked_add(1) {
+        Some(next) => Ok(next),
+        None => Err(PictureError::Memory),
+    }
+}
+
+/// What is gathered for a picture.
+#[derive(Drop)]
+struct Sketch {
+    window: Window,
+    rows: Rows,
+    scene: Scene,
+}
+
+impl Sketch {
+    /// A sketch of a machine before its events: nothing is drawn.
+    fn new(alloc: Global, machine: &Machine, window: Window) -> Result<Sketch, NoMemory>
+        ensures { IfOk result (λ sketch. (sketch.window ≡ window) × (sketch.rows.rows.items ≡ replicate ROWS [])) }
+    {
+        let rows = Rows::new(alloc)?;
+        let scene = Scene::before(alloc, machine, window.first.saturating_sub(1))?;
+        Ok(Sketch {
+            window,
+            rows,
+            scene,
+        })
+    }
+
+    /// Does the event of this number, from 0, and draws it.
+    fn perform(
+        &mut self,
+        alloc: Global,
+        machine: &mut Machine,
+        methods: &MethodPlaces,
+        number: usize,
+        event: Event,
+    ) -> Result<(), NoMemory>
+        requires { ArePlacesOf machine.old.tree methods.now }
+        ensures done { OnOk result ((report : AnyReport) × IsTurn machine.old event (machine.new, report) × (self.new.rows.rows.items ≡ drawn_rows self.old.window number event report self.old.rows.rows.items)) }
+        ensures window { self.new.window ≡ self.old.window }
+        ensures same { (machine.new.tree ≡ machine.old.tree) × (machine.new.limits ≡ machine.old.limits) }
+        ensures stopped { OnErr result ((machine.new ≡ machine.old) ⊎ ((report : AnyReport) × IsTurn machine.old event (machine.new, report))) }
+    {
+        let before = Before::new(machine, event);
+        let report = machine.step(alloc, event)?;
+        self.draw(number, event, report)?;
+        if number < self.window.last {
+            let done = Done {
+                at: number.max(self.window.first.saturating_sub(1)),
+                is_drawn: self.window.has(number),
+                event,
+                report,
+                before,
+            };
+            self.scene.see(alloc, machine, methods, done)?;
+        }
+        Ok(())
+    }
+
+    /// Draws an event in its row, where it is in the window.
+    fn draw(&mut self, number: usize, event: Event, report: Report) -> Result<(), AllocError>
+        ensures drawn { OnOk result (self.new.rows.rows.items ≡ drawn_rows self.old.window number event report self.old.rows.rows.items) }
+        ensures window { self.new.window ≡ self.old.window }
+    {
+        if self.window.has(number) {
+            self.rows.draw(row_of(event, report), number)?;
+        }
+        Ok(())
+    }
+
+    /// The document of so many events.
+    fn document(&self, alloc: Global, machine: &Machine, events: usize) -> Result<String, NoMemory>
+        ensures { IfOk result (λ text. IsDrawn (string_bytes text) self.now.rows.rows.items) }
+    {
+        let layout = Layout::new(self.window, events, &self.scene);
+        document(alloc, machine, &layout, &self.scene, &self.rows)
+    }
+}

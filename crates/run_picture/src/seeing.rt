@@ -1,0 +1,291 @@
+//! What is gathered of an event.
+
+ghost use Rattle.event_trace.specs.Places.{ArePlacesOf};
+
+use crate::changes::HeapChange;
+use crate::scene::{Acknowledgement, Deadlock, Lane, LaneEnd, Print, Scene};
+use crate::tips::TipText;
+use cil_model::events::Event;
+use cil_model::limits::MOST_THREADS;
+use cil_model::memory::NoMemory;
+use cil_model::reports::{End, Report};
+use event_trace::{InstructionPlace, MethodPlaces, deadlocked_threads, instruction_at};
+use instruction_text::MethodNameText;
+use interleaving_core::{Machine, Position, Wait};
+use std::alloc::{AllocError, Global};
+use std::fmt::Write;
+
+/// What a machine was like before an event.
+#[derive(Clone, Copy)]
+pub(crate) struct Before {
+    /// Where the event's thread was.
+    position: Option<Position>,
+    /// How many bytes were printed.
+    printed: usize,
+}
+
+impl Before {
+    pub(crate) fn new(machine: &Machine, event: Event) -> Before {
+        Before {
+            position: match event {
+                Event::Step(thread) | Event::Ack(thread) => machine.position_of(thread),
+                Event::Gc => None,
+            },
+            printed: machine.console().len(),
+        }
+    }
+}
+
+/// An event that is done.
+#[derive(Clone, Copy)]
+pub(crate) struct Done {
+    /// Its number from 0, or that of the first one that is drawn, if it is before that.
+    pub(crate) at: usize,
+    /// Whether it is drawn.
+    pub(crate) is_drawn: bool,
+    pub(crate) event: Event,
+    pub(crate) report: Report,
+    pub(crate) before: Before,
+}
+
+impl Done {
+    /// The thread whose step it is, where it is drawn.
+    fn starter(self) -> Option<u8> {
+        match self.event {
+            Event::Step(thread) if self.is_drawn => Some(thread),
+            _ => None,
+        }
+    }
+
+    /// The event behind which its effects are seen.
+    fn after(self) -> usize {
+        if self.is_drawn {
+            self.at.saturating_add(1)
+        } else {
+            self.at
+        }
+    }
+}
+
+impl Scene {
+    /// What is to be seen of a machine before the first event that is drawn, which has this number.
+    pub(crate) fn before(alloc: Global, machine: &Machine, at: usize) -> Result<Scene, NoMemory> {
+        let mut scene = Scene::new(alloc);
+        scene.see_threads(alloc, machine, at, None)?;
+        scene.see_machine(machine, at)?;
+        Ok(scene)
+    }
+
+    /// Gathers what is to be seen of an event that is done.
+    pub(crate) fn see(
+        &mut self,
+        alloc: Global,
+        machine: &Machine,
+        methods: &MethodPlaces,
+        done: Done,
+    ) -> Result<(), NoMemory>
+        requires { ArePlacesOf machine.now.tree methods.now }
+    {
+        self.see_threads(alloc, machine, done.after(), done.starter())?;
+        self.see_machine(machine, done.after())?;
+        match done.event {
+            Event::Step(thread) => {
+                if self.see_step(machine, methods, thread, done)? {
+                    self.see_deadlock(alloc, machine, done.at)?;
+                }
+                self.see_print(machine, thread, done)?;
+            }
+            Event::Ack(thread) => self.see_acknowledgement(machine, thread, done)?,
+            Event::Gc => self.see_collector(done),
+        }
+        if done.is_drawn {
+            self.tips.add(
+                done.at,
+                TipText {
+                    number: done.at.saturating_add(1),
+                    event: done.event,
+                    report: done.report,
+                    before: instruction_at(machine, methods, done.before.position),
+                },
+            )?;
+        }
+        Ok(())
+    }
+
+    /// The threads that were started by now, the last ones by this thread.
+    fn see_threads(
+        &mut self,
+        alloc: Global,
+        machine: &Machine,
+        at: usize,
+        starter: Option<u8>,
+    ) -> Result<(), AllocError> {
+        for number in self.lanes.len()..machine.started() {
+            let mut lane = Lane::new(alloc, at, starter);
+            if let Some(phase) = machine.phase_of(number as u8) {
+                lane.phases.set(at, phase)?;
+            }
+            self.lanes.push(lane)?;
+        }
+        Ok(())
+    }
+
+    /// The heap, and the phase that is posted.
+    fn see_machine(&mut self, machine: &Machine, at: usize) -> Result<(), NoMemory> {
+        self.posted.set(at, machine.posted())?;
+        let (old_words, new_words) = machine.used();
+        self.heap.set(HeapChange {
+            at,
+            old_words,
+            new_words,
+        })?;
+        Ok(())
+    }
+
+    /// A step of a thread. Says whether the thread waits from this one on.
+    fn see_step(
+        &mut self,
+        machine: &Machine,
+        methods: &MethodPlaces,
+        thread: u8,
+        done: Done,
+    ) -> Result<bool, NoMemory>
+        requires { ArePlacesOf machine.now.tree methods.now }
+    {
+        let Some(lane) = self.lanes.as_mut_slice().get_mut(usize::from(thread)) else {
+            return Ok(false);
+        };
+        if lane.method.as_str().is_empty() {
+            let at = instruction_at(machine, methods, done.before.position);
+            name_method(&mut lane.method, at)?;
+        }
+        if let Report::Ended(end) = done.report {
+            lane.end = Some(LaneEnd { at: done.at, end });
+        }
+        match done.report {
+            Report::Blocked => return Ok(lane.block(done.at, machine.wait_of(thread))?),
+            Report::Ended(End::Budget) => lane.go_on(done.after()),
+            _ => lane.go_on(done.at),
+        }
+        Ok(false)
+    }
+
+    /// What a step has printed.
+    fn see_print(&mut self, machine: &Machine, thread: u8, done: Done) -> Result<(), AllocError> {
+        let to = machine.console().len();
+        if done.is_drawn && to > done.before.printed {
+            self.prints.push(Print {
+                at: done.at,
+                thread,
+                from: done.before.printed,
+                to: to - 1,
+            })?;
+        }
+        Ok(())
+    }
+
+    /// Whether threads are deadlocked since this event. Only the first deadlock is told.
+    fn see_deadlock(
+        &mut self,
+        alloc: Global,
+        machine: &Machine,
+        at: usize,
+    ) -> Result<(), NoMemory> {
+        if self.deadlock.is_some() {
+            return Ok(());
+        }
+        let deadlocked = deadlocked_threads(alloc, machine)?;
+        let sentence = deadlock_sentence(alloc, machine, deadlocked.as_slice())?;
+        if !sentence.as_str().is_empty() {
+            self.deadlock = Some(Deadlock { at, sentence });
+        }
+        Ok(())
+    }
+
+    /// An acknowledgement of a thread.
+    fn see_acknowledgement(
+        &mut self,
+        machine: &Machine,
+        thread: u8,
+        done: Done,
+    ) -> Result<(), NoMemory> {
+        let lane = self.lanes.as_mut_slice().get_mut(usize::from(thread));
+        if let (Some(lane), Some(phase)) = (lane, machine.phase_of(thread)) {
+            lane.phases.set(done.after(), phase)?;
+        }
+        if done.is_drawn && done.report == Report::Acked {
+            self.acknowledgements.push(Acknowledgement {
+                at: done.at,
+                thread,
+            })?;
+        }
+        Ok(())
+    }
+
+    /// An event of the collector.
+    fn see_collector(&mut self, done: Done) {
+        if done.is_drawn {
+            self.has_collector = true;
+            if done.report == Report::CycleDone {
+                self.cycles = self.cycles.saturating_add(1);
+            }
+        }
+    }
+}
+
+/// Writes the name of a method with its class.
+fn name_method(text: &mut String, at: Option<InstructionPlace>) -> Result<(), AllocError> {
+    let Some(at) = at else {
+        return Ok(());
+    };
+    let owner = at.found.owner;
+    let name = MethodNameText(&at.found.method.name);
+    write!(text, "{owner}::{name}")
+}
+
+/// The most threads that the sentence of a deadlock has, so that it fits the picture.
+const MOST_NAMED: usize = 4;
+
+/// Who waits for whom, of the first threads that are deadlocked. Empty where none is.
+fn deadlock_sentence(
+    alloc: Global,
+    machine: &Machine,
+    deadlocked: &[bool],
+) -> Result<String, AllocError> {
+    let mut text = String::new(alloc);
+    let mut named = 0usize;
+    for thread in 0..deadlocked.len().min(MOST_THREADS) {
+        if deadlocked[thread] {
+            if named == MOST_NAMED {
+                text.push_str(", ..")?;
+                break;
+            }
+            add_wait(&mut text, machine, thread as u8)?;
+            named = named.saturating_add(1);
+        }
+    }
+    Ok(text)
+}
+
+/// What a thread waits for, behind what others wait for.
+fn add_wait(text: &mut String, machine: &Machine, thread: u8) -> Result<(), AllocError> {
+    if !text.as_str().is_empty() {
+        text.push_str(", ")?;
+    }
+    match machine.wait_of(thread) {
+        Some(Wait::Monitor { owner, .. }) if machine.is_live(owner) => {
+            write!(
+                text,
+                "thread {thread} waits for a monitor of thread {owner}"
+            )
+        }
+        Some(Wait::Monitor { owner, .. }) => write!(
+            text,
+            "thread {thread} waits for a monitor of thread {owner}, which has ended"
+        ),
+        Some(Wait::Join { thread: joined }) => {
+            write!(text, "thread {thread} waits for the end of thread {joined}")
+        }
+        None => Ok(()),
+    }
+}

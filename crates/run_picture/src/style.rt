@@ -1,0 +1,86 @@
+//! Colors and strokes.
+
+use cil_model::phases::Phase;
+
+/// The style of a picture, light or dark as the reader has it.
+pub(crate) const STYLE: &str = "\
+svg{font-family:DejaVu Sans,Verdana,sans-serif;fill:#1f2933}\
+text{font-size:11px}\
+.back{fill:#fff}.lane{fill:#f6f7f9}\
+.head{font-size:17px;font-weight:bold}.name{font-weight:bold}\
+.quiet{font-size:10px;fill:#6b7785}.quiet,.small{font-size:10px}\
+.left{text-anchor:end}.mid{text-anchor:middle}\
+.bad{fill:#c92a2a;font-weight:bold}\
+path{fill:none}\
+.grid{stroke:#dfe3e8}.life{stroke-opacity:.45}\
+.step{stroke-width:22}.slim{stroke-width:16}\
+.fail,.block{stroke:#c92a2a;stroke-width:18}.block{stroke-opacity:.75}.fail.slim,.block.slim{stroke-width:12}\
+.ack,.idle{stroke:#212529;stroke-width:3}.idle{stroke:#adb5bd}\
+.work,.pause,.cycle{stroke:#495057;stroke-width:10}.pause{stroke:#adb5bd}.cycle{stroke:#2b8a3e}\
+.key{stroke-width:10}.gone{stroke:#adb5bd;stroke-width:4}\
+.cut{stroke:#fff;stroke-opacity:.55}\
+.hatch{stroke:#ffb3b3;stroke-width:14;stroke-dasharray:2 4}.hatch.slim{stroke-width:8}\
+.start,.join{stroke:#868e96}.start-tip{fill:#868e96}.join{stroke-dasharray:3 2}.wait{stroke:#c92a2a;stroke-width:1.3}.wait-tip{fill:#c92a2a}\
+.dotted{stroke:#c92a2a;stroke-width:1.5;stroke-dasharray:2 3}\
+.diamond{fill:#212529;stroke:#fff;stroke-width:.6}\
+.ring{fill:#fff;stroke-width:2}.cross{stroke:#c92a2a;stroke-width:2.4}\
+.mark{fill:#1f2933}\
+.p1{fill:#e6b400}.p2{fill:#f08c00}.p3{fill:#40a840}.p4{fill:#22a6c4}.p5{fill:#3b7ae0}.p6{fill:#7a5be0}.p7{fill:#dd5a98}\
+rect.p1,rect.p2,rect.p3,rect.p4,rect.p5,rect.p6,rect.p7{fill-opacity:.28}\
+.old{stroke:#4c6ef5;stroke-width:1.6}.new{stroke:#f08c00;stroke-width:1.6}\
+.old-area{fill:#4c6ef5;fill-opacity:.2}.new-area{fill:#f08c00;fill-opacity:.2}\
+.tip{fill-opacity:0}\
+@media(prefers-color-scheme:dark){\
+svg{fill:#d7dde4}.back{fill:#14181d}.lane{fill:#1e242b}.quiet{fill:#8b96a3}.bad{fill:#ff8787}\
+.grid{stroke:#323a44}.cut{stroke:#14181d}.ack{stroke:#f1f3f5}.idle{stroke:#5c6773}\
+.diamond{fill:#f1f3f5;stroke:#14181d}.ring{fill:#14181d}.mark{fill:#d7dde4}.hatch{stroke:#8a3b3b}.work{stroke:#ced4da}.pause{stroke:#5c6773}}";
+
+/// The color of a thread. Readers who see few colors can tell them apart.
+pub(crate) fn color_of(thread: usize) -> &'static str {
+    match thread % 16 {
+        0 => "#0072B2",
+        1 => "#D55E00",
+        2 => "#009E73",
+        3 => "#CC79A7",
+        4 => "#7A5195",
+        5 => "#8C6D31",
+        6 => "#3B8EA5",
+        7 => "#A23B3B",
+        8 => "#4C6EF5",
+        9 => "#E8890C",
+        10 => "#2B8A3E",
+        11 => "#C2255C",
+        12 => "#6741D9",
+        13 => "#5C940D",
+        14 => "#1098AD",
+        _ => "#862E2E",
+    }
+}
+
+/// The class of a phase in the style. None between cycles.
+pub(crate) fn phase_class(phase: Phase) -> Option<&'static str> {
+    match phase {
+        Phase::Idle => None,
+        Phase::Mark => Some("p1"),
+        Phase::Allocate => Some("p2"),
+        Phase::Copy => Some("p3"),
+        Phase::PreFlip => Some("p4"),
+        Phase::HeapFlip => Some("p5"),
+        Phase::ThreadFlip => Some("p6"),
+        Phase::Reclaim => Some("p7"),
+    }
+}
+
+/// The name of a phase.
+pub(crate) fn phase_name(phase: Phase) -> &'static str {
+    match phase {
+        Phase::Idle => "idle",
+        Phase::Mark => "mark",
+        Phase::Allocate => "allocate",
+        Phase::Copy => "copy",
+        Phase::PreFlip => "pre-flip",
+        Phase::HeapFlip => "heap-flip",
+        Phase::ThreadFlip => "thread-flip",
+        Phase::Reclaim => "reclaim",
+    }
+}

@@ -1,0 +1,233 @@
+//! What stands in an element, put together in memory.
+
+ghost use Rattle.std.specs.Prelude.{◌≡◌, ◌++◌, [], IfOk, List, None, Some, ℕ, string_bytes};
+ghost use Rattle.svg_text.specs.Elements.{element_text, empty_text, escaped};
+ghost use Rattle.svg_text.specs.Contents.{Adds, AddsIfWhole, IsContent, IsDocument};
+ghost use Rattle.svg_text.specs.declared.markup.Tag.TheVariants.{Svg};
+
+use crate::markup::{Attribute, Escaped, Name, Start, Tag};
+use std::alloc::{AllocError, Global};
+use std::fmt::{Display, Write};
+use std::marker::Model;
+
+/// How something is drawn: by its class in the style, and in a color where the class has none.
+#[derive(Clone, Copy)]
+pub struct Ink {
+    pub class: &'static str,
+    pub color: &'static str,
+}
+
+impl Ink {
+    /// In the color of the class, or of what it stands in.
+    pub fn of(class: &'static str) -> Ink {
+        Ink {
+            class,
+            color: "inherit",
+        }
+    }
+}
+
+/// A part of a picture: its upper left corner and its size.
+#[derive(Clone, Copy)]
+pub struct Area {
+    pub x: usize,
+    pub y: usize,
+    pub width: usize,
+    pub height: usize,
+}
+
+/// Words and elements, put together one behind another: well-formed content. Where memory runs out all is lost, and `into_document` says so; so
+/// whoever draws looks at no error. Contracts see the text, and none where it is lost.
+#[derive(Drop)]
+pub struct Content {
+    alloc: Global,
+    text: String,
+    is_whole: bool,
+}
+
+impl Model for Content {
+    ghost use Rattle.std.specs.Prelude.{Option, List, ℕ, string_bytes};
+    ghost use Rattle.svg_text.specs.Contents.{IsFormed, text_if_whole};
+
+    ghost Value = { Option (List ℕ) };
+
+    ghost view = { λ c. text_if_whole c.is_whole (string_bytes c.text) };
+
+    ghost invariant = { λ c. ∥ IsFormed c.is_whole (string_bytes c.text) ∥₁ };
+}
+
+impl Content {
+    /// Nothing. Takes no memory.
+    pub fn new(alloc: Global) -> Content
+        ensures { result ≡ Some [] }
+    {
+        Content {
+            alloc,
+            text: String::new(alloc),
+            is_whole: true,
+        }
+    }
+
+    /// Appends an element with nothing in it.
+    pub fn empty(&mut self, tag: Tag, attributes: &[Attribute])
+        ensures { Adds self.old self.new (empty_text tag attributes.now) }
+    {
+        let start = Start { tag, attributes };
+        match format!(in self.alloc; "{start}/>\n") {
+            Ok(piece) => self.add(piece.as_str()),
+            Err(_) => self.lose(),
+        }
+    }
+
+    /// Appends an element with words in it.
+    pub fn words(&mut self, tag: Tag, attributes: &[Attribute], words: &[u8])
+        ensures { Adds self.old self.new (element_text tag attributes.now (escaped words.now)) }
+    {
+        let start = Start { tag, attributes };
+        let words = Escaped(words);
+        match format!(in self.alloc; "{start}>{words}</{tag}>\n") {
+            Ok(piece) => self.add(piece.as_str()),
+            Err(_) => self.lose(),
+        }
+    }
+
+    /// Appends an element with other content in it. All is lost where that was.
+    pub fn around(&mut self, tag: Tag, attributes: &[Attribute], inside: &Content)
+        ensures { AddsIfWhole self.old self.new inside.now (λ text. element_text tag attributes.now text) }
+    {
+        if inside.is_whole {
+            let start = Start { tag, attributes };
+            let inside_text = inside.text.as_str();
+            match format!(in self.alloc; "{start}>{inside_text}</{tag}>\n") {
+                Ok(piece) => self.add(piece.as_str()),
+                Err(_) => self.lose(),
+            }
+        } else {
+            self.lose();
+        }
+    }
+
+    /// Appends other content. All is lost where that was.
+    pub fn append(&mut self, more: &Content)
+        ensures { AddsIfWhole self.old self.new more.now (λ text. text) }
+    {
+        if more.is_whole {
+            self.add(more.text.as_str());
+        } else {
+            self.lose();
+        }
+    }
+
+    /// Appends well-formed content.
+    fn add(&mut self, piece: &str)
+        requires { ∥ IsContent piece.now ∥₁ }
+        ensures { Adds self.old self.new piece.now }
+    {
+        if let Ok(()) = self.text.push_str(piece) {
+            return;
+        }
+        self.is_whole = false;
+    }
+
+    /// All is lost, since memory ran out for what was to be appended.
+    pub fn lose(&mut self)
+        ensures { self.new ≡ None }
+    {
+        self.is_whole = false;
+    }
+
+    /// The document with this content. Only want of memory is an error, also where it was met before.
+    pub fn into_document(
+        self,
+        alloc: Global,
+        attributes: &[Attribute],
+    ) -> Result<String, AllocError>
+        ensures formed { IfOk result (λ document. ∥ IsDocument (string_bytes document) ∥₁) }
+        ensures text { IfOk result (λ document. (inside : List ℕ) × (self ≡ Some inside) × (string_bytes document ≡ element_text Svg attributes.now inside)) }
+    {
+        let Content { text, is_whole, .. } = self;
+        if is_whole {
+            let tag = Tag::Svg;
+            let start = Start { tag, attributes };
+            let document = format!(in alloc; "{start}>{text}</{tag}>\n")?;
+            Ok(document)
+        } else {
+            Err(AllocError)
+        }
+    }
+}
+
+/// Shapes and labels.
+impl Content {
+    /// Appends a rectangle.
+    pub fn rect(&mut self, class: &str, area: Area) {
+        self.empty(
+            Tag::Rect,
+            &[
+                Attribute::words(Name::Class, class),
+                Attribute::number(Name::X, area.x),
+                Attribute::number(Name::Y, area.y),
+                Attribute::number(Name::Width, area.width),
+                Attribute::number(Name::Height, area.height),
+            ],
+        );
+    }
+
+    /// Appends a path of these data.
+    pub fn path_of(&mut self, ink: Ink, data: &str)
+        ensures { (before : List ℕ) × (after : List ℕ) × Adds self.old self.new (before ++ escaped data.now ++ after) }
+    {
+        self.empty(
+            Tag::Path,
+            &[
+                Attribute::words(Name::Class, ink.class),
+                Attribute::words(Name::Stroke, ink.color),
+                Attribute::words(Name::Data, data),
+            ],
+        );
+    }
+
+    /// Appends a path whose data were written to memory, or were not for want of it.
+    pub fn path(&mut self, ink: Ink, data: Result<String, AllocError>) {
+        match data {
+            Ok(data) => self.path_of(ink, data.as_str()),
+            Err(_) => self.lose(),
+        }
+    }
+
+    /// Appends a circle.
+    pub fn circle(&mut self, ink: Ink, x: usize, y: usize, radius: usize) {
+        self.empty(
+            Tag::Circle,
+            &[
+                Attribute::words(Name::Class, ink.class),
+                Attribute::words(Name::Stroke, ink.color),
+                Attribute::number(Name::CenterX, x),
+                Attribute::number(Name::CenterY, y),
+                Attribute::number(Name::Radius, radius),
+            ],
+        );
+    }
+
+    /// Appends a label at this place.
+    pub fn label(&mut self, ink: Ink, x: usize, y: usize, words: &[u8]) {
+        self.words(
+            Tag::Text,
+            &[
+                Attribute::words(Name::Class, ink.class),
+                Attribute::words(Name::Fill, ink.color),
+                Attribute::number(Name::X, x),
+                Attribute::number(Name::Y, y),
+            ],
+            words,
+        );
+    }
+
+    /// Appends a label that was written to memory, or was not for want of it.
+    pub fn text(&mut self, ink: Ink, x: usize, y: usize, text: Result<String, AllocError>) {
+        match text {
+            Ok(text) => self.label(ink, x, y, text.as_str().as_bytes()),
+            Err(_) => self.lose(),
+        }
+    }
+}
