@@ -1,8 +1,8 @@
 -- The command line of `cilvm`: the arguments that clap is given, and the order that its matches
 -- hold (this profile).
-use Rattle.std.specs.Prelude.{◌≡◌, ◌≢◌, ◌⊎◌, ℕ, Bool, pos, true, false, List, [], ◌∷◌, codes}
+use Rattle.std.specs.Prelude.{◌≡◌, ◌≢◌, ◌⊎◌, ◌≤◌, ℕ, Bool, pos, true, false, List, [], ◌∷◌, codes}
 use Rattle.std.specs.Prelude.{Option, Some, None, Result, Ok, Err, option_map, option_and_then}
-use Rattle.std.specs.Prelude.{if◌then◌else◌, ⊤}
+use Rattle.std.specs.Prelude.{if◌then◌else◌, IfSome, ⊤}
 use Rattle.std.specs.Option.{option_map_or}
 use Rattle.std.specs.Str.{bytes_eq}
 use Rattle.std.specs.Str.Parse.{digits_value, without_leading_plus}
@@ -21,7 +21,9 @@ use Rattle.cil_model.specs.declared.limits.Limits.{Limits}
 use Rattle.cil_model.specs.declared.limits.TheConstants.{LEAST_WORDS, MOST_WORDS}
 use Rattle.cil_model.specs.declared.limits.TheConstants.{MOST_BUDGET, MOST_DEPTH}
 use Rattle.orders.specs.declared.order.Order.{Order}
-use Rattle.orders.specs.declared.order.Order.TheVariants.{Check, Run, Replay, Trace, Threads, Flip}
+use Rattle.orders.specs.declared.order.Order.TheVariants.{Check, Run, Replay, Trace, Picture, Threads, Flip}
+use Rattle.orders.specs.declared.part.Part.{Part}
+use Rattle.orders.specs.declared.part.TheConstants.{LAST_NUMBER}
 use Rattle.command_line.specs.declared.line.LineFault.{LineFault}
 use Rattle.command_line.specs.declared.line.LineFault.TheVariants.{Help, Version, Bad, Memory}
 
@@ -92,6 +94,14 @@ replay_app = with_run_options (with_files (codes "replay"))
 abbrev pub trace_app : App
 trace_app = with_run_options (with_files (codes "trace"))
 
+-- the first event that is drawn, the first of all where none is said, and perhaps the last one
+abbrev pub with_part : App → App
+with_part a = with_rule (with_rule a
+    (with_default (codes "1") (number_rule (codes "from") 1 LAST_NUMBER))) (number_rule (codes "to") 1 LAST_NUMBER)
+
+abbrev pub picture_app : App
+picture_app = with_run_options (with_part (with_files (codes "picture")))
+
 -- 1 to 16 workers, 1 where none is said, and perhaps the file of a record
 abbrev pub threads_app : App
 threads_app = with_run_options (with_rule (with_rule (with_source (codes "threads"))
@@ -112,9 +122,9 @@ abbrev pub with_version : App → App
 with_version a = record a { top = record a.top { has_version = true } }
 
 abbrev pub cilvm_app : App
-cilvm_app = with_subcommand (with_subcommand (with_subcommand (with_subcommand (with_subcommand (with_subcommand
+cilvm_app = with_subcommand (with_subcommand (with_subcommand (with_subcommand (with_subcommand (with_subcommand (with_subcommand
     (with_version (with_required_subcommand (new_app (codes "cilvm")))) check_app.top) threads_app.top) run_app.top)
-    replay_app.top) trace_app.top) flip_app.top
+    replay_app.top) trace_app.top) picture_app.top) flip_app.top
 
 -- ---- what the words ask for
 
@@ -124,6 +134,7 @@ pub data Wanted : Type 0 where
   run : Text → Text → Limits → Bool → Wanted
   replay : Text → Text → Limits → Bool → Wanted
   trace : Text → Text → Limits → Bool → Wanted
+  picture : Text → Text → ℕ → Option ℕ → Limits → Bool → Wanted
   threads : Text → ℕ → Option Text → Limits → Bool → Wanted
   flip : ℕ → ℕ → ℕ → ℕ → Wanted
 
@@ -132,6 +143,7 @@ wanted_of (Check file explain) = check file.now explain
 wanted_of (Run file schedule limits explain) = run file.now schedule.now limits explain
 wanted_of (Replay file schedule limits explain) = replay file.now schedule.now limits explain
 wanted_of (Trace file schedule limits explain) = trace file.now schedule.now limits explain
+wanted_of (Picture file schedule part limits explain) = picture file.now schedule.now part.first part.last limits explain
 wanted_of (Threads file workers kept limits explain) = threads file.now workers.count (option_map (λ name. name.now) kept) limits explain
 wanted_of (Flip sizes) = flip sizes.seats sizes.objects sizes.slots sizes.rounds
 
@@ -182,6 +194,18 @@ replay_in rows = option_map (λ (s : Text × Text × Limits). replay s.0 s.1 s.2
 abbrev pub trace_in : List Row → Option Wanted
 trace_in rows = option_map (λ (s : Text × Text × Limits). trace s.0 s.1 s.2 (flag_at (codes "explain") rows)) (scheduled_in rows)
 
+-- the last event that is drawn, where one is said: not before the first one
+abbrev pub last_in : ℕ → List Row → Option (Option ℕ)
+last_in first rows = option_map_or (λ text. option_map Some (number_in first LAST_NUMBER text)) (first_of (codes "to") rows) (Some None)
+
+-- the first and the last one
+abbrev pub part_in : List Row → Option (ℕ × Option ℕ)
+part_in rows = option_and_then (λ first. option_map (λ last. (first, last)) (last_in first rows)) (number_at 1 LAST_NUMBER (codes "from") rows)
+
+abbrev pub picture_in : List Row → Option Wanted
+picture_in rows = option_and_then (λ (p : ℕ × Option ℕ). option_map (λ (s : Text × Text × Limits). picture s.0 s.1 p.0 p.1 s.2 (flag_at (codes "explain") rows))
+    (scheduled_in rows)) (part_in rows)
+
 -- a source's file, the number of workers and the limits of a run
 abbrev pub worked_in : List Row → Option (Text × ℕ × Limits)
 worked_in rows = option_and_then (λ file. option_and_then (λ workers. option_map (λ limits. (file, workers, limits))
@@ -204,7 +228,8 @@ named_in name rows =
     else (if bytes_eq name (codes "run") then run_in rows
     else (if bytes_eq name (codes "replay") then replay_in rows
     else (if bytes_eq name (codes "trace") then trace_in rows
-    else (if bytes_eq name (codes "flip") then flip_in rows else None)))))
+    else (if bytes_eq name (codes "picture") then picture_in rows
+    else (if bytes_eq name (codes "flip") then flip_in rows else None))))))
 
 abbrev pub wanted_in : Option (Text × List Row) → Option Wanted
 wanted_in = option_and_then (λ p. named_in p.0 p.1)
@@ -247,11 +272,16 @@ abbrev pub Answers : List Text → Result Order LineFault → Type 0
 Answers words (Ok order) = (faults_of words ≡ []) × (wanted_by words ≡ Some (wanted_of order))
 Answers words (Err fault) = Refuses words fault
 
+-- the numbers of events from 1 on, of which the last one is not before the first
+abbrev pub IsPartInRange : Part → Type 0
+IsPartInRange part = (1 ≤ part.first) × (part.first ≤ LAST_NUMBER) × IfSome part.last (λ last. (part.first ≤ last) × (last ≤ LAST_NUMBER))
+
 -- each number of the order lies in its range
 abbrev pub IsInRange : Order → Type 0
 IsInRange (Check file explain) = ⊤
 IsInRange (Run file schedule limits explain) = are_numbers_in_range limits ≡ true
 IsInRange (Replay file schedule limits explain) = are_numbers_in_range limits ≡ true
 IsInRange (Trace file schedule limits explain) = are_numbers_in_range limits ≡ true
+IsInRange (Picture file schedule part limits explain) = (are_numbers_in_range limits ≡ true) × IsPartInRange part
 IsInRange (Threads file workers kept limits explain) = are_numbers_in_range limits ≡ true
 IsInRange (Flip sizes) = ⊤

@@ -3,13 +3,14 @@ ghost use Rattle.std.specs.Prelude.{◌≡◌, IfOk, codes, pos};
 ghost use Rattle.clap.specs.Words.{App, Rule, app_of, new_app, with_rule, with_subcommand};
 ghost use Rattle.clap.specs.declared.builder.value_parser.ValueParser.TheVariants as vp;
 ghost use Rattle.command_line.specs.CommandLine.{IsArgument, IsCommand, check_app, cilvm_app, file_rule, flag_rule};
-ghost use Rattle.command_line.specs.CommandLine.{flip_app, needed, number_rule, replay_app, run_app, text_rule, threads_app, trace_app, with_default};
-ghost use Rattle.command_line.specs.CommandLine.{with_explain, with_files, with_limits, with_required_subcommand, with_run_options, with_source, with_version};
+ghost use Rattle.command_line.specs.CommandLine.{flip_app, needed, number_rule, picture_app, replay_app, run_app, text_rule, threads_app, trace_app, with_default};
+ghost use Rattle.command_line.specs.CommandLine.{with_explain, with_files, with_limits, with_part, with_required_subcommand, with_run_options, with_source, with_version};
 
 use crate::version::VERSION;
 use cil_model::limits::{LEAST_WORDS, MOST_BUDGET, MOST_DEPTH, MOST_WORDS};
 use clap::builder::ValueParser;
 use clap::{Arg, ArgAction, Command, value_parser};
+use orders::LAST_NUMBER;
 use std::alloc::{AllocError, Global};
 
 /// What the explanation of a source is.
@@ -276,6 +277,44 @@ fn trace_command<'a>(alloc: Global) -> Result<Command<'a>, AllocError>
     with_run_options(alloc, command, EXPLAIN_RUN)
 }
 
+/// The options of a picture: its first and its last event.
+fn with_part<'a>(
+    alloc: Global,
+    command: Result<Command<'a>, AllocError>,
+) -> Result<Command<'a>, AllocError>
+    ensures { (app : App) → IfOk command.entry (IsCommand app) → IfOk result (IsCommand (with_part app)) }
+{
+    let first = limit_option(
+        alloc,
+        "from",
+        1,
+        LAST_NUMBER,
+        "1",
+        "The number of the first event that is drawn, from 1",
+    );
+    let command = with_argument(command, first);
+    let last = number_option(
+        alloc,
+        "to",
+        1,
+        LAST_NUMBER,
+        "The number of the last one; that of the schedule where none is given",
+    );
+    with_argument(command, last)
+}
+
+fn picture_command<'a>(alloc: Global) -> Result<Command<'a>, AllocError>
+    ensures { IfOk result (IsCommand picture_app) }
+{
+    let command = with_files(
+        alloc,
+        "picture",
+        "Replays a schedule, and draws the run as an SVG",
+        "The picture has a lane for each thread, with its steps, what it waits for and what it printed, and one for the collector. It shows at most 20000 events; the others are run and not drawn. How the threads stand follows on the standard error as 'cilvm replay' prints it.\n\nExample:\n  cilvm picture examples/add.il examples/add.schedule > add.svg",
+    );
+    with_run_options(alloc, with_part(alloc, command), EXPLAIN_RUN)
+}
+
 fn flip_command<'a>(alloc: Global) -> Result<Command<'a>, AllocError>
     ensures { IfOk result (IsCommand flip_app) }
 {
@@ -345,5 +384,6 @@ pub fn cilvm_command<'a>(alloc: Global) -> Result<Command<'a>, AllocError>
     let program = with_command(program, run_command(alloc));
     let program = with_command(program, replay_command(alloc));
     let program = with_command(program, trace_command(alloc));
+    let program = with_command(program, picture_command(alloc));
     with_command(program, flip_command(alloc))
 }

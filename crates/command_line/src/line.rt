@@ -1,8 +1,8 @@
 //! Reads the command line.
 ghost use Rattle.std.specs.Prelude.{◌≡◌, ◌≤◌, IfErr, IfOk, IfSome, Some, map, option_map, true};
 ghost use Rattle.clap.specs.Words.{found_of, first_of, kind_of, rows_of, subcommand_rows_of};
-ghost use Rattle.command_line.specs.CommandLine.{Answers, FaultIs, IsInRange, IsOfNone, check_in, limits_in, most_in};
-ghost use Rattle.command_line.specs.CommandLine.{flag_at, number_at, number_in, flip_in, replay_in, run_in, scheduled_in, threads_in, trace_in, wanted_in};
+ghost use Rattle.command_line.specs.CommandLine.{Answers, FaultIs, IsInRange, IsOfNone, IsPartInRange, check_in, limits_in, most_in};
+ghost use Rattle.command_line.specs.CommandLine.{flag_at, number_at, number_in, flip_in, part_in, picture_in, replay_in, run_in, scheduled_in, threads_in, trace_in, wanted_in};
 ghost use Rattle.command_line.specs.CommandLine.{wanted_of, worked_in};
 ghost use Rattle.cil_model.specs.Ranges.{are_numbers_in_range};
 ghost use Rattle.command_line.specs.declared.line.LineFault.TheVariants.{Memory};
@@ -12,7 +12,7 @@ use cil_model::limits::{LEAST_WORDS, Limits, MOST_BUDGET, MOST_DEPTH, MOST_WORDS
 use clap::error::ErrorKind;
 use clap::{ArgMatches, Error};
 use flip_trial::Sizes;
-use orders::{Order, Workers};
+use orders::{LAST_NUMBER, Order, Part, Workers};
 use std::alloc::{AllocError, Global};
 
 /// Why the words of a command line hold no order.
@@ -56,11 +56,22 @@ fn wanted_order<'a>(alloc: Global, matches: &ArgMatches<'a>) -> Result<Order<'a>
 {
     match wanted(matches) {
         Some(order) => Ok(order),
-        None => Err(LineFault::Bad(String::from_str(
-            alloc,
-            "error: the command line holds no order\n",
-        )?)),
+        None => Err(LineFault::Bad(told_of_none(alloc, matches)?)),
     }
+}
+
+/// What is told of words that clap takes and that ask for nothing: a last event before the first one is all that there can be. Fails for
+/// want of memory alone.
+fn told_of_none(alloc: Global, matches: &ArgMatches<'_>) -> Result<String, AllocError> {
+    if let Some((_, found)) = matches.subcommand() {
+        if let Some(first) = text(found, "from") {
+            let last = text(found, "to").unwrap_or("");
+            return format!(in alloc;
+                "error: invalid value '{last}' for '--to <N>': {last} is not in {first}..={LAST_NUMBER}\n\nFor more information, try '--help'.\n"
+            );
+        }
+    }
+    String::from_str(alloc, "error: the command line holds no order\n")
 }
 
 fn line_fault(alloc: Global, error: &Error) -> LineFault
@@ -102,6 +113,7 @@ fn wanted<'a>(matches: &ArgMatches<'a>) -> Option<Order<'a>>
         "run" => wanted_run(found),
         "replay" => wanted_replay(found),
         "trace" => wanted_trace(found),
+        "picture" => wanted_picture(found),
         "flip" => wanted_flip(found),
         _ => None,
     }
@@ -156,6 +168,35 @@ fn wanted_trace<'a>(found: &ArgMatches<'a>) -> Option<Order<'a>>
         limits,
         explain,
     })
+}
+
+fn wanted_picture<'a>(found: &ArgMatches<'a>) -> Option<Order<'a>>
+    ensures value { option_map wanted_of result ≡ picture_in (rows_of (found_of found.now)) }
+    ensures range { IfSome result IsInRange }
+{
+    let part = part(found)?;
+    let (file, schedule, limits) = scheduled(found)?;
+    let explain = flag(found, "explain");
+    Some(Order::Picture {
+        file,
+        schedule,
+        part,
+        limits,
+        explain,
+    })
+}
+
+/// Which events a picture shows.
+fn part(found: &ArgMatches<'_>) -> Option<Part>
+    ensures value { option_map (λ part. (part.first, part.last)) result ≡ part_in (rows_of (found_of found.now)) }
+    ensures range { IfSome result IsPartInRange }
+{
+    let first = number(found, "from", 1, LAST_NUMBER)?;
+    let last = match text(found, "to") {
+        None => None,
+        Some(text) => Some(number_in(text, first, LAST_NUMBER)?),
+    };
+    Some(Part::new(first, last))
 }
 
 fn wanted_threads<'a>(found: &ArgMatches<'a>) -> Option<Order<'a>>

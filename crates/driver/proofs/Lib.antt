@@ -1,3 +1,4 @@
 pub mod OutcomeLemmas
+pub mod PictureLemmas
 pub mod ThreadLemmas
 pub mod WorkerLemmas

@@ -27,7 +27,7 @@ use Rattle.source_runs.specs.simulation.threads_monitors.declared.threads.Thread
 use Rattle.source_runs.specs.shared_machine.Work.{IsOwn, IsOwnOf}
 use Rattle.orders.specs.Orders.{record_file_of}
 use Rattle.orders.specs.declared.order.Order.{Order}
-use Rattle.orders.specs.declared.order.Order.TheVariants.{Check, Run, Replay, Trace, Threads, Flip}
+use Rattle.orders.specs.declared.order.Order.TheVariants.{Check, Run, Replay, Trace, Picture, Threads, Flip}
 use Rattle.driver.specs.Outcomes.{HasRunThreads, IsOutcome, IsMachineShown, IsMachineShownInPart, IsRunByWorkers, IsRunByWorkersInPart, IsThreadText}
 use Rattle.driver.specs.Records.{IsKept, IsRecordOf, refusal_of, status_with, text_of}
 use Rattle.driver.specs.Threads.{is_live, lines_from, status_of}
@@ -152,6 +152,7 @@ nothing_kept (Check file explain) source schedule out out' err err' kept kept' s
 nothing_kept (Run file text limits explain) source schedule out out' err err' kept kept' status (inl done) none = done.1
 nothing_kept (Replay file name limits explain) source schedule out out' err err' kept kept' status (inl done) none = done.1
 nothing_kept (Trace file name limits explain) source schedule out out' err err' kept kept' status (inl done) none = done.1
+nothing_kept (Picture file name part limits explain) source schedule out out' err err' kept kept' status (inl done) none = done.1
 nothing_kept (Threads file workers None limits explain) source schedule out out' err err' kept kept' status (inl done) none =
     done.behind ∙ ap (λ text. kept ++ text) (no_text (events_of done.is_run.entries) done.made done.is_run.is_record) ∙ append-nil kept
 nothing_kept (Threads file workers (Some name) limits explain) source schedule out out' err err' kept kept' status (inl done) none = absurd (cc none)

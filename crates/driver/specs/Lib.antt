@@ -1,3 +1,4 @@
 pub mod Outcomes
+pub mod Pictures
 pub mod Records
 pub mod Threads

@@ -1,7 +1,7 @@
 -- What comes of an order: what is printed, and the status that the program ends with (this profile).
 use Rattle.std.specs.Io.KnownBytes.{Appends}
 use Rattle.std.specs.Fmt.{decimal}
-use Rattle.std.specs.Prelude.{◌≡◌, ◌⊎◌, ◌*◌, ◌++◌, ◌∷◌, [], ℕ, Bool, true, false, All, List, Option, codes, is_some, map, if◌then◌else◌}
+use Rattle.std.specs.Prelude.{◌≡◌, ◌⊎◌, ◌*◌, ◌++◌, ◌∷◌, ◌<◌, ◌≤◌, [], ℕ, Bool, true, false, All, List, Option, codes, is_some, length, map, if◌then◌else◌}
 use Rattle.std.specs.List.{list_any}
 use Rattle.flip_trial.specs.Trial.{place_count}
 use Rattle.flip_trial.specs.declared.sizes.Sizes.{Sizes}
@@ -22,7 +22,11 @@ use Rattle.source_runs.specs.simulation.MachineContents.{Content}
 use Rattle.acceptance.specs.Failures.{is_refusal, message_of}
 use Rattle.acceptance.specs.Failures.{IsOfWriting, status_of_failure}
 use Rattle.outputs.specs.Beginnings.{AppendsBeginning}
-use Rattle.orders.specs.Orders.{is_explained}
+use Rattle.orders.specs.Orders.{event_count, is_explained}
+use Rattle.orders.specs.declared.part.Part.{Part}
+use Rattle.run_picture.specs.Pictures.{IsPicture, IsPictureInPart}
+use Rattle.run_picture.specs.declared.windows.TheConstants.{MOST_EVENTS}
+use Rattle.driver.specs.Pictures.{too_many_text, window_of}
 use Rattle.driver.specs.Records.{IsRecordOf, refusal_of, status_with, text_of}
 use Rattle.driver.specs.Threads.{ends_of, is_live, lines_from, status_of}
 use Rattle.driver.specs.declared.recording.Record.{Record}
@@ -32,7 +36,7 @@ use Rattle.source_runs.specs.shared_machine.Work.{IsOwnOf}
 use Rattle.acceptance.specs.declared.failure.Failure.{Failure}
 use Rattle.acceptance.specs.declared.failure.Failure.TheVariants.{Memory, Device}
 use Rattle.orders.specs.declared.order.Order.{Order}
-use Rattle.orders.specs.declared.order.Order.TheVariants.{Check, Run, Replay, Trace, Threads, Flip}
+use Rattle.orders.specs.declared.order.Order.TheVariants.{Check, Run, Replay, Trace, Picture, Threads, Flip}
 use Rattle.acceptance.specs.Sources.{IsLetIn, IsNotAccepted, IsNotRun, IsOpened}
 use Rattle.source_runs.specs.Runs.{IsNotRunBy, ComesTo, ComesToBy, IsReady}
 
@@ -60,6 +64,16 @@ IsMachineShown explain c out out' err err' status =
 abbrev pub IsMachineShownInPart : Bool → Content → Option (List ℕ) → Option (List ℕ) → Option (List ℕ) → Option (List ℕ) → Type 0
 IsMachineShownInPart explain c out out' err err' =
     (text : List ℕ) × IsThreadText explain c text × AppendsBeginning out out' c.printed × AppendsBeginning err err' (lines_from 0 (map end_of c.threads) ++ text)
+
+-- how the threads of a machine stand is shown, and what explains that; and the status
+abbrev pub AreThreadsShown : Bool → Content → Option (List ℕ) → Option (List ℕ) → ℕ → Type 0
+AreThreadsShown explain c err err' status =
+    (text : List ℕ) × IsThreadText explain c text × Appends err err' (lines_from 0 (map end_of c.threads) ++ text) × (status ≡ status_of (map end_of c.threads))
+
+-- a beginning of that is shown
+abbrev pub AreThreadsShownInPart : Bool → Content → Option (List ℕ) → Option (List ℕ) → Type 0
+AreThreadsShownInPart explain c err err' =
+    (text : List ℕ) × IsThreadText explain c text × AppendsBeginning err err' (lines_from 0 (map end_of c.threads) ++ text)
 
 -- ---- a trial of the flip
 
@@ -125,6 +139,36 @@ pub record HasTraced (source : List ℕ) (limits : Limits) (text : List ℕ) (ex
   pub explains : IsThreadText explain after explanation
   pub shown : IsShown state.printed (ends_of state) explanation between out' err err' status
 
+-- A run is drawn. A machine that holds what the program begins with makes the turns of the events, with the reports of the run, and a
+-- picture of those of a part is shown, which are few. It represents then the state that the run comes to, and how the state's threads stand
+-- is shown. Where the last event ends a cycle, the machine has no more words in use than are owed.
+pub record HasDrawn (source : List ℕ) (limits : Limits) (text : List ℕ) (part : Part) (explain : Bool) (out out' err err' : Option (List ℕ)) (status : ℕ) : Type 0 where
+  pub events : List Event
+  pub few : event_count part (length events) ≤ MOST_EVENTS
+  pub reports : List Report
+  pub state : State
+  pub comes_to : ComesTo source limits text events reports state
+  pub begins : Content
+  pub opened : IsOpened comes_to.by_events.tree limits begins
+  pub after : Content
+  pub pictured : IsPicture begins events after reports (window_of part (length events)) out out'
+  pub represents : Represents after state
+  pub leaves : LeavesWhatIsOwed comes_to.by_events.tree limits events reports after
+  pub explanation : List ℕ
+  pub explains : IsThreadText explain after explanation
+  pub errors : Appends err err' (lines_from 0 (ends_of state) ++ explanation)
+  pub status_is : status ≡ status_of (ends_of state)
+
+-- A picture would have more events than it may. Nothing is run, and their number is told.
+pub record HasTooMany (source : List ℕ) (limits : Limits) (text : List ℕ) (part : Part) (out out' err err' : Option (List ℕ)) (status : ℕ) : Type 0 where
+  pub events : List Event
+  pub begins : Content
+  pub ready : IsReady source limits text events begins
+  pub many : MOST_EVENTS < event_count part (length events)
+  pub untouched : out' ≡ out
+  pub told : Appends err err' (too_many_text (event_count part (length events)))
+  pub status_is : status ≡ 2
+
 -- Workers have run a source. There is a list of entries, each an event of its worker's own. The reference machine's run over the steps
 -- among the events comes to this state, in which no thread is live. The record is that of these events, and this is what is told on the
 -- standard error: how the threads stand, what explains that, and perhaps why there is no record.
@@ -165,6 +209,8 @@ IsDone (Replay file name limits explain) source schedule out out' err err' kept 
     HasRun source limits schedule explain out out' err err' status × (kept' ≡ kept)
 IsDone (Trace file name limits explain) source schedule out out' err err' kept kept' status =
     HasTraced source limits schedule explain out out' err err' status × (kept' ≡ kept)
+IsDone (Picture file name part limits explain) source schedule out out' err err' kept kept' status =
+    (HasDrawn source limits schedule part explain out out' err err' status ⊎ HasTooMany source limits schedule part out out' err err' status) × (kept' ≡ kept)
 IsDone (Threads file workers name limits explain) source schedule out out' err err' kept kept' status =
     HasRunThreads source limits workers.count (is_some name) explain out out' err err' kept kept' status
 IsDone (Flip sizes) source schedule out out' err err' kept kept' status =
@@ -178,6 +224,8 @@ IsNotDone (Run file text limits explain) source schedule failure =
 IsNotDone (Replay file name limits explain) source schedule failure =
     HasNotRun source limits schedule failure
 IsNotDone (Trace file name limits explain) source schedule failure =
+    HasNotRun source limits schedule failure
+IsNotDone (Picture file name part limits explain) source schedule failure =
     HasNotRun source limits schedule failure
 IsNotDone (Threads file workers name limits explain) source schedule failure =
     HasNotRunThreads source limits failure
@@ -217,6 +265,45 @@ pub record IsTracedThenInPart (source : List ℕ) (limits : Limits) (text : List
   pub traced : IsTraced begins events after reports out between
   pub shown : IsRunInPart source limits text explain between out' err err'
 
+-- a run is drawn in part: its first events are done, and nothing or a beginning of the picture is shown
+pub record IsPictureCut (source : List ℕ) (limits : Limits) (text : List ℕ) (part : Part) (out out' : Option (List ℕ)) : Type 0 where
+  pub events : List Event
+  pub begins : Content
+  pub ready : IsReady source limits text events begins
+  pub few : event_count part (length events) ≤ MOST_EVENTS
+  pub after : Content
+  pub pictured : IsPictureInPart begins events after (window_of part (length events)) out out'
+
+-- a run is drawn, and a beginning of how its threads stand is shown
+pub record IsPicturedThenInPart (source : List ℕ) (limits : Limits) (text : List ℕ) (part : Part) (explain : Bool) (out out' err err' : Option (List ℕ)) : Type 0 where
+  pub events : List Event
+  pub few : event_count part (length events) ≤ MOST_EVENTS
+  pub reports : List Report
+  pub state : State
+  pub comes_to : ComesTo source limits text events reports state
+  pub begins : Content
+  pub opened : IsOpened comes_to.by_events.tree limits begins
+  pub after : Content
+  pub pictured : IsPicture begins events after reports (window_of part (length events)) out out'
+  pub represents : Represents after state
+  pub explanation : List ℕ
+  pub explains : IsThreadText explain after explanation
+  pub errors : AppendsBeginning err err' (lines_from 0 (ends_of state) ++ explanation)
+
+-- a beginning of the line is shown that tells of too many events
+pub record IsTooManyInPart (source : List ℕ) (limits : Limits) (text : List ℕ) (part : Part) (err err' : Option (List ℕ)) : Type 0 where
+  pub events : List Event
+  pub begins : Content
+  pub ready : IsReady source limits text events begins
+  pub many : MOST_EVENTS < event_count part (length events)
+  pub begun : AppendsBeginning err err' (too_many_text (event_count part (length events)))
+
+-- a beginning of what a picture shows
+abbrev pub IsDrawnInPart : List ℕ → Limits → List ℕ → Part → Bool → Option (List ℕ) → Option (List ℕ) → Option (List ℕ) → Option (List ℕ) → Type 0
+IsDrawnInPart source limits text part explain out out' err err' =
+    (IsPictureCut source limits text part out out' × (err' ≡ err))
+    ⊎ (IsPicturedThenInPart source limits text part explain out out' err err' ⊎ (IsTooManyInPart source limits text part err err' × (out' ≡ out)))
+
 -- a run by workers is shown in part: a beginning of what its state has printed, and of what is told
 pub record IsRunByWorkersInPart (source : List ℕ) (limits : Limits) (workers : ℕ) (asked explain : Bool) (out out' err err' : Option (List ℕ)) : Type 0 where
   pub state : State
@@ -236,6 +323,8 @@ IsDoneInPart (Replay file name limits explain) source schedule out out' err err'
     IsRunInPart source limits schedule explain out out' err err'
 IsDoneInPart (Trace file name limits explain) source schedule out out' err err' =
     (IsTraceInPart source limits schedule out out' × (err' ≡ err)) ⊎ IsTracedThenInPart source limits schedule explain out out' err err'
+IsDoneInPart (Picture file name part limits explain) source schedule out out' err err' =
+    IsDrawnInPart source limits schedule part explain out out' err err'
 IsDoneInPart (Threads file workers name limits explain) source schedule out out' err err' =
     IsRunByWorkersInPart source limits workers.count (is_some name) explain out out' err err'
 IsDoneInPart (Flip sizes) source schedule out out' err err' =

@@ -13,6 +13,7 @@ ghost use Rattle.acceptance.specs.Sources.{IsLetIn};
 ghost use Rattle.driver.specs.Outcomes.{IsNotDone, IsDoneInPart, IsOutcome, IsOutcomeOrCut};
 ghost use Rattle.driver.specs.Outcomes.{IsRunInPart, IsTellingCut, IsTraceInPart, IsTracedThenInPart, IsTried, trial_text};
 
+use crate::drawing::show_picture;
 use crate::explaining::tell_failure;
 use crate::running_threads::show_threads;
 use crate::showing::{say_accepted, show, show_trial};
@@ -27,15 +28,17 @@ use std::alloc::Global;
 use std::sync::Wait;
 use std::thread::Threads;
 
-/// Does a command on the bytes of its files, and answers the status: a replay and a trace take their schedule
-/// from `schedule`, which the others pass over. Faults are looked for in this order: the source, the limits,
+/// Does a command on the bytes of its files, and answers the status: a replay, a trace and a picture take their
+/// schedule from `schedule`, which the others pass over. Faults are looked for in this order: the source, the limits,
 /// the schedule, the run.
 ///
 /// What a run prints goes to `out` and how its threads stand to `err`, once the run has ended; where the order
 /// asks for that, what its live threads wait for stands behind, unless memory is wanted for it. A trace has
-/// printed a line of each event and an empty line to `out` before. A refusal prints `error` and its number to `err`, and what
-/// explains it where the order asks for that; want of memory prints `memory`, a failed write `device`. Where
-/// that can't be written either, the status is 5, and a beginning of it is written.
+/// printed a line of each event and an empty line to `out` before. A picture goes to `out` in the place of what
+/// the run has printed; where it would have more than 20,000 events, nothing is run, their number is told on
+/// `err`, and the status is 2. A refusal prints `error` and its number to `err`, and what explains it where the
+/// order asks for that; want of memory prints `memory`, a failed write `device`. Where that can't be written
+/// either, the status is 5, and a beginning of it is written.
 ///
 /// Where workers run the program and a record is asked for, the text of the run's events is put behind the bytes of `record`, once all is
 /// printed: a replay of it with the same limits prints the same. Of more than 1,000,000 events there is no record; that is told by
@@ -129,6 +132,12 @@ fn perform<W: Output, E: Output>(
             explain,
             ..
         } => show_trace(alloc, source, limits, schedule, explain, out, err),
+        Order::Picture {
+            part,
+            limits,
+            explain,
+            ..
+        } => show_picture(alloc, source, limits, schedule, part, explain, out, err),
         Order::Threads {
             workers,
             record: file,

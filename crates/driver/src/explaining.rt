@@ -109,6 +109,11 @@ fn explanation(
             schedule: name,
             limits,
             ..
+        }
+        | Order::Picture {
+            schedule: name,
+            limits,
+            ..
         } => explain_run(alloc, limits, name, schedule)?,
         Order::Threads { limits, .. } => explain_limits(alloc, limits)?,
         Order::Check { .. } | Order::Flip(_) => None,

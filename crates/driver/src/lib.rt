@@ -2,6 +2,7 @@
 //! The contract of `drive` is the main theorem (`IsOutcomeOrCut` in specs/Outcomes.antt).
 #![tactic(auto)]
 
+mod drawing;
 mod driving;
 mod explaining;
 mod recording;

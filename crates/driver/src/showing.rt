@@ -5,7 +5,7 @@ ghost use Rattle.std.specs.List.{list_all, list_any};
 ghost use Rattle.std.specs.Io.KnownBytes.{Appends};
 ghost use Rattle.outputs.specs.Beginnings.{AppendsBeginning};
 ghost use Rattle.acceptance.specs.Failures.{IsOfWriting};
-ghost use Rattle.driver.specs.Outcomes.{IsMachineShown, IsMachineShownInPart, IsThreadText, trial_text};
+ghost use Rattle.driver.specs.Outcomes.{AreThreadsShown, AreThreadsShownInPart, IsMachineShown, IsMachineShownInPart, IsThreadText, trial_text};
 ghost use Rattle.driver.specs.Threads.{is_done, is_live, line_of, lines_from, status_of};
 
 use cil_model::reports::End;
@@ -63,6 +63,23 @@ pub(crate) fn show<W: Output, E: Output>(
     let ends = machine.ends(alloc)?;
     let lines = lines_of(alloc, explain, machine, ends.as_slice())?;
     out.write_whole(machine.console())?;
+    err.write_whole(lines.as_slice())?;
+    Ok(status_of(ends.as_slice()))
+}
+
+/// Prints how the threads of a run stand, and what explains that, and answers its status.
+pub(crate) fn show_standing<E: Output>(
+    alloc: Global,
+    explain: bool,
+    machine: &Machine,
+    err: &mut E,
+) -> Result<u8, Failure>
+    ensures shown { IfOk result (AreThreadsShown explain machine.now (E.contents err.old) (E.contents err.new)) }
+    ensures begun { OnErr result (AreThreadsShownInPart explain machine.now (E.contents err.old) (E.contents err.new)) }
+    ensures failed { IfErr result IsOfWriting }
+{
+    let ends = machine.ends(alloc)?;
+    let lines = lines_of(alloc, explain, machine, ends.as_slice())?;
     err.write_whole(lines.as_slice())?;
     Ok(status_of(ends.as_slice()))
 }

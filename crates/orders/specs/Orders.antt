@@ -2,7 +2,9 @@
 use Rattle.std.specs.Prelude.{◌≡◌, ◌⊎◌, ℕ, Bool, true, false, List, Option, Some, None, option_map}
 use Rattle.cil_model.specs.Sources.{is_too_long}
 use Rattle.orders.specs.declared.order.Order.{Order}
-use Rattle.orders.specs.declared.order.Order.TheVariants.{Check, Run, Replay, Trace, Threads, Flip}
+use Rattle.orders.specs.declared.order.Order.TheVariants.{Check, Run, Replay, Trace, Picture, Threads, Flip}
+use Rattle.orders.specs.declared.part.Part.{Part}
+use Rattle.orders.specs.Parts.{count_in, last_in}
 
 -- the name of the file that holds the source, where one does
 abbrev pub file_of : Order → Option (List ℕ)
@@ -10,6 +12,7 @@ file_of (Check file explain) = Some file.now
 file_of (Run file schedule limits explain) = Some file.now
 file_of (Replay file schedule limits explain) = Some file.now
 file_of (Trace file schedule limits explain) = Some file.now
+file_of (Picture file schedule part limits explain) = Some file.now
 file_of (Threads file workers kept limits explain) = Some file.now
 file_of (Flip sizes) = None
 
@@ -17,6 +20,7 @@ file_of (Flip sizes) = None
 abbrev pub schedule_file_of : Order → Option (List ℕ)
 schedule_file_of (Replay file schedule limits explain) = Some schedule.now
 schedule_file_of (Trace file schedule limits explain) = Some schedule.now
+schedule_file_of (Picture file schedule part limits explain) = Some schedule.now
 schedule_file_of _ = None
 
 -- the name of the file that the record is to be written to, where one is asked for
@@ -30,8 +34,16 @@ is_explained (Check file explain) = explain
 is_explained (Run file schedule limits explain) = explain
 is_explained (Replay file schedule limits explain) = explain
 is_explained (Trace file schedule limits explain) = explain
+is_explained (Picture file schedule part limits explain) = explain
 is_explained (Threads file workers kept limits explain) = explain
 is_explained (Flip sizes) = false
+
+-- the number of the last event of a part of a run that has so many, and how many of them it has
+abbrev pub last_of : Part → ℕ → ℕ
+last_of part events = last_in part.last events
+
+abbrev pub event_count : Part → ℕ → ℕ
+event_count part events = count_in part.first part.last events
 
 -- these bytes are the source that a file holds, or too long as that is too
 abbrev pub StandsFor : List ℕ → List ℕ → Type 0

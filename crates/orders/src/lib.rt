@@ -4,8 +4,10 @@
 
 mod files;
 mod order;
+mod part;
 mod workers;
 
 pub use files::{read_source, read_text};
 pub use order::Order;
+pub use part::{LAST_NUMBER, Part};
 pub use workers::Workers;

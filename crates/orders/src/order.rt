@@ -2,6 +2,7 @@
 ghost use Rattle.std.specs.Prelude.{◌≡◌, option_map};
 ghost use Rattle.orders.specs.Orders.{file_of, is_explained, record_file_of, schedule_file_of};
 
+use crate::part::Part;
 use crate::workers::Workers;
 use cil_model::limits::Limits;
 use flip_trial::Sizes;
@@ -36,6 +37,14 @@ pub enum Order<'a> {
         limits: Limits,
         explain: bool,
     },
+    /// Runs it as a replay does, and draws a part of its events in the place of what the run has printed.
+    Picture {
+        file: &'a str,
+        schedule: &'a str,
+        part: Part,
+        limits: Limits,
+        explain: bool,
+    },
     /// Runs the source of this file by workers, each in a thread of its own, until no thread of the program is live. Where a file is named
     /// for the record, it is to get the text of the schedule that the run had.
     Threads {
@@ -59,6 +68,7 @@ impl<'a> Order<'a> {
             | Order::Run { file, .. }
             | Order::Replay { file, .. }
             | Order::Trace { file, .. }
+            | Order::Picture { file, .. }
             | Order::Threads { file, .. } => Some(file),
             Order::Flip(_) => None,
         }
@@ -73,6 +83,7 @@ impl<'a> Order<'a> {
             | Order::Run { explain, .. }
             | Order::Replay { explain, .. }
             | Order::Trace { explain, .. }
+            | Order::Picture { explain, .. }
             | Order::Threads { explain, .. } => explain,
             Order::Flip(_) => false,
         }
@@ -83,7 +94,9 @@ impl<'a> Order<'a> {
         ensures { option_map (λ file. file.now) result ≡ schedule_file_of self.now }
     {
         match *self {
-            Order::Replay { schedule, .. } | Order::Trace { schedule, .. } => Some(schedule),
+            Order::Replay { schedule, .. }
+            | Order::Trace { schedule, .. }
+            | Order::Picture { schedule, .. } => Some(schedule),
             Order::Check { .. } | Order::Run { .. } | Order::Threads { .. } | Order::Flip(_) =>
                 None,
         }
@@ -99,6 +112,7 @@ impl<'a> Order<'a> {
             | Order::Run { .. }
             | Order::Replay { .. }
             | Order::Trace { .. }
+            | Order::Picture { .. }
             | Order::Flip(_) => None,
         }
     }

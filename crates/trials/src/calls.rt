@@ -1,7 +1,7 @@
 //! Calls that no command makes: those of the libraries `call_trials` and `run_trials`, and orders whose outputs fail.
 
 use driver::{Device, drive};
-use orders::Order;
+use orders::{Order, Part};
 use run_trials::{Call, LIMITS, SUM, calls, run_calls};
 use std::alloc::Global;
 use std::io;
@@ -17,7 +17,9 @@ pub fn try_calls(rt: &HostRuntime, threads: &(impl Threads + Wait + Sync)) -> io
     differing = differing.saturating_add(tell_all(rt, &runs)?);
     let told = tells_of_outputs(threads, rt.alloc());
     differing = differing.saturating_add(tell(rt, "outputs that fail", told)?);
-    let count = made.len().saturating_add(runs.len()).saturating_add(1);
+    let cut = leaves_a_beginning(threads, rt.alloc());
+    differing = differing.saturating_add(tell(rt, "a picture that is cut", cut)?);
+    let count = made.len().saturating_add(runs.len()).saturating_add(2);
     println!(rt; "calls: {count} calls, {differing} differ")?;
     Ok(differing)
 }
@@ -79,4 +81,50 @@ fn tells_of_outputs(threads: &(impl Threads + Wait + Sync), alloc: Global) -> bo
         && page.into_inner().get_ref().as_slice().starts_with(
             b"1\ts0\tran\tP::Main+0  ldc.i4 2\t1\t1\t0\t0\tidle\tidle\n",
         )
+}
+
+/// Whether the status is 5 where an output takes less than a picture has, and a beginning of it is left, and where it takes it and the
+/// standard error takes nothing of how the threads stand.
+fn leaves_a_beginning(threads: &(impl Threads + Wait + Sync), alloc: Global) -> bool {
+    let picture = Order::Picture {
+        file: "",
+        schedule: "",
+        part: Part::new(1, None),
+        limits: LIMITS,
+        explain: false,
+    };
+    let mut page = Device::new(Cursor::new([0; 60]));
+    let mut whole = Device::new(Vec::new(alloc));
+    let mut none = Device::new(Cursor::new([0; 0]));
+    let mut err = Device::new(Vec::new(alloc));
+    let mut record = Vec::new(alloc);
+    let (source, schedule) = (SUM.as_bytes(), b"s0*3");
+    let cut = drive(
+        threads,
+        alloc,
+        &picture,
+        source,
+        schedule,
+        &mut page,
+        &mut err,
+        &mut record,
+    );
+    let untold = drive(
+        threads,
+        alloc,
+        &picture,
+        source,
+        schedule,
+        &mut whole,
+        &mut none,
+        &mut record,
+    );
+    let whole = whole.into_inner();
+    cut == 5
+        && untold == 5
+        && err.into_inner().as_slice() == b"device\n".as_slice()
+        && whole
+            .as_slice()
+            .starts_with(page.into_inner().get_ref().as_slice())
+        && whole.as_slice().ends_with(b"</svg>\n")
 }

@@ -47,7 +47,8 @@ fn try_block(
     }
 }
 
-/// Does a case, and answers whether it is as expected: as the text of the case, or as that of the file that it names by `= FILE`.
+/// Does a case, and answers whether it is as expected: as the text of the case, where `= FILE` in its first line stands for the text of that
+/// file.
 fn try_case(
     rt: &HostRuntime,
     threads: &(impl Threads + Wait + Sync),
@@ -55,8 +56,10 @@ fn try_case(
 ) -> io::Result<bool> {
     let came = outcome(rt, threads, case)?;
     match case.wanted.strip_prefix("= ") {
-        Some(file) => {
-            let wanted = fs::read_to_string(rt, file.trim())?;
+        Some(named) => {
+            let (file, behind) = named.split_once('\n').unwrap_or((named, ""));
+            let mut wanted = fs::read_to_string(rt, file)?;
+            wanted.push_str(behind)?;
             compare(rt, case.name, came.as_slice(), wanted.as_str())
         }
         None => compare(rt, case.name, came.as_slice(), case.wanted),

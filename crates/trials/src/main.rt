@@ -21,7 +21,7 @@ use std::sync::Wait;
 use std::thread::Threads;
 
 /// The groups of cases. Those of `NAME` stand in the file `NAME.txt`.
-const GROUPS: [&str; 15] = [
+const GROUPS: [&str; 16] = [
     "command_line",
     "commands",
     "schedules",
@@ -34,6 +34,7 @@ const GROUPS: [&str; 15] = [
     "copying",
     "growth",
     "traces",
+    "pictures",
     "deadlocks",
     "examples",
     "threads",

@@ -1,4 +1,4 @@
-use Rattle.command_line.specs.CommandLine.{check_app, flip_app, replay_app, run_app, threads_app, trace_app}
+use Rattle.command_line.specs.CommandLine.{check_app, flip_app, picture_app, replay_app, run_app, threads_app, trace_app}
 use Rattle.command_line.proofs.commands.cilvm_command.Goals as goal
 
 pub returns : goal.returns
@@ -8,4 +8,5 @@ returns c =
     let third = c.with_command-program-3.ensures _ run_app second c.run_command.ensures in
     let fourth = c.with_command-program-4.ensures _ replay_app third c.replay_command.ensures in
     let fifth = c.with_command-program-5.ensures _ trace_app fourth c.trace_command.ensures in
-    c.with_command.ensures _ flip_app fifth c.flip_command.ensures
+    let sixth = c.with_command-program-6.ensures _ picture_app fifth c.picture_command.ensures in
+    c.with_command.ensures _ flip_app sixth c.flip_command.ensures

@@ -76,6 +76,21 @@ returns-in-Trace-clause-untouched g c = c.show_trace.ensures.untouched
 pub returns-in-Trace-clause-in_part : goal.returns-in-Trace-clause-in_part
 returns-in-Trace-clause-in_part g c = rw c.in-Trace.is c.show_trace.ensures.in_part
 
+pub returns-in-Picture-clause-done : goal.returns-in-Picture-clause-done
+returns-in-Picture-clause-done g c = rw c.in-Picture.is (if_ok c.show_picture.result c.show_picture.ensures.done (λ _ done. (done, refl)))
+
+pub returns-in-Picture-clause-failed : goal.returns-in-Picture-clause-failed
+returns-in-Picture-clause-failed g c = rw c.in-Picture.is c.show_picture.ensures.failed
+
+pub returns-in-Picture-clause-same : goal.returns-in-Picture-clause-same
+returns-in-Picture-clause-same g c = on_err c.show_picture.result refl
+
+pub returns-in-Picture-clause-untouched : goal.returns-in-Picture-clause-untouched
+returns-in-Picture-clause-untouched g c = c.show_picture.ensures.untouched
+
+pub returns-in-Picture-clause-in_part : goal.returns-in-Picture-clause-in_part
+returns-in-Picture-clause-in_part g c = rw c.in-Picture.is c.show_picture.ensures.in_part
+
 pub returns-in-Threads-clause-done : goal.returns-in-Threads-clause-done
 returns-in-Threads-clause-done g c =
     rw c.in-Threads.is (subst (λ asked. IfOk c.show_threads.result (HasRunThreads c.args.source.now c.in-Threads.limits c.in-Threads.workers.count asked c.in-Threads.explain

@@ -1,0 +1,68 @@
+-- What a run that is drawn, whole or in part, shows of its source.
+use Rattle.std.proofs.Common.{◌++◌, ◌≤◌, ℕ, Bool, List, Option, length, subst, ◌∙◌, ap}
+use Rattle.std.specs.Io.KnownBytes.{Appends}
+use Rattle.source_runs.proofs.simulation.StandsLaws.{ends_stand}
+use Rattle.source_runs.specs.simulation.MachineContents.{Content}
+use Rattle.source_runs.specs.Runs.{IsReady}
+use Rattle.source_runs.proofs.interleaving_core.Doing.{has_done}
+use Rattle.source_runs.specs.shared_machine.interleaving_core.Histories.{HasDone}
+use Rattle.cil_model.specs.declared.events.Event.{Event}
+use Rattle.cil_model.specs.declared.limits.Limits.{Limits}
+use Rattle.cil_model.specs.declared.reports.Report.{Report}
+use Rattle.orders.specs.Orders.{event_count}
+use Rattle.orders.specs.declared.part.Part.{Part}
+use Rattle.outputs.specs.Beginnings.{AppendsBeginning}
+use Rattle.run_picture.specs.Pictures.{IsPicture}
+use Rattle.run_picture.specs.declared.windows.TheConstants.{MOST_EVENTS}
+use Rattle.driver.specs.Outcomes.{AreThreadsShown, AreThreadsShownInPart, HasDrawn, IsPicturedThenInPart}
+use Rattle.driver.specs.Pictures.{window_of}
+use Rattle.driver.specs.Threads.{lines_from, status_of}
+
+module _ (source : List ℕ) (limits : Limits) (text : List ℕ) (part : Part) (explain : Bool) (events : List Event) (begins after : Content) (reports : List Report) (out out' err err' : Option (List ℕ))
+    (ready : IsReady source limits text events begins) (few : event_count part (length events) ≤ MOST_EVENTS)
+    (pictured : IsPicture begins events after reports (window_of part (length events)) out out') where
+  done : HasDone ready.tree limits events reports after
+  done = has_done ready.tree limits begins after events reports ready.is_accepted.accepted ready.in_range ready.opened.begins pictured.turns
+
+  -- what the machine that was drawn shows
+  pub has_drawn : (status : ℕ) → AreThreadsShown explain after err err' status → HasDrawn source limits text part explain out out' err err' status
+  has_drawn status shown =
+      let stands = done.stands in
+      let ends = ends_stand after stands.state stands.represents in
+      record {
+        events = events;
+        few = few;
+        reports = reports;
+        state = stands.state;
+        comes_to = record { are_read = ready.are_read; by_events = record { tree = ready.tree; is_accepted = ready.is_accepted; in_range = ready.in_range; is_run = stands.is_run; budgets = stands.budgets; bounded = done.bounded } };
+        begins = begins;
+        opened = ready.opened;
+        after = after;
+        pictured = pictured;
+        represents = stands.represents;
+        leaves = done.leaves;
+        explanation = shown.0;
+        explains = shown.1;
+        errors = subst (λ es. Appends err err' (lines_from 0 es ++ shown.0)) ends shown.2;
+        status_is = shown.3 ∙ ap status_of ends;
+      }
+
+  -- what it shows where a write of that fails
+  pub drawn_in_part : AreThreadsShownInPart explain after err err' → IsPicturedThenInPart source limits text part explain out out' err err'
+  drawn_in_part shown =
+      let stands = done.stands in
+      record {
+        events = events;
+        few = few;
+        reports = reports;
+        state = stands.state;
+        comes_to = record { are_read = ready.are_read; by_events = record { tree = ready.tree; is_accepted = ready.is_accepted; in_range = ready.in_range; is_run = stands.is_run; budgets = stands.budgets; bounded = done.bounded } };
+        begins = begins;
+        opened = ready.opened;
+        after = after;
+        pictured = pictured;
+        represents = stands.represents;
+        explanation = shown.0;
+        explains = shown.1;
+        errors = subst (λ es. AppendsBeginning err err' (lines_from 0 es ++ shown.0)) (ends_stand after stands.state stands.represents) shown.2;
+      }

@@ -1,0 +1,147 @@
+use Rattle.std.proofs.Common.{◌≡◌, ◌≤◌, ◌<◌, List, length, inl, inr, refl, subst, sym, ap, ◌∙◌}
+use Rattle.std.specs.Io.KnownBytes.{Appends}
+use Rattle.cil_model.specs.declared.events.Event.{Event}
+use Rattle.orders.specs.Orders.{event_count}
+use Rattle.outputs.specs.Beginnings.{AppendsBeginning}
+use Rattle.run_picture.specs.Pictures.{IsPicture, IsPictureInPart}
+use Rattle.run_picture.specs.declared.windows.TheConstants.{MOST_EVENTS}
+use Rattle.schedule_text.specs.Items.{events_of}
+use Rattle.schedule_text.specs.declared.errors.TheConstants.{MOST_EVENTS as MOST_SCHEDULED}
+use Rattle.acceptance.specs.Failures.{IsOfWriting}
+use Rattle.acceptance.proofs.SourceLemmas.{handed_on, if_err, if_ok, on_err, on_err_of}
+use Rattle.driver.specs.Outcomes.{HasNotRun, IsPictureCut}
+use Rattle.driver.specs.Pictures.{too_many_text, window_of}
+use Rattle.driver.proofs.OutcomeLemmas.{no_refusal}
+use Rattle.driver.proofs.PictureLemmas.{drawn_in_part, has_drawn}
+use Rattle.driver.proofs.drawing.show_picture.Goals as goal
+
+pub returns-in_err-machine-clause-failed : goal.returns-in_err-machine-clause-failed
+returns-in_err-machine-clause-failed g c =
+    handed_on c.from_residual.result c.from_residual.ensures.1 (λ failure same.
+    subst (HasNotRun c.args.source.now c.args.limits c.args.text.now) (sym same) (inl c.in_err-machine.ensures.refused))
+
+pub event_count-events-requires : goal.event_count-events-requires
+event_count-events-requires g c =
+    record { few = subst (λ items. length (events_of items) ≤ MOST_SCHEDULED) (sym c.as_slice.ensures.value) c.in_ok-machine.ensures.opened.are_read.4 }
+
+-- ---- too many events
+
+pub returns-then-count-gt-MOST_EVENTS-clause-done : goal.returns-then-count-gt-MOST_EVENTS-clause-done
+returns-then-count-gt-MOST_EVENTS-clause-done g c =
+    let events : List Event = events_of c.in_ok-machine.items.items in
+    let number : c.event_count-events.result ≡ length events = c.event_count-events.ensures ∙ ap (λ items. length (events_of items)) c.as_slice.ensures.value in
+    let count : c.event_count-count.result ≡ event_count c.args.part (length events) = c.event_count-count.ensures.count ∙ ap (event_count c.args.part) number in
+    if_ok c.tell_too_many.result c.tell_too_many.ensures.told (λ status told. inr (record {
+      events = events;
+      begins = c.in_ok-machine.machine;
+      ready = c.in_ok-machine.ensures.opened;
+      many = subst (λ n. MOST_EVENTS < n) count c.if-count-gt-MOST_EVENTS.true;
+      untouched = refl;
+      told = subst (λ n. Appends (g.E.Output.contents c.args.err.now) (g.E.Output.contents c.tell_too_many.new.err) (too_many_text n)) count told.1;
+      status_is = told.0;
+    }))
+
+pub returns-then-count-gt-MOST_EVENTS-clause-failed : goal.returns-then-count-gt-MOST_EVENTS-clause-failed
+returns-then-count-gt-MOST_EVENTS-clause-failed g c =
+    let ready = c.in_ok-machine.ensures.opened in
+    if_err c.tell_too_many.result c.tell_too_many.ensures.failed (λ failure writing. inr ((ready.tree, ready.is_accepted), writing))
+
+pub returns-then-count-gt-MOST_EVENTS-clause-untouched : goal.returns-then-count-gt-MOST_EVENTS-clause-untouched
+returns-then-count-gt-MOST_EVENTS-clause-untouched g c = if_err c.tell_too_many.result c.tell_too_many.ensures.failed (λ failure writing refused. absurd (no_refusal failure writing refused))
+
+pub returns-then-count-gt-MOST_EVENTS-clause-in_part : goal.returns-then-count-gt-MOST_EVENTS-clause-in_part
+returns-then-count-gt-MOST_EVENTS-clause-in_part g c =
+    let events : List Event = events_of c.in_ok-machine.items.items in
+    let number : c.event_count-events.result ≡ length events = c.event_count-events.ensures ∙ ap (λ items. length (events_of items)) c.as_slice.ensures.value in
+    let count : c.event_count-count.result ≡ event_count c.args.part (length events) = c.event_count-count.ensures.count ∙ ap (event_count c.args.part) number in
+    on_err_of c.tell_too_many.result c.tell_too_many.ensures.begun (λ begun. inr (inr (inr (
+      record {
+        events = events;
+        begins = c.in_ok-machine.machine;
+        ready = c.in_ok-machine.ensures.opened;
+        many = subst (λ n. MOST_EVENTS < n) count c.if-count-gt-MOST_EVENTS.true;
+        begun = subst (λ n. AppendsBeginning (g.E.Output.contents c.args.err.now) (g.E.Output.contents c.tell_too_many.new.err) (too_many_text n)) count begun;
+      },
+      refl,
+    ))))
+
+-- ---- a picture that is not drawn
+
+pub returns-in_err-draw-clause-failed : goal.returns-in_err-draw-clause-failed
+returns-in_err-draw-clause-failed g c =
+    let ready = c.in_ok-machine.ensures.opened in
+    handed_on c.from_residual-in_err-draw.result c.from_residual-in_err-draw.ensures.1 (λ failure same.
+    inr ((ready.tree, ready.is_accepted), subst IsOfWriting (sym same) c.in_err-draw.ensures.failed))
+
+pub returns-in_err-draw-clause-untouched : goal.returns-in_err-draw-clause-untouched
+returns-in_err-draw-clause-untouched g c =
+    handed_on c.from_residual-in_err-draw.result c.from_residual-in_err-draw.ensures.1 (λ failure same refused.
+    absurd (no_refusal failure (subst IsOfWriting (sym same) c.in_err-draw.ensures.failed) refused))
+
+pub returns-in_err-draw-clause-in_part : goal.returns-in_err-draw-clause-in_part
+returns-in_err-draw-clause-in_part g c =
+    let events : List Event = events_of c.in_ok-machine.items.items in
+    let number : c.event_count-events.result ≡ length events = c.event_count-events.ensures ∙ ap (λ items. length (events_of items)) c.as_slice.ensures.value in
+    let count : c.event_count-count.result ≡ event_count c.args.part (length events) = c.event_count-count.ensures.count ∙ ap (event_count c.args.part) number in
+    let few : event_count c.args.part (length events) ≤ MOST_EVENTS = subst (λ n. n ≤ MOST_EVENTS) count c.if-count-gt-MOST_EVENTS.false in
+    let window : c.window_of-window.result ≡ window_of c.args.part (length events) = c.window_of-window.ensures ∙ ap (window_of c.args.part) number in
+    let machine = c.in_ok-machine.machine in
+    let after = c.draw.new.machine in
+    let begun = g.W.Output.contents c.args.out.now in
+    let between = g.W.Output.contents c.draw.new.out in
+    let stopped = subst (λ items. IsPictureInPart machine (events_of items) after c.window_of-window.result begun between) c.as_slice-2.ensures.value c.in_err-draw.ensures.stopped in
+    let cut : IsPictureCut c.args.source.now c.args.limits c.args.text.now c.args.part begun between = record {
+      events = events;
+      begins = machine;
+      ready = c.in_ok-machine.ensures.opened;
+      few = few;
+      after = after;
+      pictured = subst (λ w. IsPictureInPart machine events after w begun between) window stopped;
+    } in
+    on_err c.from_residual-in_err-draw.result (inr (inl (cut, refl)))
+
+-- ---- a picture that is drawn
+
+pub returns-clause-done : goal.returns-clause-done
+returns-clause-done g c =
+    let events : List Event = events_of c.in_ok-machine.items.items in
+    let number : c.event_count-events.result ≡ length events = c.event_count-events.ensures ∙ ap (λ items. length (events_of items)) c.as_slice.ensures.value in
+    let count : c.event_count-count.result ≡ event_count c.args.part (length events) = c.event_count-count.ensures.count ∙ ap (event_count c.args.part) number in
+    let few : event_count c.args.part (length events) ≤ MOST_EVENTS = subst (λ n. n ≤ MOST_EVENTS) count c.if-count-gt-MOST_EVENTS.false in
+    let window : c.window_of-window.result ≡ window_of c.args.part (length events) = c.window_of-window.ensures ∙ ap (window_of c.args.part) number in
+    let machine = c.in_ok-machine.machine in
+    let after = c.draw.new.machine in
+    let begun = g.W.Output.contents c.args.out.now in
+    let between = g.W.Output.contents c.draw.new.out in
+    let drawn = c.in_ok-draw.ensures.pictured in
+    let pictured = subst (λ w. IsPicture machine events after drawn.0 w begun between) window
+    (subst (λ items. IsPicture machine (events_of items) after drawn.0 c.window_of-window.result begun between) c.as_slice-2.ensures.value drawn.1) in
+    if_ok c.show_standing.result c.show_standing.ensures.shown (λ status shown.
+    inl (has_drawn c.args.source.now c.args.limits c.args.text.now c.args.part c.args.explain events machine after drawn.0 begun between (g.E.Output.contents c.args.err.now) (g.E.Output.contents c.show_standing.new.err)
+    c.in_ok-machine.ensures.opened few pictured status shown))
+
+pub returns-clause-failed : goal.returns-clause-failed
+returns-clause-failed g c =
+    let ready = c.in_ok-machine.ensures.opened in
+    if_err c.show_standing.result c.show_standing.ensures.failed (λ failure writing. inr ((ready.tree, ready.is_accepted), writing))
+
+pub returns-clause-untouched : goal.returns-clause-untouched
+returns-clause-untouched g c = if_err c.show_standing.result c.show_standing.ensures.failed (λ failure writing refused. absurd (no_refusal failure writing refused))
+
+pub returns-clause-in_part : goal.returns-clause-in_part
+returns-clause-in_part g c =
+    let events : List Event = events_of c.in_ok-machine.items.items in
+    let number : c.event_count-events.result ≡ length events = c.event_count-events.ensures ∙ ap (λ items. length (events_of items)) c.as_slice.ensures.value in
+    let count : c.event_count-count.result ≡ event_count c.args.part (length events) = c.event_count-count.ensures.count ∙ ap (event_count c.args.part) number in
+    let few : event_count c.args.part (length events) ≤ MOST_EVENTS = subst (λ n. n ≤ MOST_EVENTS) count c.if-count-gt-MOST_EVENTS.false in
+    let window : c.window_of-window.result ≡ window_of c.args.part (length events) = c.window_of-window.ensures ∙ ap (window_of c.args.part) number in
+    let machine = c.in_ok-machine.machine in
+    let after = c.draw.new.machine in
+    let begun = g.W.Output.contents c.args.out.now in
+    let between = g.W.Output.contents c.draw.new.out in
+    let drawn = c.in_ok-draw.ensures.pictured in
+    let pictured = subst (λ w. IsPicture machine events after drawn.0 w begun between) window
+    (subst (λ items. IsPicture machine (events_of items) after drawn.0 c.window_of-window.result begun between) c.as_slice-2.ensures.value drawn.1) in
+    on_err_of c.show_standing.result c.show_standing.ensures.begun (λ shown.
+    inr (inr (inl (drawn_in_part c.args.source.now c.args.limits c.args.text.now c.args.part c.args.explain events machine after drawn.0 begun between (g.E.Output.contents c.args.err.now) (g.E.Output.contents c.show_standing.new.err)
+    c.in_ok-machine.ensures.opened few pictured shown))))
