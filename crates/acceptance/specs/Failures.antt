@@ -1,9 +1,8 @@
 -- Why an order is not carried out, and what is told of it (this profile).
 use Rattle.std.specs.Fmt.{decimal}
 use Rattle.std.specs.IoError.{error_kind}
-use Rattle.std.specs.Prelude.{◌≡◌, ◌≢◌, ◌⊎◌, ◌++◌, ◌∷◌, [], ℕ, Bool, true, false, List, Option, codes}
-use Rattle.std.specs.Io.KnownBytes.{Appends}
-use Rattle.outputs.specs.Beginnings.{AppendsBeginning}
+use Rattle.std.specs.Prelude.{◌≡◌, ◌≢◌, ◌⊎◌, ◌++◌, ◌∷◌, [], ℕ, Bool, true, false, List, codes}
+use Rattle.outputs.specs.Taken.{Fails, Taken, Takes}
 use Rattle.std.specs.declared.io.Error.{Error}
 use Rattle.std.specs.declared.io.ErrorKind.TheVariants.{OutOfMemory}
 use Rattle.ilasm_reader.specs.Answers.{numbered as reading_number_of}
@@ -52,7 +51,7 @@ abbrev pub IsFailureOfDevice : Error → Failure → Type 0
 IsFailureOfDevice error failure = (error_kind error ≡ OutOfMemory → failure ≡ Memory)
     × (error_kind error ≢ OutOfMemory → failure ≡ Device)
 
--- an output fails, or memory for it
+-- a write fails, or there is no memory for what is to be written
 abbrev pub IsOfWriting : Failure → Type 0
 IsOfWriting failure = (failure ≡ Memory) ⊎ (failure ≡ Device)
 
@@ -81,7 +80,8 @@ message_of (OutOfRange number) = number_line number
 message_of Memory = codes "memory" ++ 10 ∷ []
 message_of Device = codes "device" ++ 10 ∷ []
 
--- the line of a failure is written, and the status is the failure's; or a write failed, a beginning of it is written, and the status is 5
-abbrev pub IsReported : Failure → Option (List ℕ) → Option (List ℕ) → Bool → ℕ → Type 0
-IsReported failure err err' failed status = ((status ≡ status_of_failure failure) × Appends err err' (message_of failure))
-    ⊎ ((status ≡ 5) × (failed ≡ true) × AppendsBeginning err err' (message_of failure))
+-- the line of a failure is written, and the status is the failure's; or it is cut by a failed write, and the status is 5
+abbrev pub IsReported : Failure → Taken → Taken → ℕ → Type 0
+IsReported failure err err' status =
+    ((status ≡ status_of_failure failure) × Takes err err' (message_of failure))
+    ⊎ ((status ≡ 5) × Fails err err' (message_of failure))

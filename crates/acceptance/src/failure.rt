@@ -1,20 +1,19 @@
 //! Why a source is not run, or an order not carried out, and what is told of it.
 
-ghost use Rattle.std.specs.Prelude.{◌≡◌, OnErr, OnOk, true};
-ghost use Rattle.std.specs.Io.KnownBytes.{Appends};
-ghost use Rattle.outputs.specs.Beginnings.{AppendsBeginning};
-ghost use Rattle.acceptance.specs.Failures.{IsFailureOfDevice, IsOfWriting, IsReported, failure_of_making};
+ghost use Rattle.std.specs.Prelude.{◌≡◌, OnErr, OnOk};
+ghost use Rattle.outputs.specs.Taken.{Fails, Takes};
+ghost use Rattle.acceptance.specs.Failures.{IsFailureOfDevice, IsReported, failure_of_making};
 ghost use Rattle.acceptance.specs.Failures.{failure_of_reading, failure_of_resolving};
 ghost use Rattle.acceptance.specs.Failures.{failure_of_schedule, failure_of_verifying};
 ghost use Rattle.acceptance.specs.Failures.{is_refusal, message_of, number_line, status_of_failure};
-ghost use Rattle.acceptance.specs.declared.failure.Failure.TheVariants.{Memory};
+ghost use Rattle.acceptance.specs.declared.failure.Failure.TheVariants.{Device as BrokenDevice, Memory};
 
 use cil_model::memory::NoMemory;
 use ilasm_reader::ReadError;
 use interleaving_core::Refused;
 use itoa::Buffer;
 use metadata::MetaError;
-use outputs::{NotWritten, Output};
+use outputs::{Device, Out};
 use schedule_text::ScheduleError;
 use std::alloc::AllocError;
 use std::io;
@@ -74,15 +73,11 @@ impl From<io::Error> for Failure {
     }
 }
 
-impl From<NotWritten> for Failure {
-    ghost from_gives = { λ _ failure. IsOfWriting failure };
+impl From<Device> for Failure {
+    ghost from_gives = { λ _ failure. failure ≡ BrokenDevice };
 
-    fn from(error: NotWritten) -> Failure {
-        if error.wants_memory() {
-            Failure::Memory
-        } else {
-            Failure::Device
-        }
+    fn from(_error: Device) -> Failure {
+        Failure::Device
     }
 }
 
@@ -141,10 +136,10 @@ impl From<ScheduleError> for Failure {
     }
 }
 
-/// Writes the line of a failure to the standard error, and answers its status. Where a write fails, the answer is 5, and a beginning of
-/// the line is written. Of a standard error that never fails the answer is the failure's status, and the whole line is written.
-pub fn report<E: Output>(failure: Failure, err: &mut E) -> u8
-    ensures { IsReported failure (E.contents err.old) (E.contents err.new) (E.has_failed err.new) result }
+/// Writes the line of a failure to the standard error, and returns its status. Where a write fails, it returns 5, and a prefix of the line
+/// is written.
+pub fn report<E: Out>(failure: Failure, err: &mut E) -> u8
+    ensures { IsReported failure (E.taken err.old) (E.taken err.new) result }
 {
     match tell(failure, err) {
         Ok(()) => status_of_failure(failure),
@@ -152,11 +147,10 @@ pub fn report<E: Output>(failure: Failure, err: &mut E) -> u8
     }
 }
 
-/// Writes the line of a failure. Takes no memory. An error is a write that failed, and a beginning of the line is written then.
-pub fn tell<E: Output>(failure: Failure, err: &mut E) -> Result<(), NotWritten>
-    ensures told { OnOk result (Appends (E.contents err.old) (E.contents err.new) (message_of failure)) }
-    ensures begun { OnErr result (AppendsBeginning (E.contents err.old) (E.contents err.new) (message_of failure)) }
-    ensures failed { OnErr result (E.has_failed err.new ≡ true) }
+/// Writes the line of a failure. Takes no memory. After a failed write a prefix of the line is written.
+pub fn tell<E: Out>(failure: Failure, err: &mut E) -> Result<(), Device>
+    ensures whole { OnOk result (Takes (E.taken err.old) (E.taken err.new) (message_of failure)) }
+    ensures cut { OnErr result (Fails (E.taken err.old) (E.taken err.new) (message_of failure)) }
 {
     match failure {
         Failure::Refused(number) | Failure::OutOfRange(number) => tell_number(number, err),
@@ -166,15 +160,12 @@ pub fn tell<E: Output>(failure: Failure, err: &mut E) -> Result<(), NotWritten>
 }
 
 /// Writes the line of a refusal's number.
-fn tell_number<E: Output>(number: u16, err: &mut E) -> Result<(), NotWritten>
-    ensures told { OnOk result (Appends (E.contents err.old) (E.contents err.new) (number_line number)) }
-    ensures begun { OnErr result (AppendsBeginning (E.contents err.old) (E.contents err.new) (number_line number)) }
-    ensures failed { OnErr result (E.has_failed err.new ≡ true) }
+fn tell_number<E: Out>(number: u16, err: &mut E) -> Result<(), Device>
+    ensures whole { OnOk result (Takes (E.taken err.old) (E.taken err.new) (number_line number)) }
+    ensures cut { OnErr result (Fails (E.taken err.old) (E.taken err.new) (number_line number)) }
 {
     let mut digits = Buffer::new();
-    err.write_whole(b"error ")?;
-    err.write_whole(digits.format(number).as_bytes())?;
-    err.write_whole(b"\n")
+    err.write_texts(&["error ", digits.format(number), "\n"])
 }
 
 /// The status that the program ends with where it is told of this failure: 1 for a source or a schedule that is refused, 2 for limits, and

@@ -2,7 +2,7 @@
 #![tactic(auto)]
 
 use command_line::{LineFault, Unread, Unwritten};
-use driver::{Device, Failure};
+use driver::{Failure, WriterOut};
 use orders::{Order, read_source, read_text};
 use std::alloc::AllocError;
 use std::fs::File;
@@ -13,7 +13,7 @@ use std::{env, fs, io};
 
 fn main(rt: HostRuntime) -> ExitCode {
     let errors = rt.stderr();
-    let mut err = Device::new(io::writer(&errors));
+    let mut err = WriterOut::new(io::writer(&errors));
     let status = match program(&rt, &rt) {
         Ok(status) => status,
         Err(failure) => driver::report(failure, &mut err),
@@ -92,8 +92,8 @@ fn carry_out_on(
 ) -> u8 {
     let alloc = rt.alloc();
     let errors = rt.stderr();
-    let mut out = Device::new(io::writer(rt));
-    let mut err = Device::new(io::writer(&errors));
+    let mut out = WriterOut::new(io::writer(rt));
+    let mut err = WriterOut::new(io::writer(&errors));
     let mut record = Vec::new(alloc);
     let status = driver::drive(
         threads,
@@ -163,7 +163,10 @@ fn tell_unwritten(rt: &HostRuntime, unwritten: &Unwritten<'_>) -> u8 {
 /// Tells an error of a file, and behind it what is told of the file. Where that is not to be had or not written, the first line stands alone.
 fn tell_file(rt: &HostRuntime, error: io::Error, told: Result<String, AllocError>) -> u8 {
     let errors = rt.stderr();
-    let status = driver::report(Failure::from(error), &mut Device::new(io::writer(&errors)));
+    let status = driver::report(
+        Failure::from(error),
+        &mut WriterOut::new(io::writer(&errors)),
+    );
     if let Ok(text) = told {
         let _written = eprint!(rt; "{text}");
     }

@@ -1,5 +1,5 @@
 -- What a run that is shown, whole or in part, shows of its source.
-use Rattle.std.proofs.Common.{◌≡◌, ◌⊎◌, ◌++◌, ℕ, Bool, true, false, List, [], map, Option, Result, Ok, Err, refl, ap, sym, ◌∙◌, subst, inl, inr}
+use Rattle.std.proofs.Common.{◌≡◌, ◌⊎◌, ◌++◌, ◌<◌, ◌≤◌, ℕ, Bool, true, false, List, [], map, Result, Ok, Err, refl, ap, sym, ◌∙◌, subst, inl, inr, append-nil}
 use Rattle.std.specs.Prelude.{IfErr}
 use Rattle.source_runs.proofs.simulation.StandsLaws.{ends_stand, printed_stands}
 use Rattle.source_runs.specs.simulation.MachineContents.{Content}
@@ -12,14 +12,17 @@ use Rattle.cil_model.specs.declared.limits.Limits.{Limits}
 use Rattle.cil_model.specs.declared.reports.Report.{Report}
 use Rattle.acceptance.specs.Failures.{IsOfWriting, is_refusal}
 use Rattle.acceptance.specs.declared.failure.Failure.{Failure}
+use Rattle.acceptance.specs.declared.failure.Failure.TheVariants.{Refused, OutOfRange, Memory, Device}
 use Rattle.event_trace.specs.Traces.{IsTraced}
-use Rattle.source_runs.specs.Runs.{IsReady, IsRunBy}
-use Rattle.driver.specs.Outcomes.{AreThreadsExplained, HasRun, HasTraced, IsExplanation, IsMachineShown, IsMachineShownInPart, IsRunInPart, IsShown, IsThreadText, IsTracedThenInPart}
-use Rattle.driver.specs.Threads.{ends_of, lines_from}
-use Rattle.outputs.specs.Beginnings.{AppendsBeginning}
-use Rattle.outputs.proofs.BeginningLaws.{begins_nothing}
+use Rattle.source_runs.specs.Runs.{IsNotRunBy, IsReady, IsRunBy}
+use Rattle.source_runs.specs.shared_machine.Worlds.{AreDoneOf}
+use Rattle.driver.specs.Outcomes.{AreCut, AreThreadsExplained, HasBroken, HasRun, HasTraced, IsExplanation, IsMachineShown, IsMachineShownInPart, IsRun, IsRunInPart, IsShown, IsThreadText, IsTracedThenInPart, status_after, stop_text}
+use Rattle.driver.specs.Threads.{ends_of, lines_from, status_of}
+use Rattle.outputs.specs.Taken.{Fails, HasGrown, Taken, Takes}
+use Rattle.outputs.proofs.TakenLaws.{fails_first, fails_second, takes_both}
 use Rattle.source_runs.proofs.RunLemmas.{comes_to}
 use Rattle.source_runs.proofs.interleaving_core.Doing.{has_done}
+use Rattle.source_runs.specs.shared_machine.interleaving_core.Histories.{HasDone}
 
 pub for_err : {T E : Type 0} {P : Type 0} (r : Result T E) → P → IfErr r (λ _. P)
 for_err (Ok x) p = tt
@@ -45,94 +48,156 @@ pub whole_thread_text : (explain : Bool) (c : Content) (text : List ℕ) → exp
 whole_thread_text true c text told are = inr are
 whole_thread_text false c text told are = absurd (cc told)
 
--- nothing is shown of a machine
-pub none_shown : (explain : Bool) (c : Content) (out err : Option (List ℕ)) → IsMachineShownInPart explain c out out err err
-none_shown explain c out err = ([], no_thread_text explain c, begins_nothing out c.printed, begins_nothing err (lines_from 0 (map end_of c.threads) ++ []))
-
 -- what a machine shows is what the state shows that it represents
-shown_of : (c : Content) (state : State) (more : List ℕ) (out out' err err' : Option (List ℕ)) (status : ℕ) → Represents c state → IsShown c.printed (map end_of c.threads) more out out' err err' status
+shown_of : (c : Content) (state : State) (more : List ℕ) (out out' err err' : Taken) (status : ℕ) → Represents c state → IsShown c.printed (map end_of c.threads) more out out' err err' status
     → IsShown state.printed (ends_of state) more out out' err err' status
 shown_of c state more out out' err err' status represents shown =
     subst (λ p. IsShown p (ends_of state) more out out' err err' status) (printed_stands c state represents)
     (subst (λ es. IsShown c.printed es more out out' err err' status) (ends_stand c state represents) shown)
 
--- what the machine that was run shows
-pub has_run : (source : List ℕ) (limits : Limits) (text : List ℕ) (explain : Bool) (events : List Event) (reports : List Report) (c : Content) (out out' err err' : Option (List ℕ)) (status : ℕ)
-    → IsRunBy source limits text events reports c → IsMachineShown explain c out out' err err' status → HasRun source limits text explain out out' err err' status
-has_run source limits text explain events reports c out out' err err' status by left =
-    let after : StandsAfter by.1.0 limits events reports c = by.1.2.stands in
+-- ---- what is cut
+
+-- a prefix of more is cut where one of the second text is
+pub cut_more : (first second more : List ℕ) (out out' err err' : Taken) → AreCut first second out out' err err' → AreCut first (second ++ more) out out' err err'
+cut_more first second more out out' err err' (inl cut) = inl cut
+cut_more first second more out out' err err' (inr cut) = inr (cut.0, fails_first err err' second more cut.1)
+
+-- both texts are written, and a write of more failed
+pub cut_after : (first second more : List ℕ) (out out' err between err' : Taken) → Takes out out' first → Takes err between second → Fails between err' more
+    → AreCut first (second ++ more) out out' err err'
+cut_after first second more out out' err between err' taken shown cut = inr (taken, fails_second err between err' second more shown cut)
+
+-- where texts are cut, a write failed
+pub cut_breaks : (first second : List ℕ) (out out' err err' : Taken) → AreCut first second out out' err err' → HasBroken out out' err err'
+cut_breaks first second out out' err err' (inl cut) = inl cut.0.1
+cut_breaks first second out out' err err' (inr cut) = inr cut.1.1
+
+-- a write failed after one output had taken something
+pub breaks_later : (out between out' err err' : Taken) → between.failures ≡ out.failures → HasBroken between out' err err' → HasBroken out out' err err'
+breaks_later out between out' err err' same (inl grown) = inl (subst (λ n. HasGrown n out'.failures) same grown)
+breaks_later out between out' err err' same (inr grown) = inr grown
+
+-- ---- what a run shows
+
+-- a machine that was run shows a run
+run_of : (source : List ℕ) (limits : Limits) (text : List ℕ) (explain stopped : Bool) (done : List Event) (reports : List Report) (c : Content) (more : List ℕ)
+    → (by : IsRunBy source limits text done reports stopped c) → IsThreadText explain c more
+    → IsRun source limits text explain stopped by.ran.2.stands.state ((lines_from 0 (map end_of c.threads) ++ more) ++ stop_text stopped)
+run_of source limits text explain stopped done reports c more by explains =
+    let after : StandsAfter by.ran.0 limits done reports c = by.ran.2.stands in
     record {
-      events = events;
+      events = by.events;
+      are_read = by.are_read;
+      done = done;
+      are_done = by.are_done;
       reports = reports;
-      state = after.state;
-      comes_to = record { are_read = by.0; by_events = comes_to source by.1.0 limits events reports c by.1.1 by.1.2 };
+      comes_to = comes_to source by.ran.0 limits done reports c by.ran.1 by.ran.2;
       after = c;
       represents = after.represents;
-      explanation = left.0;
-      explains = left.1;
-      shown = shown_of c after.state left.0 out out' err err' status after.represents left.2;
+      explanation = more;
+      explains = explains;
+      reports_all = ap (λ es. lines_from 0 es ++ more ++ stop_text stopped) (ends_stand c after.state after.represents);
     }
 
--- what the machine that was run shows in part
-pub run_in_part : (source : List ℕ) (limits : Limits) (text : List ℕ) (explain : Bool) (events : List Event) (reports : List Report) (c : Content) (out out' err err' : Option (List ℕ))
-    → IsRunBy source limits text events reports c → IsMachineShownInPart explain c out out' err err' → IsRunInPart source limits text explain out out' err err'
-run_in_part source limits text explain events reports c out out' err err' by left =
-    let after : StandsAfter by.1.0 limits events reports c = by.1.2.stands in
-    record {
-      events = events;
-      reports = reports;
-      state = after.state;
-      comes_to = record { are_read = by.0; by_events = comes_to source by.1.0 limits events reports c by.1.1 by.1.2 };
-      after = c;
-      represents = after.represents;
-      explanation = left.0;
-      explains = left.1;
-      output = subst (AppendsBeginning out out') (printed_stands c after.state after.represents) left.2;
-      errors = subst (λ es. AppendsBeginning err err' (lines_from 0 es ++ left.0)) (ends_stand c after.state after.represents) left.3;
-    }
+module _ (source : List ℕ) (limits : Limits) (text : List ℕ) (explain stopped : Bool) (done : List Event) (reports : List Report) (c : Content) (by : IsRunBy source limits text done reports stopped c) where
+  abbrev state : State
+  state = by.ran.2.stands.state
 
--- what the machine that was traced shows in part
-pub traced_in_part : (source : List ℕ) (limits : Limits) (text : List ℕ) (explain : Bool) (events : List Event) (begins after : Content) (reports : List Report) (out between out' err err' : Option (List ℕ))
-    → IsReady source limits text events begins → IsTraced begins events after reports out between
-    → IsMachineShownInPart explain after between out' err err' → IsTracedThenInPart source limits text explain out out' err err'
-traced_in_part source limits text explain events begins after reports out between out' err err' ready traced left =
-    let done = has_done ready.tree limits begins after events reports ready.is_accepted.accepted ready.in_range ready.opened.begins traced.turns in
-    record {
-      events = events;
-      begins = begins;
-      ready = ready;
-      after = after;
-      reports = reports;
-      between = between;
-      traced = traced;
-      shown = run_in_part source limits text explain events reports after between out' err err' (ready.are_read, (ready.tree, ready.is_accepted, done)) left;
-    }
+  printed : c.printed ≡ state.printed
+  printed = printed_stands c state by.ran.2.stands.represents
 
--- what the machine that was traced shows
-pub has_traced : (source : List ℕ) (limits : Limits) (text : List ℕ) (explain : Bool) (events : List Event) (begins after : Content) (reports : List Report) (out between out' err err' : Option (List ℕ)) (status : ℕ)
-    → IsReady source limits text events begins → IsTraced begins events after reports out between
-    → IsMachineShown explain after between out' err err' status → HasTraced source limits text explain out out' err err' status
-has_traced source limits text explain events begins after reports out between out' err err' status ready traced left =
-    let done = has_done ready.tree limits begins after events reports ready.is_accepted.accepted ready.in_range ready.opened.begins traced.turns in
-    let stands = done.stands in
-    record {
-      events = events;
-      reports = reports;
-      state = stands.state;
-      comes_to = record { are_read = ready.are_read; by_events = record { tree = ready.tree; is_accepted = ready.is_accepted; in_range = ready.in_range; is_run = stands.is_run; budgets = stands.budgets; bounded = done.bounded } };
-      begins = begins;
-      opened = ready.opened;
-      after = after;
-      between = between;
-      traced = traced;
-      represents = stands.represents;
-      leaves = done.leaves;
-      explanation = left.0;
-      explains = left.1;
-      shown = shown_of after stands.state left.0 between out' err err' status stands.represents left.2;
-    }
+  -- all that it shows is written
+  pub has_run : (out out' err between err' : Taken) (before status : ℕ) → IsMachineShown explain c out out' err between before
+      → (status ≡ status_after stopped before) × Takes between err' (stop_text stopped) → HasRun source limits text explain out out' err err' status
+  has_run out out' err between err' before status (more, explains, shown) (after, stop) =
+      let lines = lines_from 0 (map end_of c.threads) ++ more in
+      record {
+        stopped = stopped;
+        state = state;
+        reported = lines ++ stop_text stopped;
+        is_run = run_of source limits text explain stopped done reports c more by explains;
+        output = subst (Takes out out') printed shown.output;
+        errors = takes_both err between err' lines (stop_text stopped) shown.errors stop;
+        status_is = after ∙ ap (status_after stopped) (shown.status_is ∙ ap status_of (ends_stand c state by.ran.2.stands.represents));
+      }
+
+  -- a write of what it shows failed
+  pub run_in_part : (out out' err err' : Taken) → IsMachineShownInPart explain c out out' err err' → IsRunInPart source limits text explain out out' err err'
+  run_in_part out out' err err' (more, explains, cut) =
+      let lines = lines_from 0 (map end_of c.threads) ++ more in
+      record {
+        stopped = stopped;
+        state = state;
+        reported = lines ++ stop_text stopped;
+        is_run = run_of source limits text explain stopped done reports c more by explains;
+        cut = subst (λ p. AreCut p (lines ++ stop_text stopped) out out' err err') printed (cut_more c.printed lines (stop_text stopped) out out' err err' cut);
+      }
+
+  -- a write failed that was to report that it was stopped
+  pub run_then_in_part : (out out' err between err' : Taken) (before : ℕ) → IsMachineShown explain c out out' err between before → Fails between err' (stop_text stopped)
+      → IsRunInPart source limits text explain out out' err err'
+  run_then_in_part out out' err between err' before (more, explains, shown) stop =
+      let lines = lines_from 0 (map end_of c.threads) ++ more in
+      record {
+        stopped = stopped;
+        state = state;
+        reported = lines ++ stop_text stopped;
+        is_run = run_of source limits text explain stopped done reports c more by explains;
+        cut = subst (λ p. AreCut p (lines ++ stop_text stopped) out out' err err') printed (cut_after c.printed lines (stop_text stopped) out out' err between err' shown.output shown.errors stop);
+      }
+
+-- ---- what a trace shows
+
+module _ (source : List ℕ) (limits : Limits) (text : List ℕ) (explain : Bool) (events : List Event) (begins after : Content) (reports : List Report) (out between out' err err' : Taken)
+    (ready : IsReady source limits text events begins) (traced : IsTraced begins events after reports out.contents between.contents) where
+  abbrev done : HasDone ready.tree limits events reports after
+  done = has_done ready.tree limits begins after events reports ready.is_accepted.accepted ready.in_range ready.opened.begins traced.turns
+
+  -- all events are done
+  by : IsRunBy source limits text events reports false after
+  by = record { events = events; are_read = ready.are_read; are_done = record { rest = []; are = sym (append-nil events); all = λ none. refl }; ran = (ready.tree, ready.is_accepted, done) }
+
+  -- a write of what the machine shows failed
+  pub traced_in_part : IsMachineShownInPart explain after between out' err err' → IsTracedThenInPart source limits text explain out out' err err'
+  traced_in_part left = record {
+    events = events;
+    begins = begins;
+    ready = ready;
+    after = after;
+    reports = reports;
+    between = between;
+    traced = traced;
+    shown = run_in_part source limits text explain false events reports after by between out' err err' left;
+  }
+
+  -- all that it shows is written
+  pub has_traced : (status : ℕ) → IsMachineShown explain after between out' err err' status → HasTraced source limits text explain out out' err err' status
+  has_traced status left =
+      let stands = done.stands in
+      record {
+        events = events;
+        reports = reports;
+        state = stands.state;
+        comes_to = record { are_read = ready.are_read; by_events = record { tree = ready.tree; is_accepted = ready.is_accepted; in_range = ready.in_range; is_run = stands.is_run; budgets = stands.budgets; bounded = done.bounded } };
+        begins = begins;
+        opened = ready.opened;
+        after = after;
+        between = between;
+        traced = traced;
+        represents = stands.represents;
+        leaves = done.leaves;
+        explanation = left.0;
+        explains = left.1;
+        shown = shown_of after stands.state left.0 between out' err err' status stands.represents left.2;
+      }
+
+-- ---- failures
 
 -- a failed write is no refusal
 pub no_refusal : (failure : Failure) → IsOfWriting failure → is_refusal failure ≡ true → ⊥
 no_refusal failure (inl memory) refused = let e : false ≡ true = sym (ap is_refusal memory) ∙ refused in absurd (cc e)
 no_refusal failure (inr device) refused = let e : false ≡ true = sym (ap is_refusal device) ∙ refused in absurd (cc e)
+
+-- nor is out of memory a failed write
+pub no_device : (failure : Failure) → failure ≡ Memory → failure ≡ Device → ⊥
+no_device failure memory device = let e : Memory ≡ Device = sym memory ∙ device in absurd (cc e)

@@ -1,6 +1,5 @@
 -- What a run that is drawn, whole or in part, shows of its source.
-use Rattle.std.proofs.Common.{◌++◌, ◌≤◌, ℕ, Bool, List, Option, length, subst, ◌∙◌, ap}
-use Rattle.std.specs.Io.KnownBytes.{Appends}
+use Rattle.std.proofs.Common.{◌++◌, ◌≤◌, ℕ, Bool, List, length, subst, ◌∙◌, ap}
 use Rattle.source_runs.proofs.simulation.StandsLaws.{ends_stand}
 use Rattle.source_runs.specs.simulation.MachineContents.{Content}
 use Rattle.source_runs.specs.Runs.{IsReady}
@@ -11,16 +10,16 @@ use Rattle.cil_model.specs.declared.limits.Limits.{Limits}
 use Rattle.cil_model.specs.declared.reports.Report.{Report}
 use Rattle.orders.specs.Orders.{event_count}
 use Rattle.orders.specs.declared.part.Part.{Part}
-use Rattle.outputs.specs.Beginnings.{AppendsBeginning}
+use Rattle.outputs.specs.Taken.{Fails, Taken, Takes}
 use Rattle.run_picture.specs.Pictures.{IsPicture}
 use Rattle.run_picture.specs.declared.windows.TheConstants.{MOST_EVENTS}
 use Rattle.driver.specs.Outcomes.{AreThreadsShown, AreThreadsShownInPart, HasDrawn, IsPicturedThenInPart}
 use Rattle.driver.specs.Pictures.{window_of}
 use Rattle.driver.specs.Threads.{lines_from, status_of}
 
-module _ (source : List ℕ) (limits : Limits) (text : List ℕ) (part : Part) (explain : Bool) (events : List Event) (begins after : Content) (reports : List Report) (out out' err err' : Option (List ℕ))
+module _ (source : List ℕ) (limits : Limits) (text : List ℕ) (part : Part) (explain : Bool) (events : List Event) (begins after : Content) (reports : List Report) (out out' err err' : Taken)
     (ready : IsReady source limits text events begins) (few : event_count part (length events) ≤ MOST_EVENTS)
-    (pictured : IsPicture begins events after reports (window_of part (length events)) out out') where
+    (pictured : IsPicture begins events after reports (window_of part (length events)) out.contents out'.contents) where
   done : HasDone ready.tree limits events reports after
   done = has_done ready.tree limits begins after events reports ready.is_accepted.accepted ready.in_range ready.opened.begins pictured.turns
 
@@ -43,7 +42,7 @@ module _ (source : List ℕ) (limits : Limits) (text : List ℕ) (part : Part) (
         leaves = done.leaves;
         explanation = shown.0;
         explains = shown.1;
-        errors = subst (λ es. Appends err err' (lines_from 0 es ++ shown.0)) ends shown.2;
+        errors = subst (λ es. Takes err err' (lines_from 0 es ++ shown.0)) ends shown.2;
         status_is = shown.3 ∙ ap status_of ends;
       }
 
@@ -64,5 +63,5 @@ module _ (source : List ℕ) (limits : Limits) (text : List ℕ) (part : Part) (
         represents = stands.represents;
         explanation = shown.0;
         explains = shown.1;
-        errors = subst (λ es. AppendsBeginning err err' (lines_from 0 es ++ shown.0)) (ends_stand after stands.state stands.represents) shown.2;
+        errors = subst (λ es. Fails err err' (lines_from 0 es ++ shown.0)) (ends_stand after stands.state stands.represents) shown.2;
       }

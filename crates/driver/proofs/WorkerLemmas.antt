@@ -4,8 +4,6 @@ use Rattle.std.proofs.lemmas.Bool.{lt-ltb}
 use Rattle.std.proofs.lemmas.List.{append-nil}
 use Rattle.std.proofs.lemmas.List.Elements.{All-head, All-tail}
 use Rattle.std.proofs.lemmas.List.Sums.{sum_by-cons}
-use Rattle.std.proofs.KnownBytes.{Appends-trans}
-use Rattle.std.specs.Io.KnownBytes.{Appends}
 use Rattle.std.specs.List.{count_by, list_all, list_any}
 use Rattle.cil_model.specs.declared.events.Event.{Event}
 use Rattle.cil_model.specs.declared.events.Event.TheVariants.{Step, Ack, Gc}
@@ -13,8 +11,8 @@ use Rattle.cil_model.specs.declared.limits.Limits.{Limits}
 use Rattle.cil_model.specs.declared.limits.TheConstants.{MOST_THREADS}
 use Rattle.cil_model.specs.declared.reports.End.{End}
 use Rattle.schedule_text.specs.Items.{is_numbered}
-use Rattle.outputs.specs.Beginnings.{AppendsBeginning}
-use Rattle.outputs.proofs.BeginningLaws.{begins_first, begins_second, begins_whole}
+use Rattle.outputs.specs.Taken.{Fails, Taken, Takes}
+use Rattle.outputs.proofs.TakenLaws.{takes_both}
 use Rattle.source_runs.proofs.simulation.StandsLaws.{ends_stand, printed_stands}
 use Rattle.acceptance.specs.Sources.{HasRunTo}
 use Rattle.source_runs.proofs.RunLemmas.{comes_to}
@@ -28,11 +26,12 @@ use Rattle.source_runs.specs.shared_machine.Work.{IsOwn, IsOwnOf}
 use Rattle.orders.specs.Orders.{record_file_of}
 use Rattle.orders.specs.declared.order.Order.{Order}
 use Rattle.orders.specs.declared.order.Order.TheVariants.{Check, Run, Replay, Trace, Picture, Threads, Flip}
-use Rattle.driver.specs.Outcomes.{HasRunThreads, IsOutcome, IsMachineShown, IsMachineShownInPart, IsRunByWorkers, IsRunByWorkersInPart, IsThreadText}
-use Rattle.driver.specs.Records.{IsKept, IsRecordOf, refusal_of, status_with, text_of}
-use Rattle.driver.specs.Threads.{is_live, lines_from, status_of}
+use Rattle.driver.specs.Outcomes.{AreCut, HasRunThreads, IsOutcome, IsMachineShown, IsMachineShownInPart, IsRunByWorkers, IsRunByWorkersInPart, IsThreadText, status_after, stop_text}
+use Rattle.driver.specs.Records.{IsRecordOf, is_short, status_with, text_of, too_long_text}
+use Rattle.driver.specs.Threads.{ends_of, is_live, lines_from, status_of}
+use Rattle.driver.proofs.OutcomeLemmas.{cut_after, cut_more}
 use Rattle.driver.specs.declared.recording.Record.{Record}
-use Rattle.driver.specs.declared.recording.Record.TheVariants.{Unasked, Text, TooLong}
+use Rattle.driver.specs.declared.recording.Record.TheVariants.{Unasked, Text, TooLong, NoMemory}
 
 -- a worker's own event names a thread that a machine can have
 own_numbered : (workers worker : ℕ) (e : Event) → IsOwn workers worker e → is_numbered e ≡ true
@@ -61,91 +60,95 @@ none_live (t ∷ ts) none =
     let (here, later) = not_counted (is_live_thread t) (count_by is_live_thread ts) (sym (sum_by-cons (λ (x : Thread). cond (is_live_thread x) 1 0) t ts) ∙ none) in
     rw (not_shown_live (end_of t) here) (none_live ts later)
 
--- what is told of a machine that workers ran
-abbrev told_of : Content → List ℕ → Record → List ℕ
-told_of c text made = lines_from 0 (map end_of c.threads) ++ text ++ refusal_of made
+-- what is reported of a machine that workers ran
+abbrev pub reported_of : Content → List ℕ → Bool → Record → List ℕ
+reported_of c text stopped made = lines_from 0 (map end_of c.threads) ++ text ++ (too_long_text made ++ stop_text (is_short stopped made))
 
--- a machine that workers ran to its end shows a run by workers
-run_by_workers : (source : List ℕ) (limits : Limits) (workers : ℕ) (asked explain : Bool) (h : List Entry) (c : Content) (made : Record) (text : List ℕ)
-    → (ran : HasRunTo source limits (events_of h) (reports_of h) c) → All (IsOwnOf workers) h → count_by is_live_thread c.threads ≡ 0 → IsRecordOf asked (events_of h) made → IsThreadText explain c text
-    → IsRunByWorkers source limits workers asked explain ran.2.stands.state made (told_of c text made)
-run_by_workers source limits workers asked explain h c made text ran own ended is_record explains =
-    let after : StandsAfter ran.0 limits (events_of h) (reports_of h) c = ran.2.stands in
-    let ends = ends_stand c after.state after.represents in
-    record {
-      entries = h;
-      own = own;
-      comes_to = comes_to source ran.0 limits (events_of h) (reports_of h) c ran.1 ran.2;
-      ended = subst (λ es. list_any is_live es ≡ false) ends (none_live c.threads ended);
-      is_record = is_record;
-      after = c;
-      represents = after.represents;
-      explanation = text;
-      explains = explains;
-      tells = ap (λ es. lines_from 0 es ++ text ++ refusal_of made) ends;
-    }
+module _ (source : List ℕ) (limits : Limits) (workers : ℕ) (asked explain stopped : Bool) (h : List Entry) (c : Content) (made : Record)
+    (ran : HasRunTo source limits (events_of h) (reports_of h) c) (own : All (IsOwnOf workers) h)
+    (ended : stopped ≡ false → count_by is_live_thread c.threads ≡ 0) (is_record : IsRecordOf asked (events_of h) made) where
+  abbrev after : StandsAfter ran.0 limits (events_of h) (reports_of h) c
+  after = ran.2.stands
 
--- what such a machine shows, with the record put behind the bytes that are kept
-pub has_run_threads : (source : List ℕ) (limits : Limits) (workers : ℕ) (asked explain : Bool) (h : List Entry) (c : Content) (made : Record) (out out' err between err' : Option (List ℕ)) (kept kept' : List ℕ) (before status : ℕ)
-    → HasRunTo source limits (events_of h) (reports_of h) c → All (IsOwnOf workers) h → count_by is_live_thread c.threads ≡ 0 → IsRecordOf asked (events_of h) made
-    → IsMachineShown explain c out out' err between before → IsKept made before kept kept' between err' status → HasRunThreads source limits workers asked explain out out' err err' kept kept' status
-has_run_threads source limits workers asked explain h c made out out' err between err' kept kept' before status ran own ended is_record shown is_kept =
-    let (text, explains, all) = shown in
-    let after : StandsAfter ran.0 limits (events_of h) (reports_of h) c = ran.2.stands in
-    let lines : List ℕ = lines_from 0 (map end_of c.threads) in
-    record {
-      state = after.state;
-      made = made;
-      told = told_of c text made;
-      is_run = run_by_workers source limits workers asked explain h c made text ran own ended is_record explains;
-      output = subst (Appends out out') (printed_stands c after.state after.represents) all.output;
-      errors = Appends-trans err between err' (lines ++ text) (refusal_of made) all.errors is_kept.told;
-      behind = is_kept.behind;
-      status_is = is_kept.status_is ∙ ap (status_with made) (all.status_is ∙ ap status_of (ends_stand c after.state after.represents));
-    }
+  -- a machine that workers ran shows a run by workers
+  run_by_workers : (text : List ℕ) → IsThreadText explain c text → IsRunByWorkers source limits workers asked explain stopped after.state made (reported_of c text stopped made)
+  run_by_workers text explains =
+      let ends = ends_stand c after.state after.represents in
+      record {
+        entries = h;
+        own = own;
+        comes_to = comes_to source ran.0 limits (events_of h) (reports_of h) c ran.1 ran.2;
+        ended = λ whole. subst (λ es. list_any is_live es ≡ false) ends (none_live c.threads (ended whole));
+        is_record = is_record;
+        after = c;
+        represents = after.represents;
+        explanation = text;
+        explains = explains;
+        reports_all = ap (λ es. lines_from 0 es ++ text ++ (too_long_text made ++ stop_text (is_short stopped made))) ends;
+      }
 
--- what it shows where a write of that fails
-pub threads_in_part : (source : List ℕ) (limits : Limits) (workers : ℕ) (asked explain : Bool) (h : List Entry) (c : Content) (made : Record) (out out' err err' : Option (List ℕ))
-    → HasRunTo source limits (events_of h) (reports_of h) c → All (IsOwnOf workers) h → count_by is_live_thread c.threads ≡ 0 → IsRecordOf asked (events_of h) made
-    → IsMachineShownInPart explain c out out' err err' → IsRunByWorkersInPart source limits workers asked explain out out' err err'
-threads_in_part source limits workers asked explain h c made out out' err err' ran own ended is_record shown =
-    let (text, explains, output, errors) = shown in
-    let after : StandsAfter ran.0 limits (events_of h) (reports_of h) c = ran.2.stands in
-    let lines : List ℕ = lines_from 0 (map end_of c.threads) in
-    record {
-      state = after.state;
-      made = made;
-      told = told_of c text made;
-      is_run = run_by_workers source limits workers asked explain h c made text ran own ended is_record explains;
-      output = subst (AppendsBeginning out out') (printed_stands c after.state after.represents) output;
-      errors = begins_first err err' (lines ++ text) (refusal_of made) errors;
-    }
+  -- all that it shows is written, and the record is put after the bytes that are kept
+  pub has_run_threads : (out out' err between err' : Taken) (kept kept' : List ℕ) (before status : ℕ)
+      → IsMachineShown explain c out out' err between before → kept' ≡ kept ++ text_of made
+      → (status ≡ status_after (is_short stopped made) (status_with made before)) × Takes between err' (too_long_text made ++ stop_text (is_short stopped made))
+      → HasRunThreads source limits workers asked explain out out' err err' kept kept' status
+  has_run_threads out out' err between err' kept kept' before status (text, explains, shown) behind (is, more) =
+      record {
+        stopped = stopped;
+        state = after.state;
+        made = made;
+        reported = reported_of c text stopped made;
+        is_run = run_by_workers text explains;
+        output = subst (Takes out out') (printed_stands c after.state after.represents) shown.output;
+        errors = takes_both err between err' (lines_from 0 (map end_of c.threads) ++ text) (too_long_text made ++ stop_text (is_short stopped made)) shown.errors more;
+        behind = behind;
+        status_is = is ∙ ap (λ n. status_after (is_short stopped made) (status_with made n)) (shown.status_is ∙ ap status_of (ends_stand c after.state after.represents));
+      }
 
--- what it shows where all of that is written, and a write fails that tells why there is no record
-pub threads_then_in_part : (source : List ℕ) (limits : Limits) (workers : ℕ) (asked explain : Bool) (h : List Entry) (c : Content) (made : Record) (out out' err between err' : Option (List ℕ)) (before : ℕ)
-    → HasRunTo source limits (events_of h) (reports_of h) c → All (IsOwnOf workers) h → count_by is_live_thread c.threads ≡ 0 → IsRecordOf asked (events_of h) made
-    → IsMachineShown explain c out out' err between before → AppendsBeginning between err' (refusal_of made) → IsRunByWorkersInPart source limits workers asked explain out out' err err'
-threads_then_in_part source limits workers asked explain h c made out out' err between err' before ran own ended is_record shown begun =
-    let (text, explains, all) = shown in
-    let after : StandsAfter ran.0 limits (events_of h) (reports_of h) c = ran.2.stands in
-    let lines : List ℕ = lines_from 0 (map end_of c.threads) in
-    record {
-      state = after.state;
-      made = made;
-      told = told_of c text made;
-      is_run = run_by_workers source limits workers asked explain h c made text ran own ended is_record explains;
-      output = begins_whole out out' after.state.printed (subst (Appends out out') (printed_stands c after.state after.represents) all.output);
-      errors = begins_second err between err' (lines ++ text) (refusal_of made) all.errors begun;
-    }
+  -- a write of what it shows failed
+  pub threads_in_part : (out out' err err' : Taken) → IsMachineShownInPart explain c out out' err err' → IsRunByWorkersInPart source limits workers asked explain out out' err err'
+  threads_in_part out out' err err' (text, explains, cut) =
+      let lines = lines_from 0 (map end_of c.threads) ++ text in
+      let more = too_long_text made ++ stop_text (is_short stopped made) in
+      record {
+        stopped = stopped;
+        state = after.state;
+        made = made;
+        reported = reported_of c text stopped made;
+        is_run = run_by_workers text explains;
+        cut = subst (λ p. AreCut p (lines ++ more) out out' err err') (printed_stands c after.state after.represents) (cut_more c.printed lines more out out' err err' cut);
+      }
+
+  -- a write failed that was to report why there is no record, or that memory ran out
+  pub threads_then_in_part : (out out' err between err' : Taken) (before : ℕ)
+      → IsMachineShown explain c out out' err between before → Fails between err' (too_long_text made ++ stop_text (is_short stopped made))
+      → IsRunByWorkersInPart source limits workers asked explain out out' err err'
+  threads_then_in_part out out' err between err' before (text, explains, shown) failed =
+      let lines = lines_from 0 (map end_of c.threads) ++ text in
+      let more = too_long_text made ++ stop_text (is_short stopped made) in
+      record {
+        stopped = stopped;
+        state = after.state;
+        made = made;
+        reported = reported_of c text stopped made;
+        is_run = run_by_workers text explains;
+        cut = subst (λ p. AreCut p (lines ++ more) out out' err err') (printed_stands c after.state after.represents) (cut_after c.printed lines more out out' err between err' shown.output shown.errors failed);
+      }
+
+-- some record is of events, whether one is asked for or not
+pub some_record : (asked : Bool) (events : List Event) → (made : Record) × IsRecordOf asked events made
+some_record true events = (NoMemory, refl)
+some_record false events = (Unasked, refl)
 
 -- a record that is not asked for has no text
 no_text : (events : List Event) (made : Record) → IsRecordOf false events made → text_of made ≡ []
 no_text events Unasked is = refl
 no_text events (Text text) is = absurd (cc is.0)
 no_text events TooLong is = absurd (cc is.0)
+no_text events NoMemory is = absurd (cc is)
 
 -- an order that names no file for a record leaves the bytes that are kept as they were
-pub nothing_kept : (order : Order) (source schedule : List ℕ) (out out' err err' : Option (List ℕ)) (kept kept' : List ℕ) (status : ℕ)
+pub nothing_kept : (order : Order) (source schedule : List ℕ) (out out' err err' : Taken) (kept kept' : List ℕ) (status : ℕ)
     → IsOutcome order source schedule out out' err err' kept kept' status → record_file_of order ≡ None → kept' ≡ kept
 nothing_kept order source schedule out out' err err' kept kept' status (inr told) none = told.1
 nothing_kept (Check file explain) source schedule out out' err err' kept kept' status (inl done) none = done.2

@@ -1,20 +1,20 @@
 //! Draws the run of a source.
 
 ghost use Rattle.std.specs.Prelude.{◌≡◌, ◌⊎◌, ◌<◌, ◌≤◌, IfErr, IfOk, List, OnErr, OnOk, length, string_bytes, true};
-ghost use Rattle.std.specs.Io.KnownBytes.{Appends};
 ghost use Rattle.cil_model.specs.declared.reports.Report.{Report};
-ghost use Rattle.outputs.specs.Beginnings.{AppendsBeginning};
+ghost use Rattle.outputs.specs.Taken.{Fails, HasGrown, Takes};
 ghost use Rattle.run_picture.specs.Pictures.{IsPicture, IsPictureInPart};
 ghost use Rattle.schedule_text.specs.Items.{events_of};
 ghost use Rattle.schedule_text.specs.declared.errors.TheConstants.{MOST_EVENTS as MOST_SCHEDULED};
 ghost use Rattle.acceptance.specs.Failures.{IsOfWriting, is_refusal};
-ghost use Rattle.driver.specs.Outcomes.{HasDrawn, HasNotRun, HasTooMany, IsDrawnInPart};
+ghost use Rattle.acceptance.specs.declared.failure.Failure.TheVariants.{Device as DeviceFailure};
+ghost use Rattle.driver.specs.Outcomes.{HasBroken, HasDrawn, HasNotTraced, HasTooMany, IsDrawnInPart};
 ghost use Rattle.driver.specs.Pictures.{too_many_text, window_of};
 
-use crate::showing::show_standing;
+use crate::showing::show_threads_of;
 use cil_model::limits::Limits;
 use orders::Part;
-use outputs::Output;
+use outputs::Out;
 use run_picture::{MOST_EVENTS, PictureError, Window, picture};
 use schedule_text::Item;
 use source_runs::{Failure, Machine, open};
@@ -24,7 +24,7 @@ use std::fmt::Display;
 
 /// Runs a source by the events of a text, prints a picture of a part of them and then how the threads stand, and answers the status of the
 /// run. Where the picture would have too many events, it runs nothing, tells their number, and answers 2.
-pub(crate) fn show_picture<W: Output, E: Output>(
+pub(crate) fn show_picture<W: Out, E: Out>(
     alloc: Global,
     source: &[u8],
     limits: Limits,
@@ -34,13 +34,15 @@ pub(crate) fn show_picture<W: Output, E: Output>(
     out: &mut W,
     err: &mut E,
 ) -> Result<u8, Failure>
-    ensures done { IfOk result (λ status. HasDrawn source.now limits text.now part explain (W.contents out.old) (W.contents out.new) (E.contents err.old) (E.contents err.new) status
-        ⊎ HasTooMany source.now limits text.now part (W.contents out.old) (W.contents out.new) (E.contents err.old) (E.contents err.new) status) }
-    ensures failed { IfErr result (HasNotRun source.now limits text.now) }
+    ensures done { IfOk result (λ status. HasDrawn source.now limits text.now part explain (W.taken out.old) (W.taken out.new) (E.taken err.old) (E.taken err.new) status
+        ⊎ HasTooMany source.now limits text.now part (W.taken out.old) (W.taken out.new) (E.taken err.old) (E.taken err.new) status) }
+    ensures failed { IfErr result (HasNotTraced source.now limits text.now) }
     ensures untouched { IfErr result (λ failure. is_refusal failure ≡ true
-        → (W.contents out.new ≡ W.contents out.old) × (E.contents err.new ≡ E.contents err.old)) }
-    ensures in_part { OnErr result (((W.contents out.new ≡ W.contents out.old) × (E.contents err.new ≡ E.contents err.old))
-        ⊎ IsDrawnInPart source.now limits text.now part explain (W.contents out.old) (W.contents out.new) (E.contents err.old) (E.contents err.new)) }
+        → (W.taken out.new ≡ W.taken out.old) × (E.taken err.new ≡ E.taken err.old)) }
+    ensures device { IfErr result (λ failure. failure ≡ DeviceFailure
+        → HasBroken (W.taken out.old) (W.taken out.new) (E.taken err.old) (E.taken err.new)) }
+    ensures in_part { OnErr result (((W.taken out.new ≡ W.taken out.old) × (E.taken err.new ≡ E.taken err.old))
+        ⊎ IsDrawnInPart source.now limits text.now part explain (W.taken out.old) (W.taken out.new) (E.taken err.old) (E.taken err.new)) }
 {
     let (mut machine, items) = open(alloc, source, limits, text)?;
     let events = event_count(items.as_slice());
@@ -50,7 +52,7 @@ pub(crate) fn show_picture<W: Output, E: Output>(
     }
     let window = window_of(part, events);
     draw(alloc, &mut machine, items.as_slice(), window, out)?;
-    show_standing(alloc, explain, &machine, err)
+    Ok(show_threads_of(alloc, explain, &machine, err)?)
 }
 
 /// How many events the items of a schedule's text stand for.
@@ -76,15 +78,17 @@ fn window_of(part: Part, events: usize) -> Window
 }
 
 /// Gives a machine the events of these items, and writes a picture of those in the window.
-fn draw<W: Output>(
+fn draw<W: Out>(
     alloc: Global,
     machine: &mut Machine,
     items: &[Item],
     window: Window,
     out: &mut W,
 ) -> Result<(), Failure>
-    ensures pictured { OnOk result ((reports : List Report) × IsPicture machine.old (events_of items.now) machine.new reports window (W.contents out.old) (W.contents out.new)) }
-    ensures stopped { OnErr result (IsPictureInPart machine.old (events_of items.now) machine.new window (W.contents out.old) (W.contents out.new)) }
+    ensures pictured { OnOk result ((reports : List Report) × IsPicture machine.old (events_of items.now) machine.new reports window (W.taken out.old).contents (W.taken out.new).contents) }
+    ensures stopped { OnErr result (IsPictureInPart machine.old (events_of items.now) machine.new window (W.taken out.old).contents (W.taken out.new).contents) }
+    ensures kept { OnOk result ((W.taken out.new).failures ≡ (W.taken out.old).failures) }
+    ensures device { IfErr result (λ failure. failure ≡ DeviceFailure → HasGrown (W.taken out.old).failures (W.taken out.new).failures) }
     ensures failed { IfErr result IsOfWriting }
 {
     match picture(alloc, machine, items, window, out) {
@@ -95,9 +99,10 @@ fn draw<W: Output>(
 }
 
 /// Tells that a picture would have so many events, and answers the status.
-fn tell_too_many<E: Output>(alloc: Global, count: usize, err: &mut E) -> Result<u8, Failure>
-    ensures told { IfOk result (λ status. (status ≡ 2) × Appends (E.contents err.old) (E.contents err.new) (too_many_text count)) }
-    ensures begun { OnErr result (AppendsBeginning (E.contents err.old) (E.contents err.new) (too_many_text count)) }
+fn tell_too_many<E: Out>(alloc: Global, count: usize, err: &mut E) -> Result<u8, Failure>
+    ensures whole { IfOk result (λ status. (status ≡ 2) × Takes (E.taken err.old) (E.taken err.new) (too_many_text count)) }
+    ensures cut { OnErr result ((E.taken err.new ≡ E.taken err.old) ⊎ Fails (E.taken err.old) (E.taken err.new) (too_many_text count)) }
+    ensures device { IfErr result (λ failure. failure ≡ DeviceFailure → HasGrown (E.taken err.old).failures (E.taken err.new).failures) }
     ensures failed { IfErr result IsOfWriting }
 {
     let line = too_many_line(alloc, count)?;

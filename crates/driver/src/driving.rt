@@ -4,46 +4,51 @@ ghost use Rattle.std.specs.Prelude.{◌≡◌, ◌⊎◌, ◌*◌, ◌++◌, ◌
 ghost use Rattle.cil_model.specs.declared.reports.Report.{Report};
 ghost use Rattle.event_trace.specs.Traces.{IsTraced, IsTracedInPart};
 ghost use Rattle.flip_trial.specs.Trial.{place_count};
-ghost use Rattle.outputs.specs.Beginnings.{AppendsBeginning};
+ghost use Rattle.outputs.specs.Taken.{Fails, HasGrown};
 ghost use Rattle.schedule_text.specs.Items.{events_of};
 ghost use Rattle.acceptance.specs.Failures.{IsOfWriting, is_refusal};
-ghost use Rattle.orders.specs.Orders.{record_file_of};
-ghost use Rattle.driver.specs.Outcomes.{HasNotRun, HasRun, HasTraced, IsChecked, IsDone, IsNotChecked, failure_of_tracing};
 ghost use Rattle.acceptance.specs.Sources.{IsLetIn};
+ghost use Rattle.acceptance.specs.declared.failure.Failure.TheVariants.{Device as DeviceFailure};
+ghost use Rattle.orders.specs.Orders.{record_file_of};
+ghost use Rattle.driver.specs.Outcomes.{HasBroken, HasNotRun, HasNotTraced, HasRun, HasTraced, IsChecked, IsDone, IsNotChecked, failure_of_tracing};
 ghost use Rattle.driver.specs.Outcomes.{IsNotDone, IsDoneInPart, IsOutcome, IsOutcomeOrCut};
-ghost use Rattle.driver.specs.Outcomes.{IsRunInPart, IsTellingCut, IsTraceInPart, IsTracedThenInPart, IsTried, trial_text};
+ghost use Rattle.driver.specs.Outcomes.{IsRunInPart, IsTellingCut, IsTraceInPart, IsTracedThenInPart, IsTried, flip_text};
 
 use crate::drawing::show_picture;
 use crate::explaining::tell_failure;
 use crate::running_threads::show_threads;
-use crate::showing::{say_accepted, show, show_trial};
+use crate::showing::{say_accepted, show, show_flip, show_stop};
 use cil_model::limits::Limits;
 use event_trace::{TraceError, trace};
 use flip_trial::Sizes;
 use orders::Order;
-use outputs::{NotWritten, Output};
+use outputs::{Device, Out};
 use schedule_text::Item;
 use source_runs::{Failure, Machine, accept, open, run_source};
 use std::alloc::Global;
 use std::sync::Wait;
 use std::thread::Threads;
 
-/// Does a command on the bytes of its files, and answers the status: a replay, a trace and a picture take their
-/// schedule from `schedule`, which the others pass over. Faults are looked for in this order: the source, the limits,
+/// Carries out a command on the bytes of its files, and returns the status: a replay, a trace and a picture take their
+/// schedule from `schedule`, which the others ignore. Faults are looked for in this order: the source, the limits,
 /// the schedule, the run.
 ///
-/// What a run prints goes to `out` and how its threads stand to `err`, once the run has ended; where the order
-/// asks for that, what its live threads wait for stands behind, unless memory is wanted for it. A trace has
-/// printed a line of each event and an empty line to `out` before. A picture goes to `out` in the place of what
-/// the run has printed; where it would have more than 20,000 events, nothing is run, their number is told on
+/// What a run prints goes to `out`, and how its threads stand to `err`, once the run has ended; where the command
+/// asks for that, what its live threads wait for follows, unless memory runs out for it. Nothing is written to `err` before all is
+/// written to `out`. A trace has printed a line of each event and an empty line to `out` before. A picture goes to `out` in the place of
+/// what the run has printed; where it would have more than 20,000 events, nothing is run, their number is reported on
 /// `err`, and the status is 2. A refusal prints `error` and its number to `err`, and what explains it where the
-/// order asks for that; want of memory prints `memory`, a failed write `device`. Where that can't be written
-/// either, the status is 5, and a beginning of it is written.
+/// command asks for that; out of memory prints `memory`, a failed write `device`, and only a failed write does. Where that can't be
+/// written either, the status is 5, and a prefix of it is written.
 ///
-/// Where workers run the program and a record is asked for, the text of the run's events is put behind the bytes of `record`, once all is
-/// printed: a replay of it with the same limits prints the same. Of more than 1,000,000 events there is no record; that is told by
-/// `error 503` behind the lines of the threads, and the status is 1. In every other case `record` has the bytes that it had.
-pub fn drive<W: Output, E: Output>(
+/// Where memory runs out before an event of `run`, `replay` or `threads`, or a worker's thread can't be started, the run is stopped: what it has
+/// printed until then and how its threads stand is printed all the same, then `memory`, and the status is 5.
+///
+/// Where workers run the program and a record is asked for, the text of the run's events is put after the bytes of `record`, once all is
+/// printed: a replay of it with the same limits prints the same. Of more than 1,000,000 events there is no record; that is reported by
+/// `error 503` after the lines of the threads, and the status is 1. Where memory runs out for the record, `memory` is, and the status is 5. In every
+/// other case `record` has the bytes that it had.
+pub fn drive<W: Out, E: Out>(
     rt: &(impl Threads + Wait + Sync),
     alloc: Global,
     order: &Order<'_>,
@@ -53,8 +58,8 @@ pub fn drive<W: Output, E: Output>(
     err: &mut E,
     record: &mut Vec<u8>,
 ) -> u8
-    ensures outcome { IsOutcomeOrCut order.now source.now schedule.now (W.contents out.old) (W.contents out.new)
-        (E.contents err.old) (E.contents err.new) (E.has_failed err.new) «record».old.items «record».new.items result }
+    ensures outcome { IsOutcomeOrCut order.now source.now schedule.now (W.taken out.old) (W.taken out.new)
+        (E.taken err.old) (E.taken err.new) «record».old.items «record».new.items result }
     ensures kept { record_file_of order.now ≡ None → «record».new.items ≡ «record».old.items }
 {
     match carry_out(rt, alloc, order, source, schedule, out, err, record) {
@@ -64,7 +69,7 @@ pub fn drive<W: Output, E: Output>(
 }
 
 /// Does a command as `drive` does, and answers the status. An error is a write that failed and was to tell why the command is not done.
-pub fn carry_out<W: Output, E: Output>(
+pub fn carry_out<W: Out, E: Out>(
     rt: &(impl Threads + Wait + Sync),
     alloc: Global,
     order: &Order<'_>,
@@ -73,11 +78,11 @@ pub fn carry_out<W: Output, E: Output>(
     out: &mut W,
     err: &mut E,
     record: &mut Vec<u8>,
-) -> Result<u8, NotWritten>
-    ensures told { IfOk result (IsOutcome order.now source.now schedule.now (W.contents out.old)
-        (W.contents out.new) (E.contents err.old) (E.contents err.new) «record».old.items «record».new.items) }
-    ensures cut { IfErr result (λ _. IsTellingCut order.now source.now schedule.now (W.contents out.old)
-        (W.contents out.new) (E.contents err.old) (E.contents err.new) (E.has_failed err.new)) }
+) -> Result<u8, Device>
+    ensures told { IfOk result (IsOutcome order.now source.now schedule.now (W.taken out.old)
+        (W.taken out.new) (E.taken err.old) (E.taken err.new) «record».old.items «record».new.items) }
+    ensures cut { IfErr result (λ _. IsTellingCut order.now source.now schedule.now (W.taken out.old)
+        (W.taken out.new) (E.taken err.old) (E.taken err.new)) }
     ensures same { OnErr result («record».new.items ≡ «record».old.items) }
 {
     match perform(rt, alloc, order, source, schedule, out, err, record) {
@@ -86,7 +91,7 @@ pub fn carry_out<W: Output, E: Output>(
     }
 }
 
-fn perform<W: Output, E: Output>(
+fn perform<W: Out, E: Out>(
     rt: &(impl Threads + Wait + Sync),
     alloc: Global,
     order: &Order<'_>,
@@ -96,14 +101,16 @@ fn perform<W: Output, E: Output>(
     err: &mut E,
     record: &mut Vec<u8>,
 ) -> Result<u8, Failure>
-    ensures done { IfOk result (IsDone order.now source.now schedule.now (W.contents out.old)
-        (W.contents out.new) (E.contents err.old) (E.contents err.new) «record».old.items «record».new.items) }
+    ensures done { IfOk result (IsDone order.now source.now schedule.now (W.taken out.old)
+        (W.taken out.new) (E.taken err.old) (E.taken err.new) «record».old.items «record».new.items) }
     ensures failed { IfErr result (IsNotDone order.now source.now schedule.now) }
     ensures same { OnErr result («record».new.items ≡ «record».old.items) }
     ensures untouched { IfErr result (λ failure. is_refusal failure ≡ true
-        → (W.contents out.new ≡ W.contents out.old) × (E.contents err.new ≡ E.contents err.old)) }
-    ensures in_part { OnErr result (((W.contents out.new ≡ W.contents out.old) × (E.contents err.new ≡ E.contents err.old))
-        ⊎ IsDoneInPart order.now source.now schedule.now (W.contents out.old) (W.contents out.new) (E.contents err.old) (E.contents err.new)) }
+        → (W.taken out.new ≡ W.taken out.old) × (E.taken err.new ≡ E.taken err.old)) }
+    ensures device { IfErr result (λ failure. failure ≡ DeviceFailure
+        → HasBroken (W.taken out.old) (W.taken out.new) (E.taken err.old) (E.taken err.new)) }
+    ensures in_part { OnErr result (((W.taken out.new ≡ W.taken out.old) × (E.taken err.new ≡ E.taken err.old))
+        ⊎ IsDoneInPart order.now source.now schedule.now (W.taken out.old) (W.taken out.new) (E.taken err.old) (E.taken err.new)) }
 {
     match *order {
         Order::Check { .. } => check(alloc, source, out),
@@ -161,38 +168,41 @@ fn perform<W: Output, E: Output>(
 }
 
 /// Tries the flip by threads, prints what came of it, and answers the status.
-fn try_flip<W: Output>(
+fn try_flip<W: Out>(
     rt: &impl Threads,
     alloc: Global,
     sizes: Sizes,
     out: &mut W,
 ) -> Result<u8, Failure>
-    ensures done { IfOk result (IsTried sizes (W.contents out.old) (W.contents out.new)) }
+    ensures done { IfOk result (IsTried sizes (W.taken out.old) (W.taken out.new)) }
     ensures failed { IfErr result IsOfWriting }
-    ensures in_part { OnErr result ((W.contents out.new ≡ W.contents out.old)
-        ⊎ ((retired : ℕ) × AppendsBeginning (W.contents out.old) (W.contents out.new) (trial_text (sizes.rounds * place_count sizes) retired))) }
+    ensures device { IfErr result (λ failure. failure ≡ DeviceFailure → HasGrown (W.taken out.old).failures (W.taken out.new).failures) }
+    ensures in_part { OnErr result ((W.taken out.new ≡ W.taken out.old)
+        ⊎ ((retired : ℕ) × Fails (W.taken out.old) (W.taken out.new) (flip_text (sizes.rounds * place_count sizes) retired))) }
 {
     let outcome = flip_trial::run(rt, alloc, sizes)?;
-    show_trial(alloc, outcome, out)?;
+    show_flip(outcome, out)?;
     Ok(if outcome.finished { 0 } else { 3 })
 }
 
 /// Says that a source is accepted, and answers the status.
-fn check<W: Output>(alloc: Global, source: &[u8], out: &mut W) -> Result<u8, Failure>
-    ensures done { IfOk result (IsChecked source.now (W.contents out.old) (W.contents out.new)) }
+fn check<W: Out>(alloc: Global, source: &[u8], out: &mut W) -> Result<u8, Failure>
+    ensures done { IfOk result (IsChecked source.now (W.taken out.old) (W.taken out.new)) }
     ensures failed { IfErr result (IsNotChecked source.now) }
     ensures untouched { IfErr result (λ failure. is_refusal failure ≡ true
-        → W.contents out.new ≡ W.contents out.old) }
-    ensures in_part { OnErr result ((W.contents out.new ≡ W.contents out.old)
-        ⊎ (IsLetIn source.now × AppendsBeginning (W.contents out.old) (W.contents out.new) (codes "accepted" ++ 10 ∷ []))) }
+        → W.taken out.new ≡ W.taken out.old) }
+    ensures device { IfErr result (λ failure. failure ≡ DeviceFailure → HasGrown (W.taken out.old).failures (W.taken out.new).failures) }
+    ensures in_part { OnErr result ((W.taken out.new ≡ W.taken out.old)
+        ⊎ (IsLetIn source.now × Fails (W.taken out.old) (W.taken out.new) (codes "accepted" ++ 10 ∷ []))) }
 {
     accept(alloc, source)?;
     say_accepted(out)?;
     Ok(0)
 }
 
-/// Runs a source by the events of a text, prints what the run leaves, and answers its status.
-fn show_run<W: Output, E: Output>(
+/// Runs a source by the events of a text, prints what the run leaves, and returns its status. Where memory runs out before an event, the run
+/// is stopped there, and that is reported last.
+fn show_run<W: Out, E: Out>(
     rt: &impl Wait,
     alloc: Global,
     source: &[u8],
@@ -202,20 +212,23 @@ fn show_run<W: Output, E: Output>(
     out: &mut W,
     err: &mut E,
 ) -> Result<u8, Failure>
-    ensures done { IfOk result (HasRun source.now limits text.now explain (W.contents out.old)
-        (W.contents out.new) (E.contents err.old) (E.contents err.new)) }
+    ensures done { IfOk result (HasRun source.now limits text.now explain (W.taken out.old)
+        (W.taken out.new) (E.taken err.old) (E.taken err.new)) }
     ensures failed { IfErr result (HasNotRun source.now limits text.now) }
     ensures untouched { IfErr result (λ failure. is_refusal failure ≡ true
-        → (W.contents out.new ≡ W.contents out.old) × (E.contents err.new ≡ E.contents err.old)) }
-    ensures in_part { OnErr result (((W.contents out.new ≡ W.contents out.old) × (E.contents err.new ≡ E.contents err.old))
-        ⊎ IsRunInPart source.now limits text.now explain (W.contents out.old) (W.contents out.new) (E.contents err.old) (E.contents err.new)) }
+        → (W.taken out.new ≡ W.taken out.old) × (E.taken err.new ≡ E.taken err.old)) }
+    ensures device { IfErr result (λ failure. failure ≡ DeviceFailure
+        → HasBroken (W.taken out.old) (W.taken out.new) (E.taken err.old) (E.taken err.new)) }
+    ensures in_part { OnErr result (((W.taken out.new ≡ W.taken out.old) × (E.taken err.new ≡ E.taken err.old))
+        ⊎ IsRunInPart source.now limits text.now explain (W.taken out.old) (W.taken out.new) (E.taken err.old) (E.taken err.new)) }
 {
     let outcome = run_source(rt, alloc, source, limits, text)?;
-    show(alloc, explain, &outcome.machine, out, err)
+    let status = show(alloc, explain, &outcome.machine, out, err)?;
+    Ok(show_stop(outcome.is_out_of_memory, status, err)?)
 }
 
 /// Runs a source by the events of a text, prints a line of each and an empty line, then what the run leaves, and answers its status.
-fn show_trace<W: Output, E: Output>(
+fn show_trace<W: Out, E: Out>(
     alloc: Global,
     source: &[u8],
     limits: Limits,
@@ -224,30 +237,34 @@ fn show_trace<W: Output, E: Output>(
     out: &mut W,
     err: &mut E,
 ) -> Result<u8, Failure>
-    ensures done { IfOk result (HasTraced source.now limits text.now explain (W.contents out.old)
-        (W.contents out.new) (E.contents err.old) (E.contents err.new)) }
-    ensures failed { IfErr result (HasNotRun source.now limits text.now) }
+    ensures done { IfOk result (HasTraced source.now limits text.now explain (W.taken out.old)
+        (W.taken out.new) (E.taken err.old) (E.taken err.new)) }
+    ensures failed { IfErr result (HasNotTraced source.now limits text.now) }
     ensures untouched { IfErr result (λ failure. is_refusal failure ≡ true
-        → (W.contents out.new ≡ W.contents out.old) × (E.contents err.new ≡ E.contents err.old)) }
-    ensures in_part { OnErr result (((W.contents out.new ≡ W.contents out.old) × (E.contents err.new ≡ E.contents err.old))
-        ⊎ ((IsTraceInPart source.now limits text.now (W.contents out.old) (W.contents out.new) × (E.contents err.new ≡ E.contents err.old))
-        ⊎ IsTracedThenInPart source.now limits text.now explain (W.contents out.old) (W.contents out.new) (E.contents err.old) (E.contents err.new))) }
+        → (W.taken out.new ≡ W.taken out.old) × (E.taken err.new ≡ E.taken err.old)) }
+    ensures device { IfErr result (λ failure. failure ≡ DeviceFailure
+        → HasBroken (W.taken out.old) (W.taken out.new) (E.taken err.old) (E.taken err.new)) }
+    ensures in_part { OnErr result (((W.taken out.new ≡ W.taken out.old) × (E.taken err.new ≡ E.taken err.old))
+        ⊎ ((IsTraceInPart source.now limits text.now (W.taken out.old) (W.taken out.new) × (E.taken err.new ≡ E.taken err.old))
+        ⊎ IsTracedThenInPart source.now limits text.now explain (W.taken out.old) (W.taken out.new) (E.taken err.old) (E.taken err.new))) }
 {
     let (mut machine, items) = open(alloc, source, limits, text)?;
     write_trace(alloc, &mut machine, items.as_slice(), out)?;
-    show(alloc, explain, &machine, out, err)
+    Ok(show(alloc, explain, &machine, out, err)?)
 }
 
 /// Gives a machine the events of these items, and writes a line of each and an empty line.
-fn write_trace<W: Output>(
+fn write_trace<W: Out>(
     alloc: Global,
     machine: &mut Machine,
     items: &[Item],
     out: &mut W,
 ) -> Result<(), Failure>
-    ensures traced { OnOk result ((reports : List Report) × IsTraced machine.old (events_of items.now) machine.new reports (W.contents out.old) (W.contents out.new)) }
+    ensures traced { OnOk result ((reports : List Report) × IsTraced machine.old (events_of items.now) machine.new reports (W.taken out.old).contents (W.taken out.new).contents) }
     ensures same { (machine.new.tree ≡ machine.old.tree) × (machine.new.limits ≡ machine.old.limits) }
-    ensures stopped { OnErr result (IsTracedInPart machine.old (events_of items.now) machine.new (W.contents out.old) (W.contents out.new)) }
+    ensures kept { OnOk result ((W.taken out.new).failures ≡ (W.taken out.old).failures) }
+    ensures stopped { OnErr result (IsTracedInPart machine.old (events_of items.now) machine.new (W.taken out.old).contents (W.taken out.new).contents) }
+    ensures device { IfErr result (λ failure. failure ≡ DeviceFailure → HasGrown (W.taken out.old).failures (W.taken out.new).failures) }
     ensures failed { IfErr result IsOfWriting }
 {
     match trace(alloc, machine, items, out) {

@@ -1,8 +1,7 @@
 //! What a person needs where an order is refused.
 
-ghost use Rattle.std.specs.Prelude.{◌≡◌, ◌++◌, IfErr, IfOk, List, ℕ, OnErr, OnOk, true};
-ghost use Rattle.std.specs.Io.KnownBytes.{Appends};
-ghost use Rattle.outputs.specs.Beginnings.{AppendsBeginning};
+ghost use Rattle.std.specs.Prelude.{◌≡◌, ◌++◌, IfErr, IfOk, List, ℕ, OnErr, OnOk};
+ghost use Rattle.outputs.specs.Taken.{Fails, Takes};
 ghost use Rattle.acceptance.specs.Failures.{message_of, status_of_failure};
 ghost use Rattle.driver.specs.Outcomes.{IsExplanation, is_told_why};
 
@@ -10,7 +9,7 @@ use cil_model::limits::Limits;
 use cil_model::memory::NoMemory;
 use diagnostics::{explain, explain_limits, explain_schedule};
 use orders::Order;
-use outputs::{NotWritten, Output};
+use outputs::{Device, Out};
 use schedule_text::read_schedule;
 use source_runs::{Failure, status_of_failure, tell};
 use std::alloc::Global;
@@ -18,18 +17,18 @@ use std::alloc::Global;
 /// Writes a failure to the standard error, and behind a refusal a text that explains it, where the order asks for one. It answers the
 /// failure's status. An error is a write that failed, and a beginning of the telling is written then. Where the explanation wants memory,
 /// the refusal is told without it.
-pub(crate) fn tell_failure<E: Output>(
+pub(crate) fn tell_failure<E: Out>(
     alloc: Global,
     order: &Order<'_>,
     failure: Failure,
     source: &[u8],
     schedule: &[u8],
     err: &mut E,
-) -> Result<u8, NotWritten>
-    ensures told { IfOk result (λ status. (status ≡ status_of_failure failure) × ((text : List ℕ)
-        × IsExplanation (is_told_why order.now failure) text × Appends (E.contents err.old) (E.contents err.new) (message_of failure ++ text))) }
-    ensures begun { IfErr result (λ _. (E.has_failed err.new ≡ true) × (text : List ℕ)
-        × IsExplanation (is_told_why order.now failure) text × AppendsBeginning (E.contents err.old) (E.contents err.new) (message_of failure ++ text)) }
+) -> Result<u8, Device>
+    ensures whole { IfOk result (λ status. (status ≡ status_of_failure failure) × ((text : List ℕ)
+        × IsExplanation (is_told_why order.now failure) text × Takes (E.taken err.old) (E.taken err.new) (message_of failure ++ text))) }
+    ensures cut { IfErr result (λ _. (text : List ℕ)
+        × IsExplanation (is_told_why order.now failure) text × Fails (E.taken err.old) (E.taken err.new) (message_of failure ++ text)) }
 {
     tell(failure, err)?;
     tell_why(
@@ -51,16 +50,16 @@ fn is_told_why(order: &Order<'_>, failure: Failure) -> bool
 }
 
 /// Writes what explains the refusal of an order, where it is to be told.
-fn tell_why<E: Output>(
+fn tell_why<E: Out>(
     alloc: Global,
     order: &Order<'_>,
     is_told: bool,
     source: &[u8],
     schedule: &[u8],
     err: &mut E,
-) -> Result<(), NotWritten>
-    ensures shown { OnOk result ((text : List ℕ) × IsExplanation is_told text × Appends (E.contents err.old) (E.contents err.new) text) }
-    ensures begun { OnErr result ((E.has_failed err.new ≡ true) × (text : List ℕ) × IsExplanation is_told text × AppendsBeginning (E.contents err.old) (E.contents err.new) text) }
+) -> Result<(), Device>
+    ensures whole { OnOk result ((text : List ℕ) × IsExplanation is_told text × Takes (E.taken err.old) (E.taken err.new) text) }
+    ensures cut { OnErr result ((text : List ℕ) × IsExplanation is_told text × Fails (E.taken err.old) (E.taken err.new) text) }
 {
     if is_told {
         show_explanation(alloc, order, source, schedule, err)
@@ -70,15 +69,15 @@ fn tell_why<E: Output>(
 }
 
 /// Writes what explains the refusal of an order, or nothing where memory is wanted.
-fn show_explanation<E: Output>(
+fn show_explanation<E: Out>(
     alloc: Global,
     order: &Order<'_>,
     source: &[u8],
     schedule: &[u8],
     err: &mut E,
-) -> Result<(), NotWritten>
-    ensures shown { OnOk result ((text : List ℕ) × Appends (E.contents err.old) (E.contents err.new) text) }
-    ensures begun { OnErr result ((E.has_failed err.new ≡ true) × (text : List ℕ) × AppendsBeginning (E.contents err.old) (E.contents err.new) text) }
+) -> Result<(), Device>
+    ensures whole { OnOk result ((text : List ℕ) × Takes (E.taken err.old) (E.taken err.new) text) }
+    ensures cut { OnErr result ((text : List ℕ) × Fails (E.taken err.old) (E.taken err.new) text) }
 {
     let text = explanation(alloc, order, source, schedule).unwrap_or(String::new(alloc));
     err.write_whole(text.as_bytes())

@@ -10,5 +10,6 @@ mod running_threads;
 mod showing;
 
 pub use driving::drive;
-pub use outputs::Device;
+pub use outputs::{Device, Out, WriterOut};
+pub use showing::emit;
 pub use source_runs::{Failure, Run, report, run_events};

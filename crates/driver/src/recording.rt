@@ -1,16 +1,16 @@
 //! The record of a run: the text of its events, by which it can be replayed.
 
-ghost use Rattle.std.specs.Prelude.{◌≡◌, ◌++◌, IfErr, IfOk, IsTrue, OnErr};
+ghost use Rattle.std.specs.Prelude.{◌≡◌, ◌++◌, Bool, IfOk, IsTrue, List, OnErr};
 ghost use Rattle.std.specs.List.{list_all};
-ghost use Rattle.std.specs.Io.KnownBytes.{Appends};
-ghost use Rattle.outputs.specs.Beginnings.{AppendsBeginning};
+ghost use Rattle.cil_model.specs.declared.events.Event.{Event};
+ghost use Rattle.outputs.specs.Taken.{Fails, Takes};
 ghost use Rattle.schedule_text.specs.Items.{is_numbered};
-ghost use Rattle.acceptance.specs.Failures.{IsOfWriting};
 ghost use Rattle.source_runs.specs.shared_machine.Histories.{events_of};
-ghost use Rattle.driver.specs.Records.{IsKept, IsRecordOf, refusal_of};
+ghost use Rattle.driver.specs.Outcomes.{status_after, stop_text};
+ghost use Rattle.driver.specs.Records.{IsRecordOf, is_short, status_with, text_of, too_long_text};
 
-use cil_model::memory::NoMemory;
-use outputs::Output;
+use crate::showing::show_stop;
+use outputs::{Device, Out};
 use schedule_text::ScheduleError;
 use source_runs::{Failure, History, status_of_failure, tell, write_record};
 use std::alloc::Global;
@@ -24,61 +24,59 @@ pub(crate) enum Record {
     Text(String),
     /// The run has more events than a text can have.
     TooLong,
+    /// Memory ran out for it.
+    NoMemory,
 }
 
-impl Record {
-    /// How many bytes it takes.
-    pub fn len(&self) -> usize {
-        match self {
-            Record::Text(text) => text.len(),
-            Record::Unasked | Record::TooLong => 0,
-        }
-    }
-}
-
-/// The record of a history, where one is asked for. Only want of memory is an error.
-pub(crate) fn record_of(
-    alloc: Global,
-    is_asked: bool,
-    history: &History,
-) -> Result<Record, NoMemory>
+/// The record of a history, where one is asked for.
+pub(crate) fn record_of(alloc: Global, is_asked: bool, history: &History) -> Record
     requires { IsTrue (list_all is_numbered (events_of history.now.entries)) }
-    ensures { IfOk result (IsRecordOf is_asked (events_of history.now.entries)) }
+    ensures { IsRecordOf is_asked (events_of history.now.entries) result }
 {
     if !is_asked {
-        return Ok(Record::Unasked);
+        return Record::Unasked;
     }
     match write_record(alloc, history) {
-        Ok(text) => Ok(Record::Text(text)),
-        Err(ScheduleError::TooLong) => Ok(Record::TooLong),
-        Err(ScheduleError::OutOfMemory) => Err(NoMemory),
+        Ok(text) => Record::Text(text),
+        Err(ScheduleError::TooLong) => Record::TooLong,
+        Err(ScheduleError::OutOfMemory) => Record::NoMemory,
         Err(_) => unreachable!(),
     }
 }
 
-/// Puts a record behind what is kept, where it has a text, and answers the status of a run that has this one without a record. Where the
-/// run is too long for a record, that is told as the refusal of its schedule would be.
-pub(crate) fn keep<E: Output>(
-    record: &Record,
-    status: u8,
-    kept: &mut Vec<u8>,
-    err: &mut E,
-) -> Result<u8, Failure>
-    ensures kept { IfOk result (IsKept «record».now status kept.old.items kept.new.items (E.contents err.old) (E.contents err.new)) }
-    ensures failed { IfErr result IsOfWriting }
-    ensures same { OnErr result (kept.new.items ≡ kept.old.items) }
-    ensures begun { OnErr result (AppendsBeginning (E.contents err.old) (E.contents err.new) (refusal_of «record».now)) }
+/// Puts a record after the bytes that are kept, where it has a text, and gives it back. Where memory runs out for that, nothing is put there.
+pub(crate) fn keep(record: Record, kept: &mut Vec<u8>) -> Record
+    ensures after { kept.new.items ≡ kept.old.items ++ text_of result }
+    ensures same { (asked : Bool) (events : List Event) → IsRecordOf asked events «record» → IsRecordOf asked events result }
 {
     match record {
-        Record::Unasked => Ok(status),
-        Record::Text(text) => {
-            kept.extend_from_slice(text.as_bytes())?;
-            Ok(status)
-        }
+        Record::Text(text) => match kept.extend_from_slice(text.as_bytes()) {
+            Ok(()) => Record::Text(text),
+            Err(_) => Record::NoMemory,
+        },
+        other => other,
+    }
+}
+
+/// Reports that a run has too many events for its record, where it has, as the refusal of its schedule would be, and that memory ran out,
+/// for the run or its record, where it did. It returns the status of a run that has this one without both.
+pub(crate) fn report_record<E: Out>(
+    record: &Record,
+    stopped: bool,
+    status: u8,
+    err: &mut E,
+) -> Result<u8, Device>
+    ensures whole { IfOk result (λ after. (after ≡ status_after (is_short stopped «record».now) (status_with «record».now status))
+        × Takes (E.taken err.old) (E.taken err.new) (too_long_text «record».now ++ stop_text (is_short stopped «record».now))) }
+    ensures cut { OnErr result (Fails (E.taken err.old) (E.taken err.new) (too_long_text «record».now ++ stop_text (is_short stopped «record».now))) }
+{
+    match record {
         Record::TooLong => {
             let refusal = Failure::from(ScheduleError::TooLong);
             tell(refusal, err)?;
-            Ok(status_of_failure(refusal))
+            show_stop(stopped, status_of_failure(refusal), err)
         }
+        Record::NoMemory => show_stop(true, status, err),
+        Record::Unasked | Record::Text(_) => show_stop(stopped, status, err),
     }
 }

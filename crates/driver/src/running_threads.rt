@@ -2,20 +2,22 @@
 
 ghost use Rattle.std.specs.Prelude.{◌≡◌, ◌⊎◌, IfErr, IfOk, OnErr, true};
 ghost use Rattle.acceptance.specs.Failures.{is_refusal};
-ghost use Rattle.driver.specs.Outcomes.{HasNotRunThreads, HasRunThreads, IsRunByWorkersInPart};
+ghost use Rattle.acceptance.specs.declared.failure.Failure.TheVariants.{Device as DeviceFailure};
+ghost use Rattle.driver.specs.Outcomes.{HasBroken, HasNotRunThreads, HasRunThreads, IsRunByWorkersInPart};
 
-use crate::recording::{keep, record_of};
+use crate::recording::{keep, record_of, report_record};
 use crate::showing::show;
 use cil_model::limits::Limits;
 use orders::Workers;
-use outputs::Output;
+use outputs::Out;
 use source_runs::{Failure, OpenGate, run_threads};
 use std::alloc::Global;
 use std::sync::Wait;
 use std::thread::Threads;
 
-/// Runs a source by workers, prints what the run leaves, puts its record behind what is kept where one is asked for, and answers the status.
-pub(crate) fn show_threads<W: Output, E: Output>(
+/// Runs a source by workers, prints what the run leaves, puts its record after what is kept where one is asked for, and returns the status.
+/// Where memory runs out for the run or its record, that is reported last. A failed write leaves what is kept as it was.
+pub(crate) fn show_threads<W: Out, E: Out>(
     rt: &(impl Threads + Wait + Sync),
     alloc: Global,
     source: &[u8],
@@ -27,18 +29,26 @@ pub(crate) fn show_threads<W: Output, E: Output>(
     err: &mut E,
     kept: &mut Vec<u8>,
 ) -> Result<u8, Failure>
-    ensures done { IfOk result (HasRunThreads source.now limits workers.count is_recorded explain (W.contents out.old)
-        (W.contents out.new) (E.contents err.old) (E.contents err.new) kept.old.items kept.new.items) }
+    ensures done { IfOk result (HasRunThreads source.now limits workers.count is_recorded explain (W.taken out.old)
+        (W.taken out.new) (E.taken err.old) (E.taken err.new) kept.old.items kept.new.items) }
     ensures failed { IfErr result (HasNotRunThreads source.now limits) }
     ensures same { OnErr result (kept.new.items ≡ kept.old.items) }
     ensures untouched { IfErr result (λ failure. is_refusal failure ≡ true
-        → (W.contents out.new ≡ W.contents out.old) × (E.contents err.new ≡ E.contents err.old)) }
-    ensures in_part { OnErr result (((W.contents out.new ≡ W.contents out.old) × (E.contents err.new ≡ E.contents err.old))
-        ⊎ IsRunByWorkersInPart source.now limits workers.count is_recorded explain (W.contents out.old) (W.contents out.new) (E.contents err.old) (E.contents err.new)) }
+        → (W.taken out.new ≡ W.taken out.old) × (E.taken err.new ≡ E.taken err.old)) }
+    ensures device { IfErr result (λ failure. failure ≡ DeviceFailure
+        → HasBroken (W.taken out.old) (W.taken out.new) (E.taken err.old) (E.taken err.new)) }
+    ensures in_part { OnErr result (((W.taken out.new ≡ W.taken out.old) × (E.taken err.new ≡ E.taken err.old))
+        ⊎ IsRunByWorkersInPart source.now limits workers.count is_recorded explain (W.taken out.old) (W.taken out.new) (E.taken err.old) (E.taken err.new)) }
 {
     let outcome = run_threads(rt, alloc, source, limits, workers.count, &OpenGate)?;
-    let record = record_of(alloc, is_recorded, &outcome.history)?;
-    kept.reserve(record.len())?;
     let status = show(alloc, explain, &outcome.machine, out, err)?;
-    keep(&record, status, kept, err)
+    let before = kept.len();
+    let record = keep(record_of(alloc, is_recorded, &outcome.history), kept);
+    match report_record(&record, outcome.is_out_of_memory, status, err) {
+        Ok(status) => Ok(status),
+        Err(device) => {
+            kept.truncate(before);
+            Err(Failure::from(device))
+        }
+    }
 }

@@ -1,135 +1,183 @@
-//! What is printed of an order that is carried out.
+//! What is printed of a command that is carried out.
 
-ghost use Rattle.std.specs.Prelude.{◌≡◌, ◌++◌, ◌∷◌, [], ℕ, codes, IfErr, IfOk, List, OnErr, OnOk};
+ghost use Rattle.std.specs.Prelude.{◌≡◌, ◌++◌, ◌∷◌, [], ℕ, codes, IfOk, List, OnErr, OnOk, map};
 ghost use Rattle.std.specs.List.{list_all, list_any};
-ghost use Rattle.std.specs.Io.KnownBytes.{Appends};
-ghost use Rattle.outputs.specs.Beginnings.{AppendsBeginning};
-ghost use Rattle.acceptance.specs.Failures.{IsOfWriting};
-ghost use Rattle.driver.specs.Outcomes.{AreThreadsShown, AreThreadsShownInPart, IsMachineShown, IsMachineShownInPart, IsThreadText, trial_text};
-ghost use Rattle.driver.specs.Threads.{is_done, is_live, line_of, lines_from, status_of};
+ghost use Rattle.outputs.specs.Taken.{Fails, Takes};
+ghost use Rattle.cil_model.specs.ExceptionNames.{name_of};
+ghost use Rattle.source_runs.specs.simulation.threads_monitors.Threads.{end_of};
+ghost use Rattle.driver.specs.Outcomes.{AreCut, AreThreadsShown, AreThreadsShownInPart, IsMachineShown, IsMachineShownInPart, IsThreadText, flip_text, status_after, stop_text};
+ghost use Rattle.driver.specs.Threads.{end_text, is_done, is_live, line_of, lines_from, status_of};
 
-use cil_model::reports::End;
+use arrayvec::ArrayVec;
+use cil_model::reports::{End, Fault};
 use event_trace::explain_threads;
-use flip_trial::Outcome;
-use outputs::{NotWritten, Output};
-use source_runs::{Failure, Machine};
+use flip_trial::Outcome as FlipOutcome;
+use itoa::Buffer;
+use outputs::{Device, Out};
+use source_runs::{Failure, Machine, Outcome, status_of_failure, tell};
 use std::alloc::Global;
-use std::io;
-use std::io::Write;
+
+/// How each thread stands that was started, in the order of their numbers: none where it is live.
+type Ends = ArrayVec<Option<End>, 16>;
 
 /// Writes the one line of a check.
-pub(crate) fn say_accepted<W: Output>(out: &mut W) -> Result<(), NotWritten>
-    ensures said { OnOk result (Appends (W.contents out.old) (W.contents out.new) (codes "accepted" ++ 10 ∷ [])) }
-    ensures begun { OnErr result (AppendsBeginning (W.contents out.old) (W.contents out.new) (codes "accepted" ++ 10 ∷ [])) }
+pub(crate) fn say_accepted<W: Out>(out: &mut W) -> Result<(), Device>
+    ensures whole { OnOk result (Takes (W.taken out.old) (W.taken out.new) (codes "accepted" ++ 10 ∷ [])) }
+    ensures cut { OnErr result (Fails (W.taken out.old) (W.taken out.new) (codes "accepted" ++ 10 ∷ [])) }
 {
     out.write_whole(b"accepted\n")
 }
 
-/// Prints what came of a trial.
-pub(crate) fn show_trial<W: Output>(
-    alloc: Global,
-    outcome: Outcome,
-    out: &mut W,
-) -> Result<(), Failure>
-    ensures shown { OnOk result (Appends (W.contents out.old) (W.contents out.new) (trial_text outcome.kept outcome.retired)) }
-    ensures begun { OnErr result (AppendsBeginning (W.contents out.old) (W.contents out.new) (trial_text outcome.kept outcome.retired)) }
-    ensures failed { IfErr result IsOfWriting }
+/// Prints what came of a run of the flip.
+pub(crate) fn show_flip<W: Out>(outcome: FlipOutcome, out: &mut W) -> Result<(), Device>
+    ensures whole { OnOk result (Takes (W.taken out.old) (W.taken out.new) (flip_text outcome.kept outcome.retired)) }
+    ensures cut { OnErr result (Fails (W.taken out.old) (W.taken out.new) (flip_text outcome.kept outcome.retired)) }
 {
-    let mut text = Vec::new(alloc);
-    write_trial(outcome, &mut text)?;
-    out.write_whole(text.as_slice())?;
-    Ok(())
+    let mut kept = Buffer::new();
+    let mut retired = Buffer::new();
+    out.write_texts(&[
+        "kept ",
+        kept.format(outcome.kept),
+        "\nretired ",
+        retired.format(outcome.retired),
+        "\n",
+    ])
 }
 
-fn write_trial(outcome: Outcome, text: &mut Vec<u8>) -> io::Result<()>
-    ensures { OnOk result (text.new.items ≡ text.old.items ++ trial_text outcome.kept outcome.retired) }
+/// Writes what a run leaves: to `out` the bytes that its program printed, and then to `err` a line for each of its threads. It takes no
+/// memory. Where a write fails, a prefix of the first is written and nothing of the second, or the whole first and a prefix of the second.
+pub fn emit<W: Out, E: Out>(outcome: &Outcome, out: &mut W, err: &mut E) -> Result<(), Device>
+    ensures whole { OnOk result (Takes (W.taken out.old) (W.taken out.new) outcome.now.machine.printed
+        × Takes (E.taken err.old) (E.taken err.new) (lines_from 0 (map end_of outcome.now.machine.threads))) }
+    ensures cut { OnErr result (AreCut outcome.now.machine.printed (lines_from 0 (map end_of outcome.now.machine.threads))
+        (W.taken out.old) (W.taken out.new) (E.taken err.old) (E.taken err.new)) }
 {
-    writeln!(text, "kept {}\nretired {}", outcome.kept, outcome.retired)
+    out.write_whole(outcome.console())?;
+    write_ends(ends_of(&outcome.machine).as_slice(), err)
 }
 
-/// Prints what a run leaves, and answers its status. The lines of its threads, and behind them what explains how they stand, are made
-/// before anything is written.
-pub(crate) fn show<W: Output, E: Output>(
+/// Prints what a run leaves, and what explains how its threads stand where that is asked for, and returns its status.
+pub(crate) fn show<W: Out, E: Out>(
     alloc: Global,
     explain: bool,
     machine: &Machine,
     out: &mut W,
     err: &mut E,
-) -> Result<u8, Failure>
-    ensures shown { IfOk result (IsMachineShown explain machine.now (W.contents out.old) (W.contents out.new) (E.contents err.old) (E.contents err.new)) }
-    ensures begun { OnErr result (IsMachineShownInPart explain machine.now (W.contents out.old) (W.contents out.new) (E.contents err.old) (E.contents err.new)) }
-    ensures failed { IfErr result IsOfWriting }
+) -> Result<u8, Device>
+    ensures whole { IfOk result (IsMachineShown explain machine.now (W.taken out.old) (W.taken out.new) (E.taken err.old) (E.taken err.new)) }
+    ensures cut { OnErr result (IsMachineShownInPart explain machine.now (W.taken out.old) (W.taken out.new) (E.taken err.old) (E.taken err.new)) }
 {
-    let ends = machine.ends(alloc)?;
-    let lines = lines_of(alloc, explain, machine, ends.as_slice())?;
     out.write_whole(machine.console())?;
-    err.write_whole(lines.as_slice())?;
-    Ok(status_of(ends.as_slice()))
+    show_threads_of(alloc, explain, machine, err)
 }
 
-/// Prints how the threads of a run stand, and what explains that, and answers its status.
-pub(crate) fn show_standing<E: Output>(
+/// Prints how the threads of a run stand, and what explains that where it is asked for, and returns its status.
+pub(crate) fn show_threads_of<E: Out>(
     alloc: Global,
     explain: bool,
     machine: &Machine,
     err: &mut E,
-) -> Result<u8, Failure>
-    ensures shown { IfOk result (AreThreadsShown explain machine.now (E.contents err.old) (E.contents err.new)) }
-    ensures begun { OnErr result (AreThreadsShownInPart explain machine.now (E.contents err.old) (E.contents err.new)) }
-    ensures failed { IfErr result IsOfWriting }
+) -> Result<u8, Device>
+    ensures whole { IfOk result (AreThreadsShown explain machine.now (E.taken err.old) (E.taken err.new)) }
+    ensures cut { OnErr result (AreThreadsShownInPart explain machine.now (E.taken err.old) (E.taken err.new)) }
 {
-    let ends = machine.ends(alloc)?;
-    let lines = lines_of(alloc, explain, machine, ends.as_slice())?;
-    err.write_whole(lines.as_slice())?;
+    let ends = ends_of(machine);
+    write_ends(ends.as_slice(), err)?;
+    write_explanation(alloc, explain, machine, err)?;
     Ok(status_of(ends.as_slice()))
 }
 
-/// The lines of the threads of a run, and behind them what explains how they stand.
-fn lines_of(
+/// Reports that a run was stopped since memory ran out, where it was, and returns its status, which is this one where it was not.
+pub(crate) fn show_stop<E: Out>(stopped: bool, status: u8, err: &mut E) -> Result<u8, Device>
+    ensures whole { IfOk result (λ after. (after ≡ status_after stopped status) × Takes (E.taken err.old) (E.taken err.new) (stop_text stopped)) }
+    ensures cut { OnErr result (Fails (E.taken err.old) (E.taken err.new) (stop_text stopped)) }
+{
+    if !stopped {
+        return Ok(status);
+    }
+    tell(Failure::Memory, err)?;
+    Ok(status_of_failure(Failure::Memory))
+}
+
+/// How each thread of a machine stands that was started, in the order of their numbers.
+fn ends_of(machine: &Machine) -> Ends
+    ensures { result.items ≡ map end_of machine.now.threads }
+{
+    let mut ends = Ends::new();
+    for thread in 0..machine.started() {
+        ends.push(machine.end_of(thread as u8));
+    }
+    ends
+}
+
+/// Writes what explains how the threads of a machine stand, where that is asked for. Writes nothing where memory runs out for it.
+fn write_explanation<E: Out>(
     alloc: Global,
     explain: bool,
     machine: &Machine,
-    ends: &[Option<End>],
-) -> io::Result<Vec<u8>>
-    ensures { IfOk result (λ lines. (text : List ℕ) × IsThreadText explain machine.now text × (lines.items ≡ lines_from 0 ends.now ++ text)) }
-{
-    let mut lines = Vec::new(alloc);
-    show_ends(ends, &mut lines)?;
-    add_explanation(alloc, explain, machine, &mut lines);
-    Ok(lines)
-}
-
-/// Appends what explains how the threads of a run stand, where that is asked for. Appends nothing where memory is wanted.
-fn add_explanation(alloc: Global, explain: bool, machine: &Machine, lines: &mut Vec<u8>)
-    ensures { (text : List ℕ) × IsThreadText explain machine.now text × (lines.new.items ≡ lines.old.items ++ text) }
+    err: &mut E,
+) -> Result<(), Device>
+    ensures whole { OnOk result ((text : List ℕ) × IsThreadText explain machine.now text × Takes (E.taken err.old) (E.taken err.new) text) }
+    ensures cut { OnErr result ((text : List ℕ) × IsThreadText explain machine.now text × Fails (E.taken err.old) (E.taken err.new) text) }
 {
     if !explain {
-        return;
+        return Ok(());
     }
-    if let Ok(text) = explain_threads(alloc, machine) {
-        lines.extend_from_slice(text.as_bytes()).unwrap_or(());
+    match explain_threads(alloc, machine) {
+        Ok(text) => err.write_whole(text.as_bytes()),
+        Err(_) => Ok(()),
     }
 }
 
 /// Writes a line for each thread, in the order of their numbers.
-fn show_ends<E: Write>(ends: &[Option<End>], err: &mut E) -> io::Result<()>
-    ensures { OnOk result (Appends (E.contents err.old) (E.contents err.new) (lines_from 0 ends.now)) }
+fn write_ends<E: Out>(ends: &[Option<End>], err: &mut E) -> Result<(), Device>
+    ensures whole { OnOk result (Takes (E.taken err.old) (E.taken err.new) (lines_from 0 ends.now)) }
+    ensures cut { OnErr result (Fails (E.taken err.old) (E.taken err.new) (lines_from 0 ends.now)) }
 {
     for (thread, end) in ends.iter().enumerate() {
-        show_end(thread, *end, err)?;
+        write_end(thread, *end, err)?;
     }
     Ok(())
 }
 
 /// Writes how one thread stands.
-fn show_end<E: Write>(thread: usize, end: Option<End>, err: &mut E) -> io::Result<()>
-    ensures { OnOk result (Appends (E.contents err.old) (E.contents err.new) (line_of thread end)) }
+fn write_end<E: Out>(thread: usize, end: Option<End>, err: &mut E) -> Result<(), Device>
+    ensures whole { OnOk result (Takes (E.taken err.old) (E.taken err.new) (line_of thread end)) }
+    ensures cut { OnErr result (Fails (E.taken err.old) (E.taken err.new) (line_of thread end)) }
+{
+    let mut number = Buffer::new();
+    err.write_texts(&["thread ", number.format(thread), ": ", end_text(end), "\n"])
+}
+
+/// The word for how a thread stands.
+fn end_text(end: Option<End>) -> &'static str
+    ensures { result.now ≡ end_text end }
 {
     match end {
-        None => writeln!(err, "thread {thread}: live"),
-        Some(End::Done) => writeln!(err, "thread {thread}: done"),
-        Some(End::Budget) => writeln!(err, "thread {thread}: budget"),
-        Some(End::Fault(fault)) => writeln!(err, "thread {thread}: {fault}"),
+        None => "live",
+        Some(End::Done) => "done",
+        Some(End::Budget) => "budget",
+        Some(End::Fault(fault)) => fault_name(fault),
+    }
+}
+
+/// The exception's full name, as `Display` of the fault writes it, without memory (ECMA-335 IV).
+fn fault_name(fault: Fault) -> &'static str
+    ensures { result.now ≡ name_of fault }
+{
+    match fault {
+        Fault::NullReference => "System.NullReferenceException",
+        Fault::IndexOutOfRange => "System.IndexOutOfRangeException",
+        Fault::ArrayTypeMismatch => "System.ArrayTypeMismatchException",
+        Fault::InvalidCast => "System.InvalidCastException",
+        Fault::DivideByZero => "System.DivideByZeroException",
+        Fault::Arithmetic => "System.ArithmeticException",
+        Fault::Overflow => "System.OverflowException",
+        Fault::OutOfMemory | Fault::TooManyThreads => "System.OutOfMemoryException",
+        Fault::StackOverflow => "System.StackOverflowException",
+        Fault::ArgumentNull => "System.ArgumentNullException",
+        Fault::SynchronizationLock => "System.Threading.SynchronizationLockException",
+        Fault::ThreadState => "System.Threading.ThreadStateException",
     }
 }
 

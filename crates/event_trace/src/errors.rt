@@ -1,10 +1,10 @@
 //! Why a trace was not written to its end.
 
 ghost use Rattle.std.specs.Prelude.{◌≡◌};
-ghost use Rattle.event_trace.specs.declared.errors.TraceError.TheVariants.{Memory};
+ghost use Rattle.event_trace.specs.declared.errors.TraceError.TheVariants.{Device as CantWrite, Memory};
 
 use cil_model::memory::NoMemory;
-use outputs::NotWritten;
+use outputs::Device;
 use thiserror::Error;
 
 /// Why a trace was not written to its end.
@@ -26,13 +26,10 @@ impl From<NoMemory> for TraceError {
     }
 }
 
-/// Want of memory may come by a writer too.
-impl From<NotWritten> for TraceError {
-    fn from(error: NotWritten) -> TraceError {
-        if error.wants_memory() {
-            TraceError::Memory
-        } else {
-            TraceError::Device
-        }
+impl From<Device> for TraceError {
+    ghost from_gives = { λ _ error. error ≡ CantWrite };
+
+    fn from(_error: Device) -> TraceError {
+        TraceError::Device
     }
 }

@@ -1,15 +1,17 @@
 //! Runs a machine by the events that items stand for, and writes a line of each.
 
-ghost use Rattle.std.specs.Prelude.{◌≡◌, ◌⊎◌, ◌+◌, ◌++◌, IfOk, OnErr, OnOk, List, option_and_then, option_map};
+ghost use Rattle.std.specs.Prelude.{◌≡◌, ◌⊎◌, ◌+◌, ◌++◌, IfErr, IfOk, OnErr, OnOk, List, option_and_then, option_map};
 ghost use Rattle.cil_model.specs.declared.reports.Report.{Report as AnyReport};
 ghost use Rattle.interleaving_core.specs.Views.{phase_at};
 ghost use Rattle.interleaving_core.specs.simulation.Turns.{IsTurn};
+ghost use Rattle.outputs.specs.Taken.{HasGrown};
 ghost use Rattle.schedule_text.specs.Items.{events_of};
 ghost use Rattle.event_trace.specs.Columns.{found_at, heap_for, line_of, position_for, thread_of};
 ghost use Rattle.event_trace.specs.Lines.{seen};
 ghost use Rattle.event_trace.specs.Pieces.{TakesAllBut};
 ghost use Rattle.event_trace.specs.Places.{ArePlacesOf};
 ghost use Rattle.event_trace.specs.Traces.{IsEventCut, IsTraced, IsTracedInPart};
+ghost use Rattle.event_trace.specs.declared.errors.TraceError.TheVariants.{Device as CantWrite, Memory as WantsMemory};
 
 use crate::columns::{EventColumns, HeapColumns};
 use crate::errors::TraceError;
@@ -21,7 +23,7 @@ use cil_model::events::Event;
 use cil_model::memory::NoMemory;
 use cil_model::phases::Phase;
 use interleaving_core::{Machine, Position};
-use outputs::Output;
+use outputs::Out;
 use schedule_text::Item;
 use std::alloc::Global;
 
@@ -38,15 +40,17 @@ use std::alloc::Global;
 /// each method is declared, for a piece and one line, and no more than the machine itself for events. It stops at the first want of memory,
 /// where it writes what it has put together, at the first write that fails, and, with `Memory`, before an event whose number no `usize`
 /// holds. So many events are done then, and a beginning of their lines is written, and no empty line unless all of them are done.
-pub fn trace<W: Output>(
+pub fn trace<W: Out>(
     alloc: Global,
     machine: &mut Machine,
     items: &[Item],
     out: &mut W,
 ) -> Result<(), TraceError>
-    ensures traced { OnOk result ((reports : List AnyReport) × IsTraced machine.old (events_of items.now) machine.new reports (W.contents out.old) (W.contents out.new)) }
+    ensures traced { OnOk result ((reports : List AnyReport) × IsTraced machine.old (events_of items.now) machine.new reports (W.taken out.old).contents (W.taken out.new).contents) }
     ensures same { (machine.new.tree ≡ machine.old.tree) × (machine.new.limits ≡ machine.old.limits) }
-    ensures stopped { OnErr result (IsTracedInPart machine.old (events_of items.now) machine.new (W.contents out.old) (W.contents out.new)) }
+    ensures stopped { OnErr result (IsTracedInPart machine.old (events_of items.now) machine.new (W.taken out.old).contents (W.taken out.new).contents) }
+    ensures kept { OnOk result ((W.taken out.new).failures ≡ (W.taken out.old).failures) }
+    ensures device { IfErr result (λ error. error ≡ CantWrite → HasGrown (W.taken out.old).failures (W.taken out.new).failures) }
 {
     let methods = MethodPlaces::new(alloc, machine.tree())?;
     let mut pending = Vec::new(alloc);
@@ -64,7 +68,8 @@ pub fn trace<W: Output>(
 
 /// The number of the next event. `Memory` where no `usize` holds it.
 fn next_number(number: usize) -> Result<usize, TraceError>
-    ensures { IfOk result (λ next. next ≡ number + 1) }
+    ensures next { IfOk result (λ next. next ≡ number + 1) }
+    ensures memory { IfErr result (λ error. error ≡ WantsMemory) }
 {
     match number.checked_add(1) {
         Some(next) => Ok(next),
@@ -74,7 +79,7 @@ fn next_number(number: usize) -> Result<usize, TraceError>
 
 /// Does one event, and puts the line of its number behind those that are pending, which are written once they fill a piece. Where memory
 /// is wanted they are written too.
-fn trace_event<W: Output>(
+fn trace_event<W: Out>(
     alloc: Global,
     machine: &mut Machine,
     methods: &MethodPlaces,
@@ -85,9 +90,11 @@ fn trace_event<W: Output>(
 ) -> Result<(), TraceError>
     requires { ArePlacesOf machine.old.tree methods.now }
     ensures traced { OnOk result ((report : AnyReport) × IsTurn machine.old event (machine.new, report)
-        × TakesAllBut pending.new.items (W.contents out.old) (W.contents out.new) (pending.old.items ++ line_of number event report machine.old machine.new)) }
+        × TakesAllBut pending.new.items (W.taken out.old).contents (W.taken out.new).contents (pending.old.items ++ line_of number event report machine.old machine.new)) }
     ensures same { (machine.new.tree ≡ machine.old.tree) × (machine.new.limits ≡ machine.old.limits) }
-    ensures stopped { OnErr result (IsEventCut number event machine.old machine.new pending.old.items (W.contents out.old) (W.contents out.new)) }
+    ensures stopped { OnErr result (IsEventCut number event machine.old machine.new pending.old.items (W.taken out.old).contents (W.taken out.new).contents) }
+    ensures kept { OnOk result ((W.taken out.new).failures ≡ (W.taken out.old).failures) }
+    ensures device { IfErr result (λ error. error ≡ CantWrite → HasGrown (W.taken out.old).failures (W.taken out.new).failures) }
 {
     match add_event(alloc, machine, methods, number, event, pending) {
         Ok(()) => {

@@ -1,6 +1,7 @@
 -- Bytes that were taken, one piece after another.
-use Rattle.std.proofs.Common.{◌≡◌, ◌-◌, ℕ, List, [], ◌++◌, Option, refl, sym, ap, subst, ◌∙◌, length, take, drop, append_assoc, append-nil, take-append-drop}
-use Rattle.std.proofs.lemmas.List.{take_rest}
+use Rattle.std.proofs.Common.{◌≡◌, ◌+◌, ◌-◌, ◌<◌, flat_map, get_or, ℕ, List, [], ◌++◌, Option, refl, sym, ap, subst, ◌∙◌, length, take, drop, append_assoc, append-nil, take-append-drop}
+use Rattle.std.proofs.lemmas.Grind.{flat_map-append}
+use Rattle.std.proofs.lemmas.List.{drop_more, take_rest}
 use Rattle.std.proofs.KnownBytes.{Appends-kept, Appends-nil, Appends-trans}
 use Rattle.std.specs.Io.KnownBytes.{Appends, Keeps}
 use Rattle.outputs.specs.Beginnings.{AppendsBeginning}
@@ -51,3 +52,14 @@ pub begins_second : (a b c : Option (List ℕ)) (first more : List ℕ) → Appe
 begins_second a b c first more h k =
     let (part, (rest, split), appended) = k in
     (first ++ part, (rest, ap (λ l. first ++ l) split ∙ sym (append_assoc first part rest)), Appends-trans a b c first part h appended)
+
+-- so do all pieces before one and a prefix of that one
+pub begins_piece : {X : Type 0} (bytes : X → List ℕ) (pieces : List X) (i : ℕ) (d : X) (a b c : Option (List ℕ)) → i < length pieces
+    → Appends a b (flat_map bytes (take i pieces)) → AppendsBeginning b c (bytes (get_or pieces i d)) → AppendsBeginning a c (flat_map bytes pieces)
+begins_piece bytes pieces i d a b c below h k =
+    let before = flat_map bytes (take i pieces) in
+    let after = flat_map bytes (drop (i + 1) pieces) in
+    let split : flat_map bytes pieces ≡ before ++ (bytes (get_or pieces i d) ++ after) =
+    ap (flat_map bytes) (sym (take-append-drop i pieces)) ∙ flat_map-append bytes (take i pieces) (drop i pieces)
+    ∙ ap (λ rest. before ++ flat_map bytes rest) (drop_more pieces i d below) in
+    subst (AppendsBeginning a c) (sym split) (begins_second a b c before (bytes (get_or pieces i d) ++ after) h (begins_first b c (bytes (get_or pieces i d)) after k))

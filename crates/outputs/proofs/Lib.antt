@@ -1,1 +1,2 @@
 pub mod BeginningLaws
+pub mod TakenLaws

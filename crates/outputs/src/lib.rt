@@ -1,114 +1,131 @@
-//! Writes bytes whole, and says what a failed write leaves.
-//! Where a write failed, a prefix of the bytes is taken, and the output has failed from then on. A `Device` is an output over any writer that
-//! remembers this: a new one has not failed, and a write that succeeds leaves that as it was.
+//! Writes bytes whole, and reports what a failed write leaves.
+//! An `Out` takes a prefix of the bytes that it is given. A call that takes none of them, though there are some, fails, and is counted.
+//! `write_whole` calls it until all bytes are taken or a call fails. A `WriterOut` is an `Out` over any writer of std.
 #![tactic(auto)]
 
-ghost use Rattle.std.specs.Prelude.{◌≡◌, false, Bool, List, OnErr, OnOk, Option, ℕ, true};
+ghost use Rattle.std.specs.Prelude.{◌≡◌, ◌≤◌, false, flat_map, length, IfSome, OnErr, OnOk, Option, true};
 ghost use Rattle.std.specs.Io.KnownBytes.{Appends};
-ghost use Rattle.outputs.specs.Beginnings.{AppendsBeginning};
+ghost use Rattle.outputs.specs.Taken.{Fails, HasGrown, Taken, Takes, is_failure, prefix_of};
 
 use std::io::{ErrorKind, Write};
+use std::marker::Model;
 
-/// A write failed. Only `write_whole` of this library makes one, and none can be copied: who holds one has seen a write fail.
+/// A write failed. Only `write_whole` makes one, and none can be copied: who holds one has seen a write fail.
 #[derive(Debug, Drop)]
-pub struct NotWritten {
-    wants_memory: bool,
-}
+pub struct Device(());
 
-impl NotWritten {
-    /// Whether the writer wanted memory.
-    pub fn wants_memory(&self) -> bool
-        ensures { result ≡ self.now.wants_memory }
+/// What takes bytes, and counts the calls that failed.
+pub trait Out {
+    // The bytes that it has taken, where they are known, and how many of its calls failed.
+    ghost taken: { Self → Taken };
+
+    /// Takes a prefix of these bytes, and returns its length. A call fails where it returns None, or 0 of some bytes: then it took none. The
+    /// count of failures grows where it fails, and else stays.
+    fn put(&mut self, bytes: &[u8]) -> Option<usize>
+        ensures bound { IfSome result (λ count. count ≤ length bytes.now) }
+        ensures prefix { Appends (taken self.old).contents (taken self.new).contents (prefix_of result bytes.now) }
+        ensures failed { is_failure result bytes.now ≡ true → HasGrown (taken self.old).failures (taken self.new).failures }
+        ensures kept { is_failure result bytes.now ≡ false → (taken self.new).failures ≡ (taken self.old).failures };
+
+    /// Has it take all of these bytes, in one call or several. After a call that failed, a prefix of them is taken.
+    final fn write_whole(&mut self, bytes: &[u8]) -> Result<(), Device>
+        ensures whole { OnOk result (Takes (taken self.old) (taken self.new) bytes.now) }
+        ensures cut { OnErr result (Fails (taken self.old) (taken self.new) bytes.now) }
     {
-        self.wants_memory
+        let mut rest = bytes;
+        while !rest.is_empty() {
+            match self.put(rest) {
+                Some(count) if count > 0 => rest = &rest[count..],
+                _ => return Err(Device(())),
+            }
+        }
+        Ok(())
+    }
+
+    /// Has it take all of these texts, one after another, as `write_whole` takes each.
+    final fn write_texts(&mut self, texts: &[&str]) -> Result<(), Device>
+        ensures whole { OnOk result (Takes (taken self.old) (taken self.new) (flat_map (λ text. text.now) texts.now)) }
+        ensures cut { OnErr result (Fails (taken self.old) (taken self.new) (flat_map (λ text. text.now) texts.now)) }
+    {
+        for text in texts {
+            self.write_whole(text.as_bytes())?;
+        }
+        Ok(())
     }
 }
 
-/// What bytes are written to whole, and which remembers whether a write has failed.
-pub trait Output {
-    // The bytes that were taken, where they are known.
-    ghost contents: { Self → Option (List ℕ) };
-
-    // Whether a write has failed.
-    ghost has_failed: { Self → Bool };
-
-    /// Writes all of these bytes. A write that a signal interrupts is tried again; after any other that fails, and after one that takes no
-    /// byte, a beginning of them is taken, and the output has failed from then on.
-    fn write_whole(&mut self, bytes: &[u8]) -> Result<(), NotWritten>
-        ensures taken { OnOk result (Appends (contents self.old) (contents self.new) bytes.now) }
-        ensures begun { OnErr result (AppendsBeginning (contents self.old) (contents self.new) bytes.now) }
-        ensures failed { OnErr result (has_failed self.new ≡ true) }
-        ensures kept { OnOk result (has_failed self.new ≡ has_failed self.old) };
-}
-
-/// A writer, and whether a write to it has failed.
+/// An `Out` over a writer.
 #[derive(Drop)]
-pub struct Device<W> {
+pub struct WriterOut<W> {
     writer: W,
-    has_failed: bool,
+    failures: u64,
 }
 
-impl<W: Write> Device<W> {
-    /// A device to which nothing was written yet.
-    pub fn new(writer: W) -> Device<W>
-        ensures writer { result.writer ≡ writer }
-        ensures failed { result.has_failed ≡ false }
+impl<W> Model for WriterOut<W> {
+    ghost use Rattle.std.specs.Prelude.{ℕ};
+
+    ghost Value = { W × ℕ };
+
+    ghost view = { λ out. (out.writer, out.failures) };
+}
+
+impl<W: Write> WriterOut<W> {
+    /// An `Out` to which nothing was written yet.
+    pub fn new(writer: W) -> WriterOut<W>
+        ensures { result ≡ (writer, 0) }
     {
-        Device {
+        WriterOut {
             writer,
-            has_failed: false,
+            failures: 0,
         }
     }
 
     /// Gives back the writer.
     pub fn into_inner(self) -> W
-        ensures { result ≡ self.writer }
+        ensures { result ≡ self.0 }
     {
         self.writer
     }
 }
 
-impl<W: Write> Output for Device<W> {
-    ghost contents = { λ device. W.contents device.writer };
+/// A call of the writer that a signal interrupts is tried again.
+impl<W: Write> Out for WriterOut<W> {
+    ghost taken = { λ out. record { contents = W.contents out.0; failures = out.1 } };
 
-    ghost has_failed = { λ device. device.has_failed };
-
-    fn write_whole(&mut self, bytes: &[u8]) -> Result<(), NotWritten> {
-        let written = write_all_of(&mut self.writer, bytes);
-        if written.is_err() {
-            self.has_failed = true;
+    fn put(&mut self, bytes: &[u8]) -> Option<usize> {
+        let taken = write_once(&mut self.writer, bytes);
+        if is_failure(taken, bytes) {
+            self.failures = self.failures.saturating_add(1);
         }
-        written
+        taken
     }
 }
 
-/// Writes all of these bytes to a writer, as `Output::write_whole` does.
-fn write_all_of<W: Write>(out: &mut W, bytes: &[u8]) -> Result<(), NotWritten>
-    ensures taken { OnOk result (Appends (W.contents out.old) (W.contents out.new) bytes.now) }
-    ensures begun { OnErr result (AppendsBeginning (W.contents out.old) (W.contents out.new) bytes.now) }
+/// Whether a call that returned this length, or none, for these bytes has failed.
+fn is_failure(taken: Option<usize>, bytes: &[u8]) -> bool
+    ensures { result ≡ is_failure taken bytes.now }
 {
-    let mut rest = bytes;
+    match taken {
+        None => true,
+        Some(count) => count == 0 && !bytes.is_empty(),
+    }
+}
+
+/// Has a writer take a prefix of these bytes, and returns its length. It is tried again where a signal interrupts it. None where it fails
+/// otherwise.
+fn write_once<W: Write>(out: &mut W, bytes: &[u8]) -> Option<usize>
+    ensures bound { IfSome result (λ count. count ≤ length bytes.now) }
+    ensures prefix { Appends (W.contents out.old) (W.contents out.new) (prefix_of result bytes.now) }
+{
     for _ in 0..u64::MAX {
-        if rest.is_empty() {
-            return Ok(());
-        }
-        match out.write(rest) {
-            Ok(0) => {
-                return Err(NotWritten {
-                    wants_memory: false,
-                });
-            }
-            Ok(taken) => rest = &rest[taken..],
+        match out.write(bytes) {
+            Ok(count) => return Some(count),
             Err(error) => {
                 if error.kind() != ErrorKind::Interrupted {
-                    return Err(NotWritten {
-                        wants_memory: error.kind() == ErrorKind::OutOfMemory,
-                    });
+                    return None;
                 }
             }
         }
     }
-    Err(NotWritten {
-        wants_memory: false,
-    })
+    None
 }

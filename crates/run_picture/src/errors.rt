@@ -1,10 +1,10 @@
 //! Why a picture was not written to its end.
 
 ghost use Rattle.std.specs.Prelude.{◌≡◌};
-ghost use Rattle.run_picture.specs.declared.errors.PictureError.TheVariants.{Memory};
+ghost use Rattle.run_picture.specs.declared.errors.PictureError.TheVariants.{Device as CantWrite, Memory};
 
 use cil_model::memory::NoMemory;
-use outputs::NotWritten;
+use outputs::Device;
 
 /// Why a picture was not written to its end.
 #[derive(Clone, Copy, Debug, PartialEq, Eq)]
@@ -23,13 +23,10 @@ impl From<NoMemory> for PictureError {
     }
 }
 
-/// Want of memory may come by a writer too.
-impl From<NotWritten> for PictureError {
-    fn from(error: NotWritten) -> PictureError {
-        if error.wants_memory() {
-            PictureError::Memory
-        } else {
-            PictureError::Device
-        }
+impl From<Device> for PictureError {
+    ghost from_gives = { λ _ error. error ≡ CantWrite };
+
+    fn from(_error: Device) -> PictureError {
+        PictureError::Device
     }
 }

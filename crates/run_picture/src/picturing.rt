@@ -1,12 +1,14 @@
 //! Runs a machine by the events that items stand for, and draws those of a window.
 
-ghost use Rattle.std.specs.Prelude.{◌≡◌, ◌⊎◌, ◌+◌, IfOk, OnErr, OnOk, List, [], replicate, string_bytes};
+ghost use Rattle.std.specs.Prelude.{◌≡◌, ◌⊎◌, ◌+◌, IfErr, IfOk, OnErr, OnOk, List, [], replicate, string_bytes};
 ghost use Rattle.cil_model.specs.declared.reports.Report.{Report as AnyReport};
 ghost use Rattle.interleaving_core.specs.simulation.Turns.{IsTurn};
+ghost use Rattle.outputs.specs.Taken.{HasGrown};
 ghost use Rattle.schedule_text.specs.Items.{events_of};
 ghost use Rattle.event_trace.specs.Places.{ArePlacesOf};
 ghost use Rattle.run_picture.specs.Pictures.{IsDrawn, IsPicture, IsPictureInPart};
 ghost use Rattle.run_picture.specs.Rows.{drawn_rows};
+ghost use Rattle.run_picture.specs.declared.errors.PictureError.TheVariants.{Device as CantWrite, Memory as WantsMemory};
 ghost use Rattle.run_picture.specs.declared.rows.TheConstants.{ROWS};
 
 use crate::document::document;
@@ -21,7 +23,7 @@ use cil_model::memory::NoMemory;
 use cil_model::reports::Report;
 use event_trace::MethodPlaces;
 use interleaving_core::Machine;
-use outputs::Output;
+use outputs::Out;
 use schedule_text::Item;
 use std::alloc::{AllocError, Global};
 
@@ -31,16 +33,18 @@ use std::alloc::{AllocError, Global};
 /// Of a window with more events than `MOST_EVENTS` the first ones are drawn, and where it has none, the picture is of none. It takes memory for
 /// the document and what is gathered for it, and no more than the machine itself for events. It stops at the first want of memory, before
 /// anything is written, with `Memory`; with `Device` where the write fails, of which a beginning of the document is left.
-pub fn picture<W: Output>(
+pub fn picture<W: Out>(
     alloc: Global,
     machine: &mut Machine,
     items: &[Item],
     window: Window,
     out: &mut W,
 ) -> Result<(), PictureError>
-    ensures drawn { OnOk result ((reports : List AnyReport) × IsPicture machine.old (events_of items.now) machine.new reports window (W.contents out.old) (W.contents out.new)) }
+    ensures drawn { OnOk result ((reports : List AnyReport) × IsPicture machine.old (events_of items.now) machine.new reports window (W.taken out.old).contents (W.taken out.new).contents) }
     ensures same { (machine.new.tree ≡ machine.old.tree) × (machine.new.limits ≡ machine.old.limits) }
-    ensures stopped { OnErr result (IsPictureInPart machine.old (events_of items.now) machine.new window (W.contents out.old) (W.contents out.new)) }
+    ensures stopped { OnErr result (IsPictureInPart machine.old (events_of items.now) machine.new window (W.taken out.old).contents (W.taken out.new).contents) }
+    ensures kept { OnOk result ((W.taken out.new).failures ≡ (W.taken out.old).failures) }
+    ensures device { IfErr result (λ error. error ≡ CantWrite → HasGrown (W.taken out.old).failures (W.taken out.new).failures) }
 {
     let methods = MethodPlaces::new(alloc, machine.tree())?;
     let mut sketch = Sketch::new(alloc, machine, window.clamped())?;
@@ -58,7 +62,8 @@ pub fn picture<W: Output>(
 
 /// The number of the next event. `Memory` where no `usize` holds it.
 fn next_number(number: usize) -> Result<usize, PictureError>
-    ensures { IfOk result (λ next. next ≡ number + 1) }
+    ensures next { IfOk result (λ next. next ≡ number + 1) }
+    ensures memory { IfErr result (λ error. error ≡ WantsMemory) }
 {
     match number.checked_add(1) {
         Some(next) => Ok(next),

@@ -1,5 +1,5 @@
 -- A worker that is alone: its count fixes the history.
-use Rattle.std.proofs.Common.{◌≡◌, ℕ, ◌+◌, ◌<◌, List, [], ◌≤◌, ◌∷◌, ◌++◌, get_or, take, length, replicate, refl, sym, ap, ◌∙◌, subst, append_assoc, arith, eq-eqb, All, nat_eq}
+use Rattle.std.proofs.Common.{◌≡◌, ℕ, Bool, true, false, ◌+◌, ◌<◌, List, [], ◌≤◌, ◌∷◌, ◌++◌, get_or, take, length, replicate, refl, sym, ap, ◌∙◌, subst, append_assoc, arith, eq-eqb, All, nat_eq}
 use Rattle.std.proofs.lemmas.List.{append-nil, length-append, replicate_more}
 use Rattle.std.proofs.lemmas.List.Elements.{All-head, All-nil, All-push, All-tail, All-weaker}
 use Rattle.shared_machine.specs.Counts.{Count}
@@ -7,10 +7,10 @@ use Rattle.cil_model.specs.declared.events.Event.{Event}
 use Rattle.cil_model.specs.declared.reports.Report.{Report}
 use Rattle.schedule_text.specs.Items.{events_of as events_in}
 use Rattle.schedule_text.specs.declared.items.Item.{Item}
-use Rattle.schedule_text.proofs.SoFar.{so_far, so_far_all}
+use Rattle.schedule_text.proofs.SoFar.{so_far, so_far_all, so_far_before}
 use Rattle.shared_machine.specs.Codes.{add}
 use Rattle.shared_machine.specs.Histories.{AreOf, AreSmall, IsSmall, count_of, entry, events_of, pairs_if, pairs_of}
-use Rattle.shared_machine.specs.Worlds.{AgreesWith, HasCounted, IfDid, added}
+use Rattle.shared_machine.specs.Worlds.{AgreesWith, AreDoneOf, HasCounted, HasCountedFirst, IfDid, added}
 use Rattle.shared_machine.specs.declared.answer.Answer.{Answer}
 use Rattle.shared_machine.specs.declared.answer.Answer.TheVariants.{Did}
 use Rattle.shared_machine.specs.declared.history.Entry.{Entry}
@@ -105,6 +105,24 @@ counted_times before e n count t past within h = let all : n ≡ count = omega a
 -- one item more
 pub counted_item : (items : List Item) (i : ℕ) (d : Item) (t : Count) → i < length items → HasCounted (so_far items i (get_or items i d).event (get_or items i d).count) t → HasCounted (events_in (take (i + 1) items)) t
 counted_item items i d t below h = subst (λ es. HasCounted es t) (so_far_all items i d below) h
+
+-- some of an item's alone
+pub counted_part : (items : List Item) (i : ℕ) (d : Item) (t : Count) (n : ℕ) → i < length items → n < (get_or items i d).count
+    → HasCounted (so_far items i (get_or items i d).event n) t → HasCountedFirst (events_in items) t
+counted_part items i d t n below few h = record {
+  done = so_far items i (get_or items i d).event n;
+  rest = _;
+  are = so_far_before items i d below n few;
+  counted = h;
+}
+
+-- all are done
+pub all_done : (events done : List Event) (stopped : Bool) → done ≡ events → AreDoneOf events done stopped
+all_done events done stopped same = record { rest = []; are = sym (append-nil done ∙ same); all = λ none. refl }
+
+-- the first are done
+pub first_done : (events done rest : List Event) → events ≡ done ++ rest → AreDoneOf events done true
+first_done events done rest are = record { rest = rest; are = are; all = λ none. absurd (cc none) }
 
 -- so these are the history's
 pub counted_all : (events : List Event) (t : Count) (history : List Entry) → HasCounted events t → AreOf 1 history → AgreesWith history t → events_of history ≡ events

@@ -174,6 +174,19 @@ pub record HasCounted (events : List Event) (t : Count) : Type 0 where
   pub worker : t.worker ≡ 0
   pub count : t.count ≡ count_of 0 entries
 
+-- it has counted the first of these events
+pub record HasCountedFirst (events : List Event) (t : Count) : Type 0 where
+  pub done : List Event
+  pub rest : List Event
+  pub are : events ≡ done ++ rest
+  pub counted : HasCounted done t
+
+-- the events done are the first of these, and all of them unless the run was stopped before its end
+pub record AreDoneOf (events done : List Event) (stopped : Bool) : Type 0 where
+  pub rest : List Event
+  pub are : events ≡ done ++ rest
+  pub all : stopped ≡ false → rest ≡ []
+
 -- the ticket's count is in the book
 abbrev pub IsIn : List ℕ → Count → Type 0
 IsIn book t = slice_get book t.worker ≡ Some t.count

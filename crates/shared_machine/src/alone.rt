@@ -1,10 +1,10 @@
 //! One worker alone.
 
-ghost use Rattle.std.specs.Prelude.{◌≡◌, ◌++◌, [], List, IfOk, replicate};
+ghost use Rattle.std.specs.Prelude.{◌≡◌, ◌<◌, ◌++◌, [], List, ℕ, IfOk, MatchResult, replicate};
 ghost use Rattle.cil_model.specs.declared.events.Event.{Event};
 ghost use Rattle.schedule_text.specs.Items.{events_of as events_in};
 ghost use Rattle.shared_machine.specs.Histories.{events_of, reports_of};
-ghost use Rattle.shared_machine.specs.Worlds.{HasCounted, HasRun};
+ghost use Rattle.shared_machine.specs.Worlds.{AreDoneOf, HasCounted, HasCountedFirst, HasRun};
 
 use crate::answer::Answer;
 use crate::book::{Blank, Ticket};
@@ -17,7 +17,8 @@ use schedule_text::Item;
 use std::alloc::Global;
 use std::sync::Wait;
 
-/// Does an item's event as often as it says, each time by `act` of the ticket, and gives the ticket back. Only want of memory is an error.
+/// Does an item's event as often as it says, each time by `act` of the ticket, and returns the ticket; as an error where it runs out of
+/// memory before an event.
 #[inline(always)]
 fn act_item<M: Opening, R: Wait>(
     rt: &R,
@@ -25,13 +26,15 @@ fn act_item<M: Opening, R: Wait>(
     shared: &Shared<M>,
     mut ticket: Ticket<M>,
     item: &Item,
-) -> Result<Ticket<M>, NoMemory>
-    ensures { (before : List Event) → HasCounted before ticket → IfOk result (λ after. HasCounted (before ++ replicate item.now.count item.now.event) after) }
+) -> Result<Ticket<M>, Ticket<M>>
+    ensures { (before : List Event) → HasCounted before ticket → MatchResult result
+        (λ after. HasCounted (before ++ replicate item.now.count item.now.event) after)
+        (λ after. (count : ℕ) × (count < item.now.count) × HasCounted (before ++ replicate count item.now.event) after) }
 {
     for _time in 0..item.count {
         match shared.act(rt, alloc, ticket, item.event) {
             (Answer::Did(_), next) => ticket = next,
-            (Answer::NoMemory | Answer::Away, _) => return Err(NoMemory),
+            (Answer::NoMemory | Answer::Away, same) => return Err(same),
         }
     }
     Ok(ticket)
@@ -44,9 +47,9 @@ fn act_items<M: Opening, R: Wait>(
     shared: &Shared<M>,
     mut ticket: Ticket<M>,
     items: &[Item],
-) -> Result<Ticket<M>, NoMemory>
+) -> Result<Ticket<M>, Ticket<M>>
     requires { HasCounted [] ticket }
-    ensures { IfOk result (λ after. HasCounted (events_in items.now) after) }
+    ensures { MatchResult result (HasCounted (events_in items.now)) (HasCountedFirst (events_in items.now)) }
 {
     for item in items {
         ticket = act_item(rt, alloc, shared, ticket, item)?;
@@ -54,11 +57,31 @@ fn act_items<M: Opening, R: Wait>(
     Ok(ticket)
 }
 
+/// Does so, and returns the ticket with whether it ran out of memory before an event.
+fn act_while_memory_lasts<M: Opening, R: Wait>(
+    rt: &R,
+    alloc: Global,
+    shared: &Shared<M>,
+    ticket: Ticket<M>,
+    items: &[Item],
+) -> (Ticket<M>, bool)
+    requires { HasCounted [] ticket }
+    ensures worker { result.0.worker ≡ 0 }
+    ensures done { (done : List Event) × HasCounted done result.0 × AreDoneOf (events_in items.now) done result.1 }
+{
+    match act_items(rt, alloc, shared, ticket, items) {
+        Ok(ticket) => (ticket, false),
+        Err(ticket) => (ticket, true),
+    }
+}
+
 /// One worker does the events that these items stand for, in order, each by `act` of its ticket, and the run ends. The history has these
-/// events, each with its report, and the machine is at what its turns over them make of the opening content.
+/// events, each with its report, and the machine is at what its turns over them make of the initial state.
 ///
-/// `blank` is the book of counts that `M` names, the machine holds what `M` names, and `M` names one worker. Only want of memory is an
-/// error, for the lock, an event or its entry; the machine is dropped then.
+/// Where memory runs out for an event or its entry, the run is stopped before that event: the history has those before it.
+///
+/// `blank` is the book of counts that `M` names, the machine holds what `M` names, and `M` names one worker. Out of memory is the only
+/// error, for the lock; the machine is dropped then.
 pub fn run_alone<M: Opening, R: Wait>(
     rt: &R,
     alloc: Global,
@@ -69,17 +92,20 @@ pub fn run_alone<M: Opening, R: Wait>(
     requires book { blank ≡ M.table }
     requires core { core ≡ M.opening }
     requires alone { M.workers ≡ 1 }
-    ensures events { IfOk result (λ outcome. events_of outcome.history.entries ≡ events_in items.now) }
-    ensures ran { IfOk result (λ outcome. HasRun M.opening (events_in items.now) (reports_of outcome.history.entries) outcome.machine) }
+    ensures events { IfOk result (λ outcome. AreDoneOf (events_in items.now) (events_of outcome.history.entries) outcome.is_out_of_memory) }
+    ensures ran { IfOk result (λ outcome. HasRun M.opening (events_of outcome.history.entries) (reports_of outcome.history.entries) outcome.machine) }
 {
     let (shared, mut tickets) = Shared::<M>::new(alloc, blank, core, 1)?;
     let Some(ticket) = tickets.pop() else {
         unreachable!()
     };
-    let ticket = act_items(rt, alloc, &shared, ticket, items)?;
+    let (ticket, is_out_of_memory) = act_while_memory_lasts(rt, alloc, &shared, ticket, items);
     tickets.push_reserved(ticket);
     match shared.finish(tickets) {
-        Ok(outcome) => Ok(outcome),
+        Ok(mut outcome) => {
+            outcome.is_out_of_memory = is_out_of_memory;
+            Ok(outcome)
+        }
         Err(_) => unreachable!(),
     }
 }

@@ -17,6 +17,8 @@ pub struct Outcome {
     pub history: History,
     /// Whether the stop mark was set.
     pub stopped: bool,
+    /// Whether the run was stopped before its end since memory ran out.
+    pub is_out_of_memory: bool,
 }
 
 impl Outcome {

@@ -1,6 +1,6 @@
 //! A run by workers, from the opening to the end.
 
-ghost use Rattle.std.specs.Prelude.{◌≡◌, ◌≤◌, All, IfOk};
+ghost use Rattle.std.specs.Prelude.{◌≡◌, ◌≤◌, All, false, IfOk};
 ghost use Rattle.std.specs.List.{count_by};
 ghost use Rattle.shared_machine.specs.Histories.{events_of, reports_of};
 ghost use Rattle.shared_machine.specs.Worlds.{HasRun};
@@ -26,11 +26,11 @@ use std::thread::Threads;
 ///
 /// Whatever the order in which they got the lock, the history is one that a single thread could have made: the machine is at what its turns
 /// over the history's events make of the opening content, with the history's reports, and the reference machine follows them. Each entry is an
-/// event of its worker's own, of a thread that a machine can have. No thread is live. A run that met want of memory in starting a thread, and
-/// came to its end all the same, has the stop mark.
+/// event of its worker's own, of a thread that a machine can have. No thread is live, unless memory ran out, for an event or for a worker's
+/// thread, and had the workers stop before that. A run that was short of memory, and came to its end all the same, has the stop mark.
 ///
-/// `blank` is the book of counts that `M` names, the machine holds what `M` names, and `M` names this number of workers. Only want of memory
-/// is an error: before the first event, or where it had workers stop while a thread was live. The machine is dropped then.
+/// `blank` is the book of counts that `M` names, the machine holds what `M` names, and `M` names this number of workers. Out of memory is
+/// the only error, before the first event. The machine is dropped then.
 pub fn run_together<M: Opening + Send + Sync, R: Threads + Wait + Sync, G: Gate + Sync>(
     rt: &R,
     alloc: Global,
@@ -44,24 +44,16 @@ pub fn run_together<M: Opening + Send + Sync, R: Threads + Wait + Sync, G: Gate 
     requires workers { (1 ≤ workers) × (workers ≤ MOST_WORKERS) × (workers ≡ M.workers) }
     ensures ran { IfOk result (λ outcome. HasRun M.opening (events_of outcome.history.entries) (reports_of outcome.history.entries) outcome.machine) }
     ensures own { IfOk result (λ outcome. All (IsOwnOf workers) outcome.history.entries) }
-    ensures ended { IfOk result (λ outcome. count_by is_live outcome.machine.threads ≡ 0) }
+    ensures ended { IfOk result (λ outcome. outcome.is_out_of_memory ≡ false → count_by is_live outcome.machine.threads ≡ 0) }
 {
     let (epochs, herald, seats) = Epochs::new(alloc, usize::from(workers))?;
     let (shared, tickets) = Shared::<M>::new(alloc, blank, core, workers)?;
     let tickets = run_workers(rt, alloc, &shared, tickets, &epochs, herald, seats, gate);
     match shared.finish(tickets) {
-        Ok(outcome) => ended(outcome),
+        Ok(mut outcome) => {
+            outcome.is_out_of_memory = outcome.machine.live() > 0;
+            Ok(outcome)
+        }
         Err(_) => unreachable!(),
     }
-}
-
-/// What is left of a run where no thread is live. Where one is, the stop mark ended the run, and memory was wanted.
-fn ended(outcome: Outcome) -> Result<Outcome, NoMemory>
-    ensures same { IfOk result (λ whole. whole ≡ outcome) }
-    ensures ended { IfOk result (λ whole. count_by is_live whole.machine.threads ≡ 0) }
-{
-    if outcome.machine.live() > 0 {
-        return Err(NoMemory);
-    }
-    Ok(outcome)
 }

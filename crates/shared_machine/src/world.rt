@@ -393,6 +393,7 @@ impl<M: Opening> World<M> {
             machine: core,
             history,
             stopped,
+            is_out_of_memory: false,
         }
     }
 }

@@ -1,6 +1,7 @@
 -- What comes of a source by a list of events (this profile).
-use Rattle.std.specs.Prelude.{◌≡◌, ◌⊎◌, ℕ, true, List}
+use Rattle.std.specs.Prelude.{◌≡◌, ◌⊎◌, ℕ, Bool, true, List}
 use Rattle.std.specs.List.{zip}
+use Rattle.shared_machine.specs.Worlds.{AreDoneOf}
 use Rattle.shared_machine.specs.simulation.Budgets.{AreWithinBudget}
 use Rattle.cil_model.specs.Ranges.{are_in_range}
 use Rattle.cil_model.specs.declared.events.Event.{Event}
@@ -18,9 +19,12 @@ use Rattle.acceptance.specs.Failures.{failure_of_schedule}
 use Rattle.acceptance.specs.Sources.{HasRunTo, IsAcceptedSource, IsLetIn, IsNotRun, IsOpened}
 use Rattle.acceptance.specs.declared.failure.Failure.{Failure}
 
--- a machine has run by a text: the text writes the events that it has run
-abbrev pub IsRunBy : List ℕ → Limits → List ℕ → List Event → List Report → Content → Type 0
-IsRunBy source limits text events reports content = AreRead (words text) events × HasRunTo source limits events reports content
+-- a machine has run by a text: it has done the first of the events that the text writes, and all of them unless the run was stopped
+pub record IsRunBy (source : List ℕ) (limits : Limits) (text : List ℕ) (done : List Event) (reports : List Report) (stopped : Bool) (content : Content) : Type 0 where
+  pub events : List Event
+  pub are_read : AreRead (words text) events
+  pub are_done : AreDoneOf events done stopped
+  pub ran : HasRunTo source limits done reports content
 
 -- the text of a schedule writes no events: this is its first fault
 abbrev pub IsBadSchedule : List ℕ → Failure → Type 0

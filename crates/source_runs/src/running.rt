@@ -3,6 +3,7 @@
 ghost use Rattle.std.specs.Prelude.{◌≡◌, IfErr, IfOk};
 ghost use Rattle.schedule_text.specs.Items.{events_of as events_in};
 ghost use Rattle.shared_machine.specs.Histories.{events_of, reports_of};
+ghost use Rattle.shared_machine.specs.Worlds.{AreDoneOf};
 ghost use Rattle.shared_machine.specs.interleaving_core.Histories.{HasDone};
 ghost use Rattle.acceptance.specs.Sources.{HasRunTo, IsNotRun, IsNotRunWithin};
 ghost use Rattle.source_runs.specs.Runs.{IsNotRunBy, IsReady, IsRunBy};
@@ -18,7 +19,7 @@ use verifier::Verified;
 
 /// Runs a source by the events that a schedule's text writes, as `run_events` runs those of its items.
 ///
-/// Faults are looked for in this order: the source, the limits, the schedule, memory for the history, threads and what is printed.
+/// Faults are looked for in this order: the source, the limits, the schedule, memory before the first event.
 pub fn run_source(
     rt: &impl Wait,
     alloc: Global,
@@ -26,7 +27,7 @@ pub fn run_source(
     limits: Limits,
     text: &[u8],
 ) -> Result<Outcome, Failure>
-    ensures ran { IfOk result (λ outcome. IsRunBy source.now limits text.now (events_of outcome.history.entries) (reports_of outcome.history.entries) outcome.machine) }
+    ensures ran { IfOk result (λ outcome. IsRunBy source.now limits text.now (events_of outcome.history.entries) (reports_of outcome.history.entries) outcome.is_out_of_memory outcome.machine) }
     ensures refused { IfErr result (IsNotRunBy source.now limits text.now) }
 {
     match read_schedule(alloc, text) {
@@ -41,7 +42,8 @@ pub fn run_source(
 
 /// Runs a source by the events that these items stand for, as many as they are and of any threads, and answers the machine after them with
 /// the history: each event with its report, in order. One worker performs them, each under the lock of a shared machine, and counts them
-/// with its ticket.
+/// with its ticket. Where memory runs out for an event, or for its entry in the history, the run is stopped before that event, and the
+/// outcome says so: the history has the events before it.
 ///
 /// The reference machine's run over the steps among the events is never stuck. It gives the steps these reports, and the machine stands
 /// for the state that it comes to: the bytes printed are the same, and each thread stands alike. No thread makes more steps than its
@@ -50,8 +52,7 @@ pub fn run_source(
 /// An acknowledgement and an event of the collector leave that state alone. No cycle of the collector has more working events than its bound, and where the
 /// last event ends a cycle, the words in use are at most those of the objects that were reachable as it began, or were born since.
 ///
-/// Faults are looked for in this order: the source (`accept`), the limits (`OutOfRange(401)`), memory for the history, threads and what
-/// is printed (`Memory`).
+/// Faults are looked for in this order: the source (`accept`), the limits (`OutOfRange(401)`), memory before the first event (`Memory`).
 pub fn run_events(
     rt: &impl Wait,
     alloc: Global,
@@ -59,8 +60,8 @@ pub fn run_events(
     limits: Limits,
     items: &[Item],
 ) -> Result<Outcome, Failure>
-    ensures events { IfOk result (λ outcome. events_of outcome.history.entries ≡ events_in items.now) }
-    ensures ran { IfOk result (λ outcome. HasRunTo source.now limits (events_in items.now) (reports_of outcome.history.entries) outcome.machine) }
+    ensures events { IfOk result (λ outcome. AreDoneOf (events_in items.now) (events_of outcome.history.entries) outcome.is_out_of_memory) }
+    ensures ran { IfOk result (λ outcome. HasRunTo source.now limits (events_of outcome.history.entries) (reports_of outcome.history.entries) outcome.machine) }
     ensures refused { IfErr result (IsNotRun source.now limits) }
 {
     let verified = accept(alloc, source)?;
@@ -75,8 +76,8 @@ fn run(
     limits: Limits,
     items: &[Item],
 ) -> Result<Outcome, Failure>
-    ensures events { IfOk result (λ outcome. events_of outcome.history.entries ≡ events_in items.now) }
-    ensures ran { IfOk result (λ outcome. HasDone program limits (events_in items.now) (reports_of outcome.history.entries) outcome.machine) }
+    ensures events { IfOk result (λ outcome. AreDoneOf (events_in items.now) (events_of outcome.history.entries) outcome.is_out_of_memory) }
+    ensures ran { IfOk result (λ outcome. HasDone program limits (events_of outcome.history.entries) (reports_of outcome.history.entries) outcome.machine) }
     ensures refused { IfErr result (IsNotRunWithin limits) }
 {
     let machine = Machine::new(alloc, program, limits)?;

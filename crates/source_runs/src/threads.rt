@@ -1,6 +1,6 @@
 //! From the bytes of a source to what workers leave of its run, each of them in a thread of its own.
 
-ghost use Rattle.std.specs.Prelude.{◌≡◌, ◌≤◌, All, IfErr, IfOk};
+ghost use Rattle.std.specs.Prelude.{◌≡◌, ◌≤◌, All, false, IfErr, IfOk};
 ghost use Rattle.std.specs.List.{count_by};
 ghost use Rattle.acceptance.specs.Sources.{HasRunTo, IsNotRun, IsNotRunWithin};
 ghost use Rattle.shared_machine.specs.simulation.threads_monitors.Threads.{is_live};
@@ -24,10 +24,9 @@ use verifier::Verified;
 /// Whatever the order in which the workers got the lock, the run is that of the history's events: as `run_events` runs them, the reference
 /// machine's run over the steps among them is never stuck, with these reports, and the machine stands for the state that it comes to. So
 /// whoever replays them gets the same bytes and ends. Each entry is an event of its worker's own, of a thread that a machine can have. No
-/// thread is live at the end.
+/// thread is live at the end, unless memory ran out before that, as the outcome then says.
 ///
-/// Faults are looked for in this order: the source (`accept`), the limits (`OutOfRange(401)`), memory before the first event, or where it
-/// had workers stop while a thread was live (`Memory`).
+/// Faults are looked for in this order: the source (`accept`), the limits (`OutOfRange(401)`), memory before the first event (`Memory`).
 pub fn run_threads<R: Threads + Wait + Sync, G: Gate + Sync>(
     rt: &R,
     alloc: Global,
@@ -39,7 +38,7 @@ pub fn run_threads<R: Threads + Wait + Sync, G: Gate + Sync>(
     requires { (1 ≤ workers) × (workers ≤ MOST_WORKERS) }
     ensures ran { IfOk result (λ outcome. HasRunTo source.now limits (events_of outcome.history.entries) (reports_of outcome.history.entries) outcome.machine) }
     ensures own { IfOk result (λ outcome. All (IsOwnOf workers) outcome.history.entries) }
-    ensures ended { IfOk result (λ outcome. count_by is_live outcome.machine.threads ≡ 0) }
+    ensures ended { IfOk result (λ outcome. outcome.is_out_of_memory ≡ false → count_by is_live outcome.machine.threads ≡ 0) }
     ensures refused { IfErr result (IsNotRun source.now limits) }
 {
     let verified = accept(alloc, source)?;
@@ -58,7 +57,7 @@ fn run<R: Threads + Wait + Sync, G: Gate + Sync>(
     requires { (1 ≤ workers) × (workers ≤ MOST_WORKERS) }
     ensures ran { IfOk result (λ outcome. HasDone program limits (events_of outcome.history.entries) (reports_of outcome.history.entries) outcome.machine) }
     ensures own { IfOk result (λ outcome. All (IsOwnOf workers) outcome.history.entries) }
-    ensures ended { IfOk result (λ outcome. count_by is_live outcome.machine.threads ≡ 0) }
+    ensures ended { IfOk result (λ outcome. outcome.is_out_of_memory ≡ false → count_by is_live outcome.machine.threads ≡ 0) }
     ensures refused { IfErr result (IsNotRunWithin limits) }
 {
     let machine = Machine::new(alloc, program, limits)?;

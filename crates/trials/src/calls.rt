@@ -1,6 +1,6 @@
 //! Calls that no command makes: those of the libraries `call_trials` and `run_trials`, and orders whose outputs fail.
 
-use driver::{Device, drive};
+use driver::{WriterOut, drive};
 use orders::{Order, Part};
 use run_trials::{Call, LIMITS, SUM, calls, run_calls};
 use std::alloc::Global;
@@ -19,7 +19,9 @@ pub fn try_calls(rt: &HostRuntime, threads: &(impl Threads + Wait + Sync)) -> io
     differing = differing.saturating_add(tell(rt, "outputs that fail", told)?);
     let cut = leaves_a_beginning(threads, rt.alloc());
     differing = differing.saturating_add(tell(rt, "a picture that is cut", cut)?);
-    let count = made.len().saturating_add(runs.len()).saturating_add(2);
+    let ended = ends_at_a_cut_console(threads, rt.alloc());
+    differing = differing.saturating_add(tell(rt, "a console that is cut", ended)?);
+    let count = made.len().saturating_add(runs.len()).saturating_add(3);
     println!(rt; "calls: {count} calls, {differing} differ")?;
     Ok(differing)
 }
@@ -50,9 +52,9 @@ fn tells_of_outputs(threads: &(impl Threads + Wait + Sync), alloc: Global) -> bo
         limits: LIMITS,
         explain: false,
     };
-    let mut page = Device::new(Cursor::new([0; 52]));
-    let mut none = Device::new(Cursor::new([0; 0]));
-    let mut err = Device::new(Vec::new(alloc));
+    let mut page = WriterOut::new(Cursor::new([0; 52]));
+    let mut none = WriterOut::new(Cursor::new([0; 0]));
+    let mut err = WriterOut::new(Vec::new(alloc));
     let mut record = Vec::new(alloc);
     let (source, schedule) = (SUM.as_bytes(), b"s0*3");
     let traced = drive(
@@ -93,10 +95,10 @@ fn leaves_a_beginning(threads: &(impl Threads + Wait + Sync), alloc: Global) -> 
         limits: LIMITS,
         explain: false,
     };
-    let mut page = Device::new(Cursor::new([0; 60]));
-    let mut whole = Device::new(Vec::new(alloc));
-    let mut none = Device::new(Cursor::new([0; 0]));
-    let mut err = Device::new(Vec::new(alloc));
+    let mut page = WriterOut::new(Cursor::new([0; 60]));
+    let mut whole = WriterOut::new(Vec::new(alloc));
+    let mut none = WriterOut::new(Cursor::new([0; 0]));
+    let mut err = WriterOut::new(Vec::new(alloc));
     let mut record = Vec::new(alloc);
     let (source, schedule) = (SUM.as_bytes(), b"s0*3");
     let cut = drive(
@@ -127,4 +129,30 @@ fn leaves_a_beginning(threads: &(impl Threads + Wait + Sync), alloc: Global) -> 
             .as_slice()
             .starts_with(page.into_inner().get_ref().as_slice())
         && whole.as_slice().ends_with(b"</svg>\n")
+}
+
+/// Whether nothing is written of how the threads stand where the output takes less than the program printed, by a command and by `emit`.
+fn ends_at_a_cut_console(threads: &(impl Threads + Wait + Sync), alloc: Global) -> bool {
+    let run = Order::Run {
+        file: "",
+        schedule: "s0*5",
+        limits: LIMITS,
+        explain: false,
+    };
+    let mut page = WriterOut::new(Cursor::new([0; 1]));
+    let mut err = WriterOut::new(Vec::new(alloc));
+    let mut record = Vec::new(alloc);
+    let status = drive(
+        threads,
+        alloc,
+        &run,
+        SUM.as_bytes(),
+        &[],
+        &mut page,
+        &mut err,
+        &mut record,
+    );
+    status == 5
+        && page.into_inner().get_ref() == b"5"
+        && err.into_inner().as_slice() == b"device\n".as_slice()
 }

@@ -13,7 +13,7 @@ mod records;
 mod reports;
 mod texts;
 
-use driver::{Device, Failure, report};
+use driver::{Failure, WriterOut, report};
 use machine_comparison::{try_insertions, try_programs, try_schedules};
 use std::io;
 use std::process::ExitCode;
@@ -47,7 +47,7 @@ fn main(rt: HostRuntime) -> ExitCode {
         Ok(_) => 1,
         Err(failure) => {
             let errors = rt.stderr();
-            report(failure, &mut Device::new(io::writer(&errors)))
+            report(failure, &mut WriterOut::new(io::writer(&errors)))
         }
     };
     ExitCode::from(status)

@@ -6,7 +6,7 @@ use crate::records::add_record;
 use crate::reports::{add_differences, add_run};
 use crate::texts::{expanded, limits_of, words_of};
 use command_line::{LineFault, Unread, order};
-use driver::{Device, Failure, drive, report};
+use driver::{Failure, WriterOut, drive, report};
 use orders::{Order, read_source, read_text};
 use std::fs::File;
 use std::io;
@@ -43,7 +43,7 @@ pub fn outcome(
         }
         Err(LineFault::Bad(text)) => add_end(&mut out, text.as_bytes(), 2)?,
         Err(LineFault::Memory) => {
-            let mut err = Device::new(Vec::new(alloc));
+            let mut err = WriterOut::new(Vec::new(alloc));
             let status = report(Failure::Memory, &mut err);
             add_end(&mut out, err.into_inner().as_slice(), status)?;
         }
@@ -95,7 +95,7 @@ fn add_end(out: &mut Vec<u8>, err: &[u8], status: u8) -> io::Result<()> {
 
 /// Adds what a file that is not read is told as.
 fn add_unread(rt: &HostRuntime, unread: &Unread<'_>, out: &mut Vec<u8>) -> io::Result<()> {
-    let mut device = Device::new(Vec::new(rt.alloc()));
+    let mut device = WriterOut::new(Vec::new(rt.alloc()));
     let status = report(Failure::from(unread.error), &mut device);
     let text = unread.told(rt.alloc())?;
     let mut err = device.into_inner();
@@ -171,7 +171,7 @@ pub fn add_driven(
     files: &Files,
     out: &mut Vec<u8>,
 ) -> io::Result<Vec<u8>> {
-    let mut err = Device::new(Vec::new(rt.alloc()));
+    let mut err = WriterOut::new(Vec::new(rt.alloc()));
     let mut record = Vec::new(rt.alloc());
     let status = drive(
         threads,
@@ -179,7 +179,7 @@ pub fn add_driven(
         order,
         files.source.as_slice(),
         files.schedule.as_slice(),
-        &mut Device::new(&mut *out),
+        &mut WriterOut::new(&mut *out),
         &mut err,
         &mut record,
     );

@@ -3,7 +3,7 @@
 use crate::outcomes::Files;
 use cil_model::limits::Limits;
 use cil_model::reports::{End, Report};
-use driver::{Device, Failure, Run, report, run_events};
+use driver::{Failure, Run, WriterOut, report, run_events};
 use machine_comparison::{difference, difference_by_chance, difference_by_moves};
 use orders::Order;
 use schedule_text::read_schedule;
@@ -23,7 +23,7 @@ pub fn add_run(
     out: &mut Vec<u8>,
 ) -> io::Result<()> {
     if let Err(failure) = add_events(waits, alloc, order, files, with_sizes, out) {
-        report(failure, &mut Device::new(&mut *out));
+        report(failure, &mut WriterOut::new(&mut *out));
     }
     Ok(())
 }
@@ -86,7 +86,7 @@ fn add_difference(
             )
         }
         Err(failure) => {
-            report(failure, &mut Device::new(&mut *out));
+            report(failure, &mut WriterOut::new(&mut *out));
             Ok(())
         }
     }

@@ -1,18 +1,24 @@
-use Rattle.std.proofs.Common.{◌∙◌, refl, subst}
-use Rattle.std.specs.Io.KnownBytes.{Appends}
-use Rattle.outputs.specs.Beginnings.{AppendsBeginning}
-use Rattle.outputs.proofs.BeginningLaws.{begins_nothing}
-use Rattle.acceptance.proofs.SourceLemmas.{on_err}
+use Rattle.std.proofs.Common.{◌∙◌, inl, inr, refl, subst}
+use Rattle.acceptance.proofs.SourceLemmas.{handed_on, on_err}
+use Rattle.outputs.specs.Taken.{Fails, Takes}
+use Rattle.driver.proofs.OutcomeLemmas.{no_device}
 use Rattle.driver.proofs.drawing.tell_too_many.Goals as goal
 
-pub returns-in_err-line-clause-begun : goal.returns-in_err-line-clause-begun
-returns-in_err-line-clause-begun g c = on_err c.from_residual.result (begins_nothing (g.E.Output.contents c.args.err.now) _)
+pub returns-in_err-line-clause-cut : goal.returns-in_err-line-clause-cut
+returns-in_err-line-clause-cut g c = on_err c.from_residual.result (inl refl)
 
-pub returns-in_err-write_whole-clause-begun : goal.returns-in_err-write_whole-clause-begun
-returns-in_err-write_whole-clause-begun g c =
+pub returns-in_err-line-clause-device : goal.returns-in_err-line-clause-device
+returns-in_err-line-clause-device g c = handed_on c.from_residual.result c.from_residual.ensures.1 (λ failure memory device. absurd (no_device failure memory device))
+
+pub returns-in_err-write_whole-clause-cut : goal.returns-in_err-write_whole-clause-cut
+returns-in_err-write_whole-clause-cut g c =
     on_err c.from_residual-in_err-write_whole.result
-    (subst (AppendsBeginning (g.E.Output.contents c.args.err.now) (g.E.Output.contents c.write_whole.new.self)) (c.as_bytes.ensures.value ∙ c.in_ok-line.ensures) c.in_err-write_whole.ensures.begun)
+    (inr (subst (Fails (g.E.Out.taken c.args.err.now) (g.E.Out.taken c.write_whole.new.self)) (c.as_bytes.ensures.value ∙ c.in_ok-line.ensures) c.in_err-write_whole.ensures.cut))
 
-pub returns-clause-told : goal.returns-clause-told
-returns-clause-told g c =
-    (refl, subst (Appends (g.E.Output.contents c.args.err.now) (g.E.Output.contents c.write_whole.new.self)) (c.as_bytes.ensures.value ∙ c.in_ok-line.ensures) c.in_ok-write_whole.ensures.taken)
+pub returns-in_err-write_whole-clause-device : goal.returns-in_err-write_whole-clause-device
+returns-in_err-write_whole-clause-device g c =
+    handed_on c.from_residual-in_err-write_whole.result c.from_residual-in_err-write_whole.ensures.1 (λ failure is device. c.in_err-write_whole.ensures.cut.1)
+
+pub returns-clause-whole : goal.returns-clause-whole
+returns-clause-whole g c =
+    (refl, subst (Takes (g.E.Out.taken c.args.err.now) (g.E.Out.taken c.write_whole.new.self)) (c.as_bytes.ensures.value ∙ c.in_ok-line.ensures) c.in_ok-write_whole.ensures.whole)

@@ -4,11 +4,11 @@ use Rattle.driver.proofs.driving.carry_out.Goals as goal
 
 pub returns-in-Err-clause-told : goal.returns-in-Err-clause-told
 returns-in-Err-clause-told g c =
-    if_ok c.tell_failure.result c.tell_failure.ensures.told (λ _ told. inr (
+    if_ok c.tell_failure.result c.tell_failure.ensures.whole (λ _ told. inr (
       record {
         failure = c.in-Err.failure;
-        before = g.E.Output.contents c.perform.new.err;
-        given_up = record { reason = c.in-Err.ensures.failed; untouched = c.in-Err.ensures.untouched; in_part = c.in-Err.ensures.in_part };
+        before = g.E.Out.taken c.perform.new.err;
+        given_up = record { reason = c.in-Err.ensures.failed; untouched = c.in-Err.ensures.untouched; device = c.in-Err.ensures.device; in_part = c.in-Err.ensures.in_part };
         text = told.1.0;
         explains = told.1.1;
         written = told.1.2;
@@ -19,14 +19,13 @@ returns-in-Err-clause-told g c =
 
 pub returns-in-Err-clause-cut : goal.returns-in-Err-clause-cut
 returns-in-Err-clause-cut g c =
-    if_err c.tell_failure.result c.tell_failure.ensures.begun (λ _ told. record {
+    if_err c.tell_failure.result c.tell_failure.ensures.cut (λ _ told. record {
       failure = c.in-Err.failure;
-      before = g.E.Output.contents c.perform.new.err;
-      given_up = record { reason = c.in-Err.ensures.failed; untouched = c.in-Err.ensures.untouched; in_part = c.in-Err.ensures.in_part };
-      text = told.1;
-      explains = told.2;
-      begun = told.3;
-      has_failed = told.0;
+      before = g.E.Out.taken c.perform.new.err;
+      given_up = record { reason = c.in-Err.ensures.failed; untouched = c.in-Err.ensures.untouched; device = c.in-Err.ensures.device; in_part = c.in-Err.ensures.in_part };
+      text = told.0;
+      explains = told.1;
+      cut = told.2;
     })
 
 pub returns-in-Err-clause-same : goal.returns-in-Err-clause-same

@@ -1,4 +1,4 @@
-use Rattle.std.proofs.Common.{refl, subst}
+use Rattle.std.proofs.Common.{inl, refl, subst}
 use Rattle.std.specs.Prelude.{◌≡◌, ◌⊎◌, IfErr, IfOk, OnErr}
 use Rattle.acceptance.proofs.SourceLemmas.{if_err, if_ok, on_err, on_err_of}
 use Rattle.driver.specs.Outcomes.{HasNotRun, HasRun, HasRunThreads, IsRunByWorkersInPart, IsRunInPart}
@@ -22,8 +22,8 @@ returns-in-Check-clause-in_part g c = rw c.in-Check.is (on_err_of c.check.result
 
 pub returns-in-Run-clause-done : goal.returns-in-Run-clause-done
 returns-in-Run-clause-done g c =
-    let done = subst (λ text. IfOk c.show_run.result (HasRun c.args.source.now c.in-Run.limits text c.in-Run.explain (g.W.Output.contents c.args.out.now) (g.W.Output.contents c.show_run.new.out)
-    (g.E.Output.contents c.args.err.now) (g.E.Output.contents c.show_run.new.err))) c.as_bytes.ensures.value c.show_run.ensures.done in
+    let done = subst (λ text. IfOk c.show_run.result (HasRun c.args.source.now c.in-Run.limits text c.in-Run.explain (g.W.Out.taken c.args.out.now) (g.W.Out.taken c.show_run.new.out)
+    (g.E.Out.taken c.args.err.now) (g.E.Out.taken c.show_run.new.err))) c.as_bytes.ensures.value c.show_run.ensures.done in
     rw c.in-Run.is (if_ok c.show_run.result done (λ _ done. (done, refl)))
 
 pub returns-in-Run-clause-failed : goal.returns-in-Run-clause-failed
@@ -39,10 +39,10 @@ returns-in-Run-clause-untouched g c = c.show_run.ensures.untouched
 
 pub returns-in-Run-clause-in_part : goal.returns-in-Run-clause-in_part
 returns-in-Run-clause-in_part g c =
-    let out = g.W.Output.contents c.args.out.now in
-    let out' = g.W.Output.contents c.show_run.new.out in
-    let err = g.E.Output.contents c.args.err.now in
-    let err' = g.E.Output.contents c.show_run.new.err in
+    let out = g.W.Out.taken c.args.out.now in
+    let out' = g.W.Out.taken c.show_run.new.out in
+    let err = g.E.Out.taken c.args.err.now in
+    let err' = g.E.Out.taken c.show_run.new.err in
     rw c.in-Run.is (subst (λ text. OnErr c.show_run.result (((out' ≡ out) × (err' ≡ err)) ⊎ IsRunInPart c.args.source.now c.in-Run.limits text c.in-Run.explain out out' err err'))
     c.as_bytes.ensures.value c.show_run.ensures.in_part)
 
@@ -94,7 +94,7 @@ returns-in-Picture-clause-in_part g c = rw c.in-Picture.is c.show_picture.ensure
 pub returns-in-Threads-clause-done : goal.returns-in-Threads-clause-done
 returns-in-Threads-clause-done g c =
     rw c.in-Threads.is (subst (λ asked. IfOk c.show_threads.result (HasRunThreads c.args.source.now c.in-Threads.limits c.in-Threads.workers.count asked c.in-Threads.explain
-    (g.W.Output.contents c.args.out.now) (g.W.Output.contents c.show_threads.new.out) (g.E.Output.contents c.args.err.now) (g.E.Output.contents c.show_threads.new.err)
+    (g.W.Out.taken c.args.out.now) (g.W.Out.taken c.show_threads.new.out) (g.E.Out.taken c.args.err.now) (g.E.Out.taken c.show_threads.new.err)
     c.args.record.now.items c.show_threads.new.kept.items)) c.is_some.ensures c.show_threads.ensures.done)
 
 pub returns-in-Threads-clause-failed : goal.returns-in-Threads-clause-failed
@@ -108,10 +108,10 @@ returns-in-Threads-clause-untouched g c = c.show_threads.ensures.untouched
 
 pub returns-in-Threads-clause-in_part : goal.returns-in-Threads-clause-in_part
 returns-in-Threads-clause-in_part g c =
-    let out = g.W.Output.contents c.args.out.now in
-    let out' = g.W.Output.contents c.show_threads.new.out in
-    let err = g.E.Output.contents c.args.err.now in
-    let err' = g.E.Output.contents c.show_threads.new.err in
+    let out = g.W.Out.taken c.args.out.now in
+    let out' = g.W.Out.taken c.show_threads.new.out in
+    let err = g.E.Out.taken c.args.err.now in
+    let err' = g.E.Out.taken c.show_threads.new.err in
     rw c.in-Threads.is (subst (λ asked. OnErr c.show_threads.result (((out' ≡ out) × (err' ≡ err))
     ⊎ IsRunByWorkersInPart c.args.source.now c.in-Threads.limits c.in-Threads.workers.count asked c.in-Threads.explain out out' err err'))
     c.is_some.ensures c.show_threads.ensures.in_part)
@@ -130,3 +130,26 @@ returns-in-Flip-clause-untouched g c = if_err c.try_flip.result c.try_flip.ensur
 
 pub returns-in-Flip-clause-in_part : goal.returns-in-Flip-clause-in_part
 returns-in-Flip-clause-in_part g c = rw c.in-Flip.is (on_err_of c.try_flip.result c.try_flip.ensures.in_part (λ part. by_either part (λ same. (same, refl)) (λ begun. (begun, refl))))
+
+-- ---- a device is reported only where a write failed
+
+pub returns-in-Check-clause-device : goal.returns-in-Check-clause-device
+returns-in-Check-clause-device g c = if_err c.check.result c.check.ensures.device (λ failure broken device. inl (broken device))
+
+pub returns-in-Run-clause-device : goal.returns-in-Run-clause-device
+returns-in-Run-clause-device g c = c.show_run.ensures.device
+
+pub returns-in-Replay-clause-device : goal.returns-in-Replay-clause-device
+returns-in-Replay-clause-device g c = c.show_run-in-Replay.ensures.device
+
+pub returns-in-Trace-clause-device : goal.returns-in-Trace-clause-device
+returns-in-Trace-clause-device g c = c.show_trace.ensures.device
+
+pub returns-in-Picture-clause-device : goal.returns-in-Picture-clause-device
+returns-in-Picture-clause-device g c = c.show_picture.ensures.device
+
+pub returns-in-Threads-clause-device : goal.returns-in-Threads-clause-device
+returns-in-Threads-clause-device g c = c.show_threads.ensures.device
+
+pub returns-in-Flip-clause-device : goal.returns-in-Flip-clause-device
+returns-in-Flip-clause-device g c = if_err c.try_flip.result c.try_flip.ensures.device (λ failure broken device. inl (broken device))

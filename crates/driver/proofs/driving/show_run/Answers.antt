@@ -1,33 +1,75 @@
-use Rattle.std.proofs.Common.{inl, inr, subst, sym}
+use Rattle.std.proofs.Common.{◌∙◌, inl, inr, subst, sym}
 use Rattle.source_runs.specs.shared_machine.Histories.{events_of, reports_of}
 use Rattle.driver.specs.Outcomes.{HasNotRun}
-use Rattle.acceptance.proofs.SourceLemmas.{handed_on, if_ok, if_err, on_err_of}
-use Rattle.driver.proofs.OutcomeLemmas.{has_run, no_refusal, run_in_part}
+use Rattle.acceptance.proofs.SourceLemmas.{handed_on, on_err}
+use Rattle.driver.proofs.OutcomeLemmas.{cut_breaks, has_run, no_refusal, run_in_part, run_then_in_part}
+use Rattle.driver.proofs.Refusals.{not_run_by}
 use Rattle.driver.proofs.driving.show_run.Goals as goal
+
+-- ---- no run
 
 pub returns-in_err-outcome-clause-failed : goal.returns-in_err-outcome-clause-failed
 returns-in_err-outcome-clause-failed g c =
     handed_on c.from_residual.result c.from_residual.ensures.1 (λ failure same.
     subst (HasNotRun c.args.source.now c.args.limits c.args.text.now) (sym same) (inl c.in_err-outcome.ensures.refused))
 
+pub returns-in_err-outcome-clause-device : goal.returns-in_err-outcome-clause-device
+returns-in_err-outcome-clause-device g c =
+    handed_on c.from_residual.result c.from_residual.ensures.1 (λ failure same device.
+    absurd (not_run_by c.args.source.now c.args.limits c.args.text.now _ c.in_err-outcome.ensures.refused (sym same ∙ device)))
+
+-- ---- a write of what the run leaves failed
+
+pub returns-in_err-status-clause-failed : goal.returns-in_err-status-clause-failed
+returns-in_err-status-clause-failed g c =
+    let ran = c.in_ok-outcome.ensures.ran.ran in
+    handed_on c.from_residual-in_err-status.result c.from_residual-in_err-status.ensures.1 (λ failure is. inr ((ran.0, ran.1), is))
+
+pub returns-in_err-status-clause-untouched : goal.returns-in_err-status-clause-untouched
+returns-in_err-status-clause-untouched g c =
+    handed_on c.from_residual-in_err-status.result c.from_residual-in_err-status.ensures.1 (λ failure is refused. absurd (no_refusal failure (inr is) refused))
+
+pub returns-in_err-status-clause-device : goal.returns-in_err-status-clause-device
+returns-in_err-status-clause-device g c =
+    handed_on c.from_residual-in_err-status.result c.from_residual-in_err-status.ensures.1 (λ failure is device. cut_breaks _ _ _ _ _ _ c.in_err-status.ensures.cut.2)
+
+pub returns-in_err-status-clause-in_part : goal.returns-in_err-status-clause-in_part
+returns-in_err-status-clause-in_part g c =
+    let outcome = c.in_ok-outcome.outcome in
+    on_err c.from_residual-in_err-status.result
+    (inr (run_in_part c.args.source.now c.args.limits c.args.text.now c.args.explain outcome.is_out_of_memory (events_of outcome.history.entries) (reports_of outcome.history.entries) outcome.machine c.in_ok-outcome.ensures.ran
+    (g.W.Out.taken c.args.out.now) (g.W.Out.taken c.show.new.out) (g.E.Out.taken c.args.err.now) (g.E.Out.taken c.show.new.err) c.in_err-status.ensures.cut))
+
+-- ---- a write failed that was to report that memory ran out
+
+pub returns-in_err-show_stop-clause-failed : goal.returns-in_err-show_stop-clause-failed
+returns-in_err-show_stop-clause-failed g c =
+    let ran = c.in_ok-outcome.ensures.ran.ran in
+    handed_on c.from_residual-in_err-show_stop.result c.from_residual-in_err-show_stop.ensures.1 (λ failure is. inr ((ran.0, ran.1), is))
+
+pub returns-in_err-show_stop-clause-untouched : goal.returns-in_err-show_stop-clause-untouched
+returns-in_err-show_stop-clause-untouched g c =
+    handed_on c.from_residual-in_err-show_stop.result c.from_residual-in_err-show_stop.ensures.1 (λ failure is refused. absurd (no_refusal failure (inr is) refused))
+
+pub returns-in_err-show_stop-clause-device : goal.returns-in_err-show_stop-clause-device
+returns-in_err-show_stop-clause-device g c =
+    let outcome = c.in_ok-outcome.outcome in
+    let part = run_then_in_part c.args.source.now c.args.limits c.args.text.now c.args.explain outcome.is_out_of_memory (events_of outcome.history.entries) (reports_of outcome.history.entries) outcome.machine c.in_ok-outcome.ensures.ran
+    (g.W.Out.taken c.args.out.now) (g.W.Out.taken c.show.new.out) (g.E.Out.taken c.args.err.now) (g.E.Out.taken c.show.new.err) (g.E.Out.taken c.show_stop.new.err) c.in_ok-status.status c.in_ok-status.ensures.whole c.in_err-show_stop.ensures.cut in
+    handed_on c.from_residual-in_err-show_stop.result c.from_residual-in_err-show_stop.ensures.1 (λ failure is device. cut_breaks _ _ _ _ _ _ part.cut)
+
+pub returns-in_err-show_stop-clause-in_part : goal.returns-in_err-show_stop-clause-in_part
+returns-in_err-show_stop-clause-in_part g c =
+    let outcome = c.in_ok-outcome.outcome in
+    let part = run_then_in_part c.args.source.now c.args.limits c.args.text.now c.args.explain outcome.is_out_of_memory (events_of outcome.history.entries) (reports_of outcome.history.entries) outcome.machine c.in_ok-outcome.ensures.ran
+    (g.W.Out.taken c.args.out.now) (g.W.Out.taken c.show.new.out) (g.E.Out.taken c.args.err.now) (g.E.Out.taken c.show.new.err) (g.E.Out.taken c.show_stop.new.err) c.in_ok-status.status c.in_ok-status.ensures.whole c.in_err-show_stop.ensures.cut in
+    on_err c.from_residual-in_err-show_stop.result (inr part)
+
+-- ---- all is written
+
 pub returns-clause-done : goal.returns-clause-done
 returns-clause-done g c =
     let outcome = c.in_ok-outcome.outcome in
-    if_ok c.show.result c.show.ensures.shown (λ status shown.
-    has_run c.args.source.now c.args.limits c.args.text.now c.args.explain (events_of outcome.history.entries) (reports_of outcome.history.entries) outcome.machine (g.W.Output.contents c.args.out.now) (g.W.Output.contents c.show.new.out) (g.E.Output.contents c.args.err.now) (g.E.Output.contents c.show.new.err) status
-    c.in_ok-outcome.ensures.ran shown)
-
-pub returns-clause-failed : goal.returns-clause-failed
-returns-clause-failed g c =
-    let ran = c.in_ok-outcome.ensures.ran.1 in
-    if_err c.show.result c.show.ensures.failed (λ failure writing. inr ((ran.0, ran.1), writing))
-
-pub returns-clause-untouched : goal.returns-clause-untouched
-returns-clause-untouched g c = if_err c.show.result c.show.ensures.failed (λ failure writing refused. absurd (no_refusal failure writing refused))
-
-pub returns-clause-in_part : goal.returns-clause-in_part
-returns-clause-in_part g c =
-    let outcome = c.in_ok-outcome.outcome in
-    on_err_of c.show.result c.show.ensures.begun (λ shown.
-    inr (run_in_part c.args.source.now c.args.limits c.args.text.now c.args.explain (events_of outcome.history.entries) (reports_of outcome.history.entries) outcome.machine (g.W.Output.contents c.args.out.now) (g.W.Output.contents c.show.new.out)
-    (g.E.Output.contents c.args.err.now) (g.E.Output.contents c.show.new.err) c.in_ok-outcome.ensures.ran shown))
+    has_run c.args.source.now c.args.limits c.args.text.now c.args.explain outcome.is_out_of_memory (events_of outcome.history.entries) (reports_of outcome.history.entries) outcome.machine c.in_ok-outcome.ensures.ran
+    (g.W.Out.taken c.args.out.now) (g.W.Out.taken c.show.new.out) (g.E.Out.taken c.args.err.now) (g.E.Out.taken c.show.new.err) (g.E.Out.taken c.show_stop.new.err) c.in_ok-status.status _
+    c.in_ok-status.ensures.whole c.in_ok-show_stop.ensures.whole

@@ -1,18 +1,18 @@
 use Rattle.std.proofs.Common.{ℕ, refl, inl, inr, subst}
-use Rattle.std.specs.Io.KnownBytes.{Appends}
-use Rattle.driver.specs.Outcomes.{trial_text}
+use Rattle.outputs.specs.Taken.{Takes}
+use Rattle.driver.specs.Outcomes.{flip_text}
 use Rattle.driver.proofs.driving.try_flip.Goals as goal
 
 pub returns-then-outcome-clause-done : goal.returns-then-outcome-clause-done
 returns-then-outcome-clause-done g c = let outcome = c.in_ok-outcome.outcome in (
   outcome.retired,
-  subst (λ (kept : ℕ). Appends (g.W.Output.contents c.args.out.now) (g.W.Output.contents c.show_trial.new.out) (trial_text kept outcome.retired)) c.in_ok-outcome.ensures.kept c.in_ok-show_trial.ensures.shown,
+  subst (λ (kept : ℕ). Takes (g.W.Out.taken c.args.out.now) (g.W.Out.taken c.show_flip.new.out) (flip_text kept outcome.retired)) c.in_ok-outcome.ensures.kept c.in_ok-show_flip.ensures.whole,
   inr (refl, c.in_ok-outcome.ensures.retired c.if-outcome.true),
 )
 
 pub returns-else-outcome-clause-done : goal.returns-else-outcome-clause-done
 returns-else-outcome-clause-done g c = let outcome = c.in_ok-outcome.outcome in (
   outcome.retired,
-  subst (λ (kept : ℕ). Appends (g.W.Output.contents c.args.out.now) (g.W.Output.contents c.show_trial.new.out) (trial_text kept outcome.retired)) c.in_ok-outcome.ensures.kept c.in_ok-show_trial.ensures.shown,
+  subst (λ (kept : ℕ). Takes (g.W.Out.taken c.args.out.now) (g.W.Out.taken c.show_flip.new.out) (flip_text kept outcome.retired)) c.in_ok-outcome.ensures.kept c.in_ok-show_flip.ensures.whole,
   inl refl,
 )

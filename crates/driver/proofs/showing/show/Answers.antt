@@ -1,50 +1,20 @@
-use Rattle.std.proofs.Common.{◌≡◌, ◌++◌, ◌∙◌, ap, map, subst}
-use Rattle.std.specs.Io.KnownBytes.{Appends}
-use Rattle.outputs.specs.Beginnings.{AppendsBeginning}
-use Rattle.outputs.proofs.BeginningLaws.{begins_nothing, begins_whole}
-use Rattle.source_runs.specs.simulation.threads_monitors.Threads.{end_of}
-use Rattle.driver.specs.Threads.{lines_from, status_of}
-use Rattle.acceptance.proofs.SourceLemmas.{on_err}
-use Rattle.driver.proofs.OutcomeLemmas.{none_shown}
+use Rattle.std.proofs.Common.{[], inl, inr, refl, subst}
+use Rattle.acceptance.proofs.SourceLemmas.{if_ok, on_err, on_err_of}
+use Rattle.outputs.specs.Taken.{Fails, Takes}
+use Rattle.driver.proofs.OutcomeLemmas.{no_thread_text}
 use Rattle.driver.proofs.showing.show.Goals as goal
 
-pub returns-in_err-ends-clause-begun : goal.returns-in_err-ends-clause-begun
-returns-in_err-ends-clause-begun g c =
-    on_err c.from_residual.result (none_shown c.args.explain c.args.machine.now (g.W.Output.contents c.args.out.now) (g.E.Output.contents c.args.err.now))
+pub returns-in_err-write_whole-clause-cut : goal.returns-in_err-write_whole-clause-cut
+returns-in_err-write_whole-clause-cut g c =
+    let cut = subst (Fails (g.W.Out.taken c.args.out.now) (g.W.Out.taken c.write_whole.new.self)) c.console.ensures c.in_err-write_whole.ensures.cut in
+    on_err c.from_residual.result ([], no_thread_text c.args.explain c.args.machine.now, inl (cut, refl))
 
-pub returns-in_err-lines-clause-begun : goal.returns-in_err-lines-clause-begun
-returns-in_err-lines-clause-begun g c =
-    on_err c.from_residual-in_err-lines.result (none_shown c.args.explain c.args.machine.now (g.W.Output.contents c.args.out.now) (g.E.Output.contents c.args.err.now))
+pub returns-clause-whole : goal.returns-clause-whole
+returns-clause-whole g c =
+    let taken = subst (Takes (g.W.Out.taken c.args.out.now) (g.W.Out.taken c.write_whole.new.self)) c.console.ensures c.in_ok-write_whole.ensures.whole in
+    if_ok c.show_threads_of.result c.show_threads_of.ensures.whole (λ status shown. (shown.0, shown.1, record { output = taken; errors = shown.2; status_is = shown.3 }))
 
-pub returns-in_err-write_whole-clause-begun : goal.returns-in_err-write_whole-clause-begun
-returns-in_err-write_whole-clause-begun g c =
-    let (text, explains, are) = c.in_ok-lines.ensures in
-    let begun = subst (AppendsBeginning (g.W.Output.contents c.args.out.now) (g.W.Output.contents c.write_whole.new.self)) c.console.ensures c.in_err-write_whole.ensures.begun in
-    on_err c.from_residual-in_err-write_whole.result (text, explains, begun, begins_nothing _ _)
-
-pub returns-in_err-write_whole-2-clause-begun : goal.returns-in_err-write_whole-2-clause-begun
-returns-in_err-write_whole-2-clause-begun g c =
-    let (text, explains, are) = c.in_ok-lines.ensures in
-    let lines : c.as_slice-2.result.now ≡ lines_from 0 (map end_of c.args.machine.now.threads) ++ text =
-    c.as_slice-2.ensures.value ∙ are ∙ ap (λ es. lines_from 0 es ++ text) (c.as_slice.ensures.value ∙ c.in_ok-ends.ensures) in
-    let taken = subst (Appends (g.W.Output.contents c.args.out.now) (g.W.Output.contents c.write_whole.new.self)) c.console.ensures c.in_ok-write_whole.ensures.taken in
-    on_err c.from_residual-in_err-write_whole-2.result (
-      text,
-      explains,
-      begins_whole _ _ _ taken,
-      subst (AppendsBeginning (g.E.Output.contents c.args.err.now) (g.E.Output.contents c.write_whole-2.new.self)) lines c.in_err-write_whole-2.ensures.begun,
-    )
-
-pub returns-clause-shown : goal.returns-clause-shown
-returns-clause-shown g c =
-    let (text, explains, are) = c.in_ok-lines.ensures in
-    let lines : c.as_slice-2.result.now ≡ lines_from 0 (map end_of c.args.machine.now.threads) ++ text =
-    c.as_slice-2.ensures.value ∙ are ∙ ap (λ es. lines_from 0 es ++ text) (c.as_slice.ensures.value ∙ c.in_ok-ends.ensures) in (
-      text,
-      explains,
-      record {
-        output = subst (Appends (g.W.Output.contents c.args.out.now) (g.W.Output.contents c.write_whole.new.self)) c.console.ensures c.in_ok-write_whole.ensures.taken;
-        errors = subst (Appends (g.E.Output.contents c.args.err.now) (g.E.Output.contents c.write_whole-2.new.self)) lines c.in_ok-write_whole-2.ensures.taken;
-        status_is = c.status_of.ensures ∙ ap status_of (c.as_slice-3.ensures.value ∙ c.in_ok-ends.ensures);
-      },
-    )
+pub returns-clause-cut : goal.returns-clause-cut
+returns-clause-cut g c =
+    let taken = subst (Takes (g.W.Out.taken c.args.out.now) (g.W.Out.taken c.write_whole.new.self)) c.console.ensures c.in_ok-write_whole.ensures.whole in
+    on_err_of c.show_threads_of.result c.show_threads_of.ensures.cut (λ shown. (shown.0, shown.1, inr (taken, shown.2)))

@@ -8,12 +8,12 @@ pub returns-in_err-write_piece-in-Ok-clause-stopped : goal.returns-in_err-write_
 returns-in_err-write_piece-in-Ok-clause-stopped g c =
     let (report, turn, line) = c.in-Ok.ensures.traced in
     on_err c.from_residual.result
-    (inr (report, turn, subst (AppendsBeginning (g.W.Output.contents c.args.out.now) (g.W.Output.contents c.write_piece.new.out)) line c.in_err-write_piece-in-Ok.ensures.begun))
+    (inr (report, turn, subst (AppendsBeginning (g.W.Out.taken c.args.out.now).contents (g.W.Out.taken c.write_piece.new.out).contents) line c.in_err-write_piece-in-Ok.ensures.cut.0))
 
 pub returns-in_err-write_whole-in-Err-clause-stopped : goal.returns-in_err-write_whole-in-Err-clause-stopped
 returns-in_err-write_whole-in-Err-clause-stopped g c =
-    let begun = g.W.Output.contents c.args.out.now in
-    let new = g.W.Output.contents c.write_whole.new.self in
+    let begun = (g.W.Out.taken c.args.out.now).contents in
+    let new = (g.W.Out.taken c.write_whole.new.self).contents in
     on_err c.from_residual-in_err-write_whole-in-Err.result
     (event_cut c.args.number c.args.event c.args.machine.now c.add_event.new.machine c.args.pending.now.items begun new c.in-Err.ensures.stopped
-    (subst (AppendsBeginning begun new) (c.as_slice.ensures.value ∙ c.in-Err.ensures.kept) c.in_err-write_whole-in-Err.ensures.begun))
+    (subst (AppendsBeginning begun new) (c.as_slice.ensures.value ∙ c.in-Err.ensures.kept) c.in_err-write_whole-in-Err.ensures.cut.0))

@@ -41,7 +41,7 @@ loop-time-preserved g c =
     record {
       sketched = sketched_time c.args.machine.now c.loop-time.machine items i (clamped c.args.window) c.loop-time.sketch.rows.rows.items _ c.loop-time._time c.loop-time.number done.done.0
           c.perform.new.machine c.perform.new.self.rows.rows.items c.loop-time.sketch.window before.window before.number before.sketched done.done.1 done.done.2;
-      number = number_time items i c.loop-time.number _ c.loop-time._time c.in_ok-number.number c.in_ok-number.ensures before.number;
+      number = number_time items i c.loop-time.number _ c.loop-time._time c.in_ok-number.number c.in_ok-number.ensures.next before.number;
       places = subst (λ (t : Tree). ArePlacesOf t c.in_ok-methods.methods) (sym done.same.0) before.places;
       window = done.window ∙ before.window;
     }
@@ -65,8 +65,8 @@ returns-clause-drawn g c =
     let rows = c.loop-item.sketch.rows.rows.items in
     all_drawn c.args.machine.now c.loop-item.machine (events_of c.args.items.now) c.args.window rows _
     (subst (λ es. SketchedSoFar c.args.machine.now es c.loop-item.machine (clamped c.args.window) rows) (so_far_whole c.args.items.now c.loop-item.item-index past) c.loop-item.invariant.sketched)
-    c.in_ok-document.ensures (g.W.Output.contents c.args.out.now) (g.W.Output.contents c.write_whole.new.self)
-    (subst (λ bytes. Appends (g.W.Output.contents c.args.out.now) (g.W.Output.contents c.write_whole.new.self) bytes) (c.as_bytes.ensures.value ∙ c.as_str.ensures.value) c.in_ok-write_whole.ensures.taken)
+    c.in_ok-document.ensures (g.W.Out.taken c.args.out.now).contents (g.W.Out.taken c.write_whole.new.self).contents
+    (subst (λ bytes. Appends (g.W.Out.taken c.args.out.now).contents (g.W.Out.taken c.write_whole.new.self).contents bytes) (c.as_bytes.ensures.value ∙ c.as_str.ensures.value) c.in_ok-write_whole.ensures.whole.0)
 
 pub returns-clause-same : goal.returns-clause-same
 returns-clause-same g c =
@@ -83,8 +83,8 @@ returns-in_err-write_whole-clause-stopped g c =
     on_err c.from_residual-in_err-write_whole.result
     (write_cut c.args.machine.now c.loop-item.machine (events_of c.args.items.now) c.args.window rows _
     (subst (λ es. SketchedSoFar c.args.machine.now es c.loop-item.machine (clamped c.args.window) rows) (so_far_whole c.args.items.now c.loop-item.item-index past) c.loop-item.invariant.sketched)
-    c.in_ok-document.ensures (g.W.Output.contents c.args.out.now) (g.W.Output.contents c.write_whole.new.self)
-    (subst (λ bytes. AppendsBeginning (g.W.Output.contents c.args.out.now) (g.W.Output.contents c.write_whole.new.self) bytes) (c.as_bytes.ensures.value ∙ c.as_str.ensures.value) c.in_err-write_whole.ensures.begun))
+    c.in_ok-document.ensures (g.W.Out.taken c.args.out.now).contents (g.W.Out.taken c.write_whole.new.self).contents
+    (subst (λ bytes. AppendsBeginning (g.W.Out.taken c.args.out.now).contents (g.W.Out.taken c.write_whole.new.self).contents bytes) (c.as_bytes.ensures.value ∙ c.as_str.ensures.value) c.in_err-write_whole.ensures.cut.0))
 
 pub returns-in_err-document-clause-same : goal.returns-in_err-document-clause-same
 returns-in_err-document-clause-same g c =
@@ -96,7 +96,7 @@ returns-in_err-document-clause-stopped g c =
     let i = c.loop-item.item-index in
     let past : length c.args.items.now ≤ c.loop-item.item-index = c.loop-item-test.false in
     on_err c.from_residual-in_err-document.result
-    (stopped_before c.args.machine.now c.loop-item.machine c.loop-item.machine (events_of items) (events_of (take i items)) [] (clamped c.args.window) c.args.window c.loop-item.sketch.rows.rows.items (g.W.Output.contents c.args.out.now)
+    (stopped_before c.args.machine.now c.loop-item.machine c.loop-item.machine (events_of items) (events_of (take i items)) [] (clamped c.args.window) c.args.window c.loop-item.sketch.rows.rows.items (g.W.Out.taken c.args.out.now).contents
     (sym (append-nil (events_of (take i items)) ∙ so_far_whole items i past)) c.loop-item.invariant.sketched refl)
 
 pub returns-in_err-perform-clause-same : goal.returns-in_err-perform-clause-same
@@ -107,7 +107,7 @@ returns-in_err-perform-clause-same g c =
 pub returns-in_err-perform-clause-stopped : goal.returns-in_err-perform-clause-stopped
 returns-in_err-perform-clause-stopped g c =
     on_err c.from_residual-in_err-perform.result
-    (item_cut c.args.machine.now c.loop-time.machine c.args.items.now c.loop-item.item-index (clamped c.args.window) c.loop-time.sketch.rows.rows.items _ c.loop-time._time c.perform.new.machine c.args.window (g.W.Output.contents c.args.out.now)
+    (item_cut c.args.machine.now c.loop-time.machine c.args.items.now c.loop-item.item-index (clamped c.args.window) c.loop-time.sketch.rows.rows.items _ c.loop-time._time c.perform.new.machine c.args.window (g.W.Out.taken c.args.out.now).contents
     c.loop-item-test.true c.loop-time-test.true c.loop-time.invariant.sketched c.in_err-perform.ensures.stopped)
 
 pub returns-in_err-number-clause-same : goal.returns-in_err-number-clause-same
@@ -119,5 +119,5 @@ pub returns-in_err-number-clause-stopped : goal.returns-in_err-number-clause-sto
 returns-in_err-number-clause-stopped g c =
     let done = c.in_ok-perform.ensures.done in
     on_err c.from_residual-in_err-number.result
-    (item_cut c.args.machine.now c.loop-time.machine c.args.items.now c.loop-item.item-index (clamped c.args.window) c.loop-time.sketch.rows.rows.items _ c.loop-time._time c.perform.new.machine c.args.window (g.W.Output.contents c.args.out.now)
+    (item_cut c.args.machine.now c.loop-time.machine c.args.items.now c.loop-item.item-index (clamped c.args.window) c.loop-time.sketch.rows.rows.items _ c.loop-time._time c.perform.new.machine c.args.window (g.W.Out.taken c.args.out.now).contents
     c.loop-item-test.true c.loop-time-test.true c.loop-time.invariant.sketched (inr (done.0, done.1)))

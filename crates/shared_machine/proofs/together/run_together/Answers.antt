@@ -1,4 +1,3 @@
-use Rattle.std.proofs.lemmas.Result.{IfOk-weaker}
 use Rattle.std.proofs.Common.{◌≡◌, ◌<◌, ℕ, length, ap, ◌∙◌, sym, subst, arith}
 use Rattle.shared_machine.specs.Histories.{AreOf}
 use Rattle.shared_machine.specs.Work.{HaveWorked}
@@ -33,5 +32,4 @@ returns-clause-own g c =
     let h = c.in-Ok.outcome.history.entries in
     let long : length before ≡ c.args.workers = ap length c.in_ok-shared.ensures.1 ∙ length_fresh c.args.workers in
     let worked = subst (λ (n : ℕ). HaveWorked n before after) long c.run_workers-tickets.ensures in
-    let own = all_own c.args.workers before after h c.in_ok-shared.ensures.1 worked (subst (λ (n : ℕ). AreOf n h) (sym c.requires.workers.2) c.in-Ok.ensures.theirs) c.in-Ok.ensures.counts in
-    IfOk-weaker c.ended.result _ _ (λ whole same. rw same own) c.ended.ensures.same
+    all_own c.args.workers before after h c.in_ok-shared.ensures.1 worked (subst (λ (n : ℕ). AreOf n h) (sym c.requires.workers.2) c.in-Ok.ensures.theirs) c.in-Ok.ensures.counts

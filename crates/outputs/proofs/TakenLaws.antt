@@ -1,0 +1,32 @@
+-- Bytes that an output has taken, one piece after another, until a call failed.
+use Rattle.std.proofs.Common.{◌≡◌, ◌<◌, ◌++◌, ◌∙◌, ℕ, false, inl, inr, refl, subst, Some, zero, suc, List, [], arith}
+use Rattle.std.proofs.KnownBytes.{Appends-nil, Appends-trans}
+use Rattle.outputs.specs.Taken.{Fails, HasGrown, Taken, Takes, is_failure}
+use Rattle.outputs.proofs.BeginningLaws.{begins_first, begins_second}
+
+-- a call that took some bytes has not failed
+pub took_some : (count : ℕ) (bytes : List ℕ) → 0 < count → is_failure (Some count) bytes ≡ false
+took_some zero bytes below = absurd (omega (arith, below))
+took_some (suc count) bytes below = refl
+
+-- a count that has grown twice has grown
+pub grown_twice : (a b c : ℕ) → HasGrown a b → HasGrown b c → HasGrown a c
+grown_twice a b c (inl first) (inl second) = inl (omega (arith, first, second))
+grown_twice a b c (inr first) (inl second) = inr (omega (arith, first, second))
+grown_twice a b c first (inr second) = inr second
+
+pub takes_nothing : (a : Taken) → Takes a a []
+takes_nothing a = (Appends-nil a.contents, refl)
+
+-- both pieces are taken
+pub takes_both : (a b c : Taken) (first more : List ℕ) → Takes a b first → Takes b c more → Takes a c (first ++ more)
+takes_both a b c first more h k = (Appends-trans a.contents b.contents c.contents first more h.0 k.0, k.1 ∙ h.1)
+
+-- the first piece is cut
+pub fails_first : (a b : Taken) (first more : List ℕ) → Fails a b first → Fails a b (first ++ more)
+fails_first a b first more h = (begins_first a.contents b.contents first more h.0, h.1)
+
+-- the first piece is taken, and the second is cut
+pub fails_second : (a b c : Taken) (first more : List ℕ) → Takes a b first → Fails b c more → Fails a c (first ++ more)
+fails_second a b c first more h k =
+    (begins_second a.contents b.contents c.contents first more h.0 k.0, subst (λ n. HasGrown n c.failures) h.1 k.1)
