@@ -24,6 +24,8 @@ use Rattle.orders.specs.declared.order.Order.{Order}
 use Rattle.orders.specs.declared.order.Order.TheVariants.{Check, Run, Replay, Trace, Picture, Threads, Flip}
 use Rattle.orders.specs.declared.part.Part.{Part}
 use Rattle.orders.specs.declared.part.TheConstants.{LAST_NUMBER}
+use Rattle.orders.specs.declared.stop_at.StopAt.{StopAt}
+use Rattle.orders.specs.declared.stop_at.StopAt.TheVariants.{Deadlock, End}
 use Rattle.command_line.specs.declared.line.LineFault.{LineFault}
 use Rattle.command_line.specs.declared.line.LineFault.TheVariants.{Help, Version, Bad, Memory}
 
@@ -102,10 +104,11 @@ with_part a = with_rule (with_rule a
 abbrev pub picture_app : App
 picture_app = with_run_options (with_part (with_files (codes "picture")))
 
--- 1 to 16 workers, 1 where none is said, and perhaps the file of a record
+-- 1 to 16 workers, 1 where none is said, perhaps the file of a record, and whether a deadlock ends the run
 abbrev pub threads_app : App
-threads_app = with_run_options (with_rule (with_rule (with_source (codes "threads"))
+threads_app = with_run_options (with_rule (with_rule (with_rule (with_source (codes "threads"))
     (with_default (codes "1") (number_rule (codes "workers") 1 16))) (text_rule (codes "record")))
+    (flag_rule (codes "stop-at-deadlock")))
 
 -- all four numbers have to be given
 abbrev pub flip_app : App
@@ -135,7 +138,7 @@ pub data Wanted : Type 0 where
   replay : Text → Text → Limits → Bool → Wanted
   trace : Text → Text → Limits → Bool → Wanted
   picture : Text → Text → ℕ → Option ℕ → Limits → Bool → Wanted
-  threads : Text → ℕ → Option Text → Limits → Bool → Wanted
+  threads : Text → ℕ → Option Text → StopAt → Limits → Bool → Wanted
   flip : ℕ → ℕ → ℕ → ℕ → Wanted
 
 abbrev pub wanted_of : Order → Wanted
@@ -144,7 +147,7 @@ wanted_of (Run file schedule limits explain) = run file.now schedule.now limits 
 wanted_of (Replay file schedule limits explain) = replay file.now schedule.now limits explain
 wanted_of (Trace file schedule limits explain) = trace file.now schedule.now limits explain
 wanted_of (Picture file schedule part limits explain) = picture file.now schedule.now part.first part.last limits explain
-wanted_of (Threads file workers kept limits explain) = threads file.now workers.count (option_map (λ name. name.now) kept) limits explain
+wanted_of (Threads file workers kept stop_at limits explain) = threads file.now workers.count (option_map (λ name. name.now) kept) stop_at limits explain
 wanted_of (Flip sizes) = flip sizes.seats sizes.objects sizes.slots sizes.rounds
 
 -- the number that the text writes in decimal digits, where it lies in the range
@@ -211,8 +214,13 @@ abbrev pub worked_in : List Row → Option (Text × ℕ × Limits)
 worked_in rows = option_and_then (λ file. option_and_then (λ workers. option_map (λ limits. (file, workers, limits))
     (limits_in rows)) (number_at 1 16 (codes "workers") rows)) (first_of (codes "file") rows)
 
+-- a run stops at a deadlock exactly where the flag is given
+abbrev pub stop_at_in : List Row → StopAt
+stop_at_in rows = if flag_at (codes "stop-at-deadlock") rows then Deadlock else End
+
 abbrev pub threads_in : List Row → Option Wanted
-threads_in rows = option_map (λ (s : Text × ℕ × Limits). threads s.0 s.1 (first_of (codes "record") rows) s.2 (flag_at (codes "explain") rows)) (worked_in rows)
+threads_in rows = option_map (λ (s : Text × ℕ × Limits). threads s.0 s.1 (first_of (codes "record") rows) (stop_at_in rows) s.2 (flag_at (codes "explain") rows))
+    (worked_in rows)
 
 abbrev pub flip_in : List Row → Option Wanted
 flip_in rows = option_and_then (λ seats. option_and_then (λ objects. option_and_then (λ slots.
@@ -283,5 +291,5 @@ IsInRange (Run file schedule limits explain) = are_numbers_in_range limits ≡ t
 IsInRange (Replay file schedule limits explain) = are_numbers_in_range limits ≡ true
 IsInRange (Trace file schedule limits explain) = are_numbers_in_range limits ≡ true
 IsInRange (Picture file schedule part limits explain) = (are_numbers_in_range limits ≡ true) × IsPartInRange part
-IsInRange (Threads file workers kept limits explain) = are_numbers_in_range limits ≡ true
+IsInRange (Threads file workers kept stop_at limits explain) = are_numbers_in_range limits ≡ true
 IsInRange (Flip sizes) = ⊤

@@ -232,7 +232,13 @@ fn threads_command<'a>(alloc: Global) -> Result<Command<'a>, AllocError>
         "RECORD",
         "Writes the events of the run to this file",
     );
-    with_run_options(alloc, with_argument(command, record), EXPLAIN_REFUSAL)
+    let command = with_argument(command, record);
+    let stop = flag(
+        alloc,
+        "stop-at-deadlock",
+        "Stops also once all live threads wait for one another",
+    );
+    with_run_options(alloc, with_argument(command, stop), EXPLAIN_REFUSAL)
 }
 
 fn run_command<'a>(alloc: Global) -> Result<Command<'a>, AllocError>

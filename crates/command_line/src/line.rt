@@ -2,7 +2,7 @@
 ghost use Rattle.std.specs.Prelude.{◌≡◌, ◌≤◌, IfErr, IfOk, IfSome, Some, map, option_map, true};
 ghost use Rattle.clap.specs.Words.{found_of, first_of, kind_of, rows_of, subcommand_rows_of};
 ghost use Rattle.command_line.specs.CommandLine.{Answers, FaultIs, IsInRange, IsOfNone, IsPartInRange, check_in, limits_in, most_in};
-ghost use Rattle.command_line.specs.CommandLine.{flag_at, number_at, number_in, flip_in, part_in, picture_in, replay_in, run_in, scheduled_in, threads_in, trace_in, wanted_in};
+ghost use Rattle.command_line.specs.CommandLine.{flag_at, number_at, number_in, flip_in, part_in, picture_in, replay_in, run_in, scheduled_in, stop_at_in, threads_in, trace_in, wanted_in};
 ghost use Rattle.command_line.specs.CommandLine.{wanted_of, worked_in};
 ghost use Rattle.cil_model.specs.Ranges.{are_numbers_in_range};
 ghost use Rattle.command_line.specs.declared.line.LineFault.TheVariants.{Memory};
@@ -12,7 +12,7 @@ use cil_model::limits::{LEAST_WORDS, Limits, MOST_BUDGET, MOST_DEPTH, MOST_WORDS
 use clap::error::ErrorKind;
 use clap::{ArgMatches, Error};
 use flip_trial::Sizes;
-use orders::{LAST_NUMBER, Order, Part, Workers};
+use orders::{LAST_NUMBER, Order, Part, StopAt, Workers};
 use std::alloc::{AllocError, Global};
 
 /// Why the words of a command line hold no order.
@@ -205,14 +205,27 @@ fn wanted_threads<'a>(found: &ArgMatches<'a>) -> Option<Order<'a>>
 {
     let (file, workers, limits) = worked(found)?;
     let record = text(found, "record");
+    let stop_at = stop_at(found);
     let explain = flag(found, "explain");
     Some(Order::Threads {
         file,
         workers,
         record,
+        stop_at,
         limits,
         explain,
     })
+}
+
+/// When a run by workers stops.
+fn stop_at(found: &ArgMatches<'_>) -> StopAt
+    ensures { result ≡ stop_at_in (rows_of (found_of found.now)) }
+{
+    if flag(found, "stop-at-deadlock") {
+        StopAt::Deadlock
+    } else {
+        StopAt::End
+    }
 }
 
 fn wanted_flip<'a>(found: &ArgMatches<'a>) -> Option<Order<'a>>

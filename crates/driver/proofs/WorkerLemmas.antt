@@ -22,11 +22,16 @@ use Rattle.source_runs.specs.simulation.MachineContents.{Content}
 use Rattle.source_runs.specs.simulation.Runs.{StandsAfter}
 use Rattle.source_runs.specs.simulation.threads_monitors.Threads.{end_of, is_live as is_live_thread}
 use Rattle.source_runs.specs.simulation.threads_monitors.declared.threads.Thread.{Thread}
-use Rattle.source_runs.specs.shared_machine.Work.{IsOwn, IsOwnOf}
+use Rattle.source_runs.specs.shared_machine.Work.{HasEnded, IsOwn, IsOwnOf}
+use Rattle.source_runs.specs.simulation.StandsFor.{Represents}
+use Rattle.source_runs.specs.reference_machine.States.{State}
+use Rattle.orders.specs.declared.stop_at.StopAt.{StopAt}
+use Rattle.orders.specs.declared.stop_at.StopAt.TheVariants.{End as AtEnd, Deadlock as AtDeadlock}
+use Rattle.driver.specs.Stops.{stop_of}
 use Rattle.orders.specs.Orders.{record_file_of}
 use Rattle.orders.specs.declared.order.Order.{Order}
 use Rattle.orders.specs.declared.order.Order.TheVariants.{Check, Run, Replay, Trace, Picture, Threads, Flip}
-use Rattle.driver.specs.Outcomes.{AreCut, HasRunThreads, IsOutcome, IsMachineShown, IsMachineShownInPart, IsRunByWorkers, IsRunByWorkersInPart, IsThreadText, status_after, stop_text}
+use Rattle.driver.specs.Outcomes.{AreCut, HasRunThreads, HaveEnded, IsOutcome, IsMachineShown, IsMachineShownInPart, IsRunByWorkers, IsRunByWorkersInPart, IsThreadText, status_after, stop_text}
 use Rattle.driver.specs.Records.{IsRecordOf, is_short, status_with, text_of, too_long_text}
 use Rattle.driver.specs.Threads.{ends_of, is_live, lines_from, status_of}
 use Rattle.driver.proofs.OutcomeLemmas.{cut_after, cut_more}
@@ -60,25 +65,31 @@ none_live (t ∷ ts) none =
     let (here, later) = not_counted (is_live_thread t) (count_by is_live_thread ts) (sym (sum_by-cons (λ (x : Thread). cond (is_live_thread x) 1 0) t ts) ∙ none) in
     rw (not_shown_live (end_of t) here) (none_live ts later)
 
+-- how workers leave a machine is how they leave the state that it represents
+have_ended : (stop_at : StopAt) (c : Content) (s : State) (marked : Bool) → Represents c s → HasEnded (stop_of stop_at) c marked → HaveEnded stop_at c s
+have_ended AtEnd c s marked represents none = subst (λ es. list_any is_live es ≡ false) (ends_stand c s represents) (none_live c.threads none)
+have_ended AtDeadlock c s marked represents (inl none) = inl (subst (λ es. list_any is_live es ≡ false) (ends_stand c s represents) (none_live c.threads none))
+have_ended AtDeadlock c s marked represents (inr (stop, deadlocked)) = inr deadlocked
+
 -- what is reported of a machine that workers ran
 abbrev pub reported_of : Content → List ℕ → Bool → Record → List ℕ
 reported_of c text stopped made = lines_from 0 (map end_of c.threads) ++ text ++ (too_long_text made ++ stop_text (is_short stopped made))
 
-module _ (source : List ℕ) (limits : Limits) (workers : ℕ) (asked explain stopped : Bool) (h : List Entry) (c : Content) (made : Record)
+module _ (source : List ℕ) (limits : Limits) (workers : ℕ) (stop_at : StopAt) (asked explain stopped : Bool) (h : List Entry) (c : Content) (made : Record)
     (ran : HasRunTo source limits (events_of h) (reports_of h) c) (own : All (IsOwnOf workers) h)
-    (ended : stopped ≡ false → count_by is_live_thread c.threads ≡ 0) (is_record : IsRecordOf asked (events_of h) made) where
+    (marked : Bool) (ended : stopped ≡ false → HasEnded (stop_of stop_at) c marked) (is_record : IsRecordOf asked (events_of h) made) where
   abbrev after : StandsAfter ran.0 limits (events_of h) (reports_of h) c
   after = ran.2.stands
 
   -- a machine that workers ran shows a run by workers
-  run_by_workers : (text : List ℕ) → IsThreadText explain c text → IsRunByWorkers source limits workers asked explain stopped after.state made (reported_of c text stopped made)
+  run_by_workers : (text : List ℕ) → IsThreadText explain c text → IsRunByWorkers source limits workers stop_at asked explain stopped after.state made (reported_of c text stopped made)
   run_by_workers text explains =
       let ends = ends_stand c after.state after.represents in
       record {
         entries = h;
         own = own;
         comes_to = comes_to source ran.0 limits (events_of h) (reports_of h) c ran.1 ran.2;
-        ended = λ whole. subst (λ es. list_any is_live es ≡ false) ends (none_live c.threads (ended whole));
+        ended = λ whole. have_ended stop_at c after.state marked after.represents (ended whole);
         is_record = is_record;
         after = c;
         represents = after.represents;
@@ -91,7 +102,7 @@ module _ (source : List ℕ) (limits : Limits) (workers : ℕ) (asked explain st
   pub has_run_threads : (out out' err between err' : Taken) (kept kept' : List ℕ) (before status : ℕ)
       → IsMachineShown explain c out out' err between before → kept' ≡ kept ++ text_of made
       → (status ≡ status_after (is_short stopped made) (status_with made before)) × Takes between err' (too_long_text made ++ stop_text (is_short stopped made))
-      → HasRunThreads source limits workers asked explain out out' err err' kept kept' status
+      → HasRunThreads source limits workers stop_at asked explain out out' err err' kept kept' status
   has_run_threads out out' err between err' kept kept' before status (text, explains, shown) behind (is, more) =
       record {
         stopped = stopped;
@@ -106,7 +117,7 @@ module _ (source : List ℕ) (limits : Limits) (workers : ℕ) (asked explain st
       }
 
   -- a write of what it shows failed
-  pub threads_in_part : (out out' err err' : Taken) → IsMachineShownInPart explain c out out' err err' → IsRunByWorkersInPart source limits workers asked explain out out' err err'
+  pub threads_in_part : (out out' err err' : Taken) → IsMachineShownInPart explain c out out' err err' → IsRunByWorkersInPart source limits workers stop_at asked explain out out' err err'
   threads_in_part out out' err err' (text, explains, cut) =
       let lines = lines_from 0 (map end_of c.threads) ++ text in
       let more = too_long_text made ++ stop_text (is_short stopped made) in
@@ -122,7 +133,7 @@ module _ (source : List ℕ) (limits : Limits) (workers : ℕ) (asked explain st
   -- a write failed that was to report why there is no record, or that memory ran out
   pub threads_then_in_part : (out out' err between err' : Taken) (before : ℕ)
       → IsMachineShown explain c out out' err between before → Fails between err' (too_long_text made ++ stop_text (is_short stopped made))
-      → IsRunByWorkersInPart source limits workers asked explain out out' err err'
+      → IsRunByWorkersInPart source limits workers stop_at asked explain out out' err err'
   threads_then_in_part out out' err between err' before (text, explains, shown) failed =
       let lines = lines_from 0 (map end_of c.threads) ++ text in
       let more = too_long_text made ++ stop_text (is_short stopped made) in
@@ -156,7 +167,7 @@ nothing_kept (Run file text limits explain) source schedule out out' err err' ke
 nothing_kept (Replay file name limits explain) source schedule out out' err err' kept kept' status (inl done) none = done.1
 nothing_kept (Trace file name limits explain) source schedule out out' err err' kept kept' status (inl done) none = done.1
 nothing_kept (Picture file name part limits explain) source schedule out out' err err' kept kept' status (inl done) none = done.1
-nothing_kept (Threads file workers None limits explain) source schedule out out' err err' kept kept' status (inl done) none =
+nothing_kept (Threads file workers None stop_at limits explain) source schedule out out' err err' kept kept' status (inl done) none =
     done.behind ∙ ap (λ text. kept ++ text) (no_text (events_of done.is_run.entries) done.made done.is_run.is_record) ∙ append-nil kept
-nothing_kept (Threads file workers (Some name) limits explain) source schedule out out' err err' kept kept' status (inl done) none = absurd (cc none)
+nothing_kept (Threads file workers (Some name) stop_at limits explain) source schedule out out' err err' kept kept' status (inl done) none = absurd (cc none)
 nothing_kept (Flip sizes) source schedule out out' err err' kept kept' status (inl done) none = done.2

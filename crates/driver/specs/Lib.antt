@@ -1,4 +1,5 @@
 pub mod Outcomes
 pub mod Pictures
 pub mod Records
+pub mod Stops
 pub mod Threads

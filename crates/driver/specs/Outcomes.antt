@@ -23,6 +23,8 @@ use Rattle.acceptance.specs.Failures.{IsOfWriting, status_of_failure}
 use Rattle.outputs.specs.Taken.{Fails, HasGrown, Taken, Takes}
 use Rattle.orders.specs.Orders.{event_count, is_explained}
 use Rattle.orders.specs.declared.part.Part.{Part}
+use Rattle.orders.specs.declared.stop_at.StopAt.{StopAt}
+use Rattle.orders.specs.declared.stop_at.StopAt.TheVariants.{End as AtEnd, Deadlock as AtDeadlock}
 use Rattle.run_picture.specs.Pictures.{IsPicture, IsPictureInPart}
 use Rattle.run_picture.specs.declared.windows.TheConstants.{MOST_EVENTS}
 use Rattle.driver.specs.Pictures.{too_many_text, window_of}
@@ -31,7 +33,7 @@ use Rattle.driver.specs.Threads.{ends_of, is_live, lines_from, status_of}
 use Rattle.driver.specs.declared.recording.Record.{Record}
 use Rattle.source_runs.specs.shared_machine.Histories.{events_of, reports_of}
 use Rattle.source_runs.specs.shared_machine.declared.history.Entry.{Entry}
-use Rattle.source_runs.specs.shared_machine.Work.{IsOwnOf}
+use Rattle.source_runs.specs.shared_machine.Work.{IsDeadlocked, IsOwnOf}
 use Rattle.acceptance.specs.declared.failure.Failure.{Failure}
 use Rattle.acceptance.specs.declared.failure.Failure.TheVariants.{Memory, Device}
 use Rattle.orders.specs.declared.order.Order.{Order}
@@ -200,28 +202,34 @@ pub record HasTooMany (source : List ℕ) (limits : Limits) (text : List ℕ) (p
   pub told : Takes err err' (too_many_text (event_count part (length events)))
   pub status_is : status ≡ 2
 
+-- how workers leave the threads of a run that memory did not stop: none is live, or, where the run may stop there, each live one waits for
+-- a monitor that another thread holds or for the end of a live thread
+abbrev pub HaveEnded : StopAt → Content → State → Type 0
+HaveEnded AtEnd after state = list_any is_live (ends_of state) ≡ false
+HaveEnded AtDeadlock after state = (list_any is_live (ends_of state) ≡ false) ⊎ IsDeadlocked after
+
 -- Workers have run a source. There is a list of entries, each an event of its worker's own. The reference machine's run over the steps
--- among the events comes to this state, in which no thread is live unless memory ran out. The record is that of these events, and this is
+-- among the events comes to this state, in which the threads have ended unless memory ran out. The record is that of these events, and this is
 -- what is reported: how the threads stand, what explains that, why there is no record, and whether memory ran out, for an event, a thread or the record.
-pub record IsRunByWorkers (source : List ℕ) (limits : Limits) (workers : ℕ) (asked explain stopped : Bool) (state : State) (made : Record) (reported : List ℕ) : Type 0 where
+pub record IsRunByWorkers (source : List ℕ) (limits : Limits) (workers : ℕ) (stop_at : StopAt) (asked explain stopped : Bool) (state : State) (made : Record) (reported : List ℕ) : Type 0 where
   pub entries : List Entry
   pub own : All (IsOwnOf workers) entries
   pub comes_to : ComesToBy source limits (events_of entries) (reports_of entries) state
-  pub ended : stopped ≡ false → list_any is_live (ends_of state) ≡ false
   pub is_record : IsRecordOf asked (events_of entries) made
   pub after : Content
+  pub ended : stopped ≡ false → HaveEnded stop_at after state
   pub represents : Represents after state
   pub explanation : List ℕ
   pub explains : IsThreadText explain after explanation
   pub reports_all : reported ≡ lines_from 0 (ends_of state) ++ explanation ++ (too_long_text made ++ stop_text (is_short stopped made))
 
 -- a run by workers is done: what its state has printed and what is reported is shown, and the record is put after the bytes that are kept
-pub record HasRunThreads (source : List ℕ) (limits : Limits) (workers : ℕ) (asked explain : Bool) (out out' err err' : Taken) (kept kept' : List ℕ) (status : ℕ) : Type 0 where
+pub record HasRunThreads (source : List ℕ) (limits : Limits) (workers : ℕ) (stop_at : StopAt) (asked explain : Bool) (out out' err err' : Taken) (kept kept' : List ℕ) (status : ℕ) : Type 0 where
   pub stopped : Bool
   pub state : State
   pub made : Record
   pub reported : List ℕ
-  pub is_run : IsRunByWorkers source limits workers asked explain stopped state made reported
+  pub is_run : IsRunByWorkers source limits workers stop_at asked explain stopped state made reported
   pub output : Takes out out' state.printed
   pub errors : Takes err err' reported
   pub behind : kept' ≡ kept ++ text_of made
@@ -243,8 +251,8 @@ IsDone (Trace file name limits explain) source schedule out out' err err' kept k
     HasTraced source limits schedule explain out out' err err' status × (kept' ≡ kept)
 IsDone (Picture file name part limits explain) source schedule out out' err err' kept kept' status =
     (HasDrawn source limits schedule part explain out out' err err' status ⊎ HasTooMany source limits schedule part out out' err err' status) × (kept' ≡ kept)
-IsDone (Threads file workers name limits explain) source schedule out out' err err' kept kept' status =
-    HasRunThreads source limits workers.count (is_some name) explain out out' err err' kept kept' status
+IsDone (Threads file workers name stop_at limits explain) source schedule out out' err err' kept kept' status =
+    HasRunThreads source limits workers.count stop_at (is_some name) explain out out' err err' kept kept' status
 IsDone (Flip sizes) source schedule out out' err err' kept kept' status =
     IsTried sizes out out' status × (err' ≡ err) × (kept' ≡ kept)
 
@@ -259,7 +267,7 @@ IsNotDone (Trace file name limits explain) source schedule failure =
     HasNotTraced source limits schedule failure
 IsNotDone (Picture file name part limits explain) source schedule failure =
     HasNotTraced source limits schedule failure
-IsNotDone (Threads file workers name limits explain) source schedule failure =
+IsNotDone (Threads file workers name stop_at limits explain) source schedule failure =
     HasNotRunThreads source limits failure
 IsNotDone (Flip sizes) source schedule failure = IsOfWriting failure
 
@@ -332,12 +340,12 @@ IsDrawnInPart source limits text part explain out out' err err' =
     ⊎ (IsPicturedThenInPart source limits text part explain out out' err err' ⊎ (IsTooManyInPart source limits text part err err' × (out' ≡ out)))
 
 -- a write failed of what a run by workers shows
-pub record IsRunByWorkersInPart (source : List ℕ) (limits : Limits) (workers : ℕ) (asked explain : Bool) (out out' err err' : Taken) : Type 0 where
+pub record IsRunByWorkersInPart (source : List ℕ) (limits : Limits) (workers : ℕ) (stop_at : StopAt) (asked explain : Bool) (out out' err err' : Taken) : Type 0 where
   pub stopped : Bool
   pub state : State
   pub made : Record
   pub reported : List ℕ
-  pub is_run : IsRunByWorkers source limits workers asked explain stopped state made reported
+  pub is_run : IsRunByWorkers source limits workers stop_at asked explain stopped state made reported
   pub cut : AreCut state.printed reported out out' err err'
 
 -- a part of what the order shows where it is carried out
@@ -352,8 +360,8 @@ IsDoneInPart (Trace file name limits explain) source schedule out out' err err' 
     (IsTraceInPart source limits schedule out out' × (err' ≡ err)) ⊎ IsTracedThenInPart source limits schedule explain out out' err err'
 IsDoneInPart (Picture file name part limits explain) source schedule out out' err err' =
     IsDrawnInPart source limits schedule part explain out out' err err'
-IsDoneInPart (Threads file workers name limits explain) source schedule out out' err err' =
-    IsRunByWorkersInPart source limits workers.count (is_some name) explain out out' err err'
+IsDoneInPart (Threads file workers name stop_at limits explain) source schedule out out' err err' =
+    IsRunByWorkersInPart source limits workers.count stop_at (is_some name) explain out out' err err'
 IsDoneInPart (Flip sizes) source schedule out out' err err' =
     ((retired : ℕ) × Fails out out' (flip_text (sizes.rounds * place_count sizes) retired)) × (err' ≡ err)
 

@@ -148,6 +148,7 @@ fn perform<W: Out, E: Out>(
         Order::Threads {
             workers,
             record: file,
+            stop_at,
             limits,
             explain,
             ..
@@ -157,6 +158,7 @@ fn perform<W: Out, E: Out>(
             source,
             limits,
             workers,
+            stop_at,
             file.is_some(),
             explain,
             out,

@@ -13,7 +13,7 @@ file_of (Run file schedule limits explain) = Some file.now
 file_of (Replay file schedule limits explain) = Some file.now
 file_of (Trace file schedule limits explain) = Some file.now
 file_of (Picture file schedule part limits explain) = Some file.now
-file_of (Threads file workers kept limits explain) = Some file.now
+file_of (Threads file workers kept stop_at limits explain) = Some file.now
 file_of (Flip sizes) = None
 
 -- the name of the file that holds the schedule's text, where one does
@@ -25,7 +25,7 @@ schedule_file_of _ = None
 
 -- the name of the file that the record is to be written to, where one is asked for
 abbrev pub record_file_of : Order → Option (List ℕ)
-record_file_of (Threads file workers kept limits explain) = option_map (λ name. name.now) kept
+record_file_of (Threads file workers kept stop_at limits explain) = option_map (λ name. name.now) kept
 record_file_of _ = None
 
 -- a refusal is to be explained, and what threads wait for when a run has ended
@@ -35,7 +35,7 @@ is_explained (Run file schedule limits explain) = explain
 is_explained (Replay file schedule limits explain) = explain
 is_explained (Trace file schedule limits explain) = explain
 is_explained (Picture file schedule part limits explain) = explain
-is_explained (Threads file workers kept limits explain) = explain
+is_explained (Threads file workers kept stop_at limits explain) = explain
 is_explained (Flip sizes) = false
 
 -- the number of the last event of a part of a run that has so many, and how many of them it has

@@ -5,9 +5,11 @@
 mod files;
 mod order;
 mod part;
+mod stop_at;
 mod workers;
 
 pub use files::{read_source, read_text};
 pub use order::Order;
 pub use part::{LAST_NUMBER, Part};
+pub use stop_at::StopAt;
 pub use workers::Workers;

@@ -3,6 +3,7 @@ ghost use Rattle.std.specs.Prelude.{◌≡◌, option_map};
 ghost use Rattle.orders.specs.Orders.{file_of, is_explained, record_file_of, schedule_file_of};
 
 use crate::part::Part;
+use crate::stop_at::StopAt;
 use crate::workers::Workers;
 use cil_model::limits::Limits;
 use flip_trial::Sizes;
@@ -45,12 +46,13 @@ pub enum Order<'a> {
         limits: Limits,
         explain: bool,
     },
-    /// Runs the source of this file by workers, each in a thread of its own, until no thread of the program is live. Where a file is named
-    /// for the record, it is to get the text of the schedule that the run had.
+    /// Runs the source of this file by workers, each in a thread of its own, until no thread of the program is live, or until `stop_at` says.
+    /// Where a file is named for the record, it is to get the text of the schedule that the run had.
     Threads {
         file: &'a str,
         workers: Workers,
         record: Option<&'a str>,
+        stop_at: StopAt,
         limits: Limits,
         explain: bool,
     },

@@ -6,7 +6,7 @@ use cil_model::limits::Limits;
 use cil_model::memory::NoMemory;
 use cil_model::phases::Phase;
 use cil_model::reports::Report;
-use source_runs::{Failure, Gate, Machine, Run, open, run_threads};
+use source_runs::{Failure, Gate, Machine, Run, StopAt, open, run_threads};
 use std::alloc::Global;
 use std::sync::Wait;
 use std::sync::atomic::AtomicU64;
@@ -127,7 +127,15 @@ pub(crate) fn goes_on_without_the_first(
     alloc: Global,
 ) -> Result<bool, Failure> {
     let gate = HoldsOne::new(0, HELD_PASSES.start);
-    let outcome = run_threads(threads, alloc, ROUND.as_bytes(), LOOPING, 2, &gate)?;
+    let outcome = run_threads(
+        threads,
+        alloc,
+        ROUND.as_bytes(),
+        LOOPING,
+        2,
+        StopAt::End,
+        &gate,
+    )?;
     Ok(gate.late.load(SeqCst) == 0 && has_steps_between(outcome.history.runs(), 0))
 }
 
@@ -231,7 +239,15 @@ fn phase_of_held(
     pass: u32,
 ) -> Result<Option<Phase>, Failure> {
     let gate = HoldsOne::new(held, pass);
-    let outcome = run_threads(threads, alloc, ROUND.as_bytes(), LOOPING, 2, &gate)?;
+    let outcome = run_threads(
+        threads,
+        alloc,
+        ROUND.as_bytes(),
+        LOOPING,
+        2,
+        StopAt::End,
+        &gate,
+    )?;
     let runs = outcome.history.runs();
     match let_go(runs, held) {
         Some(count) if gate.late.load(SeqCst) == 0 => {

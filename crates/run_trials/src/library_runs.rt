@@ -4,7 +4,10 @@ use crate::held_workers::{goes_on_without_the_first, waits_in_each_phase};
 use crate::loan_runs::{
     Question, answers, does_all, does_one, leaves_the_fault, leaves_the_last_step,
 };
-use crate::worker_runs::{records_one_worker, replays_workers};
+use crate::worker_runs::{
+    ends_without_a_deadlock, has_record_of_one, records_one_worker, replays_workers,
+    stops_at_a_deadlock,
+};
 use call_trials::{
     Call, LIMITS, SUM, act_in_turn, act_many, came_to, finish_twice, keeps_the_mark, run_both,
 };
@@ -23,7 +26,7 @@ use std::sync::Wait;
 use std::thread::Threads;
 
 /// Makes the calls. One that wants memory counts as one that came to something else.
-pub fn run_calls(threads: &(impl Threads + Wait + Sync), alloc: Global) -> [Call; 20] {
+pub fn run_calls(threads: &(impl Threads + Wait + Sync), alloc: Global) -> [Call; 25] {
     [
         came_to("a reader that fails", tells_of_readers(alloc)),
         came_to(
@@ -93,6 +96,26 @@ pub fn run_calls(threads: &(impl Threads + Wait + Sync), alloc: Global) -> [Call
         came_to(
             "a replay of sixteen workers",
             replays_workers(threads, alloc, 16).unwrap_or(false),
+        ),
+        came_to(
+            "one thread by four workers",
+            has_record_of_one(threads, alloc, 4).unwrap_or(false),
+        ),
+        came_to(
+            "one thread by sixteen workers",
+            has_record_of_one(threads, alloc, 16).unwrap_or(false),
+        ),
+        came_to(
+            "a deadlock that stops one worker",
+            stops_at_a_deadlock(threads, alloc, 1).unwrap_or(false),
+        ),
+        came_to(
+            "a deadlock that stops four workers",
+            stops_at_a_deadlock(threads, alloc, 4).unwrap_or(false),
+        ),
+        came_to(
+            "a run without a deadlock to stop at",
+            ends_without_a_deadlock(threads, alloc).unwrap_or(false),
         ),
         came_to(
             "a first worker that is held",

@@ -4,7 +4,7 @@ ghost use Rattle.std.specs.Prelude.{◌≤◌};
 
 use call_trials::{LIMITS, SUM};
 use cil_model::limits::Limits;
-use source_runs::{Failure, OpenGate, Outcome, run_source, run_threads, write_record};
+use source_runs::{Failure, OpenGate, Outcome, StopAt, run_source, run_threads, write_record};
 use std::alloc::Global;
 use std::sync::Wait;
 use std::thread::Threads;
@@ -22,6 +22,29 @@ static COUNTING: &str = ".assembly extern mscorlib {} .assembly extern cilvm {}
     newobj instance void T::.ctor() callvirt instance void [cilvm]Cilvm.Thread::Start()
     newobj instance void T::.ctor() callvirt instance void [cilvm]Cilvm.Thread::Start()
     ldc.i4.7 call void [mscorlib]System.Console::WriteLine(int32) ret } }";
+
+/// One thread makes 200 arrays, calls a method ten times after each, and then prints 200.
+static GARBAGE: &str = ".assembly extern mscorlib {}
+    .class public auto ansi P extends [mscorlib]System.Object {
+    .method public static void Rest() cil managed { .maxstack 0 ret }
+    .method public static void Main() cil managed { .entrypoint .maxstack 2 .locals init (int32, int32)
+    again: ldc.i4.1 newarr int32 pop ldc.i4.0 stloc.1
+    more: call void P::Rest() ldloc.1 ldc.i4.1 add dup stloc.1 ldc.i4 10 blt more
+    ldloc.0 ldc.i4.1 add dup stloc.0 ldc.i4 200 blt again
+    ldloc.0 call void [mscorlib]System.Console::WriteLine(int32) ret } }";
+
+/// The first thread starts another one, prints 7 and waits for its end; the other one waits for its own end.
+static WAITING: &str = ".assembly extern mscorlib {} .assembly extern cilvm {}
+    .class public auto ansi T extends [cilvm]Cilvm.Thread {
+    .method public specialname rtspecialname instance void .ctor() cil managed { .maxstack 1
+    ldarg.0 call instance void [cilvm]Cilvm.Thread::.ctor() ret }
+    .method public virtual instance void Run() cil managed { .maxstack 1
+    ldarg.0 callvirt instance void [cilvm]Cilvm.Thread::Join() ret } }
+    .class public auto ansi P extends [mscorlib]System.Object {
+    .method public static void Main() cil managed { .entrypoint .maxstack 2 .locals init (class T)
+    newobj instance void T::.ctor() dup stloc.0 callvirt instance void [cilvm]Cilvm.Thread::Start()
+    ldc.i4.7 call void [mscorlib]System.Console::WriteLine(int32)
+    ldloc.0 callvirt instance void [cilvm]Cilvm.Thread::Join() ret } }";
 
 /// How many bytes the counting prints, in whichever order.
 const COUNTED_BYTES: usize = 22;
@@ -41,9 +64,104 @@ pub(crate) fn records_one_worker(
     threads: &(impl Threads + Wait + Sync),
     alloc: Global,
 ) -> Result<bool, Failure> {
-    let outcome = run_threads(threads, alloc, SUM.as_bytes(), LIMITS, 1, &OpenGate)?;
+    let outcome = run_threads(
+        threads,
+        alloc,
+        SUM.as_bytes(),
+        LIMITS,
+        1,
+        StopAt::End,
+        &OpenGate,
+    )?;
     let is_recorded = has_record(alloc, &outcome, "s0*3 g s0 g a0 s0 g*2")?;
     Ok(is_recorded && outcome.console() == b"5\n".as_slice())
+}
+
+/// Limits in which a thread that waits has a budget of a million steps.
+const PATIENT: Limits = Limits {
+    budget: 1_000_000,
+    ..ROOM
+};
+
+/// Limits in which the arrays have room only where the collector keeps up.
+const TIGHT: Limits = Limits {
+    words: 128,
+    max_words: 128,
+    budget: 30_000,
+    ..ROOM
+};
+
+/// Whether a run of one thread by so many workers, with little memory, has the record of a run by one: the workers that drive no live
+/// thread are not waited for.
+pub(crate) fn has_record_of_one(
+    threads: &(impl Threads + Wait + Sync),
+    alloc: Global,
+    workers: u8,
+) -> Result<bool, Failure>
+    requires { (1 ≤ workers) × (workers ≤ 16) }
+{
+    let source = GARBAGE.as_bytes();
+    let one = run_threads(threads, alloc, source, TIGHT, 1, StopAt::End, &OpenGate)?;
+    let outcome = run_threads(
+        threads,
+        alloc,
+        source,
+        TIGHT,
+        workers,
+        StopAt::End,
+        &OpenGate,
+    )?;
+    let record = write_record(alloc, &one.history)?;
+    Ok(outcome.console() == b"200\n".as_slice() && has_record(alloc, &outcome, record.as_str())?)
+}
+
+/// The most events of a run that stops at its deadlock: before it each thread makes fewer than 10 steps.
+const MOST_EVENTS_TO_A_DEADLOCK: u64 = 20_000;
+
+/// Whether so many workers stop where both threads wait, with few events, both live and the stop mark set.
+pub(crate) fn stops_at_a_deadlock(
+    threads: &(impl Threads + Wait + Sync),
+    alloc: Global,
+    workers: u8,
+) -> Result<bool, Failure>
+    requires { (1 ≤ workers) × (workers ≤ 16) }
+{
+    let outcome = run_threads(
+        threads,
+        alloc,
+        WAITING.as_bytes(),
+        PATIENT,
+        workers,
+        StopAt::Deadlock,
+        &OpenGate,
+    )?;
+    Ok(
+        outcome.stopped
+            && outcome.machine.live() == 2
+            && outcome.console() == b"7\n".as_slice()
+            && event_count(&outcome) <= MOST_EVENTS_TO_A_DEADLOCK,
+    )
+}
+
+/// How many events a run had.
+fn event_count(outcome: &Outcome) -> u64 {
+    let mut count = 0u64;
+    for run in outcome.history.runs() {
+        count = count.saturating_add(run.times);
+    }
+    count
+}
+
+/// Whether a run that may stop at a deadlock and comes to none ends without the stop mark, and with the record of one that may not.
+pub(crate) fn ends_without_a_deadlock(
+    threads: &(impl Threads + Wait + Sync),
+    alloc: Global,
+) -> Result<bool, Failure> {
+    let source = COUNTING.as_bytes();
+    let one = run_threads(threads, alloc, source, ROOM, 1, StopAt::End, &OpenGate)?;
+    let outcome = run_threads(threads, alloc, source, ROOM, 1, StopAt::Deadlock, &OpenGate)?;
+    let record = write_record(alloc, &one.history)?;
+    Ok(is_counted(&outcome) && has_record(alloc, &outcome, record.as_str())?)
 }
 
 /// Whether the history of a run has this record.
@@ -67,6 +185,7 @@ pub(crate) fn replays_workers(
         COUNTING.as_bytes(),
         ROOM,
         workers,
+        StopAt::End,
         &OpenGate,
     )?;
     Ok(is_counted(&outcome) && is_repeated(threads, alloc, &outcome)?)

@@ -1,12 +1,19 @@
 -- What workers do to a shared machine (this profile).
-use Rattle.std.specs.Prelude.{◌≡◌, ℕ, ◌<◌, ◌%◌, Bool, true, nat_eq, List, length, slice_index_or, Option, All, IfSome}
+use Rattle.std.specs.Prelude.{◌≡◌, ◌⊎◌, ℕ, ◌<◌, ◌%◌, Bool, true, nat_eq, List, length, slice_index_or, Option, All, IfSome, IsSome}
+use Rattle.std.specs.List.{count_by}
+use Rattle.atomic_table.specs.Seated.{TableId}
 use Rattle.cil_model.specs.declared.events.Event.{Event}
 use Rattle.cil_model.specs.declared.events.Event.TheVariants.{Step, Ack, Gc}
 use Rattle.cil_model.specs.declared.limits.TheConstants.{MOST_THREADS}
 use Rattle.epoch_words.specs.Tokens.{EpochsValue, HeraldValue, SeatValue}
+use Rattle.interleaving_core.specs.Waits.{wait_at}
+use Rattle.interleaving_core.specs.simulation.MachineContents.{Content}
+use Rattle.interleaving_core.specs.simulation.threads_monitors.Threads.{is_live, is_live_at}
 use Rattle.shared_machine.specs.Histories.{IsSmall, counted}
 use Rattle.shared_machine.specs.declared.history.Entry.{Entry}
 use Rattle.shared_machine.specs.Counts.{Count}
+use Rattle.shared_machine.specs.declared.plan.StopAt.{StopAt}
+use Rattle.shared_machine.specs.declared.plan.StopAt.TheVariants.{End, Deadlock}
 
 -- ---- whose events they are
 
@@ -55,3 +62,26 @@ IsSeatOf epochs seat = seat.table ≡ epochs.table
 -- the herald, where it is here, is of these epochs
 abbrev pub IsHeraldOf : EpochsValue → Option HeraldValue → Type 0
 IsHeraldOf epochs herald = IfSome herald (λ h. h.table ≡ epochs.table)
+
+-- a seat of the epochs of a name
+abbrev pub IsSeatIn : TableId → SeatValue → Type 0
+IsSeatIn table seat = seat.table ≡ table
+
+-- a seat, where one is here, is of these epochs
+abbrev pub IsSeatHere : EpochsValue → Option SeatValue → Type 0
+IsSeatHere epochs seat = IfSome seat (IsSeatOf epochs)
+
+-- ---- the end of a run
+
+-- a thread is not live, or its next step is blocked
+abbrev pub IsHeldUp : Content → ℕ → Type 0
+IsHeldUp c thread = is_live_at c.threads thread ≡ true → IsSome (wait_at c thread)
+
+-- so is each thread: none goes on
+abbrev pub IsDeadlocked : Content → Type 0
+IsDeadlocked c = (thread : ℕ) → IsHeldUp c thread
+
+-- how a run by workers leaves the machine, with the stop mark: no thread is live, or, where that was asked for, the stop mark is set and no live thread goes on
+abbrev pub HasEnded : StopAt → Content → Bool → Type 0
+HasEnded End c stopped = count_by is_live c.threads ≡ 0
+HasEnded Deadlock c stopped = (count_by is_live c.threads ≡ 0) ⊎ ((stopped ≡ true) × IsDeadlocked c)

@@ -3,19 +3,22 @@
 ghost use Rattle.std.specs.Prelude.{◌≡◌, ◌<◌, ◌≤◌, length, All, IfErr, IfOk, vec_capacity, vec_len};
 ghost use Rattle.epoch_words.specs.Tokens.{EpochsValue};
 ghost use Rattle.shared_machine.specs.declared.shared.TheConstants.{MOST_WORKERS};
-ghost use Rattle.shared_machine.specs.Work.{HasWorked, HaveWorked, IsHeraldOf, IsSeatOf};
+ghost use Rattle.shared_machine.specs.Work.{HasWorked, HaveWorked, IsHeraldOf, IsSeatHere, IsSeatOf};
 
 use crate::book::Ticket;
 use crate::gate::Gate;
+use crate::parking::Parked;
 use crate::passing::Worker;
+use crate::plan::{Plan, StopAt};
 use crate::shared::Shared;
+use crate::view::Naming;
 use crate::working::{set_stop_mark, work};
 use crate::world::Opening;
 use epoch_words::{Epochs, Herald, Seat};
 use std::alloc::Global;
-use std::marker::{Send, Sync};
+use std::marker::{Brand, Send, Sync};
 use std::snapshot::Snapshot;
-use std::sync::Wait;
+use std::sync::{Mutex, Wait};
 use std::thread;
 use std::thread::{Promise, PromisedHandle, Scope, Threads};
 
@@ -32,41 +35,50 @@ impl<M: Opening> Promise<Ticket<M>> for GivesBack<M> {
     ghost kept_by = { λ promise ticket. HasWorked promise.workers promise.ticket.value ticket };
 }
 
-/// Workers that are not sent to work yet: a ticket and a seat for each, and the right to post, which is for worker 0.
+/// Workers that are not sent to work yet: a ticket for each, and the right to post, which is for worker 0.
 #[derive(Drop)]
 struct Crew<M: Opening> {
     tickets: Vec<Ticket<M>>,
-    seats: Vec<Seat>,
     herald: Option<Herald>,
 }
 
 /// Starts the thread of a worker. Where it can't be started, the stop mark is set, and the ticket comes back after a pass here.
-fn send<'s, E, M: Opening + Send + Sync + 's, R: Threads + Wait + Sync + 's, G: Gate + Sync + 's>(
-    scope: &Scope<'s, E>,
+fn send<
+    's,
+    T,
+    M: Opening + Send + Sync + 's,
+    E: Naming + Send + Sync + 's,
+    R: Threads + Wait + Sync + 's,
+    G: Gate + Sync + 's,
+>(
+    scope: &Scope<'s, T>,
     rt: &'s R,
     alloc: Global,
     shared: &'s Shared<M>,
     epochs: &'s Epochs,
+    parked: &'s Mutex<Parked<E>>,
     gate: &'s G,
-    workers: u8,
+    plan: Plan,
     worker: Worker<M>,
 ) -> Result<PromisedHandle<Ticket<M>, GivesBack<M>>, Ticket<M>>
-    requires some { 0 < workers }
-    requires here { IsSeatOf epochs.now worker.seat × IsHeraldOf epochs.now worker.herald }
-    ensures sent { IfOk result (λ thread. (thread.promise.workers ≡ workers) × (thread.promise.ticket.value ≡ worker.ticket)) }
-    ensures back { IfErr result (HasWorked workers worker.ticket) }
+    requires some { 0 < plan.workers }
+    requires here { IsSeatHere epochs.now worker.seat × IsHeraldOf epochs.now worker.herald }
+    requires same { epochs.now.table ≡ E.table }
+    ensures sent { IfOk result (λ thread. (thread.promise.workers ≡ plan.workers) × (thread.promise.ticket.value ≡ worker.ticket)) }
+    ensures back { IfErr result (HasWorked plan.workers worker.ticket) }
 {
     let promise = GivesBack {
-        workers,
+        workers: plan.workers,
         ticket: Snapshot::of(&worker.ticket),
     };
     let sent = scope.spawn_with(
         promise,
         move || -> Ticket<M>
-            requires some { 0 < workers }
-            requires here { IsSeatOf epochs.now worker.seat × IsHeraldOf epochs.now worker.herald }
-            ensures { HasWorked workers worker.ticket result }
-        { work(rt, alloc, shared, epochs, gate, workers, worker) },
+            requires some { 0 < plan.workers }
+            requires here { IsSeatHere epochs.now worker.seat × IsHeraldOf epochs.now worker.herald }
+            requires same { epochs.now.table ≡ E.table }
+            ensures { HasWorked plan.workers worker.ticket result }
+        { work(rt, alloc, shared, epochs, parked, gate, plan, worker) },
     );
     match sent {
         Ok(thread) => Ok(thread),
@@ -87,51 +99,45 @@ fn take_for(worker: u8, herald: &mut Option<Herald>) -> Option<Herald>
 /// Sends each worker to its work, waits for all, and gives their tickets back in order.
 fn send_all<
     's,
-    E,
+    T,
     M: Opening + Send + Sync + 's,
+    E: Naming + Send + Sync + 's,
     R: Threads + Wait + Sync + 's,
     G: Gate + Sync + 's,
 >(
-    scope: &Scope<'s, E>,
+    scope: &Scope<'s, T>,
     rt: &'s R,
     alloc: Global,
     shared: &'s Shared<M>,
     epochs: &'s Epochs,
+    parked: &'s Mutex<Parked<E>>,
     gate: &'s G,
-    workers: u8,
+    plan: Plan,
     crew: Crew<M>,
 ) -> Vec<Ticket<M>>
-    requires some { 0 < workers }
-    requires seats { (length crew.seats.items ≡ length crew.tickets.items) × All (IsSeatOf epochs.now) crew.seats.items }
+    requires some { 0 < plan.workers }
     requires herald { IsHeraldOf epochs.now crew.herald }
-    ensures worked { HaveWorked workers crew.tickets.items result.items }
+    requires same { epochs.now.table ≡ E.table }
+    ensures worked { HaveWorked plan.workers crew.tickets.items result.items }
     ensures room { (vec_len result ≡ vec_len crew.tickets) × (vec_capacity result ≡ vec_capacity crew.tickets) }
 {
     let Crew {
         mut tickets,
-        mut seats,
         mut herald,
     } = crew;
     let Some(ticket) = tickets.pop() else {
         return tickets;
     };
-    let Some(seat) = seats.pop() else {
-        unreachable!()
-    };
     let theirs = take_for(ticket.worker(), &mut herald);
     let worker = Worker {
         ticket,
-        seat,
+        seat: None,
         acknowledged: 0,
         herald: theirs,
     };
-    let rest = Crew {
-        tickets,
-        seats,
-        herald,
-    };
-    let sent = send(scope, rt, alloc, shared, epochs, gate, workers, worker);
-    let mut tickets = send_all(scope, rt, alloc, shared, epochs, gate, workers, rest);
+    let rest = Crew { tickets, herald };
+    let sent = send(scope, rt, alloc, shared, epochs, parked, gate, plan, worker);
+    let mut tickets = send_all(scope, rt, alloc, shared, epochs, parked, gate, plan, rest);
     let ticket = match sent {
         Ok(thread) => thread.join(rt),
         Err(ticket) => ticket,
@@ -140,14 +146,78 @@ fn send_all<
     tickets
 }
 
+/// Runs these workers, whose seats are parked, each in a thread of its own.
+fn run_threads<
+    M: Opening + Send + Sync,
+    E: Naming + Send + Sync,
+    R: Threads + Wait + Sync,
+    G: Gate + Sync,
+>(
+    rt: &R,
+    alloc: Global,
+    shared: &Shared<M>,
+    epochs: &Epochs,
+    parked: &Mutex<Parked<E>>,
+    gate: &G,
+    plan: Plan,
+    crew: Crew<M>,
+) -> Vec<Ticket<M>>
+    requires some { 0 < plan.workers }
+    requires herald { IsHeraldOf epochs.now crew.herald }
+    requires same { epochs.now.table ≡ E.table }
+    ensures { HaveWorked plan.workers crew.tickets.items result.items }
+{
+    thread::scope(
+        thread::scope_env(),
+        rt,
+        move |scope| -> Vec<Ticket<M>>
+            requires some { 0 < plan.workers }
+            requires herald { IsHeraldOf epochs.now crew.herald }
+            requires same { epochs.now.table ≡ E.table }
+            ensures { HaveWorked plan.workers crew.tickets.items result.items }
+        { send_all(scope, rt, alloc, shared, epochs, parked, gate, plan, crew) },
+    )
+}
+
+/// Runs these workers, with their seats, which are of the epochs that `E` names.
+fn run_crew<
+    M: Opening + Send + Sync,
+    E: Naming + Send + Sync,
+    R: Threads + Wait + Sync,
+    G: Gate + Sync,
+>(
+    rt: &R,
+    alloc: Global,
+    shared: &Shared<M>,
+    epochs: &Epochs,
+    seats: Vec<Seat>,
+    gate: &G,
+    plan: Plan,
+    crew: Crew<M>,
+) -> Vec<Ticket<M>>
+    requires some { 0 < plan.workers }
+    requires seats { All (IsSeatOf epochs.now) seats.items }
+    requires herald { IsHeraldOf epochs.now crew.herald }
+    requires same { epochs.now.table ≡ E.table }
+    ensures { HaveWorked plan.workers crew.tickets.items result.items }
+{
+    let parked = Mutex::new(Parked::<E>::new(seats));
+    run_threads(rt, alloc, shared, epochs, &parked, gate, plan, crew)
+}
+
 /// Runs workers, each in a thread of its own, until each has found in a pass that no thread of the machine is live or that the stop mark
 /// is set, and gives all their tickets back, in order.
 ///
 /// Of n tickets, the worker of number k drives the threads t for which k is left when t is divided by n; its own threads in a pass are
 /// those that are live as the pass begins. A pass is told to `gate`. Then the worker polls its seat; where the number is newer than the
 /// last one that it acknowledged, it does an `Ack` of each of its own threads and acknowledges. It does a `Step` of each of them, in the order
-/// of their numbers. Worker 0 then does one `Gc`, and posts the next number where that answered `Waiting`. A worker that meets want of memory
-/// sets the stop mark and ends; so does this function where a thread can't be started, and makes that worker's one pass itself.
+/// of their numbers. Worker 0 then does one `Gc`; where that answered `Waiting`, it acknowledges for as many workers as drive
+/// no live thread, and posts the next number. A worker that meets want of memory sets the stop mark and ends; so does this function where a
+/// thread can't be started, and makes that worker's one pass itself.
+///
+/// With `StopAt::Deadlock` worker 0 sets the stop mark, too, where it finds after a pass that threads are live and each of them waits. It
+/// looks only after passes in which none of its own threads went on: the first of such a row, and then one in 64. A pass that begins at the stop
+/// mark does nothing then.
 ///
 /// The tickets, 1 to 16 of them, are all that this machine has, and there are as many seats, all of these epochs, as is the herald. Each ticket
 /// has counted what its worker did: events of its own alone.
@@ -159,6 +229,7 @@ pub fn run_workers<M: Opening + Send + Sync, R: Threads + Wait + Sync, G: Gate +
     epochs: &Epochs,
     herald: Herald,
     seats: Vec<Seat>,
+    stop_at: StopAt,
     gate: &G,
 ) -> Vec<Ticket<M>>
     requires tickets { (1 ≤ length tickets.items) × (length tickets.items ≤ MOST_WORKERS) }
@@ -166,20 +237,13 @@ pub fn run_workers<M: Opening + Send + Sync, R: Threads + Wait + Sync, G: Gate +
     requires herald { herald.table ≡ epochs.now.table }
     ensures { HaveWorked (length tickets.items) tickets.items result.items }
 {
-    let workers = tickets.as_slice().len() as u8;
+    let plan = Plan {
+        workers: tickets.as_slice().len() as u8,
+        stop_at,
+    };
     let crew = Crew {
         tickets,
-        seats,
         herald: Some(herald),
     };
-    thread::scope(
-        thread::scope_env(),
-        rt,
-        move |scope| -> Vec<Ticket<M>>
-            requires some { 0 < workers }
-            requires seats { (length crew.seats.items ≡ length crew.tickets.items) × All (IsSeatOf epochs.now) crew.seats.items }
-            requires herald { IsHeraldOf epochs.now crew.herald }
-            ensures { HaveWorked workers crew.tickets.items result.items }
-        { send_all(scope, rt, alloc, shared, epochs, gate, workers, crew) },
-    )
+    run_crew::<M, Brand, R, G>(rt, alloc, shared, epochs, seats, gate, plan, crew)
 }

@@ -16,6 +16,8 @@ pub(crate) struct Findings {
     pub started: usize,
     /// Whether the thread of each number is live.
     pub live: [bool; MOST_THREADS],
+    /// Whether the stop mark is set.
+    pub is_stopped: bool,
     /// Whether no thread is live, or the stop mark is set.
     pub is_last: bool,
 }
@@ -35,12 +37,15 @@ fn live_threads(machine: &Machine) -> [bool; MOST_THREADS]
 pub(crate) fn found_in<M: Opening>(world: &World<M>) -> Findings
     ensures started { (result.started ≡ length world.now.core.threads) × (result.started ≤ MOST_THREADS) }
     ensures live { (thread : ℕ) (d : Bool) → thread < MOST_THREADS → slice_index_or result.live thread d ≡ is_live_at world.now.core.threads thread }
+    ensures stopped { result.is_stopped ≡ world.now.stopped }
     ensures last { result.is_last ≡ ((count_by is_live world.now.core.threads == 0) || world.now.stopped) }
 {
     let machine = world.machine();
+    let is_stopped = world.is_stopped();
     Findings {
         started: machine.started(),
         live: live_threads(machine),
-        is_last: machine.live() == 0 || world.is_stopped(),
+        is_stopped,
+        is_last: machine.live() == 0 || is_stopped,
     }
 }

@@ -3,18 +3,21 @@
 ghost use Rattle.std.specs.Prelude.{◌≡◌, ◌<◌, ◌≤◌, ℕ};
 ghost use Rattle.cil_model.specs.declared.limits.TheConstants.{MOST_THREADS};
 ghost use Rattle.cil_model.specs.declared.events.Event.TheVariants.{Step as StepOf};
-ghost use Rattle.shared_machine.specs.Work.{HasWorked, IsHeraldOf, IsOwn, IsSeatOf, is_driven_by};
+ghost use Rattle.shared_machine.specs.Work.{HasWorked, IsHeraldOf, IsOwn, IsSeatHere, IsSeatOf, is_driven_by};
 
 use crate::answer::Answer;
 use crate::book::Ticket;
 use crate::finding::{Findings, found_in};
+use crate::parking::{Parked, seat_of};
+use crate::plan::{Plan, StopAt};
 use crate::shared::Shared;
+use crate::view::Naming;
 use crate::world::{Lent, Opening, World, check_in, lend, perform, run_local, stop};
 use cil_model::events::Event;
 use cil_model::reports::Report;
-use epoch_words::{Epochs, Herald, Seat};
+use epoch_words::{Epochs, Herald, Post, Seat};
 use std::alloc::Global;
-use std::sync::{MutexGuard, Wait};
+use std::sync::{Mutex, MutexGuard, Wait};
 
 /// The most local instructions of a thread between two holds of the lock.
 const MOST_LOCAL: u32 = 64;
@@ -23,7 +26,8 @@ const MOST_LOCAL: u32 = 64;
 #[derive(Drop)]
 pub(crate) struct Worker<M: Opening> {
     pub ticket: Ticket<M>,
-    pub seat: Seat,
+    /// Its seat, while it drives a live thread. Else one is parked.
+    pub seat: Option<Seat>,
     /// The number that it last acknowledged, 0 before it did.
     pub acknowledged: u64,
     /// The right to post, which worker 0 has.
@@ -69,9 +73,29 @@ impl Progress {
 /// What a worker's pass came to.
 #[derive(Clone, Copy)]
 pub(crate) struct Passed {
+    /// What came of all its events.
     pub progress: Progress,
+    /// What came of the steps of its threads.
+    pub steps: Progress,
+    /// Whether it drove a live thread.
+    pub is_driving: bool,
+    /// Whether the collector waits for a worker that has not acknowledged the posted number.
+    pub is_late: bool,
     /// Whether it found no live thread, or the stop mark.
     pub is_last: bool,
+}
+
+impl Passed {
+    /// A last pass in which nothing was done.
+    fn nothing() -> Passed {
+        Passed {
+            progress: Progress::None,
+            steps: Progress::None,
+            is_driving: false,
+            is_late: false,
+            is_last: true,
+        }
+    }
 }
 
 /// Whether one of so many workers drives a thread.
@@ -228,54 +252,138 @@ fn acknowledge<M: Opening>(
     }
 }
 
-/// Posts the next number, where the herald is here.
-fn post(epochs: &Epochs, herald: &mut Option<Herald>)
-    requires { IsHeraldOf epochs.now herald.old }
-    ensures { IsHeraldOf epochs.now herald.new }
+/// Whether a worker drives a thread that was found live.
+fn drives_any(found: &Findings, workers: u8, worker: u8) -> bool
+    requires some { 0 < workers }
+    requires few { found.now.started ≤ MOST_THREADS }
 {
-    if let Some(right) = herald.take() {
-        let (_post, right) = epochs.post(right);
-        *herald = Some(right);
+    for thread in 0..found.started {
+        if found.live[thread] && is_driven_by(workers, worker, thread as u8) {
+            return true;
+        }
+    }
+    false
+}
+
+/// Has the worker's seat acknowledge, or a parked one where the worker has none, and parks it where the worker drives no live thread. It
+/// gives back the seat that stays with the worker, and the number that is acknowledged now.
+fn take_part<M: Opening, E: Naming, R: Wait>(
+    rt: &R,
+    alloc: Global,
+    epochs: &Epochs,
+    parked: &Mutex<Parked<E>>,
+    world: &mut World<M>,
+    ticket: &mut Ticket<M>,
+    seat: Option<Seat>,
+    acknowledged: u64,
+    workers: u8,
+    found: &Findings,
+) -> (Progress, Option<Seat>, u64)
+    requires some { 0 < workers }
+    requires few { found.now.started ≤ MOST_THREADS }
+    requires here { IsSeatHere epochs.now seat }
+    requires same { epochs.now.table ≡ E.table }
+    ensures here { IsSeatHere epochs.now result.1 }
+    ensures worked { HasWorked workers ticket.old ticket.new }
+{
+    let Some(seat) = seat_of(rt, parked, seat) else {
+        return (Progress::None, None, acknowledged);
+    };
+    let is_driving = drives_any(found, workers, ticket.worker());
+    let (progress, seat, acknowledged) = acknowledge(
+        alloc,
+        epochs,
+        world,
+        ticket,
+        seat,
+        acknowledged,
+        workers,
+        found,
+    );
+    if is_driving {
+        (progress, Some(seat), acknowledged)
+    } else {
+        (progress, parked.lock(rt).put(seat), acknowledged)
     }
 }
 
-/// Does an event of the collector, and posts where the collector waits. That is for worker 0: another one does nothing.
-fn collect<M: Opening>(
+/// Posts the next number, where the herald is here, and answers whether a seat was late.
+fn post(epochs: &Epochs, herald: &mut Option<Herald>) -> bool
+    requires { IsHeraldOf epochs.now herald.old }
+    ensures { IsHeraldOf epochs.now herald.new }
+{
+    let Some(right) = herald.take() else {
+        return false;
+    };
+    let (post, right) = epochs.post(right);
+    *herald = Some(right);
+    matches!(post, Post::Late)
+}
+
+/// How many workers drive no thread that was found live.
+fn idle_workers(found: &Findings, workers: u8) -> usize
+    requires { found.now.started ≤ MOST_THREADS }
+{
+    let mut idle = 0;
+    for worker in 0..workers {
+        if !drives_any(found, workers, worker) {
+            idle += 1;
+        }
+    }
+    idle
+}
+
+/// Does an event of the collector. Where the collector waits, as many parked seats acknowledge as there are workers that drive no live
+/// thread, and the next number is posted. That is for worker 0: another one does nothing. It answers whether a seat was late, too.
+fn collect<M: Opening, E: Naming, R: Wait>(
+    rt: &R,
     alloc: Global,
     epochs: &Epochs,
+    parked: &Mutex<Parked<E>>,
     world: &mut World<M>,
     ticket: &mut Ticket<M>,
     herald: &mut Option<Herald>,
-) -> Progress
-    requires { IsHeraldOf epochs.now herald.old }
+    workers: u8,
+    found: &Findings,
+) -> (Progress, bool)
+    requires few { found.now.started ≤ MOST_THREADS }
+    requires here { IsHeraldOf epochs.now herald.old }
+    requires same { epochs.now.table ≡ E.table }
     ensures herald { IsHeraldOf epochs.now herald.new }
     ensures worked { (workers : ℕ) → HasWorked workers ticket.old ticket.new }
 {
     if ticket.worker() != 0 {
-        return Progress::None;
+        return (Progress::None, false);
     }
     let answer = ask(alloc, world, ticket, Event::Gc);
+    let mut is_late = false;
     if answer == Answer::Did(Report::Waiting) {
-        post(epochs, herald);
+        parked
+            .lock(rt)
+            .acknowledge(epochs, idle_workers(found, workers));
+        is_late = post(epochs, herald);
     }
-    Progress::of(answer)
+    (Progress::of(answer), is_late)
 }
 
-/// One pass of a worker: it looks, polls and acknowledges, has each of its threads go on, and, as worker 0, does an event of the collector.
-/// Its threads are those that it drives and that it found live. Where memory does not last, it stops there and sets the stop mark.
-///
-/// The lock is taken once, and once more after the local instructions of each thread.
-pub(crate) fn pass<M: Opening, R: Wait>(
+/// What a worker does in a pass, under the lock that is held: it polls and acknowledges, has each of its threads go on, and, as worker 0,
+/// does an event of the collector. Where memory does not last, it stops there and sets the stop mark.
+fn serve<'s, M: Opening, E: Naming, R: Wait>(
     rt: &R,
     alloc: Global,
-    shared: &Shared<M>,
+    shared: &'s Shared<M>,
     epochs: &Epochs,
+    parked: &Mutex<Parked<E>>,
+    mut world: MutexGuard<'s, World<M>>,
     worker: Worker<M>,
     workers: u8,
+    found: &Findings,
 ) -> (Passed, Worker<M>)
     requires some { 0 < workers }
-    requires here { IsSeatOf epochs.now worker.seat × IsHeraldOf epochs.now worker.herald }
-    ensures here { IsSeatOf epochs.now result.1.seat × IsHeraldOf epochs.now result.1.herald }
+    requires few { found.now.started ≤ MOST_THREADS }
+    requires here { IsSeatHere epochs.now worker.seat × IsHeraldOf epochs.now worker.herald }
+    requires same { epochs.now.table ≡ E.table }
+    ensures here { IsSeatHere epochs.now result.1.seat × IsHeraldOf epochs.now result.1.herald }
     ensures worked { HasWorked workers worker.ticket result.1.ticket }
 {
     let Worker {
@@ -284,36 +392,94 @@ pub(crate) fn pass<M: Opening, R: Wait>(
         acknowledged,
         mut herald,
     } = worker;
-    let mut world = shared.lock(rt);
-    let found = found_in(&*world);
-    let (mut progress, seat, acknowledged) = acknowledge(
+    let (mut progress, seat, acknowledged) = take_part(
+        rt,
         alloc,
         epochs,
+        parked,
         &mut *world,
         &mut ticket,
         seat,
         acknowledged,
         workers,
-        &found,
+        found,
     );
+    let mut steps = Progress::None;
+    let mut is_late = false;
     if progress.lasts() {
-        let (came, held) = step_each(rt, alloc, shared, world, &mut ticket, workers, &found);
+        let (came, held) = step_each(rt, alloc, shared, world, &mut ticket, workers, found);
         world = held;
+        steps = came;
         progress = progress.then(came);
     }
     if progress.lasts() {
-        let came = collect(alloc, epochs, &mut *world, &mut ticket, &mut herald);
+        let (came, late) = collect(
+            rt,
+            alloc,
+            epochs,
+            parked,
+            &mut *world,
+            &mut ticket,
+            &mut herald,
+            workers,
+            found,
+        );
+        is_late = late;
         progress = progress.then(came);
     }
     if !progress.lasts() {
         stop(&mut *world);
     }
-    let is_last = found.is_last;
+    let passed = Passed {
+        progress,
+        steps,
+        is_driving: seat.is_some(),
+        is_late,
+        is_last: found.is_last,
+    };
     let worker = Worker {
         ticket,
         seat,
         acknowledged,
         herald,
     };
-    (Passed { progress, is_last }, worker)
+    (passed, worker)
+}
+
+/// One pass of a worker: it looks, polls and acknowledges, has each of its threads go on, and, as worker 0, does an event of the collector.
+/// Its threads are those that it drives and that it found live. Where memory does not last, it stops there and sets the stop mark. Where
+/// the run is to stop at a deadlock, a worker that finds the stop mark does nothing else.
+///
+/// The lock is taken once, and once more after the local instructions of each thread.
+pub(crate) fn pass<M: Opening, E: Naming, R: Wait>(
+    rt: &R,
+    alloc: Global,
+    shared: &Shared<M>,
+    epochs: &Epochs,
+    parked: &Mutex<Parked<E>>,
+    worker: Worker<M>,
+    plan: Plan,
+) -> (Passed, Worker<M>)
+    requires some { 0 < plan.workers }
+    requires here { IsSeatHere epochs.now worker.seat × IsHeraldOf epochs.now worker.herald }
+    requires same { epochs.now.table ≡ E.table }
+    ensures here { IsSeatHere epochs.now result.1.seat × IsHeraldOf epochs.now result.1.herald }
+    ensures worked { HasWorked plan.workers worker.ticket result.1.ticket }
+{
+    let world = shared.lock(rt);
+    let found = found_in(&*world);
+    if found.is_stopped && matches!(plan.stop_at, StopAt::Deadlock) {
+        return (Passed::nothing(), worker);
+    }
+    serve(
+        rt,
+        alloc,
+        shared,
+        epochs,
+        parked,
+        world,
+        worker,
+        plan.workers,
+        &found,
+    )
 }

@@ -1,5 +1,5 @@
 //! Takes the bytes of a source to what its run leaves: the source, its limits and its schedule are accepted, and a machine runs it.
-//! `run_source` runs it by the text of a schedule, `run_events` by items, `run_threads` by workers until no thread is live; otherwise they
+//! `run_source` runs it by the text of a schedule, `run_events` by items, `run_threads` by workers until no thread is live, or, where asked, to a deadlock; otherwise they
 //! say why not, the faults of the source first. `laws`: a source, a text and limits have one run, and a replay of a record is the same run.
 #![tactic(auto)]
 
@@ -10,6 +10,7 @@ mod threads;
 pub use acceptance::{Failure, accept, report, status_of_failure, tell};
 pub use running::{open, run_events, run_source};
 pub use shared_machine::{
-    Answer, Gate, History, Machine, OpenGate, Opening, Outcome, Run, Shared, stop, write_record,
+    Answer, Gate, History, Machine, OpenGate, Opening, Outcome, Run, Shared, StopAt, stop,
+    write_record,
 };
 pub use threads::run_threads;

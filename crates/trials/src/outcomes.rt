@@ -73,12 +73,14 @@ fn limited<'a>(order: Order<'a>, limits: Option<&str>) -> Order<'a> {
             file,
             workers,
             record,
+            stop_at,
             explain,
             ..
         } => Order::Threads {
             file,
             workers,
             record,
+            stop_at,
             limits,
             explain,
         },

@@ -3,4 +3,5 @@ use Rattle.command_line.proofs.commands.threads_command.Goals as goal
 pub returns : goal.returns
 returns c =
     let first = c.with_argument-command.ensures _ _ c.source_command-command.ensures c.limit_option-workers.ensures in
-    c.with_run_options.ensures _ (c.with_argument.ensures _ _ first c.text_option-record.ensures)
+    let second = c.with_argument-command-2.ensures _ _ first c.text_option-record.ensures in
+    c.with_run_options.ensures _ (c.with_argument.ensures _ _ second c.flag-stop.ensures)

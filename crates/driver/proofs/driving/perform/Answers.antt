@@ -93,7 +93,7 @@ returns-in-Picture-clause-in_part g c = rw c.in-Picture.is c.show_picture.ensure
 
 pub returns-in-Threads-clause-done : goal.returns-in-Threads-clause-done
 returns-in-Threads-clause-done g c =
-    rw c.in-Threads.is (subst (λ asked. IfOk c.show_threads.result (HasRunThreads c.args.source.now c.in-Threads.limits c.in-Threads.workers.count asked c.in-Threads.explain
+    rw c.in-Threads.is (subst (λ asked. IfOk c.show_threads.result (HasRunThreads c.args.source.now c.in-Threads.limits c.in-Threads.workers.count c.in-Threads.stop_at asked c.in-Threads.explain
     (g.W.Out.taken c.args.out.now) (g.W.Out.taken c.show_threads.new.out) (g.E.Out.taken c.args.err.now) (g.E.Out.taken c.show_threads.new.err)
     c.args.record.now.items c.show_threads.new.kept.items)) c.is_some.ensures c.show_threads.ensures.done)
 
@@ -113,7 +113,7 @@ returns-in-Threads-clause-in_part g c =
     let err = g.E.Out.taken c.args.err.now in
     let err' = g.E.Out.taken c.show_threads.new.err in
     rw c.in-Threads.is (subst (λ asked. OnErr c.show_threads.result (((out' ≡ out) × (err' ≡ err))
-    ⊎ IsRunByWorkersInPart c.args.source.now c.in-Threads.limits c.in-Threads.workers.count asked c.in-Threads.explain out out' err err'))
+    ⊎ IsRunByWorkersInPart c.args.source.now c.in-Threads.limits c.in-Threads.workers.count c.in-Threads.stop_at asked c.in-Threads.explain out out' err err'))
     c.is_some.ensures c.show_threads.ensures.in_part)
 
 pub returns-in-Flip-clause-done : goal.returns-in-Flip-clause-done

@@ -1,11 +1,11 @@
 use Rattle.shared_machine.specs.Work.{HasWorked}
 use Rattle.shared_machine.proofs.TicketCounts.{worked_both}
-use Rattle.shared_machine.proofs.passing.pass.Goals as goal
-use Rattle.shared_machine.proofs.passing.pass.Goals.{then-lasts, else-lasts, then-lasts-2, else-lasts-2}
+use Rattle.shared_machine.proofs.passing.serve.Goals as goal
+use Rattle.shared_machine.proofs.passing.serve.Goals.{then-lasts, else-lasts, then-lasts-2, else-lasts-2}
 
 pub returns-clause-worked : goal.returns-clause-worked
 returns-clause-worked g c =
-    let first = c.acknowledge-progress.ensures.worked in
+    let first = c.take_part-progress.ensures.worked in
     let stepped : HasWorked c.args.workers c.args.worker.ticket c.if-lasts.ticket = elim c.if-lasts.branch [
       | then-lasts w ↦ rw w.ticket-is (worked_both _ _ _ _ first w.step_each-came.ensures)
       | else-lasts w ↦ rw w.ticket-is first
