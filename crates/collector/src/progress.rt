@@ -8,7 +8,7 @@ use object_memory::Monitor;
 pub const MOST_FAILED_CHECKS: u32 = 3;
 
 /// The stage of an attempt to copy a word.
-#[derive(Clone, Copy)]
+#[derive(Clone, Copy, PartialEq, Eq)]
 pub enum Stage {
     /// Nothing is loaded yet.
     Begins,
@@ -19,7 +19,7 @@ pub enum Stage {
 }
 
 /// An attempt of a collector to copy the next word by a load, a store and a check.
-#[derive(Clone, Copy)]
+#[derive(Clone, Copy, PartialEq, Eq)]
 pub struct Attempt {
     pub stage: Stage,
     /// The monitor that was loaded, where the word is a monitor.
@@ -47,7 +47,7 @@ impl Attempt {
 }
 
 /// How far a collector is with the work of the phase that is posted. It has done nothing of a phase when it posts it.
-#[derive(Clone, Copy)]
+#[derive(Clone, Copy, PartialEq, Eq)]
 pub struct Progress {
     /// Whether it has marked what the static fields refer to, in this cycle.
     pub scanned_statics: bool,

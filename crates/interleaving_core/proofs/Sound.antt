@@ -1,6 +1,6 @@
 -- A machine that represents a state goes on to one that does.
-use Rattle.std.proofs.Common.{◌≡◌, ◌≤◌, length, Some, Result, Ok, Err, sym, ap, ◌∙◌, subst}
-use Rattle.std.specs.Prelude.{IfOk, IsTrue, OnErr}
+use Rattle.std.proofs.Common.{◌≡◌, ◌≤◌, length, Some, Result, Ok, Err, sym, ap, ◌∙◌, subst, arith}
+use Rattle.std.specs.Prelude.{IfOk, IsTrue, OnErr, OnOk}
 use Rattle.std.proofs.lemmas.Option.{same_Some}
 use Rattle.cil_model.specs.declared.events.Event.{Event}
 use Rattle.cil_model.specs.declared.limits.Limits.{Limits}
@@ -66,3 +66,14 @@ module _ (tree : Tree) (limits : Limits) (accepted : IsAccepted tree) (in_range 
   opened_represents =
       let first = opening_is_represented tree limits accepted in_range in
       (first.1, first.3, subst (λ x. Represents x first.1) (same_Some first.0 c (sym first.2 ∙ is)) first.4)
+
+-- a machine that was taken back to its initial state
+pub sound_reopened : (e e' : Engine) → IsSound e → (r : Result (Unit {0}) NoMemory) → OnOk r (opening_content e.program e.limits ≡ Some (content_of e')) → OnOk r (length e'.threads.items ≡ 1) → OnErr r (content_of e' ≡ content_of e) → IsSound e'
+sound_reopened e e' sound (Ok x) opens alone refused =
+    let first = opened_represents e.program e.limits sound.represents.accepted sound.represents.limits (content_of e') opens in
+    record { state = first.0; represents = first.2; few = omega (arith, alone) }
+sound_reopened e e' sound (Err x) opens alone refused = record {
+  state = sound.state;
+  represents = subst (λ c. Represents c sound.state) (sym refused) sound.represents;
+  few = subst (λ (c : Content). length c.threads ≤ MOST_THREADS) (sym refused) sound.few;
+}

@@ -11,3 +11,5 @@ pub mod Monitors
 pub mod Forwards
 pub mod Histories
 pub mod Loans
+pub mod Alike
+pub mod Beginnings

@@ -1,6 +1,6 @@
 //! What a machine does on each event.
 
-ghost use Rattle.std.specs.Prelude.{◌≡◌, ◌≢◌, ◌<◌, ◌≤◌, ℕ, IfOk, OnErr, IsSome, None, Some, length, option_map, slice_get, true};
+ghost use Rattle.std.specs.Prelude.{◌≡◌, ◌≢◌, ◌<◌, ◌≤◌, ℕ, IfOk, OnErr, OnOk, IsSome, None, Some, length, option_map, slice_get, true};
 ghost use Rattle.std.specs.List.{count_by};
 ghost use Rattle.cil_model.specs.Ranges.{are_in_range};
 ghost use Rattle.object_memory.specs.Cells.{null};
@@ -15,7 +15,7 @@ ghost use Rattle.simulation.specs.interpreter.declared.outcomes.Outcome.TheVaria
 ghost use Rattle.simulation.specs.interpreter.Instructions.{Prints};
 ghost use Rattle.simulation.specs.MachineContents.{mutator_of};
 ghost use Rattle.simulation.specs.Ready.{CanFinish};
-ghost use Rattle.simulation.specs.Turns.{IsTurn, TakesMemory, answered, counted, finish, live_thread, seated, started, thread_for};
+ghost use Rattle.simulation.specs.Turns.{IsTurn, TakesMemory, answered, counted, finish, live_thread, opening_content, seated, started, thread_for};
 ghost use Rattle.interleaving_core.specs.Views.{CanGoOn, content_of, end_at};
 ghost use Rattle.interleaving_core.specs.Monitors.{next_monitor};
 ghost use Rattle.interleaving_core.specs.Positions.{position_at};
@@ -25,6 +25,7 @@ ghost use Rattle.interleaving_core.specs.Finishing.{IsInstructed};
 use crate::beginnings::beginning_on;
 use crate::cycle_memory::CycleMemory;
 use crate::monitors::monitor_in;
+use crate::openings::{opening_parts, reset_heap};
 use crate::positions::{Position, position_in};
 use crate::steps::{answer, instruct, leave_if_ended, seat_started};
 use crate::waits::{Wait, wait_in};
@@ -83,6 +84,25 @@ impl Engine {
             Event::Ack(thread) => Ok(self.acknowledge(thread)),
             Event::Gc => self.collect(alloc),
         }
+    }
+
+    /// Takes the machine back to its initial state. The block of the heap is kept if the heap has not grown. `NoMemory` if there is no memory for the
+    /// first thread, the static fields or a block; nothing is changed then.
+    pub fn reopen(&mut self, alloc: Global) -> Result<(), NoMemory>
+        requires limits { are_in_range self.old.limits ≡ true }
+        ensures begins { OnOk result (opening_content self.old.program self.old.limits ≡ Some (content_of self.new)) }
+        ensures alone { OnOk result (length self.new.threads.items ≡ 1) }
+        ensures refused { OnErr result (content_of self.new ≡ content_of self.old) }
+    {
+        let (threads, statics) = opening_parts(alloc, &self.program, self.limits)?;
+        let literals = self.program.program().literals().len();
+        reset_heap(&mut self.store.heap, alloc, self.limits.words, literals)?;
+        self.store.statics = statics;
+        self.store.console.clear();
+        self.threads = threads;
+        self.posts = Posts::new();
+        self.progress = Progress::none();
+        Ok(())
     }
 
     /// A step of a live thread.

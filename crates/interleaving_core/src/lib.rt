@@ -6,6 +6,7 @@
 #![tactic(auto)]
 
 mod acknowledgements;
+mod alike;
 mod beginnings;
 mod collections;
 mod cycle_memory;

@@ -16,6 +16,7 @@ ghost use Rattle.interleaving_core.specs.Monitors.{next_monitor};
 ghost use Rattle.interleaving_core.specs.Views.{end_at, phase_at};
 ghost use Rattle.interleaving_core.specs.Positions.{position_at};
 ghost use Rattle.interleaving_core.specs.Waits.{wait_at};
+ghost use Rattle.interleaving_core.specs.Alike.{AreAlike};
 ghost use Rattle.simulation.specs.StandsFor.{Represents};
 ghost use Rattle.simulation.specs.Turns.{IsTurn, TakesMemory, live_thread, opening_content};
 ghost use Rattle.simulation.specs.interpreter.Local.{IsNextLocal};
@@ -28,6 +29,7 @@ ghost use Rattle.interleaving_core.specs.Refusals.{number_of};
 ghost use Rattle.simulation.specs.Runs.{AreTurns, FollowsReference};
 ghost use Rattle.interleaving_core.specs.declared.machine.Refused.TheVariants.{Limits as BadLimits, OutOfMemory};
 
+use crate::alike::{are_alike, digest_of};
 use crate::engine::Engine;
 use crate::loans::{Loan, LoanRoom};
 use crate::openings::opened;
@@ -110,6 +112,16 @@ impl Machine {
         Ok(Machine {
             engine: opened(alloc, program, limits)?,
         })
+    }
+
+    /// Takes the machine back to its initial state, with the same program and limits. The block of its heap is kept if the heap has not grown; the frames
+    /// of thread 0 and the static fields are allocated again. `NoMemory` if there is no memory for them; nothing is changed then.
+    pub fn reopen(&mut self, alloc: Global) -> Result<(), NoMemory>
+        ensures begins { OnOk result (opening_content self.old.tree self.old.limits ≡ Some self.new) }
+        ensures refused { OnErr result (self.new ≡ self.old) }
+    {
+        let _engine = &self.engine;
+        self.engine.reopen(alloc)
     }
 
     /// What the machine does on one event, and what it reports.
@@ -287,6 +299,22 @@ impl Machine {
     {
         let _engine = &self.engine;
         self.engine.is_same(first, second)
+    }
+
+    /// Whether two machines of one program within the same limits differ in nothing but the remaining steps of threads. True only if so; false while a cycle
+    /// of the collector is open in either. It allocates nothing.
+    pub fn is_like(&self, other: &Machine) -> bool
+        requires program { other.now.tree ≡ self.now.tree }
+        requires limits { other.now.limits ≡ self.now.limits }
+        ensures { result ≡ true → AreAlike self.now other.now }
+    {
+        are_alike(&self.engine, &other.engine)
+    }
+
+    /// A hash of the machine's state, without the remaining steps of threads. Machines of which `is_like` is true have the same digest; other machines may
+    /// have it too.
+    pub fn digest(&self) -> u64 {
+        digest_of(&self.engine).word()
     }
 
     /// The program that it runs, as a tree, which is the same for ever.

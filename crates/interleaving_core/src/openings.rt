@@ -1,13 +1,15 @@
 //! What a machine holds before its first event.
 
-ghost use Rattle.std.specs.Prelude.{◌≡◌, ◌++◌, Some, IfOk, OnOk, true, length, map, filter, replicate};
+ghost use Rattle.std.specs.Prelude.{◌≡◌, ◌++◌, [], Some, IfOk, OnErr, OnOk, true, length, map, filter, replicate};
 ghost use Rattle.std.specs.List.{flat_map};
 ghost use Rattle.cil_model.specs.Ranges.{are_in_range};
 ghost use Rattle.cil_model.specs.Typings.{IsAccepted};
 ghost use Rattle.cil_model.specs.Fields.{static_fields};
+ghost use Rattle.cil_model.specs.Mentions.{literals_of};
 ghost use Rattle.object_memory.specs.Objects.{no_objects};
 ghost use Rattle.simulation.specs.Turns.{opening_content};
 ghost use Rattle.interleaving_core.specs.Views.{content_of};
+ghost use Rattle.interleaving_core.specs.Beginnings.{beginning_content};
 ghost use Rattle.interleaving_core.specs.Statics.{declared_fields, zeros_of};
 
 use crate::beginnings::beginning;
@@ -73,6 +75,41 @@ fn opening_heap(alloc: Global, words: u32, literals: usize) -> Result<Heap, NoMe
     Heap::new(alloc, block, literals)
 }
 
+/// Takes a heap back to one without objects, in a block of `words` words, beside `literals` literals. `NoMemory` if it needs a new block and there is no memory for it; nothing is
+/// changed then.
+pub(crate) fn reset_heap(
+    heap: &mut Heap,
+    alloc: Global,
+    words: u32,
+    literals: usize,
+) -> Result<(), NoMemory>
+    ensures done { OnOk result (heap.new ≡ no_objects words literals) }
+    ensures refused { OnErr result (heap.new ≡ heap.old) }
+{
+    if !heap.reset(words as usize, literals) {
+        *heap = opening_heap(alloc, words, literals)?;
+    }
+    Ok(())
+}
+
+/// The first thread of a program, which is at its entry point, and the initial values of all static fields, within limits that are in range.
+pub(crate) fn opening_parts(
+    alloc: Global,
+    program: &LoadedProgram,
+    limits: Limits,
+) -> Result<(Vec<Thread>, Vec<Value>), NoMemory>
+    requires limits { are_in_range limits ≡ true }
+    ensures alone { IfOk result (λ x. length x.0.items ≡ 1) }
+    ensures opening { IfOk result (λ x. opening_content program.now limits ≡ Some (beginning_content program.now limits x.0.items (no_objects limits.words (length (literals_of program.now))) x.1.items [])) }
+{
+    let statics = opening_statics(alloc, program.program().tree().classes.as_slice())?;
+    let entry = program.number(program.program().entry_point());
+    let first = Thread::new(alloc, beginning(program, limits, entry), &[])?;
+    let mut threads = Vec::new(alloc);
+    threads.push(first)?;
+    Ok((threads, statics))
+}
+
 /// A machine before its first event, within limits that are in range. Its thread is at the entry point.
 pub(crate) fn opened(alloc: Global, program: Verified, limits: Limits) -> Result<Engine, NoMemory>
     requires limits { are_in_range limits ≡ true }
@@ -83,12 +120,8 @@ pub(crate) fn opened(alloc: Global, program: Verified, limits: Limits) -> Result
 {
     let (program, layout) = program.into_parts();
     let program = LoadedProgram::new(alloc, program, layout)?;
-    let statics = opening_statics(alloc, program.program().tree().classes.as_slice())?;
+    let (threads, statics) = opening_parts(alloc, &program, limits)?;
     let heap = opening_heap(alloc, limits.words, program.program().literals().len())?;
-    let entry = program.number(program.program().entry_point());
-    let first = Thread::new(alloc, beginning(&program, limits, entry), &[])?;
-    let mut threads = Vec::new(alloc);
-    threads.push(first)?;
     Ok(Engine {
         program,
         limits,

@@ -1,10 +1,12 @@
 //! Objects in one block, or in two during a cycle.
 
 ghost use Rattle.cil_model.specs.declared.limits.TheConstants.{MOST_WORDS};
+ghost use Rattle.object_memory.specs.declared.monitors.Monitor.TheVariants.{Free};
 ghost use Rattle.space_block.specs.Rows.{blank};
-ghost use Rattle.std.specs.Prelude.{◌≡◌, ◌≢◌, ℕ, ◌+◌, ◌*◌, ◌<◌, ◌≤◌, [], true, false, length, drop, slice_index, slice_get, Some, None, IfOk, IfSome, IsSome, option_map, vec_capacity};
+ghost use Rattle.std.specs.Prelude.{◌≡◌, ◌≢◌, ℕ, ◌+◌, ◌*◌, ◌<◌, ◌≤◌, [], true, false, length, drop, replicate, slice_index, slice_get, Some, None, IfOk, IfSome, IsSome, option_map, vec_capacity};
 
 use crate::addresses::Addr;
+use crate::digests::Digest;
 use crate::grey::GreyList;
 use crate::kinds::Kind;
 use crate::monitors::Monitor;
@@ -84,6 +86,42 @@ impl Heap {
         ensures literals { (a : Addr) → IsSome (cell_at self.now.spaces a) → literal_number a ≡ None }
     {
         let _from = &self.from;
+    }
+
+    /// Whether two heaps hold the same objects at the same addresses, and the same monitors of literals. True only if they do; false while a cycle is
+    /// open in either.
+    pub fn is_like(&self, other: &Heap) -> bool
+        ensures { result ≡ true → self.now ≡ other.now }
+    {
+        match (&self.cycle, &other.cycle) {
+            (None, None) => {
+                self.from.is_like(&other.from) && are_same(&self.literals, &other.literals)
+            }
+            _ => false,
+        }
+    }
+
+    /// Adds the words of the old or only space and the monitors of the literals to a digest. Heaps of which `is_like` is true add the same words.
+    pub fn digest(&self, digest: &mut Digest) {
+        self.from.digest(digest);
+        for monitor in &self.literals {
+            digest.add(monitor.word());
+        }
+    }
+
+    /// Drops all objects, closes an open cycle and frees the monitors of the literals, if the old or only space has `words` words and the heap has
+    /// `literals` literals. If not, it returns false and changes nothing. It allocates nothing.
+    pub fn reset(&mut self, words: usize, literals: usize) -> bool
+        ensures done { result ≡ true → self.new ≡ no_objects words literals }
+        ensures stays { result ≡ false → self.new ≡ self.old }
+    {
+        if self.from.words() != words || self.literals.len() != literals {
+            return false;
+        }
+        self.cycle = None;
+        self.from.reset();
+        free_all(&mut self.literals);
+        true
     }
 
     /// Whether a cycle is open.
@@ -541,4 +579,26 @@ impl Heap {
             Some(cycle) => cycle.to.at(place),
         }
     }
+}
+
+/// Whether two lists of monitors are equal.
+fn are_same(monitors: &[Monitor], others: &[Monitor]) -> bool
+    ensures { result ≡ true → monitors.now ≡ others.now }
+{
+    if monitors.len() != others.len() {
+        return false;
+    }
+    for index in 0..monitors.len() {
+        if monitors[index] != others[index] {
+            return false;
+        }
+    }
+    true
+}
+
+/// Frees each monitor.
+fn free_all(monitors: &mut [Monitor])
+    ensures { monitors.new ≡ replicate (length monitors.old) Free }
+{
+    monitors.fill(Monitor::Free);
 }

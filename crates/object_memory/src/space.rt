@@ -8,6 +8,7 @@ ghost use Rattle.std.specs.Prelude.{◌≡◌, ◌⊎◌, ℕ, ◌+◌, ◌<◌,
 
 use crate::addresses::Addr;
 use crate::copies::Copies;
+use crate::digests::Digest;
 use crate::kinds::Kind;
 use crate::monitors::Monitor;
 use cil_model::limits::MOST_WORDS;
@@ -58,6 +59,37 @@ impl Space {
         ensures { result ≡ record { start = start; cells = []; words = length block.words } }
     {
         Space { block, start }
+    }
+
+    /// Whether two spaces hold the same cells at the same addresses. True only if they do.
+    pub(crate) fn is_like(&self, other: &Space) -> bool
+        ensures { result ≡ true → self.now ≡ other.now }
+    {
+        self.start == other.start
+            && self.block.len() == other.block.len()
+            && self.block.is_like(&other.block)
+    }
+
+    /// Adds the words of all cells to a digest.
+    pub(crate) fn digest(&self, digest: &mut Digest) {
+        for place in 0..self.block.used() {
+            digest.add(self.block.read(place));
+        }
+    }
+
+    /// Drops all objects. The next object gets the first address of a new heap.
+    pub(crate) fn reset(&mut self)
+        ensures { self.new ≡ record { start = first; cells = []; words = self.old.words } }
+    {
+        self.block.reset();
+        self.start = FIRST;
+    }
+
+    /// The number of words of the block.
+    pub(crate) fn words(&self) -> usize
+        ensures { result ≡ self.now.words }
+    {
+        self.block.len()
     }
 
     /// The block, of which no word is in use.

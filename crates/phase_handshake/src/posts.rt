@@ -1,6 +1,6 @@
 //! What a collector posts, and what the threads acknowledge.
 
-ghost use Rattle.std.specs.Prelude.{◌≡◌, map, IsTrue};
+ghost use Rattle.std.specs.Prelude.{◌≡◌, map, true, IsTrue};
 ghost use Rattle.std.specs.List.{list_all};
 ghost use Rattle.reference_machine.specs.Cycles.{phase_after};
 ghost use Rattle.phase_handshake.specs.Handshakes.{AreClose, acknowledged, all_answered, all_seen, first_handshakes, has_answered, has_seen, is_open, joined, left, own_phase, posted_next, posted_round, seat_of, unanswered};
@@ -11,7 +11,7 @@ use std::marker::Model;
 
 /// What a live thread has seen of the collector: the phase that it has acknowledged, and whether it has answered the round that
 /// is posted.
-#[derive(Clone, Copy)]
+#[derive(Clone, Copy, PartialEq, Eq)]
 pub struct Seat {
     pub phase: Phase,
     pub answered: bool,
@@ -74,6 +74,15 @@ impl Posts {
         ensures { result ≡ self.now.has_round }
     {
         self.has_round
+    }
+
+    /// Whether the posted phase, the posted round and the seats of all threads are equal. True only if they are.
+    pub fn is_like(&self, other: &Posts) -> bool
+        ensures { result ≡ true → self.now ≡ other.now }
+    {
+        self.posted == other.posted
+            && self.has_round == other.has_round
+            && are_same(&self.seats, &other.seats)
     }
 
     /// The seat of a thread. None where no thread of that number is live, as for every number from 16 on.
@@ -237,4 +246,19 @@ fn unanswered(seat: Option<Seat>) -> Option<Seat>
         answered: false,
         ..seat
     })
+}
+
+/// Whether two lists of seats are equal. True only if they are.
+fn are_same(seats: &[Option<Seat>], others: &[Option<Seat>]) -> bool
+    ensures { result ≡ true → seats.now ≡ others.now }
+{
+    if seats.len() != others.len() {
+        return false;
+    }
+    for index in 0..seats.len() {
+        if seats[index] != others[index] {
+            return false;
+        }
+    }
+    true
 }

@@ -3,7 +3,7 @@
 //! none after the block was given back.
 #![tactic(auto)]
 
-ghost use Rattle.std.specs.Prelude.{◌≡◌, ◌+◌, ◌<◌, ◌≤◌, length, slice_index, slice_set, IfOk};
+ghost use Rattle.std.specs.Prelude.{◌≡◌, ◌+◌, ◌<◌, ◌≤◌, length, take, true, slice_index, slice_set, IfOk};
 ghost use Rattle.space_block.specs.Rows.{blank};
 
 mod words;
@@ -85,6 +85,22 @@ impl Block {
         ensures { result ≡ self.now.used }
     {
         self.used
+    }
+
+    /// Whether two blocks have the same number of words in use, and these words are equal. True only if so.
+    pub fn is_like(&self, other: &Block) -> bool
+        ensures number { result ≡ true → self.now.used ≡ other.now.used }
+        ensures words { result ≡ true → take self.now.used self.now.words ≡ take self.now.used other.now.words }
+    {
+        if self.used != other.used {
+            return false;
+        }
+        for index in 0..self.used {
+            if self.read(index) != other.read(index) {
+                return false;
+            }
+        }
+        true
     }
 
     /// The word at an index, which counts from 0. The word is in use.

@@ -1,20 +1,20 @@
 //! The frames of a thread.
 
 ghost use Rattle.std.specs.Prelude.{◌≡◌, ◌<◌, ◌≤◌, ◌+◌, ◌*◌, ◌^◌, ◌∷◌, ◌++◌, [], length, map, slice_get, None, Some, IfOk, ◌==◌, vec_len, vec_capacity};
-ghost use Rattle.std.specs.Prelude.{◌-◌, ◌↔◌, All, IfSome, IsTrue, drop, option_map, take};
+ghost use Rattle.std.specs.Prelude.{◌-◌, ◌↔◌, All, IfSome, IsTrue, drop, option_map, take, true};
 ghost use Rattle.threads_monitors.specs.Frames.{zero_value};
 ghost use Rattle.threads_monitors.specs.Roots.{AnswersAt, IsAnswer, reference_in, with_reference};
 ghost use Rattle.threads_monitors.specs.Activations.{moved_to, with_constructed};
 ghost use Rattle.object_memory.specs.declared.addresses.Addr.{Addr as AnyAddr};
 
 use cil_model::memory::NoMemory;
-use object_memory::{Addr, Value, ValueKind};
+use object_memory::{Addr, Digest, Value, ValueKind};
 use std::alloc::Global;
 use std::marker::Model;
 
 /// Where the values of a frame begin in the row of all values: its arguments, its locals and its stack. Beside them what
 /// it runs, the place of the next instruction, and the object to push at the end of a constructor.
-#[derive(Clone, Copy)]
+#[derive(Clone, Copy, PartialEq, Eq)]
 struct Activation {
     method: u32,
     place: u32,
@@ -22,6 +22,20 @@ struct Activation {
     arguments: usize,
     locals: usize,
     stack: usize,
+}
+
+impl Activation {
+    /// Adds the activation to a digest.
+    fn digest(&self, digest: &mut Digest) {
+        digest.add(u64::from(self.method));
+        digest.add(u64::from(self.place));
+        digest.add(self.arguments as u64);
+        digest.add(self.locals as u64);
+        digest.add(self.stack as u64);
+        if let Some(object) = self.constructed {
+            digest.add(Value::Ref(object).word());
+        }
+    }
 }
 
 /// The frames of a live thread (ECMA-335 I.12.3.2), one of which runs. All memory is taken when the first one is made: no
@@ -89,6 +103,28 @@ impl FrameMemory {
             depth,
             room,
         })
+    }
+
+    /// Whether two threads have the same frames, and room for the same number of frames. True only if they do.
+    pub fn is_like(&self, other: &FrameMemory) -> bool
+        ensures { result ≡ true → self.now ≡ other.now }
+    {
+        self.depth == other.depth
+            && self.room == other.room
+            && self.running == other.running
+            && are_same(&self.values, &other.values)
+            && are_same_activations(&self.below, &other.below)
+    }
+
+    /// Adds all frames to a digest. Frames of which `is_like` is true add the same words.
+    pub fn digest(&self, digest: &mut Digest) {
+        for activation in &self.below {
+            activation.digest(digest);
+        }
+        self.running.digest(digest);
+        for value in &self.values {
+            digest.add(value.word());
+        }
     }
 
     /// The number of the method that runs.
@@ -411,7 +447,7 @@ fn moved(activation: Activation, start: usize) -> Activation
 }
 
 /// Whether the values are the same, one by one.
-fn are_same(one: &[Value], other: &[Value]) -> bool
+pub fn are_same(one: &[Value], other: &[Value]) -> bool
     ensures { IsTrue result ↔ (one.now ≡ other.now) }
 {
     one == other
@@ -485,4 +521,19 @@ fn replace_in_activation<F: Fn(Addr) -> Addr>(activation: Activation, change: &F
         constructed: activation.constructed.map(change),
         ..activation
     }
+}
+
+/// Whether two lists of activations are equal. True only if they are.
+fn are_same_activations(activations: &[Activation], others: &[Activation]) -> bool
+    ensures { result ≡ true → activations.now ≡ others.now }
+{
+    if activations.len() != others.len() {
+        return false;
+    }
+    for index in 0..activations.len() {
+        if activations[index] != others[index] {
+            return false;
+        }
+    }
+    true
 }

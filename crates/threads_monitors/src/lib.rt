@@ -13,7 +13,7 @@ mod mutators;
 mod threads;
 
 pub use effects::Effect;
-pub use frames::{FrameMemory, zero_value};
+pub use frames::{FrameMemory, are_same, zero_value};
 pub use monitors::{enter, exit};
 pub use mutators::Mutator;
 pub use threads::{Beginning, Standing, Thread, is_live, join, start, start_fault, thread_on};

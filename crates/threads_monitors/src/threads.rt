@@ -13,11 +13,17 @@ use cil_model::limits::MOST_THREADS;
 use cil_model::memory::NoMemory;
 use cil_model::phases::Phase;
 use cil_model::reports::{End, Fault, Report};
-use object_memory::{Addr, Heap, Value, ValueKind};
+use object_memory::{Addr, Digest, Heap, Value, ValueKind};
 use std::alloc::Global;
 
 /// The slot of a `Cilvm.Thread` that tells the thread which was started on it: its number and one, or 0 (this profile).
 const THREAD_SLOT: u32 = 0;
+
+/// The word in a digest for a thread whose first method returned.
+const DONE_WORD: u64 = u64::MAX;
+
+/// The word in a digest for a thread that ended in any other way.
+const ENDED_EARLY_WORD: u64 = u64::MAX - 1;
 
 /// How a thread stands: with its frames while it is live, or as it ended. A thread that ended has no frames; the monitors
 /// that it holds stay held (this profile).
@@ -43,6 +49,28 @@ pub struct Beginning<'a> {
     pub depth: usize,
     pub room: usize,
     pub budget: u32,
+}
+
+impl Standing {
+    /// Whether two threads are both live with the same frames, or both ended in the same way. True only if so.
+    pub fn is_like(&self, other: &Standing) -> bool
+        ensures { result ≡ true → self.now ≡ other.now }
+    {
+        match (self, other) {
+            (Standing::Live(frames), Standing::Live(others)) => frames.is_like(others),
+            (Standing::Ended(end), Standing::Ended(other)) => end == other,
+            _ => false,
+        }
+    }
+
+    /// Adds the frames of a live thread to a digest, or a word for the end of a thread. Threads of which `is_like` is true add the same words.
+    pub fn digest(&self, digest: &mut Digest) {
+        match self {
+            Standing::Live(frames) => frames.digest(digest),
+            Standing::Ended(End::Done) => digest.add(DONE_WORD),
+            Standing::Ended(_) => digest.add(ENDED_EARLY_WORD),
+        }
+    }
 }
 
 impl Thread {

@@ -1,0 +1,14 @@
+-- The initial content of a machine, from the parts that depend on its program (this profile).
+use Rattle.std.specs.Prelude.{ℕ, List}
+use Rattle.cil_model.specs.declared.limits.Limits.{Limits}
+use Rattle.cil_model.specs.declared.trees.Tree.{Tree}
+use Rattle.object_memory.specs.Objects.{Objects}
+use Rattle.object_memory.specs.declared.values.Value.{Value}
+use Rattle.phase_handshake.specs.Handshakes.{first_handshakes}
+use Rattle.simulation.specs.collector.Phases.{no_progress}
+use Rattle.threads_monitors.specs.declared.threads.Thread.{Thread}
+use Rattle.simulation.specs.MachineContents.{Content}
+
+abbrev pub beginning_content : Tree → Limits → List Thread → Objects → List Value → List ℕ → Content
+beginning_content tree limits threads objects statics printed =
+    record { tree = tree; limits = limits; threads = threads; posts = first_handshakes; progress = no_progress; objects = objects; statics = statics; printed = printed }
