@@ -1,0 +1,151 @@
+-- Where lists of events lead.
+use Rattle.std.proofs.Common.{Contains, ◌≡◌, ◌≢◌, ◌⊎◌, ◌<◌, ◌≤◌, ℕ, zero, suc, true, false, List, [], ◌∷◌, Some, length, map, option_map, slice_get, Result, Ok, Err, refl, inl, inr, sym, ap, ◌∙◌, subst, arith}
+use Rattle.std.specs.Prelude.{IfOk}
+use Rattle.std.proofs.lemmas.Option.{get_or_from_slice_get, slice_get-map, slice_get_within, same_Some}
+use Rattle.simulation.specs.cil_model.declared.events.Event.{Event}
+use Rattle.simulation.specs.cil_model.declared.events.Event.TheVariants.{Step}
+use Rattle.simulation.specs.cil_model.declared.instructions.Instruction.{Instruction}
+use Rattle.simulation.specs.cil_model.declared.reports.Report.{Report}
+use Rattle.simulation.specs.cil_model.declared.reports.Report.TheVariants.{Blocked}
+use Rattle.simulation.specs.cil_model.declared.trees.Line.{Line}
+use Rattle.simulation.specs.cil_model.declared.trees.Tree.{Tree}
+use Rattle.simulation.specs.resolved_code.Resolved.{IsOperation}
+use Rattle.simulation.specs.resolved_code.declared.operations.Operation.{Operation}
+use Rattle.simulation.specs.MachineContents.{Content}
+use Rattle.simulation.specs.Runs.{AreTurns}
+use Rattle.simulation.specs.Turns.{IsTurn}
+use Rattle.simulation.specs.threads_monitors.declared.threads.Thread.{Thread}
+use Rattle.simulation.proofs.OneTurn.{one_turn}
+use Rattle.simulation.proofs.Finished.{same_program}
+use Rattle.simulation.specs.threads_monitors.Threads.{is_live_at}
+use Rattle.exploration.specs.Paths.{IsNotTerminalAt, IsReal, IsTerminalAt, CanStepAt, CannotStepAt, AreStepsChecked, IsStepChecked, LeadsTo, ShowsOneOf, events_of, outcome_found}
+use Rattle.exploration.specs.declared.findings.Found.{Found}
+use Rattle.exploration.specs.Searches.{IsClosed, IsLedTo, LeadsInto}
+use Rattle.exploration.specs.Shown.{CannotStep, IsTerminal, Outcome, ShowOnly, outcome_shown}
+use Rattle.exploration.proofs.Stepping.{live_there}
+use Rattle.exploration.specs.declared.findings.Path.{Path}
+
+-- the events of a path at a place
+pub events_there : (paths : List Path) (n : ℕ) (p : Path) → slice_get paths n ≡ Some p → slice_get (map events_of paths) n ≡ Some p.events.items
+events_there paths n p is = slice_get-map events_of paths n ∙ ap (option_map events_of) is
+
+-- each instruction of a line is one operation
+abbrev pub IsOneOperation : Tree → Type 0
+IsOneOperation tree = (lines : List Line) (i : Instruction) (o p : Operation) → IsOperation tree lines i o → IsOperation tree lines i p → o ≡ p
+
+-- so a list of events leads to one content
+pub led_once : (c : Content) → IsOneOperation c.tree → (events : List Event) (x y : Content) (rs qs : List Report) → AreTurns c events x rs → AreTurns c events y qs → x ≡ y
+led_once c one [] x y rs qs h k = h.0 ∙ sym k.0
+led_once c one (e ∷ es) x y [] qs h k = elim h [ ]
+led_once c one (e ∷ es) x y (r ∷ rs) [] h k = elim k [ ]
+led_once c one (e ∷ es) x y (r ∷ rs) (q ∷ qs) h k =
+    let same : h.0 ≡ k.0 = ap (λ (z : Content × Report). z.0) (one_turn c one e (h.0, r) (k.0, q) h.1 k.1) in
+    let kept = same_program c (h.0, r) e h.1 in
+    led_once h.0 (subst IsOneOperation (sym kept.0) one) es x y rs qs h.2 (subst (λ (d : Content). AreTurns d es y qs) (sym same) k.2)
+
+-- a number is below another or not
+nat_cases : (m n : ℕ) → (m < n) ⊎ (n ≤ m)
+nat_cases m zero = inr (omega arith)
+nat_cases zero (suc n) = inl (omega arith)
+nat_cases (suc m) (suc n) = by_case (nat_cases m n)
+  where
+    by_case : (m < n) ⊎ (n ≤ m) → (suc m < suc n) ⊎ (suc n ≤ suc m)
+    by_case (inl below) = inl (omega (arith, below))
+    by_case (inr beyond) = inr (omega (arith, beyond))
+
+-- no thread of a number beyond all is live
+beyond_dead : (threads : List Thread) (t : ℕ) → length threads ≤ t → is_live_at threads t ≡ false
+beyond_dead [] t beyond = refl
+beyond_dead (x ∷ xs) zero beyond = absurd (omega (arith, beyond))
+beyond_dead (x ∷ xs) (suc t) beyond = beyond_dead xs t (omega (arith, beyond))
+
+-- events keep the program
+pub turns_program : (c : Content) (events : List Event) (x : Content) (rs : List Report) → AreTurns c events x rs → x.tree ≡ c.tree
+turns_program c [] x rs h = ap (λ (y : Content). y.tree) h.0
+turns_program c (e ∷ es) x [] h = elim h [ ]
+turns_program c (e ∷ es) x (r ∷ rs) h = turns_program h.0 es x rs h.2 ∙ (same_program c (h.0, r) e h.1).0
+
+-- ---- what has come to an end
+
+module _ (first : Content) (one : IsOneOperation first.tree) where
+  pub led_together : (events : List Event) (c d : Content) → LeadsTo first events c → LeadsTo first events d → c ≡ d
+  led_together events c d h k = led_once first one events c d h.reports k.reports h.turns k.turns
+
+  -- a live thread whose step was not blocked
+  pub goes_on_at : (events : List Event) (c : Content) → LeadsTo first events c → (t : ℕ) → is_live_at c.threads t ≡ true → (next : Content) (r : Report) → IsTurn c (Step t) (next, r) → r ≢ Blocked → CanStepAt first events t
+  goes_on_at events c led t live next r turn moves = (c, led, refuted)
+    where
+      one_here : IsOneOperation c.tree
+      one_here = subst IsOneOperation (sym (turns_program first events c led.reports led.turns)) one
+
+      refuted : CannotStep c t → ⊥
+      refuted (inl dead) = let no : true ≡ false = sym live ∙ dead in absurd (cc no)
+      refuted (inr (after, blocked)) = moves (ap (λ (x : Content × Report). x.1) (one_turn c one_here (Step t) (next, r) (after, Blocked) turn blocked))
+
+  -- each thread by itself
+  pub ends_at : (events : List Event) (c : Content) → LeadsTo first events c → ((t : ℕ) → t < length c.threads → CannotStepAt first events t) → IsTerminalAt first events
+  ends_at events c led each = (c, led, stuck)
+    where
+      stuck : IsTerminal c
+      stuck t = by_order (nat_cases t (length c.threads))
+        where
+          by_order : (t < length c.threads) ⊎ (length c.threads ≤ t) → CannotStep c t
+          by_order (inl below) = let h = each t below in subst (λ (x : Content). CannotStep x t) (led_together events h.0 c h.1 led) h.2
+          by_order (inr beyond) = inl (beyond_dead c.threads t beyond)
+
+  pub does_not_end_at : (events : List Event) (t : ℕ) → CanStepAt first events t → IsNotTerminalAt first events
+  does_not_end_at events t h = (h.0, h.1, λ ends. h.2 (ends t))
+
+-- ---- the outcomes
+
+module _ (first : Content) (paths : List (List Event)) (outcomes : List Outcome) (place : ℕ) (events : List Event) (there : slice_get paths place ≡ Some events) where
+  -- some thread can make a step
+  pub moves_shown : (t : ℕ) → CanStepAt first events t → ShowsOneOf first paths outcomes place
+  moves_shown t h = record { path = events; there = there; content = h.0; leads = h.1; shows = λ terminal. absurd (h.2 (terminal t)) }
+
+  pub not_terminal_shown : IsNotTerminalAt first events → ShowsOneOf first paths outcomes place
+  not_terminal_shown h = record { path = events; there = there; content = h.0; leads = h.1; shows = λ terminal. absurd (h.2 terminal) }
+
+-- the outcome of a content in which no thread can make a step
+pub is_real : (first : Content) (found : Found) (c : Content) → LeadsTo first found.events.items c → IsOneOperation first.tree → IsTerminalAt first found.events.items → outcome_shown c ≡ outcome_found found → IsReal first found
+is_real first found c led one h shows = record {
+  content = c;
+  leads = led;
+  ends = subst IsTerminal (led_together first one found.events.items h.0 c h.1 led) h.2;
+  shows = shows;
+}
+
+-- an outcome of a list
+pub contains_at : (found : List Found) (n : ℕ) (f : Found) (o : Outcome) → slice_get found n ≡ Some f → o ≡ outcome_found f → Contains (map outcome_found found) o
+contains_at found n f o at is =
+    let there : slice_get (map outcome_found found) n ≡ Some o = slice_get-map outcome_found found n ∙ (ap (option_map outcome_found) at ∙ ap Some (sym is)) in
+    (n, slice_get_within (map outcome_found found) n o there, get_or_from_slice_get (map outcome_found found) n o o there)
+
+pub if_ok : {T E : Type 0} {P Q : T → Type 0} (r : Result T E) → IfOk r P → ((x : T) → P x → Q x) → IfOk r Q
+if_ok (Ok x) p f = f x p
+if_ok (Err e) p f = tt
+
+-- ---- a closed set
+
+module _ (first : Content) (one : IsOneOperation first.tree) (paths : List (List Event)) where
+  -- what a list leads to it leads to once
+  same_content : (n : ℕ) (c d : Content) (path path' : List Event) (rs qs : List Report) → slice_get paths n ≡ Some path → slice_get paths n ≡ Some path' → AreTurns first path c rs → AreTurns first path' d qs → c ≡ d
+  same_content n c d path path' rs qs at at' h k =
+      let same : path' ≡ path = same_Some path' path (sym at' ∙ at) in
+      led_once first one path c d rs qs h (subst (λ (es : List Event). AreTurns first es d qs) same k)
+
+  pub all_closed : ((n : ℕ) → n < length paths → AreStepsChecked first paths n) → IsClosed (IsLedTo first paths)
+  all_closed each c led t live =
+      let on : AreStepsChecked first paths led.place = each led.place (slice_get_within paths led.place led.path led.there) in
+      let same : on.content ≡ c = same_content led.place on.content c on.path led.path on.reports led.reports on.there led.there on.turns led.turns in
+      let lives : is_live_at on.content.threads t ≡ true = ap (λ (x : Content). is_live_at x.threads t) same ∙ live in
+      let there = live_there on.content.threads t lives in
+      let step : IsStepChecked first paths led.place t = on.each t (slice_get_within on.content.threads t _ there.2) in
+      let also : step.content ≡ c = same_content led.place step.content c step.path led.path step.reports led.reports step.there led.there step.turns led.turns in
+      subst (λ (x : Content). LeadsInto (IsLedTo first paths) x t) also (step.leads (ap (λ (x : Content). is_live_at x.threads t) also ∙ live))
+
+  pub shows_only : (outcomes : List Outcome) → ((n : ℕ) → n < length paths → ShowsOneOf first paths outcomes n) → ShowOnly (IsLedTo first paths) outcomes
+  shows_only outcomes each c led ends =
+      let at : ShowsOneOf first paths outcomes led.place = each led.place (slice_get_within paths led.place led.path led.there) in
+      let same : at.content ≡ c = same_content led.place at.content c at.path led.path at.leads.reports led.reports at.there led.there at.leads.turns led.turns in
+      subst (λ (x : Content). Contains outcomes (outcome_shown x)) same (at.shows (subst IsTerminal (sym same) ends))

@@ -1,0 +1,150 @@
+-- What a counted step leaves of a thread, on two machines of which one is behind the other.
+use Rattle.std.proofs.Common.{◌≡◌, ◌⊎◌, ◌≢◌, ◌+◌, ◌-◌, ◌==◌, nat_le, ℕ, zero, suc, Bool, true, false, if◌then◌else◌, List, [], ◌∷◌, ◌++◌, length, Option, Some, None, option_map, is_some, slice_set, refl, inl, inr, sym, ap, subst}
+use Rattle.std.specs.Option.{option_map_or}
+use Rattle.std.proofs.lemmas.Option.{same_Some}
+use Rattle.simulation.specs.cil_model.declared.limits.TheConstants.{MOST_THREADS}
+use Rattle.simulation.specs.cil_model.declared.reports.End.TheVariants.{Budget}
+use Rattle.simulation.specs.cil_model.declared.reports.Fault.{Fault}
+use Rattle.simulation.specs.cil_model.declared.reports.Fault.TheVariants.{NullReference, ThreadState, TooManyThreads}
+use Rattle.simulation.specs.cil_model.declared.reports.Report.{Report}
+use Rattle.simulation.specs.cil_model.declared.reports.Report.TheVariants.{Ended as HasEnded}
+use Rattle.simulation.specs.cil_model.declared.trees.Tree.{Tree}
+use Rattle.simulation.specs.object_memory.declared.addresses.Addr.{Addr}
+use Rattle.simulation.specs.object_memory.Objects.{Objects}
+use Rattle.simulation.specs.instructions.barriers.Barriers.{stored_int}
+use Rattle.simulation.specs.threads_monitors.Frames.{Frames}
+use Rattle.simulation.specs.threads_monitors.Threads.{is_live, is_live_at, join_effect, settled, standing_after, thread_on, wait_for}
+use Rattle.simulation.specs.threads_monitors.declared.effects.Effect.{Effect}
+use Rattle.simulation.specs.threads_monitors.declared.effects.Effect.TheVariants.{GoesOn, Returns, Blocks, Raises}
+use Rattle.simulation.specs.threads_monitors.declared.threads.Standing.{Standing}
+use Rattle.simulation.specs.threads_monitors.declared.threads.Standing.TheVariants.{Live, Ended}
+use Rattle.simulation.specs.threads_monitors.declared.threads.Thread.{Thread}
+use Rattle.simulation.specs.interpreter.declared.outcomes.Outcome.{Outcome}
+use Rattle.simulation.specs.interpreter.declared.outcomes.Outcome.TheVariants.{Comes, Starts, Joins}
+use Rattle.simulation.specs.Agreement.{Agree}
+use Rattle.simulation.specs.MachineContents.{Content, mutator_of}
+use Rattle.simulation.specs.Turns.{after_request, answered, counted, finish, live_thread, seated, seats_after, thread_for}
+use Rattle.simulation.proofs.AgreeLaws.{agree_append, agree_length, agree_set}
+use Rattle.simulation.proofs.cil_model.Lists.{none_is_some}
+use Rattle.exploration.specs.Behind.{IsBehind, here, IsStandingBehind, IsThreadBehind}
+
+-- ---- who is behind itself
+
+pub standing_itself : (tree : Tree) (s : Standing) → IsStandingBehind tree s s
+standing_itself tree (Live m) = here m
+standing_itself tree (Ended e) = refl
+
+pub thread_itself : (tree : Tree) (x : Thread) → IsThreadBehind tree x x
+thread_itself tree x = standing_itself tree x.standing
+
+-- ---- one thread
+
+-- a step that is counted uses up the budget, or it leaves as much on both machines
+abbrev pub SettlesAlike : Tree → Thread × Report → Thread × Report → Type 0
+SettlesAlike tree x y = (x.1 ≡ HasEnded Budget) ⊎ ((x.1 ≡ y.1) × IsThreadBehind tree x.0 y.0)
+
+by_budget : (tree : Tree) (e : Effect) (m : Frames) (left left' : ℕ) (b b' : Bool) → (standing_after (if b' then Some Budget else None) m left' e).1 ≢ HasEnded Budget →
+    SettlesAlike tree (standing_after (if b then Some Budget else None) m left e) (standing_after (if b' then Some Budget else None) m left' e)
+by_budget tree e m left left' true b' lasts = inl refl
+by_budget tree e m left left' false true lasts = absurd (lasts refl)
+by_budget tree e m left left' false false lasts = inr (refl, here m)
+
+pub settles_alike : (tree : Tree) (e : Effect) (m : Frames) (left left' : ℕ) → (settled e (live_thread left' m)).1 ≢ HasEnded Budget →
+    SettlesAlike tree (settled e (live_thread left m)) (settled e (live_thread left' m))
+settles_alike tree Returns m left left' lasts = inr (refl, refl)
+settles_alike tree (Raises f) m left left' lasts = inr (refl, refl)
+settles_alike tree GoesOn m left left' lasts = by_budget tree GoesOn m (left - 1) (left' - 1) (left - 1 == 0) (left' - 1 == 0) lasts
+settles_alike tree Blocks m left left' lasts = by_budget tree Blocks m (left - 1) (left' - 1) (left - 1 == 0) (left' - 1 == 0) lasts
+
+-- ---- the whole content
+
+-- a turn uses up the budget, or both have one report and the first content is behind the second
+abbrev pub TurnsAlike : Content × Report → Content × Report → Type 0
+TurnsAlike x y = (x.1 ≡ HasEnded Budget) ⊎ ((x.1 ≡ y.1) × IsBehind x.0 y.0)
+
+pub counted_alike : (c : Content) (ts : List Thread) → Agree (IsThreadBehind c.tree) c.threads ts → (t left left' : ℕ) (e : Effect) (m : Frames) →
+    (counted (record c { threads = ts }) t left' e m).1 ≢ HasEnded Budget → TurnsAlike (counted c t left e m) (counted (record c { threads = ts }) t left' e m)
+counted_alike c ts agree t left left' e m lasts = by_thread (settles_alike c.tree e m left left' lasts)
+  where
+    by_thread : SettlesAlike c.tree (settled e (live_thread left m)) (settled e (live_thread left' m)) → TurnsAlike (counted c t left e m) (counted (record c { threads = ts }) t left' e m)
+    by_thread (inl over) = inl over
+    by_thread (inr h) = inr (
+      h.0,
+      record {
+        rest = ap (λ (q : Report). record c { threads = slice_set ts t (settled e (live_thread left' m)).0; posts = seats_after c.posts t q }) (sym h.0);
+        threads = agree_set (IsThreadBehind c.tree) c.threads ts agree t (settled e (live_thread left m)).0 (settled e (live_thread left' m)).0 h.1;
+      },
+    )
+
+-- ---- which threads are live
+
+standing_lives : (tree : Tree) (left left' : ℕ) (s u : Standing) → IsStandingBehind tree s u → is_live (record { standing = s; steps_left = left }) ≡ is_live (record { standing = u; steps_left = left' })
+standing_lives tree left left' (Live m) (Live n) h = refl
+standing_lives tree left left' (Ended e) (Ended f) h = refl
+standing_lives tree left left' (Live m) (Ended f) h = elim h [ ]
+standing_lives tree left left' (Ended e) (Live n) h = elim h [ ]
+
+pub live_alike : (tree : Tree) (xs ys : List Thread) → Agree (IsThreadBehind tree) xs ys → (n : ℕ) → is_live_at xs n ≡ is_live_at ys n
+live_alike tree [] [] h n = refl
+live_alike tree (x ∷ xs) (y ∷ ys) h zero = standing_lives tree x.steps_left y.steps_left x.standing y.standing h.0
+live_alike tree (x ∷ xs) (y ∷ ys) h (suc n) = live_alike tree xs ys h.1 n
+live_alike tree [] (y ∷ ys) h n = elim h [ ]
+live_alike tree (x ∷ xs) [] h n = elim h [ ]
+
+-- ---- what an instruction comes to
+
+module _ (c : Content) (ts : List Thread) (agree : Agree (IsThreadBehind c.tree) c.threads ts) (t left left' : ℕ) (m : Frames) (y : Content × Report) (lasts : y.1 ≢ HasEnded Budget) where
+  abbrev d : Content
+  d = record c { threads = ts }
+
+  -- the same turn of the first
+  abbrev Comes' : Option (Content × Report) → Type 0
+  Comes' turn = (x : Content × Report) × (turn ≡ Some x) × TurnsAlike x y
+
+  counts : (b : Content) (us : List Thread) → Agree (IsThreadBehind b.tree) b.threads us → (e : Effect) (n : Frames) → Some (counted (record b { threads = us }) t left' e n) ≡ Some y → Comes' (Some (counted b t left e n))
+  counts b us h e n is =
+      let same = same_Some (counted (record b { threads = us }) t left' e n) y is in (
+        counted b t left e n,
+        refl,
+        subst (λ z. TurnsAlike (counted b t left e n) z) same (counted_alike b us h t left left' e n (subst (λ (z : Content × Report). z.1 ≢ HasEnded Budget) (sym same) lasts)),
+      )
+
+  -- ---- a start
+
+  abbrev fault_by : ℕ → Objects → Addr → Option Fault
+  fault_by n o a = if a.number == 0 then Some NullReference else if is_some (thread_on o a) then Some ThreadState else if nat_le MOST_THREADS n then Some TooManyThreads else None
+
+  abbrev start_turn : ℕ → ℕ → List Thread → Addr → Option Fault → Option Thread → Option (Content × Report)
+  start_turn l n threads a fault new =
+      option_map (λ (x : List Thread × Objects × Effect). answered (record c { threads = x.0; posts = seated x.2 c.posts n t; objects = x.1 }) t l m x.2)
+      (option_map_or (λ x. Some (threads, c.objects, Raises x)) fault
+      (option_map (λ thread. option_map_or (λ f. (threads, c.objects, Raises f)) fault (threads ++ thread ∷ [], stored_int (mutator_of c t).phase c.objects a 0 (n + 1), GoesOn)) new))
+
+  by_fault : (n : ℕ) (a : Addr) (fault : Option Fault) (new : Option Thread) → start_turn left' n ts a fault new ≡ Some y → Comes' (start_turn left n c.threads a fault new)
+  by_fault n a (Some f) new h = counts c ts agree (Raises f) m h
+  by_fault n a None None h = none_is_some y h
+  by_fault n a None (Some thread) h =
+      counts (record c { threads = c.threads ++ thread ∷ []; posts = seated GoesOn c.posts n t; objects = stored_int (mutator_of c t).phase c.objects a 0 (n + 1) }) (ts ++ thread ∷ [])
+      (agree_append (IsThreadBehind c.tree) c.threads ts agree (thread ∷ []) (thread ∷ []) (thread_itself c.tree thread, tt)) GoesOn (after_request GoesOn m) h
+
+  start_alike : (a : Addr) → finish d t left' m (Starts a) ≡ Some y → Comes' (finish c t left m (Starts a))
+  start_alike a h =
+      let new : Option Thread = thread_for c.tree c.limits c.objects a in
+      by_fault (length c.threads) a (fault_by (length c.threads) c.objects a) new
+      (subst (λ n. start_turn left' n ts a (fault_by n c.objects a) new ≡ Some y) (sym (agree_length (IsThreadBehind c.tree) c.threads ts agree)) h)
+
+  -- ---- a join
+
+  waits_alike : (o : Option ℕ) → wait_for ts o ≡ wait_for c.threads o
+  waits_alike None = refl
+  waits_alike (Some n) = ap (λ b. if b then Blocks else GoesOn) (sym (live_alike c.tree c.threads ts agree n))
+
+  join_alike : (a : Addr) → finish d t left' m (Joins a) ≡ Some y → Comes' (finish c t left m (Joins a))
+  join_alike a h =
+      let same : join_effect ts c.objects a ≡ join_effect c.threads c.objects a = ap (λ e. if a.number == 0 then Raises NullReference else e) (waits_alike (thread_on c.objects a)) in
+      counts c ts agree (join_effect c.threads c.objects a) (after_request (join_effect c.threads c.objects a) m) (subst (λ e. Some (answered d t left' m e) ≡ Some y) same h)
+
+  pub finish_alike : (out : Outcome) → finish d t left' m out ≡ Some y → (x : Content × Report) × (finish c t left m out ≡ Some x) × TurnsAlike x y
+  finish_alike (Comes e) h = counts c ts agree e m h
+  finish_alike (Starts a) h = start_alike a h
+  finish_alike (Joins a) h = join_alike a h

@@ -1,0 +1,6 @@
+use Rattle.exploration.proofs.Showing.{shown}
+use Rattle.exploration.specs.Searches.{IsLedTo}
+use Rattle.exploration.proofs.laws.a_covered_state_is_shown.Goals as goal
+
+pub returns : goal.returns
+returns c tree limits first paths = shown tree limits (IsLedTo first paths)

@@ -1,0 +1,9 @@
+use Rattle.exploration.proofs.Running.{opened_runs_are_seen}
+use Rattle.exploration.proofs.Showing.{outcome_listed}
+use Rattle.exploration.specs.Searches.{IsLedTo}
+use Rattle.exploration.proofs.laws.no_outcome_is_missing.Goals as goal
+
+pub returns : goal.returns
+returns c tree limits first paths closed s opened begins represents covered outcomes only events reports last is ordinary over =
+    let known = IsLedTo first paths in
+    outcome_listed tree limits known closed last (opened_runs_are_seen tree limits known closed first s opened begins represents covered events reports last is ordinary) outcomes only over

@@ -1,0 +1,27 @@
+use Rattle.std.proofs.Common.{subst, sym}
+use Rattle.simulation.specs.cil_model.Legality.{IsLegal}
+use Rattle.simulation.specs.MachineContents.{Content}
+use Rattle.simulation.proofs.resolved_code.OneOperation.{one_operation}
+use Rattle.exploration.specs.Behind.{IsBehind}
+use Rattle.exploration.proofs.Begins.{begins_program, begins_still}
+use Rattle.exploration.proofs.Covering.{behind_itself}
+use Rattle.exploration.proofs.Going.{still_at_origin, taken_back}
+use Rattle.exploration.proofs.replayers.Replayer.run_local.Goals as goal
+
+pub take_back-requires-clause-tree : goal.take_back-requires-clause-tree
+take_back-requires-clause-tree g c = (still_at_origin c.self.inside.machine c.args.thread c.lend-loan.result c.run.new.self c.lend-loan.ensures c.run.ensures).0
+
+pub take_back-requires-clause-origin : goal.take_back-requires-clause-origin
+take_back-requires-clause-origin g c = (still_at_origin c.self.inside.machine c.args.thread c.lend-loan.result c.run.new.self c.lend-loan.ensures c.run.ensures).1
+
+pub invariant_of-self : goal.invariant_of-self
+invariant_of-self g c = begins_still c.self.inside.machine c.take_back.new.self g.M.First.first c.take_back.ensures.same c.self.invariant
+
+pub returns : goal.returns
+returns g c =
+    let here = c.self.inside.machine in
+    let origin = still_at_origin here c.args.thread c.lend-loan.result c.run.new.self c.lend-loan.ensures c.run.ensures in
+    subst (λ (x : Content). IsBehind x c.take_back.new.self) c.self.view_is (taken_back here c.take_back.new.self c.run.new.self (one_operation here.tree (subst IsLegal (sym (begins_program here g.M.First.first c.self.invariant).0) c.requires)) origin.0 origin.1 c.laws.ensures c.take_back.ensures.turns)
+
+pub returns-then-not-is_live : goal.returns-then-not-is_live
+returns-then-not-is_live g c = behind_itself c.args.self.now

@@ -1,0 +1,41 @@
+-- Two machines of which the second is ahead by local instructions, which no other thread observes (this profile).
+use Rattle.std.specs.Prelude.{◌≡◌, ℕ, List}
+use Rattle.simulation.specs.cil_model.declared.trees.Tree.{Tree}
+use Rattle.simulation.specs.object_memory.Objects.{Objects}
+use Rattle.simulation.specs.object_memory.declared.values.Value.{Value}
+use Rattle.simulation.specs.threads_monitors.Frames.{Frames}
+use Rattle.simulation.specs.threads_monitors.declared.effects.Effect.TheVariants.{GoesOn}
+use Rattle.simulation.specs.threads_monitors.declared.mutators.Mutator.{Mutator}
+use Rattle.simulation.specs.threads_monitors.declared.threads.Standing.{Standing}
+use Rattle.simulation.specs.threads_monitors.declared.threads.Standing.TheVariants.{Live, Ended}
+use Rattle.simulation.specs.threads_monitors.declared.threads.Thread.{Thread}
+use Rattle.simulation.specs.interpreter.declared.outcomes.Outcome.TheVariants.{Comes}
+use Rattle.simulation.specs.interpreter.Instructions.{IsDone, answer_of}
+use Rattle.simulation.specs.Agreement.{Agree}
+use Rattle.simulation.specs.MachineContents.{Content}
+
+-- An instruction leads from these frames to those after it, and its thread goes on. It reads and changes the frames alone: it does the same for all objects, static fields and
+-- printed bytes, for each thread and in each phase.
+pub record IsLocalMove (tree : Tree) (m after : Frames) : Type 0 where
+  pub done : (mutator : Mutator) (o : Objects) (statics : List Value) (printed : List ℕ) → IsDone tree mutator m o statics printed (answer_of after o statics printed (Comes GoesOn))
+
+-- any number of such instructions lead from the first frames to the second
+pub data IsAhead (tree : Tree) : Frames → Frames → Type 0 where
+  here : (m : Frames) → IsAhead tree m m
+  onward : (m next last : Frames) → IsLocalMove tree m next → IsAhead tree next last → IsAhead tree m last
+
+-- both threads are live, and the second may be ahead; or both ended in the same way
+abbrev pub IsStandingBehind : Tree → Standing → Standing → Type 0
+IsStandingBehind tree (Live m) (Live n) = IsAhead tree m n
+IsStandingBehind tree (Ended e) (Ended f) = e ≡ f
+IsStandingBehind tree (Live m) (Ended f) = ⊥
+IsStandingBehind tree (Ended e) (Live n) = ⊥
+
+-- the same for threads with any remaining steps
+abbrev pub IsThreadBehind : Tree → Thread → Thread → Type 0
+IsThreadBehind tree x y = IsStandingBehind tree x.standing y.standing
+
+-- the contents differ in their threads alone: each thread of the second may be ahead, and have other remaining steps
+pub record IsBehind (c d : Content) : Type 0 where
+  pub rest : d ≡ record c { threads = d.threads }
+  pub threads : Agree (IsThreadBehind c.tree) c.threads d.threads

@@ -1,0 +1,62 @@
+-- Sets of contents that no schedule leaves (this profile). A set is given by what is true of its contents.
+use Rattle.std.specs.Prelude.{◌≡◌, ◌≢◌, ℕ, true, false, List, [], ◌∷◌, Some, slice_get}
+use Rattle.simulation.specs.cil_model.declared.events.Event.{Event}
+use Rattle.simulation.specs.cil_model.declared.events.Event.TheVariants.{Step}
+use Rattle.simulation.specs.cil_model.declared.limits.Limits.{Limits}
+use Rattle.simulation.specs.cil_model.declared.trees.Tree.{Tree}
+use Rattle.simulation.specs.cil_model.declared.reports.End.TheVariants.{Budget}
+use Rattle.simulation.specs.cil_model.declared.reports.Report.{Report}
+use Rattle.simulation.specs.cil_model.declared.reports.Report.TheVariants.{Ended}
+use Rattle.simulation.specs.reference_machine.Runs.{is_refusal}
+use Rattle.simulation.specs.reference_machine.States.{State}
+use Rattle.simulation.specs.threads_monitors.Threads.{is_live_at}
+use Rattle.simulation.specs.MachineContents.{Content}
+use Rattle.simulation.specs.StandsFor.{Represents}
+use Rattle.simulation.specs.Runs.{AreTurns}
+use Rattle.simulation.specs.Turns.{IsTurn}
+use Rattle.exploration.specs.Behind.{IsBehind}
+
+-- a content is behind one of a set
+pub record IsCovered (known : Content → Type 0) (c : Content) : Type 0 where
+  pub content : Content
+  pub among : known content
+  pub behind : IsBehind c content
+
+-- a step of the thread leads from this content to one that is behind one of the set; it is refused no memory, and the thread has steps left
+pub record LeadsInto (known : Content → Type 0) (c : Content) (t : ℕ) : Type 0 where
+  pub next : Content
+  pub report : Report
+  pub turn : IsTurn c (Step t) (next, report)
+  pub lasts : report ≢ Ended Budget
+  pub granted : is_refusal report ≡ false
+  pub covered : IsCovered known next
+
+-- so does each step of a live thread, from each content of the set
+abbrev pub IsClosed : (Content → Type 0) → Type 0
+IsClosed known = (c : Content) → known c → (t : ℕ) → is_live_at c.threads t ≡ true → LeadsInto known c t
+
+-- none of these reports says that a thread used up its budget or was refused memory
+abbrev pub AreOrdinary : List Report → Type 0
+AreOrdinary [] = Unit {0}
+AreOrdinary (r ∷ rs) = (r ≢ Ended Budget) × (is_refusal r ≡ false) × AreOrdinary rs
+
+-- none of these reports says that a thread used up its budget
+abbrev pub KeepBudgets : List Report → Type 0
+KeepBudgets [] = Unit {0}
+KeepBudgets (r ∷ rs) = (r ≢ Ended Budget) × KeepBudgets rs
+
+-- a machine of this program within these limits, at a content behind one of the set, represents the state
+pub record IsSeen (tree : Tree) (limits : Limits) (known : Content → Type 0) (s : State) : Type 0 where
+  pub content : Content
+  pub program : content.tree ≡ tree
+  pub within : content.limits ≡ limits
+  pub represents : Represents content s
+  pub covered : IsCovered known content
+
+-- one of these lists of events leads to the content
+pub record IsLedTo (first : Content) (paths : List (List Event)) (c : Content) : Type 0 where
+  pub place : ℕ
+  pub path : List Event
+  pub there : slice_get paths place ≡ Some path
+  pub reports : List Report
+  pub turns : AreTurns first path c reports

@@ -1,0 +1,45 @@
+-- What a user sees of a state, and of the content that covers it (this profile).
+use Rattle.std.specs.Prelude.{Contains, ◌≡◌, ◌⊎◌, ℕ, false, List, Option, map}
+use Rattle.simulation.specs.cil_model.declared.events.Event.TheVariants.{Step}
+use Rattle.simulation.specs.cil_model.declared.reports.End.{End}
+use Rattle.simulation.specs.cil_model.declared.reports.Report.TheVariants.{Blocked}
+use Rattle.simulation.specs.cil_model.declared.limits.Limits.{Limits}
+use Rattle.simulation.specs.cil_model.declared.trees.Tree.{Tree}
+use Rattle.simulation.specs.reference_machine.States.{State, Thread as StateThread, is_live}
+use Rattle.simulation.specs.reference_machine.Steps.{Answers, step}
+use Rattle.simulation.specs.threads_monitors.Threads.{end_of, is_live_at}
+use Rattle.simulation.specs.MachineContents.{Content}
+use Rattle.simulation.specs.Turns.{IsTurn}
+
+-- ---- which threads can make a step
+
+-- the thread is not live, or its next step is blocked
+abbrev pub CannotStep : Content → ℕ → Type 0
+CannotStep c t = (is_live_at c.threads t ≡ false) ⊎ ((next : Content) × IsTurn c (Step t) (next, Blocked))
+
+-- no thread can make a step: each has ended or is blocked
+abbrev pub IsTerminal : Content → Type 0
+IsTerminal c = (t : ℕ) → CannotStep c t
+
+-- the same of a state of the reference machine
+abbrev pub IsOver : Tree → Limits → State → Type 0
+IsOver tree limits s = (t : ℕ) → (is_live s t ≡ false) ⊎ ((next : State) × (step tree limits s t false ≡ Answers Blocked next))
+
+-- ---- outcomes
+
+-- an outcome: the printed bytes, and the end of each thread by its number, which is none for a blocked thread
+pub record Outcome : Type 0 where
+  pub printed : List ℕ
+  pub ends : List (Option End)
+
+-- the outcome of a state
+abbrev pub outcome_of : State → Outcome
+outcome_of s = record { printed = s.printed; ends = map (λ (t : StateThread). t.ended) s.threads }
+
+-- the outcome of a machine
+abbrev pub outcome_shown : Content → Outcome
+outcome_shown c = record { printed = c.printed; ends = map end_of c.threads }
+
+-- each content of the set in which no thread can make a step shows one of these outcomes
+abbrev pub ShowOnly : (Content → Type 0) → List Outcome → Type 0
+ShowOnly known outcomes = (c : Content) → known c → IsTerminal c → Contains outcomes (outcome_shown c)

@@ -1,0 +1,50 @@
+//! What a search gives to the check.
+
+use cil_model::events::Event;
+use cil_model::reports::End;
+
+/// A list of events from the initial state on. For each thread, by its number, `next` has the index of the list that leads to the same state as a step of the thread
+/// after these events, followed by the local instructions of that thread and of the thread that was started last.
+#[derive(Drop)]
+pub struct Path {
+    pub events: Vec<Event>,
+    pub next: Vec<usize>,
+}
+
+/// An outcome: the events that lead to it, the number of preemptions among them, the printed bytes, and the end of each thread by its number, which is None for a blocked
+/// thread.
+#[derive(Drop)]
+pub struct Found {
+    pub events: Vec<Event>,
+    pub preemptions: usize,
+    pub printed: Vec<u8>,
+    pub ends: Vec<Option<End>>,
+}
+
+impl Path {
+    /// The first thread of which a step leads to another list than the one at `index`. None if there is no such thread.
+    pub(crate) fn first_mover(&self, index: usize) -> Option<u8> {
+        let thread = self.next.iter().position(|next| *next != index)?;
+        u8::try_from(thread).ok()
+    }
+}
+
+impl Found {
+    /// Whether a thread ended by a fault.
+    pub fn has_fault(&self) -> bool {
+        self.ends.iter().any(|end| match end {
+            Some(End::Fault(_)) => true,
+            _ => false,
+        })
+    }
+
+    /// Whether a thread is blocked.
+    pub fn has_deadlock(&self) -> bool {
+        self.ends.iter().any(|end| end.is_none())
+    }
+
+    /// Whether another outcome has the same printed bytes.
+    pub fn prints_same(&self, other: &Found) -> bool {
+        self.printed == other.printed
+    }
+}

@@ -1,0 +1,65 @@
+//! Laws of searches. Each function has an empty body, and its contract is the law.
+
+ghost use Rattle.std.specs.Prelude.{Contains, ◌≡◌, ◌⊎◌, ◌≢◌, ℕ, List, Some, true};
+ghost use Rattle.simulation.specs.cil_model.Legality.{IsLegal};
+ghost use Rattle.simulation.specs.cil_model.declared.events.Event.{Event};
+ghost use Rattle.simulation.specs.cil_model.declared.events.Event.TheVariants.{Step};
+ghost use Rattle.simulation.specs.cil_model.declared.limits.Limits.{Limits};
+ghost use Rattle.simulation.specs.cil_model.declared.reports.End.TheVariants.{Budget};
+ghost use Rattle.simulation.specs.cil_model.declared.reports.Report.{Report};
+ghost use Rattle.simulation.specs.cil_model.declared.reports.Report.TheVariants.{Ran, Ended};
+ghost use Rattle.simulation.specs.cil_model.declared.trees.Tree.{Tree};
+ghost use Rattle.simulation.specs.reference_machine.Runs.{opening};
+ghost use Rattle.simulation.specs.reference_machine.States.{State};
+ghost use Rattle.simulation.specs.threads_monitors.Threads.{is_live_at};
+ghost use Rattle.simulation.specs.MachineContents.{Content};
+ghost use Rattle.simulation.specs.Runs.{AreSteps, AreTurns, IsRunOf};
+ghost use Rattle.simulation.specs.StandsFor.{Represents};
+ghost use Rattle.simulation.specs.Turns.{IsTurn, opening_content};
+ghost use Rattle.simulation.specs.interpreter.Local.{IsLocalStep, frames_over};
+ghost use Rattle.simulation.specs.threads_monitors.Frames.{Frame};
+ghost use Rattle.exploration.specs.Behind.{IsBehind, IsLocalMove};
+ghost use Rattle.exploration.specs.Shown.{IsTerminal, IsOver, Outcome, ShowOnly, outcome_of, outcome_shown};
+ghost use Rattle.exploration.specs.Searches.{AreOrdinary, IsClosed, IsCovered, IsLedTo, IsSeen, KeepBudgets};
+
+/// One machine is behind another, and a thread makes a step in both. Then the step of the first is a local instruction, and it is still behind the other machine as that was;
+/// or both steps have the same report, and the first is behind the second again; or it uses up its budget.
+pub fn a_machine_behind_stays_behind()
+    ensures { (c d : Content) → IsBehind c d → (t : ℕ) → is_live_at c.threads t ≡ true → (next : Content) (r : Report) → IsTurn d (Step t) (next, r) → r ≢ Ended Budget →
+        (after : Content) × (q : Report) × IsTurn c (Step t) (after, q) × ((q ≡ Ended Budget) ⊎ (((q ≡ Ran) × IsBehind after d) ⊎ ((q ≡ r) × IsBehind after next))) }
+{}
+
+/// If a closed set covers the initial content, it covers the final state of each run, with any events of a collector: a machine that is behind a content of the set represents
+/// that state. This holds up to the first step that uses up a budget or is refused memory.
+pub fn a_closed_set_covers_all_runs()
+    ensures { (tree : Tree) (limits : Limits) (first : Content) (paths : List (List Event)) → IsClosed (IsLedTo first paths) → (s : State) → opening_content tree limits ≡ Some first → opening tree limits ≡ Some s → Represents first s → IsCovered (IsLedTo first paths) first →
+        (events : List Event) (reports : List Report) (last : State) → IsRunOf tree limits events reports last → AreOrdinary reports → IsSeen tree limits (IsLedTo first paths) last }
+{}
+
+/// A state that a closed set covers has the outcome of a content of the set: the same printed bytes, and the same end of each thread. If no thread can make a step in that
+/// state, none can in the content.
+pub fn a_covered_state_is_shown()
+    ensures { (tree : Tree) (limits : Limits) (first : Content) (paths : List (List Event)) → IsClosed (IsLedTo first paths) → (s : State) → IsSeen tree limits (IsLedTo first paths) s →
+        (c : Content) × IsLedTo first paths c × (outcome_shown c ≡ outcome_of s) × (IsOver tree limits s → IsTerminal c) }
+{}
+
+/// A local instruction of the running frame, after which its thread goes on, does the same for everything but the thread's frames.
+pub fn a_local_instruction_moves_alone()
+    ensures { (tree : Tree) (room : ℕ) (f g : Frame) → IsLocalStep tree room f g → (below : List Frame) (depth : ℕ) →
+        IsLocalMove tree (frames_over f below depth room) (frames_over g below depth room) }
+{}
+
+/// In runs of steps alone, without events of a collector, a closed set that covers the initial content covers each later one, and no memory is refused: up to the first step
+/// that uses up a budget.
+pub fn steps_alone_stay_covered()
+    ensures { (first : Content) (paths : List (List Event)) → IsLegal first.tree → IsClosed (IsLedTo first paths) → IsCovered (IsLedTo first paths) first →
+        (events : List Event) → AreSteps events → (after : Content) (reports : List Report) → AreTurns first events after reports → KeepBudgets reports → IsCovered (IsLedTo first paths) after × AreOrdinary reports }
+{}
+
+/// If each content of a closed set in which no thread can make a step shows one of these outcomes, each run that is over has one of them, with any events of a collector: up to
+/// the first step that uses up a budget or is refused memory.
+pub fn no_outcome_is_missing()
+    ensures { (tree : Tree) (limits : Limits) (first : Content) (paths : List (List Event)) → IsClosed (IsLedTo first paths) → (s : State) → opening_content tree limits ≡ Some first → opening tree limits ≡ Some s → Represents first s → IsCovered (IsLedTo first paths) first →
+        (outcomes : List Outcome) → ShowOnly (IsLedTo first paths) outcomes →
+        (events : List Event) (reports : List Report) (last : State) → IsRunOf tree limits events reports last → AreOrdinary reports → IsOver tree limits last → Contains outcomes (outcome_of last) }
+{}

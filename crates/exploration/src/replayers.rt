@@ -1,0 +1,200 @@
+//! Machines of one program that replay lists of events.
+
+ghost use Rattle.std.specs.Prelude.{◌≡◌, ◌≤◌, IfOk, OnOk, length, true};
+ghost use Rattle.simulation.specs.cil_model.Legality.{IsLegal};
+ghost use Rattle.simulation.specs.cil_model.declared.events.Event.TheVariants.{Step as StepOf};
+ghost use Rattle.simulation.specs.cil_model.declared.limits.TheConstants.{MOST_THREADS};
+ghost use Rattle.simulation.specs.threads_monitors.Threads.{is_live_at};
+ghost use Rattle.simulation.specs.Turns.{IsTurn};
+ghost use Rattle.interleaving_core.specs.Alike.{AreAlike};
+ghost use Rattle.exploration.specs.Begins.{Begins};
+ghost use Rattle.exploration.specs.Behind.{IsBehind};
+ghost use Rattle.exploration.specs.Paths.{LeadsTo, outcome_found};
+ghost use Rattle.exploration.specs.Shown.{outcome_shown};
+
+use crate::findings::Found;
+use cil_model::events::Event;
+use cil_model::limits::MOST_BUDGET;
+use cil_model::memory::NoMemory;
+use cil_model::reports::{End, Report};
+use interleaving_core::Machine;
+use std::alloc::Global;
+use std::marker::{Brand, Model, PhantomData};
+
+/// Names the initial content of machines of one program within the same limits. The caller that makes the machines picks it, at `Brand`.
+pub trait First {
+    ghost use Rattle.simulation.specs.MachineContents.{Content};
+
+    ghost first: { Content };
+}
+
+impl First for Brand {
+    ghost use Rattle.exploration.specs.Begins.{no_content};
+
+    ghost first = { no_content };
+}
+
+/// A machine of the program and the limits whose initial content `M` names. Contracts see its content.
+#[derive(Drop)]
+pub struct Replayer<M: First> {
+    machine: Machine,
+    of: PhantomData<M>,
+}
+
+impl<M: First> Model for Replayer<M> {
+    ghost use Rattle.simulation.specs.MachineContents.{Content};
+    ghost use Rattle.exploration.specs.Begins.{Begins};
+
+    ghost Value = { Content };
+
+    ghost view = { λ s. s.machine };
+
+    ghost invariant = { λ s. Begins s.machine M.first };
+}
+
+impl<M: First> Replayer<M> {
+    /// A replayer of this machine.
+    pub fn new(machine: Machine) -> Replayer<M>
+        requires { Begins machine M.first }
+        ensures { result ≡ machine }
+    {
+        Replayer {
+            machine,
+            of: PhantomData,
+        }
+    }
+
+    /// Takes the machine back to its initial state. It fails only if memory runs out.
+    pub fn reopen(&mut self, alloc: Global) -> Result<(), NoMemory>
+        ensures { OnOk result (self.new ≡ M.first) }
+    {
+        self.machine.reopen(alloc)
+    }
+
+    /// Takes the machine from its initial state to the state after a list of events. It fails only if memory runs out.
+    pub fn replay(&mut self, alloc: Global, events: &[Event]) -> Result<(), NoMemory>
+        ensures { OnOk result (LeadsTo M.first events.now self.new) }
+    {
+        self.machine.reopen(alloc)?;
+        let mut reports = Vec::new(alloc);
+        self.machine.run(alloc, events, &mut reports)
+    }
+
+    /// Makes a step of a thread, and returns its report. It fails only if memory runs out.
+    pub fn step(&mut self, alloc: Global, thread: u8) -> Result<Report, NoMemory>
+        ensures { IfOk result (λ report. IsTurn self.old (StepOf thread) (self.new, report)) }
+    {
+        self.machine.step(alloc, Event::Step(thread))
+    }
+
+    /// Runs local instructions of a thread, as long as the next one is local, raises no fault and is not the last one of its budget, and returns their number.
+    /// Nothing changes if the thread is not live. It fails only if memory runs out.
+    pub fn run_local(&mut self, alloc: Global, thread: u8) -> Result<u32, NoMemory>
+        requires { IsLegal M.first.tree }
+        ensures { OnOk result (IsBehind self.old self.new) }
+    {
+        if !self.machine.is_live(thread) || !self.machine.is_next_local(thread) {
+            return Ok(0);
+        }
+        let room = self.machine.loan_room(alloc)?;
+        let mut loan = self.machine.lend(thread, room);
+        loan.run(MOST_BUDGET);
+        loan.laws();
+        let done = loan.done();
+        self.machine.take_back(loan);
+        Ok(done)
+    }
+
+    /// Whether a thread is live.
+    pub fn is_live(&self, thread: u8) -> bool
+        ensures { result ≡ is_live_at self.now.threads thread }
+    {
+        self.machine.is_live(thread)
+    }
+
+    /// The number of threads that were started.
+    pub fn started(&self) -> usize
+        ensures all { result ≡ length self.now.threads }
+        ensures few { result ≤ MOST_THREADS }
+    {
+        self.machine.started()
+    }
+
+    /// The thread that was started last.
+    pub fn newest(&self) -> u8 {
+        self.machine.started().saturating_sub(1) as u8
+    }
+
+    /// Whether two machines differ in nothing but the remaining steps of threads. True only if so.
+    pub fn is_like(&self, other: &Replayer<M>) -> bool
+        ensures { result ≡ true → AreAlike self.now other.now }
+    {
+        self.machine.is_like(&other.machine)
+    }
+
+    /// Whether a thread is live, and its next step is not blocked.
+    pub fn can_step(&self, thread: u8) -> bool {
+        self.machine.is_live(thread) && self.machine.wait_of(thread).is_none()
+    }
+
+    /// A hash of the machine's state: equal for machines of which `is_like` is true.
+    pub fn digest(&self) -> u64 {
+        self.machine.digest()
+    }
+
+    /// Whether the printed bytes and the ends of all threads are those of an outcome. True only if they are. It fails only if memory runs out.
+    pub fn shows(&self, alloc: Global, found: &Found) -> Result<bool, NoMemory>
+        ensures { IfOk result (λ yes. yes ≡ true → outcome_shown self.now ≡ outcome_found found.now) }
+    {
+        let ends = self.machine.ends(alloc)?;
+        if !are_same_bytes(self.machine.console(), &found.printed) {
+            return Ok(false);
+        }
+        Ok(are_same_ends(&ends, &found.ends))
+    }
+
+    /// The outcome of the machine in its current state, to which these events lead. It fails only if memory runs out.
+    pub fn outcome(
+        &self,
+        alloc: Global,
+        events: Vec<Event>,
+        preemptions: usize,
+    ) -> Result<Found, NoMemory> {
+        Ok(Found {
+            events,
+            preemptions,
+            printed: self.machine.console().to_vec(alloc)?,
+            ends: self.machine.ends(alloc)?,
+        })
+    }
+}
+
+/// Whether two lists of bytes are equal. True only if they are.
+fn are_same_bytes(bytes: &[u8], others: &[u8]) -> bool
+    ensures { result ≡ true → bytes.now ≡ others.now }
+{
+    if bytes.len() != others.len() {
+        return false;
+    }
+    for index in 0..bytes.len() {
+        if bytes[index] != others[index] {
+            return false;
+        }
+    }
+    true
+}
+
+/// Whether two lists of ends are equal. True only if they are.
+fn are_same_ends(ends: &[Option<End>], others: &[Option<End>]) -> bool
+    ensures { result ≡ true → ends.now ≡ others.now }
+{
+    if ends.len() != others.len() {
+        return false;
+    }
+    for index in 0..ends.len() {
+        if ends[index] != others[index] {
+            return false;
+        }
+    }
+    true
+}

@@ -1,0 +1,125 @@
+//! Finds every outcome of a source over all schedules.
+
+ghost use Rattle.std.specs.Prelude.{◌≡◌, IfErr, IfOk, Some, ℕ, map, slice_get, true};
+ghost use Rattle.acceptance.specs.Sources.{IsLetIn, IsNotRun};
+ghost use Rattle.exploration.specs.simulation.cil_model.Legality.{IsLegal};
+ghost use Rattle.exploration.specs.Begins.{Begins};
+ghost use Rattle.exploration.specs.Paths.{IsReal, outcome_found};
+ghost use Rattle.exploration.specs.declared.findings.Found.{Found as AnyFound};
+ghost use Rattle.outcome_search.specs.Explorations.{HasAllOutcomes, IsFoundIn, IsOutcomeList};
+
+use crate::bounds::{Bounds, Stop};
+use crate::searching::search;
+use acceptance::{Failure, machine_of};
+use cil_model::limits::Limits;
+use cil_model::memory::NoMemory;
+use exploration::laws::no_outcome_is_missing;
+use exploration::{First, Found, Path, Replayer, are_real, is_complete};
+use ilasm_reader::laws::answers_are_unique;
+use interleaving_core::Machine;
+use std::alloc::Global;
+use std::marker::Brand;
+
+/// The outcomes of a program over all schedules, in the order of the search: fewest preemptions first, then fewest steps.
+#[derive(Drop)]
+pub struct Exploration {
+    /// The outcomes, each with a schedule that leads to it.
+    pub found: Vec<Found>,
+    /// The number of states that the search found.
+    pub states: usize,
+    /// Whether the check has confirmed that there are no other outcomes.
+    pub is_complete: bool,
+    /// Why the search stopped early; None if it visited all states.
+    pub stop: Option<Stop>,
+}
+
+/// Finds every outcome of a source over all schedules. Each outcome is that of a run by the events of its schedule, after which no thread can make a step: each has ended or is
+/// blocked.
+///
+/// If `is_complete` is true, there are no others: every run in which no thread uses up its budget and none is refused memory, with any events of the collector, has one of these
+/// outcomes once no thread can make a step.
+///
+/// Faults are looked for in this order: the source (as `accept` does), the limits (`OutOfRange(401)`); `Memory` if memory runs out.
+pub fn explore(
+    alloc: Global,
+    source: &[u8],
+    limits: Limits,
+    bounds: Bounds,
+) -> Result<Exploration, Failure>
+    ensures accepted { IfOk result (λ _. IsLetIn source.now) }
+    ensures complete { IfOk result (λ e. e.is_complete ≡ true → HasAllOutcomes source.now limits (map outcome_found e.found.items)) }
+    ensures real { IfOk result (λ e. (n : ℕ) (f : AnyFound) → slice_get e.found.items n ≡ Some f → IsFoundIn source.now limits f) }
+    ensures refused { IfErr result (IsNotRun source.now limits) }
+{
+    answers_are_unique();
+    no_outcome_is_missing();
+    let machine = machine_of(alloc, source, limits)?;
+    let other = machine_of(alloc, source, limits)?;
+    Ok(explore_machines::<Brand>(alloc, machine, other, bounds)?)
+}
+
+/// Finds every outcome of a program, by two machines of it within the same limits. It fails only if memory runs out.
+fn explore_machines<M: First>(
+    alloc: Global,
+    machine: Machine,
+    other: Machine,
+    bounds: Bounds,
+) -> Result<Exploration, NoMemory>
+    requires begins { Begins machine M.first }
+    requires other_begins { Begins other M.first }
+    requires legal { IsLegal M.first.tree }
+    ensures complete { IfOk result (λ e. e.is_complete ≡ true → IsOutcomeList M.first (map outcome_found e.found.items)) }
+    ensures real { IfOk result (λ e. (n : ℕ) (f : AnyFound) → slice_get e.found.items n ≡ Some f → IsReal M.first f) }
+{
+    let mut replayer: Replayer<M> = Replayer::new(machine);
+    let mut other: Replayer<M> = Replayer::new(other);
+    let search = search(&mut replayer, alloc, bounds)?;
+    let found = confirm(&mut replayer, alloc, search.found)?;
+    let is_complete = has_found_all(
+        &mut replayer,
+        &mut other,
+        alloc,
+        &search.paths,
+        search.stop,
+        &found,
+    )?;
+    Ok(Exploration {
+        found,
+        states: search.paths.len(),
+        is_complete,
+        stop: search.stop,
+    })
+}
+
+/// Whether the search did not stop early, and the check confirms that there are no other outcomes. True only if there are none. It fails only if memory runs out.
+fn has_found_all<M: First>(
+    replayer: &mut Replayer<M>,
+    other: &mut Replayer<M>,
+    alloc: Global,
+    paths: &[Path],
+    stop: Option<Stop>,
+    found: &[Found],
+) -> Result<bool, NoMemory>
+    requires { IsLegal M.first.tree }
+    ensures { IfOk result (λ known. known ≡ true → IsOutcomeList M.first (map outcome_found found.now)) }
+{
+    if stop.is_some() {
+        return Ok(false);
+    }
+    is_complete(replayer, other, alloc, paths, found)
+}
+
+/// The outcomes if all of them are confirmed; otherwise none. It fails only if memory runs out.
+fn confirm<M: First>(
+    replayer: &mut Replayer<M>,
+    alloc: Global,
+    found: Vec<Found>,
+) -> Result<Vec<Found>, NoMemory>
+    requires { IsLegal M.first.tree }
+    ensures { IfOk result (λ confirmed. (n : ℕ) (f : AnyFound) → slice_get confirmed.items n ≡ Some f → IsReal M.first f) }
+{
+    if are_real(replayer, alloc, &found)? {
+        return Ok(found);
+    }
+    Ok(Vec::new(alloc))
+}

@@ -1,0 +1,164 @@
+//! The nodes of a search, and their order.
+
+use cil_model::events::Event;
+use cil_model::limits::MOST_THREADS;
+use cil_model::memory::NoMemory;
+use std::alloc::Global;
+use std::cmp::Reverse;
+use std::collections::BinaryHeap;
+
+/// Steps of one thread, followed by local instructions of the thread that was started last.
+#[derive(Clone, Copy)]
+pub struct Move {
+    /// The thread that makes the steps.
+    pub thread: u8,
+    /// The thread that was started last, by these steps or earlier.
+    pub newest: u8,
+    /// The number of steps of `thread`.
+    pub count: u32,
+    /// The number of local instructions of `newest` after these steps.
+    pub more: u32,
+}
+
+/// The end of a schedule, which leads to a state by one move after the schedule of another node.
+#[derive(Clone, Copy)]
+pub struct Node {
+    /// The index of the state.
+    pub state: u32,
+    /// The index of the previous node; None for the first node.
+    pub parent: Option<u32>,
+    /// The number of preemptions of the schedule.
+    pub preemptions: u32,
+    /// The number of steps of the schedule.
+    pub steps: u32,
+    /// The last move.
+    pub last: Move,
+}
+
+/// The position of a node in the order of the search: fewest preemptions first, then fewest steps, then the order of discovery.
+#[derive(Clone, Copy, PartialEq, Eq, PartialOrd, Ord)]
+struct Rank {
+    preemptions: u32,
+    steps: u32,
+    index: u32,
+}
+
+/// All nodes, and the queue of those that are not visited.
+#[derive(Drop)]
+pub struct Nodes {
+    all: Vec<Node>,
+    queue: BinaryHeap<Reverse<Rank>>,
+}
+
+/// The index of the next element of a list of this length. `NoMemory` if there is no such index.
+pub fn next_index(length: usize) -> Result<u32, NoMemory> {
+    u32::try_from(length).map_err(|_| NoMemory)
+}
+
+impl Nodes {
+    /// No nodes.
+    pub fn new(alloc: Global) -> Nodes {
+        Nodes {
+            all: Vec::new(alloc),
+            queue: BinaryHeap::new(alloc),
+        }
+    }
+
+    /// Adds a node to the queue.
+    pub fn push(&mut self, node: Node) -> Result<(), NoMemory> {
+        let rank = Rank {
+            preemptions: node.preemptions,
+            steps: node.steps,
+            index: next_index(self.all.len())?,
+        };
+        self.all.push(node)?;
+        self.queue.push(Reverse(rank))?;
+        Ok(())
+    }
+
+    /// Takes the first node from the queue, and returns its index. None if the queue is empty.
+    pub fn pop(&mut self) -> Option<u32> {
+        let Reverse(rank) = self.queue.pop()?;
+        Some(rank.index)
+    }
+
+    /// The node at an index.
+    pub fn get(&self, index: u32) -> Option<Node> {
+        self.all.get(index as usize).copied()
+    }
+
+    /// The moves of the schedule of a node, the last one first.
+    fn moves(&self, alloc: Global, index: u32) -> Result<Vec<Move>, NoMemory> {
+        let mut moves = Vec::new(alloc);
+        let mut next = Some(index);
+        for _node in 0..self.all.len() {
+            let Some(node) = next.and_then(|index| self.get(index)) else {
+                break;
+            };
+            moves.push(node.last)?;
+            next = node.parent;
+        }
+        Ok(moves)
+    }
+
+    /// A list without elements, with room for the events of the schedule of a node.
+    fn room_for_events(&self, alloc: Global, index: u32) -> Result<Vec<Event>, NoMemory> {
+        match self.get(index) {
+            Some(node) => Ok(Vec::with_capacity(alloc, node.steps as usize)?),
+            None => Ok(Vec::new(alloc)),
+        }
+    }
+
+    /// The events that lead to the state of a node. A new thread runs its first local instructions right after it is started.
+    pub fn events(&self, alloc: Global, index: u32) -> Result<Vec<Event>, NoMemory> {
+        let moves = self.moves(alloc, index)?;
+        let mut events = self.room_for_events(alloc, index)?;
+        for step in moves.iter().rev() {
+            push_steps(&mut events, step.thread, step.count)?;
+            push_steps(&mut events, step.newest, step.more)?;
+        }
+        Ok(events)
+    }
+
+    /// The schedule that is shown for a node. A new thread runs its first local instructions right before its first move, or at the end if it makes none, so
+    /// that a change of threads is one of the search.
+    pub fn schedule(&self, alloc: Global, index: u32) -> Result<Vec<Event>, NoMemory> {
+        let moves = self.moves(alloc, index)?;
+        let mut pending = [0; MOST_THREADS];
+        let mut events = self.room_for_events(alloc, index)?;
+        for step in moves.iter().rev() {
+            push_pending(&mut events, &mut pending, step.thread)?;
+            push_steps(&mut events, step.thread, step.count)?;
+            if let Some(count) = pending.get_mut(usize::from(step.newest)) {
+                *count = step.more.max(*count);
+            }
+        }
+        push_all_pending(&mut events, &mut pending)?;
+        Ok(events)
+    }
+}
+
+/// Appends the pending steps of each thread, of which none are pending afterwards.
+fn push_all_pending(events: &mut Vec<Event>, pending: &mut [u32]) -> Result<(), NoMemory> {
+    for thread in 0..MOST_THREADS {
+        push_pending(events, pending, thread as u8)?;
+    }
+    Ok(())
+}
+
+/// Appends the pending steps of a thread, of which none are pending afterwards.
+fn push_pending(events: &mut Vec<Event>, pending: &mut [u32], thread: u8) -> Result<(), NoMemory> {
+    if let Some(count) = pending.get_mut(usize::from(thread)) {
+        push_steps(events, thread, *count)?;
+        *count = 0;
+    }
+    Ok(())
+}
+
+/// Appends `count` steps of a thread.
+fn push_steps(events: &mut Vec<Event>, thread: u8, count: u32) -> Result<(), NoMemory> {
+    for _step in 0..count {
+        events.push(Event::Step(thread))?;
+    }
+    Ok(())
+}
