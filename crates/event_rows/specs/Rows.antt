@@ -3,7 +3,7 @@ use Rattle.std.specs.Prelude.{◌+◌, ◌++◌, ℕ, zero, suc, List, [], ◌�
 use Rattle.std.specs.List.{flat_map}
 use Rattle.event_rows.specs.declared.Span.{Span}
 
--- so many numbers from this one on
+-- the numbers from one on, given how many
 abbrev pub numbers_from : ℕ → ℕ → List ℕ
 numbers_from first zero = []
 numbers_from first (suc n) = numbers_from first n ++ (first + n) ∷ []

@@ -16,7 +16,7 @@ use std::marker::Model;
 pub struct Span {
     /// The number of the first event.
     pub first: usize,
-    /// How many events there are.
+    /// The number of events.
     pub count: usize,
 }
 

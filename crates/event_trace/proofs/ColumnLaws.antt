@@ -110,7 +110,7 @@ joined a b c d f h w =
     ap (λ l. l ++ 10 ∷ [])
     (grouped a (9 ∷ b) (9 ∷ c) (9 ∷ d) (9 ∷ (f ++ 9 ∷ h)) (9 ∷ w) ∙ ap (λ l. a ++ 9 ∷ (b ++ 9 ∷ (c ++ 9 ∷ (d ++ 9 ∷ l)))) (append_assoc f (9 ∷ h) (9 ∷ w)))
 
--- the columns of the heap and the phases, one behind another
+-- the columns of the heap and the phases, one after another
 heap_joined : (o n p q : List ℕ) → o ++ 9 ∷ n ++ 9 ∷ p ++ 9 ∷ q ≡ o ++ 9 ∷ (n ++ 9 ∷ (p ++ 9 ∷ q))
 heap_joined o n p q = append_assoc (o ++ 9 ∷ n) (9 ∷ p) (9 ∷ q) ∙ append_assoc o (9 ∷ n) (9 ∷ p ++ 9 ∷ q)
 

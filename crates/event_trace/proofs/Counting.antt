@@ -55,8 +55,8 @@ module _ (c : Content) (set : List Bool) (count : ℕ) (counted : count ≡ coun
   abbrev pub word : List ℕ
   word = deadlock_word (count == count_by is_live c.threads)
 
-  told_line : List ℕ
-  told_line = deadlock_word (count_below set (length set) == count_by is_live c.threads) ++ numbers_below set (length set) ++ 10 ∷ []
+  full_line : List ℕ
+  full_line = deadlock_word (count_below set (length set) == count_by is_live c.threads) ++ numbers_below set (length set) ++ 10 ∷ []
 
   pub word_of_all : count ≡ count_by is_live c.threads → codes "deadlock: threads " ≡ word
   word_of_all all = ap deadlock_word (sym (eq-eqb count (count_by is_live c.threads) all))
@@ -65,11 +65,11 @@ module _ (c : Content) (set : List Bool) (count : ℕ) (counted : count ≡ coun
   word_of_some some = ap deadlock_word (sym (ne_eqb count (count_by is_live c.threads) some))
 
   -- the word, the numbers and an end of line are that line
-  pub line_is_told : (old first numbers second third : List ℕ) → count ≢ 0 → first ≡ old ++ word → numbers ≡ numbers_below set (length set) → second ≡ first ++ numbers → third ≡ second ++ 10 ∷ [] → third ≡ old ++ deadlock_line c set
-  unfolding told_line
-  line_is_told old first numbers second third some is these more ends =
+  pub line_is_added : (old first numbers second third : List ℕ) → count ≢ 0 → first ≡ old ++ word → numbers ≡ numbers_below set (length set) → second ≡ first ++ numbers → third ≡ second ++ 10 ∷ [] → third ≡ old ++ deadlock_line c set
+  unfolding full_line
+  line_is_added old first numbers second third some is these more ends =
       ends
       ∙ ap (λ l. l ++ 10 ∷ []) (more ∙ ap (λ l. l ++ numbers) is ∙ ap (λ l. old ++ word ++ l) these ∙ append_assoc old word (numbers_below set (length set)))
       ∙ append_assoc old (word ++ numbers_below set (length set)) (10 ∷ [])
       ∙ ap (λ k. old ++ (deadlock_word (k == count_by is_live c.threads) ++ numbers_below set (length set) ++ 10 ∷ [])) counted
-      ∙ ap (λ b. old ++ (if b then [] else told_line)) (sym (sym (ap (λ k. k == 0) counted) ∙ ne_eqb count 0 some))
+      ∙ ap (λ b. old ++ (if b then [] else full_line)) (sym (sym (ap (λ k. k == 0) counted) ∙ ne_eqb count 0 some))

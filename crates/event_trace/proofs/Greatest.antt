@@ -131,7 +131,7 @@ module _ (c : Content) (s : State) (r : Represents c s) where
 
 -- ---- rounds
 
--- after so many rounds: the deadlocked threads are in the set, which no round changes any more, or as many threads are out of it
+-- after some rounds: the deadlocked threads are in the set, which no round changes any more, or as many threads are out of it
 pub record RoundsSoFar (c : Content) (rounds : ℕ) (set : List Bool) : Type 0 where
   pub each : length set ≡ length c.threads
   pub above : (s : State) → (r : Represents c s) → IsAbove c s r set

@@ -41,13 +41,13 @@ at_number {X = X} f (p ∷ ps) (x ∷ xs) (suc n) e = at_number f ps xs n (ap re
 pushed : {P X : Type 0} (f : P → Option X) (so_far more : List P) (p : P) (x : X) → more ≡ so_far ++ p ∷ [] → f p ≡ Some x → map f more ≡ map f so_far ++ map Some (x ∷ [])
 pushed f so_far more p x is found = ap (map f) is ∙ (map-append f so_far (p ∷ []) ∙ ap (λ o. map f so_far ++ o ∷ []) found)
 
--- some more behind those so far
+-- some more after those so far
 grown : {P X : Type 0} (f : P → Option X) (before so_far more : List P) (done here : List X) → map f so_far ≡ map f before ++ map Some done → map f more ≡ map f so_far ++ map Some here →
     map f more ≡ map f before ++ map Some (done ++ here)
 grown f before so_far more done here h k =
     k ∙ (ap (λ xs. xs ++ map Some here) h ∙ (append_assoc (map f before) (map Some done) (map Some here) ∙ ap (λ xs. map f before ++ xs) (sym (map-append Some done here))))
 
--- the places of these methods stand behind those before
+-- the places of these methods follow those before
 abbrev pub Stand : List (ClassName × Declaration) → Tree → List MethodPlace → List MethodPlace → List (ClassName × Method) → Type 0
 Stand first tree before places done = methods_by first tree places ≡ methods_by first tree before ++ map Some done
 

@@ -19,9 +19,9 @@ use Rattle.event_trace.specs.Traces.{AreTraced, IsEventCut, IsTraced, IsTracedIn
 use Rattle.outputs.specs.Beginnings.{AppendsBeginning}
 use Rattle.outputs.proofs.BeginningLaws.{begins_first, begins_nothing, begins_second}
 
--- ---- bytes behind bytes
+-- ---- bytes after bytes
 
--- bytes behind those that are pending
+-- bytes after those that are pending
 takes_more : (a b c : Option (List ℕ)) (text line pending more : List ℕ) → TakesAllBut pending a b text → TakesAllBut more b c (pending ++ line) → TakesAllBut more a c (text ++ line)
 takes_more a b c text line pending more h k =
     let (first, split, appended) = h in
@@ -31,7 +31,7 @@ takes_more a b c text line pending more h k =
       Appends-trans a b c first second appended appended',
     )
 
--- what is pending is written, and more behind it
+-- what is pending is written, and more after it
 takes_rest : (a b c : Option (List ℕ)) (text pending more : List ℕ) → TakesAllBut pending a b text → Appends b c (pending ++ more) → Appends a c (text ++ more)
 takes_rest a b c text pending more h k =
     let (taken, split, appended) = h in
@@ -140,7 +140,7 @@ all_traced c d es pending out so_far new h ended =
       },
     )
 
--- a beginning of what was pending, and of the empty line behind it, is written
+-- a beginning of what was pending, and of the empty line after it, is written
 pub end_cut : (c d : Content) (es : List Event) (pending : List ℕ) (out so_far new : Option (List ℕ)) → TracedSoFar c es d pending out so_far → AppendsBeginning so_far new (pending ++ 10 ∷ []) → IsTracedInPart c es d out new
 end_cut c d es pending out so_far new h begun =
     let lines : AreTraced 1 c (take (length es) es) d h.reports h.text = subst (λ l. AreTraced 1 c l d h.reports h.text) (sym (take_all (length es) es (omega arith))) h.traced in

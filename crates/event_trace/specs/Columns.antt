@@ -98,7 +98,7 @@ own_column (Some phase) = phase_text phase
 abbrev pub heap_columns : HeapColumns → List ℕ
 heap_columns h = decimal h.old_words ++ 9 ∷ decimal h.new_words ++ 9 ∷ phase_text h.posted ++ 9 ∷ own_column h.own
 
--- what they say of a content, for the thread of an event
+-- their values for a content and the thread of an event
 abbrev pub heap_for : Content → Event → HeapColumns
 heap_for c e = record {
   old_words = used_space c.objects;
@@ -112,7 +112,7 @@ abbrev pub event_columns : EventColumns → List ℕ
 event_columns e = decimal e.number ++ 9 ∷ event_text e.event ++ 9 ∷ report_text e.report
 
 -- The number of an event, the event, its report, where its thread was before it, its frames and its stack after it, and the heap and the phases then:
--- a tab between two, and a line feed behind all.
+-- a tab between two, and a line feed after all.
 abbrev pub columns_text : EventColumns → Option ((ClassName × Method) × ℕ) → Option Position → HeapColumns → List ℕ
 columns_text event before after heap = event_columns event ++ 9 ∷ instruction_column before ++ 9 ∷ size_columns after ++ 9 ∷ heap_columns heap ++ 10 ∷ []
 

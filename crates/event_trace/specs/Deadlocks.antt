@@ -5,7 +5,7 @@ use Rattle.interleaving_core.specs.simulation.MachineContents.{Content}
 use Rattle.interleaving_core.specs.simulation.StandsFor.{Represents}
 use Rattle.interleaving_core.specs.simulation.reference_machine.Blocking.{AreDeadlocked}
 
--- Of each thread that was started it is told whether it is deadlocked: so it is in every state that the machine represents.
+-- An entry for each thread that was started: whether it is deadlocked, in every state that the machine represents.
 pub record IsDeadlockOf (c : Content) (set : List Bool) : Type 0 where
   pub each : length set ≡ length c.threads
   pub deadlocked : (s : State) → Represents c s → AreDeadlocked c.tree s set

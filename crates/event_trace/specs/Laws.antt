@@ -8,7 +8,7 @@ use Rattle.instruction_text.specs.Characters.{IsPrintable}
 use Rattle.event_trace.specs.Columns.{line_of}
 use Rattle.event_trace.specs.Traces.{AreTraced}
 
--- a line of these columns: a tab stands between two, and nowhere else, and a line feed behind all
+-- a line of these columns: a tab stands between two, and nowhere else, and a line feed after all
 pub record IsLineOf (columns : List (List ℕ)) (line : List ℕ) : Type 0 where
   pub printable : All IsPrintable columns
   pub is : line ≡ join_with_byte 9 columns ++ 10 ∷ []
@@ -24,7 +24,7 @@ before_empty_line begins (x ∷ bytes) =
     if x == 10 then (if begins then [] else x ∷ before_empty_line true bytes)
     else x ∷ before_empty_line false bytes
 
--- the lines of events stand before the first empty line, whatever stands behind it
+-- the lines of events stand before the first empty line, whatever follows it
 abbrev pub LinesStandBefore : Type 0
 LinesStandBefore = (n : ℕ) (old new : Content) (events : List Event) (reports : List Report) (text printed : List ℕ) → AreTraced n old events new reports text →
     before_empty_line true (text ++ 10 ∷ printed) ≡ text

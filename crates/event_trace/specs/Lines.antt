@@ -1,4 +1,4 @@
--- What is written of a line.
+-- The text of a line.
 use Rattle.std.specs.Prelude.{ℕ, List, option_map}
 use Rattle.cil_model.specs.declared.trees.Method.{Method}
 use Rattle.cil_model.specs.declared.types.ClassName.{ClassName}
@@ -8,8 +8,8 @@ use Rattle.event_trace.specs.declared.lines.TraceLine.{TraceLine}
 use Rattle.event_trace.specs.declared.owned_methods.InstructionPlace.{InstructionPlace}
 
 -- the method and the place there
-abbrev pub seen : InstructionPlace → (ClassName × Method) × ℕ
-seen at = (owned at.found, at.place)
+abbrev pub place_of : InstructionPlace → (ClassName × Method) × ℕ
+place_of at = (owned at.found, at.place)
 
 abbrev pub text_of : TraceLine → List ℕ
-text_of line = columns_text line.event (option_map seen line.before) line.after line.heap
+text_of line = columns_text line.event (option_map place_of line.before) line.after line.heap

@@ -1,4 +1,4 @@
--- What a person is told of threads that have not ended (this profile).
+-- The report of threads that have not ended (this profile).
 use Rattle.std.specs.Prelude.{◌++◌, ◌+◌, ◌==◌, ℕ, zero, suc, Bool, true, false, if◌then◌else◌, List, [], ◌∷◌, length, Option, Some, None, codes, decimal, option_and_then, option_map}
 use Rattle.std.specs.List.{count_by}
 use Rattle.std.specs.Option.{option_map_or}
@@ -56,7 +56,7 @@ thread_line t at (Some awaited) = codes "thread " ++ decimal t ++ codes " is at 
 abbrev pub thread_lines : Content → ℕ → List ℕ
 thread_lines c t = option_map_or (λ (p : Position). thread_line t (found_at c.tree p) (option_map (wait_text c) (wait_at c t))) (position_at c.threads t) []
 
--- those of so many threads
+-- those of the threads below a number
 abbrev pub lines_below : Content → ℕ → List ℕ
 lines_below c zero = []
 lines_below c (suc n) = lines_below c n ++ thread_lines c n
@@ -68,7 +68,7 @@ abbrev pub count_below : List Bool → ℕ → ℕ
 count_below set zero = 0
 count_below set (suc n) = count_below set n + (if is_in set n then 1 else 0)
 
--- what stands before a number behind so many others
+-- the separator before a number, given how many numbers precede it
 abbrev pub separator : ℕ → List ℕ
 separator zero = []
 separator (suc n) = codes ", "

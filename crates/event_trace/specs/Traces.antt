@@ -18,7 +18,7 @@ AreTraced n c (e ∷ es) after (r ∷ rs) text =
     (next : Content) × (more : List ℕ) × IsTurn c e (next, r) × (text ≡ line_of n e r c next ++ more) × AreTraced (n + 1) next es after rs more
 
 -- The events are done in order, from one content to another, each with a report. A writer has taken a line of each, numbered from 1, and an
--- empty line behind them. The reference machine's run over the steps among them is never stuck, gives the steps' reports, and comes to a
+-- empty line after them. The reference machine's run over the steps among them is never stuck, gives the steps' reports, and comes to a
 -- state that the machine represents.
 pub record IsTraced (old : Content) (events : List Event) (new : Content) (reports : List Report) (out out' : Option (List ℕ)) : Type 0 where
   pub text : List ℕ
@@ -28,7 +28,7 @@ pub record IsTraced (old : Content) (events : List Event) (new : Content) (repor
   pub each : length reports ≡ length events
   pub follows : FollowsReference old new (zip events reports)
 
--- The first of the events, so many, are done in order, each with a report, and a writer has taken a beginning of their lines, or, where
+-- The first `count` events are done in order, each with a report, and a writer has taken a beginning of their lines, or, where
 -- these are all events, of their lines and the empty line.
 pub record IsTracedInPart (old : Content) (events : List Event) (new : Content) (out out' : Option (List ℕ)) : Type 0 where
   pub count : ℕ
@@ -39,7 +39,7 @@ pub record IsTracedInPart (old : Content) (events : List Event) (new : Content) 
   pub lines : AreTraced 1 old (take count events) new reports text
   pub begun : AppendsBeginning out out' text ⊎ ((count ≡ length events) × AppendsBeginning out out' (text ++ 10 ∷ []))
 
--- an event isn't done, and a writer has taken a beginning of what was pending; or it is done, and that is a beginning with its line behind
+-- an event isn't done, and a writer has taken a beginning of what was pending; or it is done, and its line follows what was pending
 abbrev pub IsEventCut : ℕ → Event → Content → Content → List ℕ → Option (List ℕ) → Option (List ℕ) → Type 0
 IsEventCut n e c after pending out out' =
     ((after ≡ c) × AppendsBeginning out out' pending)

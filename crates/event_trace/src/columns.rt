@@ -1,5 +1,8 @@
 //! The columns of a line.
 
+ghost use Rattle.std.specs.Prelude.{◌≡◌};
+ghost use Rattle.event_trace.specs.Columns.{phase_text};
+
 use cil_model::events::Event;
 use cil_model::phases::Phase;
 use cil_model::reports::{End, Report};
@@ -9,7 +12,7 @@ use std::fmt::Display;
 
 /// An event as a schedule writes it: `s0`, `a1` or `g`.
 #[derive(Clone, Copy)]
-pub(crate) struct EventText(pub(crate) Event);
+pub struct EventText(pub Event);
 
 impl fmt::Display for EventText {
     ghost use Rattle.std.specs.Prelude.{Some};
@@ -28,7 +31,7 @@ impl fmt::Display for EventText {
 
 /// A report, as words of small letters and hyphens, or the name of the fault that ended the thread (ECMA-335 IV).
 #[derive(Clone, Copy)]
-pub(crate) struct ReportText(pub(crate) Report);
+pub struct ReportText(pub Report);
 
 impl fmt::Display for ReportText {
     ghost use Rattle.std.specs.Prelude.{Some};
@@ -94,27 +97,33 @@ impl fmt::Display for SizeColumns {
     }
 }
 
-/// A phase of the collector, as words of small letters and a hyphen.
+/// The name of a phase of the collector, in small letters and hyphens.
+pub fn phase_name(phase: Phase) -> &'static str
+    ensures { result.now ≡ phase_text phase }
+{
+    match phase {
+        Phase::Idle => "idle",
+        Phase::Mark => "mark",
+        Phase::Allocate => "allocate",
+        Phase::Copy => "copy",
+        Phase::PreFlip => "pre-flip",
+        Phase::HeapFlip => "heap-flip",
+        Phase::ThreadFlip => "thread-flip",
+        Phase::Reclaim => "reclaim",
+    }
+}
+
+/// A phase of the collector, by its name.
 #[derive(Clone, Copy)]
 pub(crate) struct PhaseText(pub(crate) Phase);
 
 impl fmt::Display for PhaseText {
     ghost use Rattle.std.specs.Prelude.{Some};
-    ghost use Rattle.event_trace.specs.Columns.{phase_text};
 
     ghost output = { λ phase. Some (phase_text phase.0) };
 
     fn fmt<W: fmt::Write>(&self, f: &mut fmt::Formatter<W>) -> fmt::Result {
-        match &self.0 {
-            Phase::Idle => f.write_str("idle"),
-            Phase::Mark => f.write_str("mark"),
-            Phase::Allocate => f.write_str("allocate"),
-            Phase::Copy => f.write_str("copy"),
-            Phase::PreFlip => f.write_str("pre-flip"),
-            Phase::HeapFlip => f.write_str("heap-flip"),
-            Phase::ThreadFlip => f.write_str("thread-flip"),
-            Phase::Reclaim => f.write_str("reclaim"),
-        }
+        f.write_str(phase_name(self.0))
     }
 }
 

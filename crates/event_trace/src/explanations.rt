@@ -1,4 +1,4 @@
-//! What a person is told of a machine whose threads have not all ended.
+//! The report of a machine whose threads have not all ended.
 
 ghost use Rattle.std.specs.Prelude.{◌≡◌, ◌++◌, Bool, IfOk, List, OnOk, decimal, length, map, option_and_then, option_map, string_bytes};
 ghost use Rattle.interleaving_core.specs.simulation.resolved_code.Numbered.{class_name};
@@ -64,8 +64,8 @@ fn awaited<'a>(machine: &'a Machine, classes: &'a [BuiltInClass], wait: Wait) ->
     }
 }
 
-/// What the thread of a number waits for, in words. None where it waits for nothing.
-fn awaited_by<'a>(
+/// What the thread of a number waits for, as a text. None where its next step is not blocked, and where it is not live. `classes` are the built-in ones.
+pub fn awaited_by<'a>(
     machine: &'a Machine,
     classes: &'a [BuiltInClass],
     thread: u8,
@@ -115,7 +115,7 @@ fn add_threads(alloc: Global, text: &mut String, machine: &Machine) -> Result<()
     Ok(())
 }
 
-/// Adds the number of a thread behind so many others.
+/// Appends the number of a thread, given how many numbers precede it.
 fn add_number(text: &mut String, before: usize, thread: usize) -> Result<(), NoMemory>
     ensures { OnOk result (string_bytes text.new ≡ string_bytes text.old ++ (separator before ++ decimal thread)) }
 {
@@ -126,8 +126,9 @@ fn add_number(text: &mut String, before: usize, thread: usize) -> Result<(), NoM
     Ok(())
 }
 
-/// Adds the numbers of a set, and answers how many there are.
-fn add_numbers(text: &mut String, set: &[bool]) -> Result<usize, NoMemory>
+/// Appends the numbers of the threads of a set in ascending order, as `0, 2`, and returns how many there are. Only want of memory is an error; a
+/// part of the numbers may then stand in the text.
+pub fn add_thread_numbers(text: &mut String, set: &[bool]) -> Result<usize, NoMemory>
     ensures added { OnOk result (string_bytes text.new ≡ string_bytes text.old ++ numbers_below set.now (length set.now)) }
     ensures count { IfOk result (λ count. count ≡ count_below set.now (length set.now)) }
 {
@@ -141,8 +142,8 @@ fn add_numbers(text: &mut String, set: &[bool]) -> Result<usize, NoMemory>
     Ok(count)
 }
 
-/// Adds the line of the deadlocked threads, where there are any.
-fn add_deadlock(
+/// Adds the line of the deadlocked threads, where there are any. Only want of memory is an error.
+pub fn add_deadlock(
     alloc: Global,
     text: &mut String,
     machine: &Machine,
@@ -151,7 +152,7 @@ fn add_deadlock(
     ensures { OnOk result (string_bytes text.new ≡ string_bytes text.old ++ deadlock_line machine.now deadlocked.now) }
 {
     let mut numbers = String::new(alloc);
-    let count = add_numbers(&mut numbers, deadlocked)?;
+    let count = add_thread_numbers(&mut numbers, deadlocked)?;
     if count == 0 {
         return Ok(());
     }
@@ -165,7 +166,7 @@ fn add_deadlock(
     Ok(())
 }
 
-/// Tells each live thread's place, by its method and its instruction as a trace has them, and what it waits for where its next step is
+/// Reports each live thread's place, by its method and its instruction as a trace has them, and what it waits for where its next step is
 /// blocked; and then the threads that are deadlocked, if any are. The machine does nothing. The text has whole lines of printable ASCII,
 /// and is empty where no thread is live:
 ///

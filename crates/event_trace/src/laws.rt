@@ -2,13 +2,13 @@
 
 ghost use Rattle.event_trace.specs.Laws.{LinesHaveColumns, LinesStandBefore};
 
-/// The line of an event is ten columns of printable ASCII, with a tab between two and a line feed behind them, whatever the event, the
+/// The line of an event is ten columns of printable ASCII, with a tab between two and a line feed after them, whatever the event, the
 /// report and the contents of the machine.
 pub fn lines_have_columns()
     ensures { LinesHaveColumns }
 {}
 
-/// The first empty line ends a trace: what stands before it is the lines of the events, whatever the program printed behind.
+/// The first empty line ends a trace: what stands before it is the lines of the events, whatever the program printed after it.
 pub fn lines_stand_before_the_empty_line()
     ensures { LinesStandBefore }
 {}

@@ -1,4 +1,4 @@
-//! Writes a line of text for each event of a run, and says what live threads wait for and which of them are deadlocked.
+//! Writes a line of text for each event of a run, and reports what live threads wait for and which of them are deadlocked.
 //! `trace` does the events as `Machine::run` does, and has then written exactly their lines and an empty line; where it stops, it has done some number
 //! of the first events and written a prefix of their lines. `laws`: a line has ten columns of printable ASCII; the first empty line ends the trace.
 //! `deadlocked_threads` returns exactly the deadlocked threads of every state that the machine represents; each later step of them is blocked, up
@@ -18,11 +18,13 @@ mod texts;
 mod tracing;
 mod waiting;
 
+pub use columns::{EventText, ReportText, phase_name};
 pub use errors::TraceError;
-pub use explanations::explain_threads;
+pub use explanations::{add_deadlock, add_thread_numbers, awaited_by, explain_threads};
 pub use interleaving_core::{Machine, Wait};
 pub use lines::InstructionColumn;
 pub use method_places::MethodPlaces;
 pub use owned_methods::{InstructionPlace, Owner};
-pub use tracing::{instruction_at, trace};
-pub use waiting::deadlocked_threads;
+pub use texts::{AwaitedText, OwnerText};
+pub use tracing::{instruction_at, position_for, trace};
+pub use waiting::{deadlocked_threads, is_in};

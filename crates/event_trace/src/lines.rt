@@ -18,7 +18,7 @@ pub(crate) struct TraceLine<'a> {
     pub(crate) heap: HeapColumns,
 }
 
-/// The columns with a tab between two, and a line feed behind them.
+/// The columns with a tab between two, and a line feed after them.
 impl<'a> fmt::Display for TraceLine<'a> {
     ghost use Rattle.std.specs.Prelude.{Some};
     ghost use Rattle.event_trace.specs.Lines.{text_of};
@@ -41,9 +41,9 @@ pub struct InstructionColumn<'a>(pub Option<InstructionPlace<'a>>);
 impl<'a> fmt::Display for InstructionColumn<'a> {
     ghost use Rattle.std.specs.Prelude.{Some, option_map};
     ghost use Rattle.event_trace.specs.Columns.{instruction_column};
-    ghost use Rattle.event_trace.specs.Lines.{seen};
+    ghost use Rattle.event_trace.specs.Lines.{place_of};
 
-    ghost output = { λ column. Some (instruction_column (option_map seen column.0)) };
+    ghost output = { λ column. Some (instruction_column (option_map place_of column.0)) };
 
     fn fmt<W: fmt::Write>(&self, f: &mut fmt::Formatter<W>) -> fmt::Result {
         match &self.0 {

@@ -114,7 +114,7 @@ fn add_built_ins(places: &mut Vec<MethodPlace>, classes: &[BuiltInClass]) -> Res
     Ok(())
 }
 
-/// Appends the places of so many methods of a built-in class, by its place among them.
+/// Appends the places of the first methods of a built-in class, given the index of the class and their number.
 fn add_built_in(places: &mut Vec<MethodPlace>, class: usize, methods: usize) -> Result<(), NoMemory>
     ensures { (first : List (AnyClassName × Declaration)) (tree : AnyTree) (e : AnyClassName × Declaration) → slice_get first class ≡ Some e → length e.1.methods ≡ methods →
         OnOk result (methods_by first tree places.new.items ≡ methods_by first tree places.old.items ++ map Some (owned_methods e)) }

@@ -7,7 +7,7 @@ ghost use Rattle.event_trace.specs.declared.pieces.TheConstants.{PIECE};
 
 use outputs::{Device, Out};
 
-/// The bytes of a piece: so many are put together before they are written.
+/// The number of bytes that are put together before they are written.
 const PIECE: usize = 32_768;
 
 /// Writes what is pending, once it fills a piece; nothing is pending then. What does not fill one stays, and nothing is written. Where the

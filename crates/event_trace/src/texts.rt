@@ -1,4 +1,4 @@
-//! What is told of one thread.
+//! The texts of one thread's report.
 
 use crate::lines::InstructionColumn;
 use crate::owned_methods::{InstructionPlace, Owner};
@@ -6,7 +6,7 @@ use std::fmt;
 
 /// An object, by its class. None of an array.
 #[derive(Clone, Copy)]
-pub(crate) struct ObjectText<'a>(pub(crate) Option<Owner<'a>>);
+pub struct ObjectText<'a>(pub Option<Owner<'a>>);
 
 impl<'a> fmt::Display for ObjectText<'a> {
     ghost use Rattle.std.specs.Prelude.{Some, option_map};
@@ -23,11 +23,13 @@ impl<'a> fmt::Display for ObjectText<'a> {
     }
 }
 
-/// A thread that holds a monitor.
+/// A thread that holds a monitor, as `thread 1` or `thread 1, which has ended`.
 #[derive(Clone, Copy)]
-pub(crate) struct OwnerText {
-    pub(crate) thread: u8,
-    pub(crate) is_live: bool,
+pub struct OwnerText {
+    /// The number of the thread.
+    pub thread: u8,
+    /// Whether the thread has not ended.
+    pub is_live: bool,
 }
 
 impl fmt::Display for OwnerText {
@@ -47,12 +49,17 @@ impl fmt::Display for OwnerText {
 
 /// What a thread waits for.
 #[derive(Clone, Copy)]
-pub(crate) enum AwaitedText<'a> {
+pub enum AwaitedText<'a> {
+    /// A monitor that another thread holds.
     Monitor {
+        /// The monitor's object.
         object: ObjectText<'a>,
+        /// The thread that holds it.
         owner: OwnerText,
     },
+    /// The end of a thread.
     End {
+        /// The number of the thread.
         thread: u8,
     },
 }
@@ -83,10 +90,10 @@ pub(crate) struct ThreadLine<'a> {
 
 impl<'a> fmt::Display for ThreadLine<'a> {
     ghost use Rattle.std.specs.Prelude.{Some, option_map};
-    ghost use Rattle.event_trace.specs.Lines.{seen};
+    ghost use Rattle.event_trace.specs.Lines.{place_of};
     ghost use Rattle.event_trace.specs.Texts.{awaited_text, thread_line};
 
-    ghost output = { λ line. Some (thread_line line.thread (option_map seen line.at) (option_map awaited_text line.awaited)) };
+    ghost output = { λ line. Some (thread_line line.thread (option_map place_of line.at) (option_map awaited_text line.awaited)) };
 
     fn fmt<W: fmt::Write>(&self, f: &mut fmt::Formatter<W>) -> fmt::Result {
         let at = InstructionColumn(self.at);

@@ -7,7 +7,7 @@ ghost use Rattle.interleaving_core.specs.simulation.Turns.{IsTurn};
 ghost use Rattle.outputs.specs.Taken.{HasGrown};
 ghost use Rattle.schedule_text.specs.Items.{events_of};
 ghost use Rattle.event_trace.specs.Columns.{found_at, heap_for, line_of, position_for, thread_of};
-ghost use Rattle.event_trace.specs.Lines.{seen};
+ghost use Rattle.event_trace.specs.Lines.{place_of};
 ghost use Rattle.event_trace.specs.Pieces.{TakesAllBut};
 ghost use Rattle.event_trace.specs.Places.{ArePlacesOf};
 ghost use Rattle.event_trace.specs.Traces.{IsEventCut, IsTraced, IsTracedInPart};
@@ -27,7 +27,7 @@ use outputs::Out;
 use schedule_text::Item;
 use std::alloc::Global;
 
-/// Does the events that these items stand for in order, as `Machine::run` does, and writes a line of each, and an empty line behind the
+/// Does the events that these items stand for in order, as `Machine::run` does, and writes a line of each, and an empty line after the
 /// last.
 ///
 /// A line has ten columns, with a tab between two: the number of the event, from 1; the event as a schedule writes it; its report; the
@@ -39,7 +39,7 @@ use std::alloc::Global;
 /// Lines are put together and written in pieces of 32 KiB or more, what is left of them at the end. It takes memory for a list of where
 /// each method is declared, for a piece and one line, and no more than the machine itself for events. It stops at the first want of memory,
 /// where it writes what it has put together, at the first write that fails, and, with `Memory`, before an event whose number no `usize`
-/// holds. So many events are done then, and a beginning of their lines is written, and no empty line unless all of them are done.
+/// holds. Some of the first events are done then, and a beginning of their lines is written, and no empty line unless all of them are done.
 pub fn trace<W: Out>(
     alloc: Global,
     machine: &mut Machine,
@@ -77,7 +77,7 @@ fn next_number(number: usize) -> Result<usize, TraceError>
     }
 }
 
-/// Does one event, and puts the line of its number behind those that are pending, which are written once they fill a piece. Where memory
+/// Does one event, and appends the line of its number to those that are pending, which are written once they fill a piece. Where memory
 /// is wanted they are written too.
 fn trace_event<W: Out>(
     alloc: Global,
@@ -108,7 +108,7 @@ fn trace_event<W: Out>(
     }
 }
 
-/// Does one event, and puts the line of its number behind those that are pending.
+/// Does one event, and appends the line of its number to those that are pending.
 fn add_event(
     alloc: Global,
     machine: &mut Machine,
@@ -148,7 +148,7 @@ pub fn instruction_at<'a>(
     position: Option<Position>,
 ) -> Option<InstructionPlace<'a>>
     requires { ArePlacesOf machine.now.tree methods.now }
-    ensures { option_map seen result ≡ option_and_then (found_at machine.now.tree) position }
+    ensures { option_map place_of result ≡ option_and_then (found_at machine.now.tree) position }
 {
     let position = position?;
     let found = methods.method(machine.tree(), position.method)?;
@@ -159,7 +159,7 @@ pub fn instruction_at<'a>(
 }
 
 /// Where the thread of an event is. None where it isn't live, and of an event of the collector.
-fn position_for(machine: &Machine, event: Event) -> Option<Position>
+pub fn position_for(machine: &Machine, event: Event) -> Option<Position>
     ensures { result ≡ position_for machine.now event }
 {
     match event {

@@ -9,7 +9,7 @@ use interleaving_core::{Machine, Wait};
 use std::alloc::Global;
 
 /// Whether a thread is in a set.
-pub(crate) fn is_in(set: &[bool], thread: u8) -> bool
+pub fn is_in(set: &[bool], thread: u8) -> bool
     ensures { result ≡ is_in set.now thread }
 {
     set.get(usize::from(thread)).copied().unwrap_or(false)

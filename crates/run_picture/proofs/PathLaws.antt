@@ -1,5 +1,5 @@
--- Paths in content that grows.
-use Rattle.std.proofs.Common.{◌≡◌, ◌==◌, ◌+◌, ◌<◌, ◌++◌, ◌⊎◌, ℕ, true, List, [], ◌∷◌, get_or, length, Option, Some, None, inl, inr, refl, sym, ap, subst, ◌∙◌, arith, append-nil, append_assoc}
+-- Paths and words in content that grows.
+use Rattle.std.proofs.Common.{◌≡◌, ◌==◌, ◌+◌, ◌<◌, ◌++◌, ◌⊎◌, ℕ, true, List, [], ◌∷◌, get_or, length, Option, Some, None, option_map, inl, inr, refl, sym, ap, subst, ◌∙◌, arith, append-nil, append_assoc}
 use Rattle.std.proofs.lemmas.Bool.Decides.{nat_tests}
 use Rattle.event_rows.specs.Rows.{drawn, path_text}
 use Rattle.event_rows.specs.declared.Span.{Span}
@@ -7,14 +7,14 @@ use Rattle.svg_text.specs.Contents.{Adds, AddsIfWhole}
 use Rattle.svg_text.specs.Elements.{element_text, escaped, start_text, tag_text}
 use Rattle.svg_text.specs.declared.markup.Attribute.{Attribute}
 use Rattle.svg_text.specs.declared.markup.Tag.{Tag}
-use Rattle.run_picture.specs.Paths.{Draws, Has, HasPaths, HasRow}
+use Rattle.run_picture.specs.Paths.{Draws, Has, HasPaths, HasRow, HasWords}
 
 -- text around
 has_around : (before whole after part : List ℕ) → Has whole part → Has (before ++ whole ++ after) part
 has_around before whole after part h = (before ++ h.0, h.1 ++ after, ap (λ l. before ++ l ++ after) h.2 ∙ simp append_assoc)
 
-has_behind : (before whole part : List ℕ) → Has whole part → Has (before ++ whole) part
-has_behind before whole part h = subst (λ l. Has l part) (append-nil (before ++ whole)) (has_around before whole [] part h)
+has_after : (before whole part : List ℕ) → Has whole part → Has (before ++ whole) part
+has_after before whole part h = subst (λ l. Has l part) (append-nil (before ++ whole)) (has_around before whole [] part h)
 
 has_before : (whole after part : List ℕ) → Has whole part → Has (whole ++ after) part
 has_before whole after part h = has_around [] whole after part h
@@ -22,8 +22,8 @@ has_before whole after part h = has_around [] whole after part h
 row_around : (before whole after numbers : List ℕ) → HasRow whole numbers → HasRow (before ++ whole ++ after) numbers
 row_around before whole after numbers h = (h.0, h.1, h.2, has_around before whole after (escaped (path_text h.1 h.0)) h.3)
 
-row_behind : (before whole numbers : List ℕ) → HasRow whole numbers → HasRow (before ++ whole) numbers
-row_behind before whole numbers h = (h.0, h.1, h.2, has_behind before whole (escaped (path_text h.1 h.0)) h.3)
+row_after : (before whole numbers : List ℕ) → HasRow whole numbers → HasRow (before ++ whole) numbers
+row_after before whole numbers h = (h.0, h.1, h.2, has_after before whole (escaped (path_text h.1 h.0)) h.3)
 
 row_before : (whole after numbers : List ℕ) → HasRow whole numbers → HasRow (whole ++ after) numbers
 row_before whole after numbers h = (h.0, h.1, h.2, has_before whole after (escaped (path_text h.1 h.0)) h.3)
@@ -64,7 +64,7 @@ paths_more (Some text) new rows n h (inr added) = subst (λ o. HasPathsBefore o 
     each : (row : ℕ) → row < n + 1 → HasRow (text ++ added.0) (get_or rows row [])
     each row within = elim (nat_split row n within) [
       | inl below ↦ row_before text added.0 (get_or rows row []) (h row below)
-      | inr here ↦ row_behind text added.0 (get_or rows row []) (subst (λ k. HasRow added.0 (get_or rows k [])) (sym here) added.1)
+      | inr here ↦ row_after text added.0 (get_or rows row []) (subst (λ k. HasRow added.0 (get_or rows k [])) (sym here) added.1)
     ]
 
 pub paths_all : (text : Option (List ℕ)) (rows : List (List ℕ)) (n : ℕ) → length rows ≡ n → HasPathsBefore text rows n → HasPaths text rows
@@ -78,6 +78,10 @@ element_split : (tag : Tag) (attributes : List Attribute) (inside : List ℕ) �
     (start_text tag attributes ++ 62 ∷ []) ++ inside ++ (60 ∷ 47 ∷ (tag_text tag ++ 62 ∷ 10 ∷ [])) ≡ element_text tag attributes inside
 element_split tag attributes inside = simp append_assoc
 
+in_element : (tag : Tag) (attributes : List Attribute) (inside part : List ℕ) → Has inside part → Has (element_text tag attributes inside) part
+in_element tag attributes inside part h =
+    subst (λ t. Has t part) (element_split tag attributes inside) (has_around (start_text tag attributes ++ 62 ∷ []) inside (60 ∷ 47 ∷ (tag_text tag ++ 62 ∷ 10 ∷ [])) part h)
+
 row_in_element : (tag : Tag) (attributes : List Attribute) (inside numbers : List ℕ) → HasRow inside numbers → HasRow (element_text tag attributes inside) numbers
 row_in_element tag attributes inside numbers h =
     subst (λ t. HasRow t numbers) (element_split tag attributes inside) (row_around (start_text tag attributes ++ 62 ∷ []) inside (60 ∷ 47 ∷ (tag_text tag ++ 62 ∷ 10 ∷ [])) numbers h)
@@ -87,7 +91,26 @@ paths_around old new None tag attributes rows lost h = subst (λ o. HasPaths o r
 paths_around old new (Some inside) tag attributes rows (inl lost) h = subst (λ o. HasPaths o rows) (sym lost) tt
 paths_around None new (Some inside) tag attributes rows (inr added) h = subst (λ o. HasPaths o rows) (sym added) tt
 paths_around (Some old) new (Some inside) tag attributes rows (inr added) h =
-    subst (λ o. HasPaths o rows) (sym added) (λ row within. row_behind old (element_text tag attributes inside) (get_or rows row []) (row_in_element tag attributes inside (get_or rows row []) (h row within)))
+    subst (λ o. HasPaths o rows) (sym added) (λ row within. row_after old (element_text tag attributes inside) (get_or rows row []) (row_in_element tag attributes inside (get_or rows row []) (h row within)))
+
+pub words_in_element : (old new : Option (List ℕ)) (tag : Tag) (attributes : List Attribute) (words : List ℕ) → old ≡ Some [] → Adds old new (element_text tag attributes (escaped words)) → HasWords new words
+words_in_element old new tag attributes words empty (inl lost) = subst (λ o. HasWords o words) (sym lost) tt
+words_in_element old new tag attributes words empty (inr added) =
+    subst (λ o. HasWords o words) (sym (added ∙ ap (option_map (λ text. text ++ element_text tag attributes (escaped words))) empty))
+    (in_element tag attributes (escaped words) (escaped words) ([], [], sym (append-nil (escaped words))))
+
+pub no_words : (text : Option (List ℕ)) (words : List ℕ) → text ≡ Some [] → words ≡ [] → HasWords text words
+no_words text words empty none = subst (λ o. HasWords o words) (sym empty) (subst (λ l. Has [] (escaped l)) (sym none) ([], [], refl))
+
+pub words_after : (old new more : Option (List ℕ)) (words : List ℕ) → AddsIfWhole old new more (λ text. text) → HasWords more words → HasWords new words
+words_after old new None words lost h = subst (λ o. HasWords o words) (sym lost) tt
+words_after old new (Some more) words (inl lost) h = subst (λ o. HasWords o words) (sym lost) tt
+words_after None new (Some more) words (inr added) h = subst (λ o. HasWords o words) (sym added) tt
+words_after (Some old) new (Some more) words (inr added) h = subst (λ o. HasWords o words) (sym added) (has_after old more (escaped words) h)
+
+pub words_in_document : (page : Option (List ℕ)) (inside document : List ℕ) (tag : Tag) (attributes : List Attribute) (words : List ℕ) → page ≡ Some inside → document ≡ element_text tag attributes inside → HasWords page words → Has document (escaped words)
+words_in_document page inside document tag attributes words is same h =
+    subst (λ t. Has t (escaped words)) (sym same) (in_element tag attributes inside (escaped words) (subst (λ o. HasWords o words) is h))
 
 pub paths_before : (old new more : Option (List ℕ)) (rows : List (List ℕ)) → AddsIfWhole old new more (λ text. text) → HasPaths old rows → HasPaths new rows
 paths_before old new None rows lost h = subst (λ o. HasPaths o rows) (sym lost) tt

@@ -1,5 +1,5 @@
 -- Pictures, event by event.
-use Rattle.std.proofs.Common.{◌≡◌, ◌+◌, ◌<◌, ◌≤◌, ◌⊎◌, ℕ, List, [], ◌∷◌, ◌++◌, length, take, get_or, replicate, Option, inl, inr, refl, sym, ap, subst, ◌∙◌, arith, zero-add}
+use Rattle.std.proofs.Common.{◌≡◌, ◌+◌, ◌<◌, ◌≤◌, ◌⊎◌, ℕ, Bool, List, [], ◌∷◌, ◌++◌, length, take, get_or, replicate, Option, inl, inr, refl, sym, ap, subst, ◌∙◌, arith, zero-add}
 use Rattle.std.proofs.Math.Seq.{take-append_seam}
 use Rattle.std.proofs.lemmas.List.{append_assoc, length-append, take_all}
 use Rattle.std.specs.Io.KnownBytes.{Appends}
@@ -13,8 +13,10 @@ use Rattle.interleaving_core.specs.simulation.Runs.{AreTurns}
 use Rattle.interleaving_core.specs.simulation.Turns.{IsTurn}
 use Rattle.interleaving_core.proofs.Following.{SameProgram, turns_length, turns_more, turns_program}
 use Rattle.outputs.specs.Beginnings.{AppendsBeginning}
+use Rattle.event_trace.specs.Deadlocks.{IsDeadlockOf}
 use Rattle.run_picture.specs.Pictures.{IsDrawing, IsDrawn, IsPicture, IsPictureInPart}
 use Rattle.run_picture.specs.Paths.{HasRow}
+use Rattle.run_picture.specs.Sentences.{deadlock_sentence}
 use Rattle.run_picture.specs.Rows.{drawn_rows, number_in, numbers_of}
 use Rattle.run_picture.specs.Windows.{clamped}
 use Rattle.run_picture.specs.declared.rows.TheConstants.{ROWS}
@@ -48,11 +50,14 @@ same_so_far c d es w rows h = turns_program c d es h.reports h.turns
 
 -- ---- all events are done
 
-module _ (c d : Content) (es : List Event) (window : Window) (rows : List (List ℕ)) (text : List ℕ) (h : SketchedSoFar c es d (clamped window) rows) (drawn : IsDrawn text rows) where
-  drawing : IsDrawing window es h.reports text
+module _ (c d : Content) (es : List Event) (window : Window) (rows : List (List ℕ)) (text : List ℕ) (h : SketchedSoFar c es d (clamped window) rows) (set : List Bool) (deadlocked : IsDeadlockOf d set) (drawn : IsDrawn text rows (deadlock_sentence set)) where
+  drawing : IsDrawing window es h.reports d text
   drawing = record {
     formed = drawn.formed;
     rows = λ row within. subst (HasRow text) (h.drawn row within) (drawn.paths row (omega (arith, h.many, within)));
+    deadlocked = set;
+    are_deadlocked = deadlocked;
+    has_sentence = drawn.has_sentence;
   }
 
   pub all_drawn : (out out' : Option (List ℕ)) → Appends out out' text → (reports : List Report) × IsPicture c es d reports window out out'

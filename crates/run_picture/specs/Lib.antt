@@ -4,5 +4,6 @@ pub use Rattle.svg_text.specs as svg_text
 pub mod Windows
 pub mod Rows
 pub mod Paths
+pub mod Sentences
 pub mod Pictures
 pub mod Laws

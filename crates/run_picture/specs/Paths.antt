@@ -1,4 +1,4 @@
--- The paths of rows in a text.
+-- The paths of rows, and words, in a text.
 use Rattle.std.specs.Prelude.{◌≡◌, ◌<◌, ◌++◌, ◌⊎◌, ℕ, List, [], get_or, length, Option, Some, None, option_map}
 use Rattle.event_rows.specs.Rows.{drawn, path_text}
 use Rattle.event_rows.specs.declared.Span.{Span}
@@ -16,6 +16,11 @@ HasRow text numbers = (spans : List Span) × (y : ℕ) × (drawn spans ≡ numbe
 abbrev pub HasPaths : Option (List ℕ) → List (List ℕ) → Type 0
 HasPaths None rows = Unit {0}
 HasPaths (Some text) rows = (row : ℕ) → row < length rows → HasRow text (get_or rows row [])
+
+-- content has these words, unless it is lost
+abbrev pub HasWords : Option (List ℕ) → List ℕ → Type 0
+HasWords None words = Unit {0}
+HasWords (Some text) words = Has text (escaped words)
 
 -- content is lost, or the path of a row is added to it
 abbrev pub Draws : Option (List ℕ) → Option (List ℕ) → List ℕ → Type 0

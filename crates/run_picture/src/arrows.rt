@@ -102,7 +102,7 @@ fn add_join(
     }
 }
 
-/// A line down or up between two lanes, so far to the right.
+/// A vertical line between two heights, in pixels.
 #[derive(Clone, Copy)]
 struct Line {
     x: usize,
@@ -136,7 +136,7 @@ fn add_deadlock(alloc: Global, page: &mut Content, layout: &Layout, scene: &Scen
     page.text(
         Ink::of("bad"),
         24,
-        layout.axis_y() + 36,
+        layout.deadlock_y(),
         format!(in alloc; "deadlock at event {number}: {sentence}"),
     );
 }

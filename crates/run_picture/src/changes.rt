@@ -41,7 +41,7 @@ impl Phases {
     }
 }
 
-/// From this event on so many words are in use in the old space, or the only one, and in the new one.
+/// The words that are in use from an event on, in the old or only space and in the new one.
 #[derive(Clone, Copy)]
 pub(crate) struct HeapChange {
     pub(crate) at: usize,

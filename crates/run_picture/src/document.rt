@@ -1,10 +1,12 @@
 //! The document of a picture.
 
 ghost use Rattle.std.specs.Prelude.{IfOk, string_bytes};
-ghost use Rattle.run_picture.specs.Paths.{HasPaths};
+ghost use Rattle.run_picture.specs.Paths.{HasPaths, HasWords};
 ghost use Rattle.run_picture.specs.Pictures.{IsDrawn};
 
 use crate::arrows::add_arrows;
+use crate::field_lines::add_fields;
+use crate::instruction_names::add_instruction_names;
 use crate::lanes::{add_above, add_below, add_grounds};
 use crate::layout::{LEFT, Layout, WHOLE_WIDTH};
 use crate::legend::add_legend;
@@ -12,6 +14,7 @@ use crate::machine_lanes::{Grouped, add_collector, add_collector_ground, add_gri
 use crate::plots::{add_plot, cuts, rows, tints};
 use crate::rows::Rows;
 use crate::scene::Scene;
+use crate::stripes::add_stripes;
 use crate::style::STYLE;
 use crate::tips::MOST_TIPS;
 use cil_model::events::Event;
@@ -28,7 +31,7 @@ pub(crate) fn document(
     scene: &Scene,
     drawn: &Rows,
 ) -> Result<String, NoMemory>
-    ensures { IfOk result (λ text. IsDrawn (string_bytes text) drawn.now.rows.items) }
+    ensures { IfOk result (λ text. IsDrawn (string_bytes text) drawn.now.rows.items (string_bytes scene.now.deadlocked)) }
 {
     let page = page(alloc, machine, layout, scene, drawn);
     let view = format!(in alloc; "0 0 {WHOLE_WIDTH} {}", layout.height())?;
@@ -45,11 +48,13 @@ pub(crate) fn document(
 
 /// All that stands in the document.
 fn page(alloc: Global, machine: &Machine, layout: &Layout, scene: &Scene, drawn: &Rows) -> Content
-    ensures { HasPaths result drawn.now.rows.items }
+    ensures paths { HasPaths result drawn.now.rows.items }
+    ensures sentence { HasWords result (string_bytes scene.now.deadlocked) }
 {
     let mut page = ground(alloc, layout, scene);
     add_plot(alloc, &mut page, layout, &rows(alloc, layout, drawn));
     page.append(&front(alloc, layout, machine, scene));
+    page.append(&deadlocked(alloc, layout, scene.deadlocked.as_str()));
     page
 }
 
@@ -114,11 +119,16 @@ fn front(alloc: Global, layout: &Layout, machine: &Machine, scene: &Scene) -> Co
     if layout.event_width() >= 4 {
         page.path(Ink::of("cut"), cuts(alloc, layout));
     }
+    add_stripes(alloc, &mut page, layout, scene);
+    if layout.has_names() {
+        add_instruction_names(alloc, &mut page, layout, scene);
+    }
     add_arrows(alloc, &mut page, layout, scene);
     add_above(alloc, &mut page, layout, machine, scene);
     if layout.has_collector() {
         add_collector(&mut page, layout, scene);
     }
+    add_fields(alloc, &mut page, layout, &scene.fields);
     add_heap(alloc, &mut page, layout, &scene.heap);
     add_legend(alloc, &mut page, layout, scene);
     if layout.count() <= MOST_TIPS {
@@ -127,7 +137,27 @@ fn front(alloc: Global, layout: &Layout, machine: &Machine, scene: &Scene) -> Co
     page
 }
 
-/// What is told of single events, where a pointer rests on them.
+/// The sentence of the threads that are deadlocked after the last event.
+fn deadlocked(alloc: Global, layout: &Layout, sentence: &str) -> Content
+    ensures { HasWords result sentence.now }
+{
+    let mut content = Content::new(alloc);
+    if sentence.is_empty() {
+        return content;
+    }
+    content.words(
+        Tag::Text,
+        &[
+            Attribute::words(Name::Class, "bad"),
+            Attribute::number(Name::X, 24),
+            Attribute::number(Name::Y, layout.deadlocked_y()),
+        ],
+        sentence.as_bytes(),
+    );
+    content
+}
+
+/// The tooltips of the events.
 fn tips(alloc: Global, layout: &Layout, scene: &Scene) -> Content {
     let mut content = Content::new(alloc);
     for tip in scene.tips.as_slice() {

@@ -4,8 +4,9 @@ use crate::layout::{LEFT, Layout, WIDTH};
 use crate::plots::lane_end;
 use crate::scene::{Lane, LaneEnd, Scene, Waiting};
 use crate::style::color_of;
-use crate::tips::{EndText, part};
-use cil_model::reports::End;
+use crate::tips::part;
+use cil_model::reports::{End, Report};
+use event_trace::ReportText;
 use interleaving_core::Machine;
 use std::alloc::{AllocError, Global};
 use std::fmt::Write;
@@ -103,8 +104,8 @@ fn add_names(alloc: Global, page: &mut Content, layout: &Layout, thread: usize, 
     );
 }
 
-/// As many bytes as these of the end of a text.
-fn last_bytes(text: &[u8], most: usize) -> &[u8] {
+/// The last bytes of a text, at most `most`.
+pub(crate) fn last_bytes(text: &[u8], most: usize) -> &[u8] {
     part(text, text.len().saturating_sub(most), text.len())
 }
 
@@ -142,14 +143,14 @@ fn add_end(alloc: Global, page: &mut Content, layout: &Layout, thread: usize, la
 
 /// How a thread ended early, without the namespace and the word Exception.
 fn add_fault(alloc: Global, page: &mut Content, x: usize, y: usize, end: End) {
-    let how = EndText(end);
+    let how = ReportText(Report::Ended(end));
     match format!(in alloc; "{how}") {
         Ok(text) => page.label(Ink::of("bad"), x, y, short_fault(text.as_str().as_bytes())),
         Err(_) => page.lose(),
     }
 }
 
-/// The part of an exception's name behind its namespace, without the word at its end.
+/// An exception's name without its namespace and without `Exception` at its end.
 fn short_fault(name: &[u8]) -> &[u8] {
     let mut from = 0;
     for (place, byte) in name.iter().enumerate() {

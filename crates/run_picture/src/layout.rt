@@ -2,14 +2,16 @@
 
 ghost use Rattle.std.specs.Prelude.{◌≤◌, ◌+◌};
 ghost use Rattle.cil_model.specs.declared.limits.TheConstants.{MOST_THREADS};
+ghost use Rattle.run_picture.specs.declared.fields.TheConstants.{MOST_FIELDS};
 ghost use Rattle.run_picture.specs.declared.layout.TheConstants.{LEFT, TOP, WIDTH};
 ghost use Rattle.run_picture.specs.declared.windows.TheConstants.{MOST_EVENTS};
 
+use crate::fields::MOST_FIELDS;
 use crate::scene::Scene;
 use crate::windows::{MOST_EVENTS, Window};
 use cil_model::limits::MOST_THREADS;
 
-/// Where the events begin, behind the names of the lanes.
+/// Where the events begin, to the right of the names of the lanes.
 pub(crate) const LEFT: usize = 150;
 
 /// How wide all events are together.
@@ -27,6 +29,9 @@ pub(crate) const HEAP_HEIGHT: usize = 70;
 /// The most lanes that have room for names.
 const MOST_WIDE_LANES: usize = 6;
 
+/// How wide an event is at least that has the name of its instruction.
+const NAME_WIDTH: usize = 15;
+
 /// Where the parts of a picture are.
 #[derive(Clone, Copy)]
 pub(crate) struct Layout {
@@ -39,13 +44,20 @@ pub(crate) struct Layout {
     /// How many lanes of threads there are.
     lanes: usize,
     has_collector: bool,
+    /// How many static fields have lines.
+    fields: usize,
+    /// Which sentences stand below the axis: of the first deadlock, of a lost update, and of the threads that are deadlocked after the last event.
+    has_deadlock: bool,
+    has_lost: bool,
+    has_deadlocked: bool,
     ghost some: { 1 ≤ count },
     ghost few: { count ≤ MOST_EVENTS },
     ghost lanes_few: { lanes ≤ MOST_THREADS },
+    ghost fields_few: { fields ≤ MOST_FIELDS },
 }
 
 impl Layout {
-    /// The layout of a picture of a window, of so many events.
+    /// The layout of a picture of a window, given the number of all events.
     pub(crate) fn new(window: Window, events: usize, scene: &Scene) -> Layout {
         let start = window.first.saturating_sub(1);
         let count = events.min(window.last).saturating_sub(start);
@@ -55,6 +67,10 @@ impl Layout {
             is_empty: count == 0,
             lanes: scene.lanes.len().min(MOST_THREADS),
             has_collector: scene.has_collector || scene.posted.as_slice().len() > 1,
+            fields: scene.fields.lines().min(MOST_FIELDS),
+            has_deadlock: scene.deadlock.is_some(),
+            has_lost: scene.fields.has_lost(),
+            has_deadlocked: !scene.deadlocked.as_str().is_empty(),
         }
     }
 
@@ -85,7 +101,7 @@ impl Layout {
         self.start.saturating_add(self.count)
     }
 
-    /// Whether there are so many lanes that each one is low.
+    /// Whether there are more than `MOST_WIDE_LANES` lanes, so that each one is low.
     pub(crate) fn is_compact(&self) -> bool {
         self.lanes > MOST_WIDE_LANES
     }
@@ -104,30 +120,40 @@ impl Layout {
         WIDTH / self.count
     }
 
+    /// Whether instructions have names.
+    pub(crate) fn has_names(&self) -> bool {
+        !self.is_compact() && self.event_width() >= NAME_WIDTH
+    }
+
     /// How far below the top the lane of a thread begins.
     pub(crate) fn lane_y(&self, thread: usize) -> usize
         ensures below { TOP ≤ result }
-        ensures above { result ≤ 800 }
+        ensures above { result ≤ 830 }
     {
-        let thread = thread.min(MOST_THREADS);
         if self.is_compact() {
-            TOP + thread * 30
+            TOP + thread.min(MOST_THREADS) * 30
         } else {
-            TOP + thread * 44
+            TOP + thread.min(MOST_WIDE_LANES) * (self.lane_height() + 4)
         }
     }
 
     /// How high the ground of a lane is.
     pub(crate) fn lane_height(&self) -> usize
-        ensures { result ≤ 40 }
+        ensures { result ≤ 119 }
     {
-        if self.is_compact() { 26 } else { 40 }
+        if self.is_compact() {
+            26
+        } else if self.has_names() {
+            119
+        } else {
+            46
+        }
     }
 
     /// How far below the top the middle of the steps of a thread is.
     pub(crate) fn middle(&self, thread: usize) -> usize
         ensures below { TOP ≤ result }
-        ensures above { result ≤ 820 }
+        ensures above { result ≤ 850 }
     {
         let half = if self.is_compact() { 8 } else { 11 };
         self.lane_y(thread) + 4 + half
@@ -136,21 +162,29 @@ impl Layout {
     /// How far below the top the lane of the collector begins.
     pub(crate) fn collector_y(&self) -> usize
         ensures below { TOP ≤ result }
-        ensures above { result ≤ 810 }
+        ensures above { result ≤ 840 }
     {
         self.lane_y(self.lanes) + 6
+    }
+
+    /// How far below the top the line of a static field is, by its place among those that have lines.
+    pub(crate) fn field_y(&self, line: usize) -> usize
+        ensures below { TOP + 14 ≤ result }
+        ensures above { result ≤ 1040 }
+    {
+        let collector = if self.has_collector { 34 } else { 0 };
+        self.collector_y() + collector + 14 + 24 * line.min(MOST_FIELDS)
     }
 
     /// How far below the top the curve of the heap begins.
     pub(crate) fn heap_y(&self) -> usize
         ensures below { TOP ≤ result }
-        ensures above { result ≤ 860 }
+        ensures above { result ≤ 1040 }
     {
-        let collector = if self.has_collector { 34 } else { 0 };
-        self.collector_y() + collector + 8
+        self.field_y(self.fields) - 6
     }
 
-    /// How far below the top so many words are in the curve of the heap, of at most so many.
+    /// How far below the top a number of words is in the curve of the heap, given the greatest number.
     pub(crate) fn level(&self, words: u32, most: u32) -> usize {
         let most = u64::from(most.max(1));
         let height = (HEAP_HEIGHT as u64 - 8) * u64::from(words) / most;
@@ -160,22 +194,50 @@ impl Layout {
     /// How far below the top the axis of events is.
     pub(crate) fn axis_y(&self) -> usize
         ensures below { TOP ≤ result }
-        ensures above { result ≤ 940 }
+        ensures above { result ≤ 1120 }
     {
         self.heap_y() + HEAP_HEIGHT + 6
     }
 
-    /// How far below the top the legend stands, below the line of a deadlock.
-    pub(crate) fn story_y(&self) -> usize
-        ensures { result ≤ 1000 }
+    /// How far below the top the sentence of the first deadlock stands.
+    pub(crate) fn deadlock_y(&self) -> usize
+        ensures { result ≤ 1160 }
     {
-        self.axis_y() + 50
+        self.axis_y() + 36
+    }
+
+    /// How far below the top the sentence of a lost update stands.
+    pub(crate) fn lost_y(&self) -> usize
+        ensures { result ≤ 1180 }
+    {
+        self.deadlock_y() + line_height(self.has_deadlock)
+    }
+
+    /// How far below the top the sentence of the threads stands that are deadlocked after the last event.
+    pub(crate) fn deadlocked_y(&self) -> usize
+        ensures { result ≤ 1200 }
+    {
+        self.lost_y() + line_height(self.has_lost)
+    }
+
+    /// How far below the top the legend stands, below the sentences.
+    pub(crate) fn legend_y(&self) -> usize
+        ensures { result ≤ 1220 }
+    {
+        self.deadlocked_y() + line_height(self.has_deadlocked)
     }
 
     /// How high the picture is.
     pub(crate) fn height(&self) -> usize
-        ensures { result ≤ 1030 }
+        ensures { result ≤ 1250 }
     {
-        self.story_y() + 30
+        self.legend_y() + 30
     }
+}
+
+/// How high a sentence is, if it is there.
+fn line_height(is_there: bool) -> usize
+    ensures { result ≤ 17 }
+{
+    if is_there { 17 } else { 0 }
 }

@@ -2,7 +2,7 @@
 
 use crate::layout::Layout;
 use crate::scene::Scene;
-use crate::style::color_of;
+use crate::style::{color_of, color_of_monitor};
 use std::alloc::Global;
 use svg_text::{Content, Ink};
 
@@ -26,7 +26,7 @@ impl Entry {
 
 /// A sample of each thing that is in the picture, in its color.
 pub(crate) fn add_legend(alloc: Global, page: &mut Content, layout: &Layout, scene: &Scene) {
-    let y = layout.story_y() + 6;
+    let y = layout.legend_y() + 6;
     let mut x: usize = 24;
     for entry in entries(layout, scene) {
         if entry.is_shown {
@@ -43,7 +43,7 @@ pub(crate) fn add_legend(alloc: Global, page: &mut Content, layout: &Layout, sce
 }
 
 /// All that may be in a picture.
-fn entries(layout: &Layout, scene: &Scene) -> [Entry; 7] {
+fn entries(layout: &Layout, scene: &Scene) -> [Entry; 10] {
     let has_waits = scene
         .lanes
         .as_slice()
@@ -54,10 +54,21 @@ fn entries(layout: &Layout, scene: &Scene) -> [Entry; 7] {
         class: "step key",
         color: color_of(0),
     };
+    let held = Ink {
+        class: "held",
+        color: color_of_monitor(0),
+    };
+    let update = Ink {
+        class: "update",
+        color: color_of(0),
+    };
     [
         Entry::new(step, "a step", true),
         Entry::new(Ink::of("block key"), "a blocked step", has_waits),
         Entry::new(Ink::of("hatch key"), "it waits", has_waits),
+        Entry::new(held, "a monitor", scene.monitors.are_some()),
+        Entry::new(update, "load to store", scene.fields.has_arcs()),
+        Entry::new(Ink::of("lost"), "lost update", scene.fields.has_lost()),
         Entry::new(Ink::of("ack"), "an acknowledgement", has_collector),
         Entry::new(Ink::of("work key"), "the collector works", has_collector),
         Entry::new(Ink::of("pause key"), "it waits for a thread", has_collector),

@@ -1,16 +1,19 @@
 //! Runs a machine by the events that items stand for, and draws those of a window.
 
-ghost use Rattle.std.specs.Prelude.{◌≡◌, ◌⊎◌, ◌+◌, IfErr, IfOk, OnErr, OnOk, List, [], replicate, string_bytes};
+ghost use Rattle.std.specs.Prelude.{◌≡◌, ◌⊎◌, ◌+◌, Bool, IfErr, IfOk, OnErr, OnOk, List, [], replicate, string_bytes};
 ghost use Rattle.cil_model.specs.declared.reports.Report.{Report as AnyReport};
 ghost use Rattle.interleaving_core.specs.simulation.Turns.{IsTurn};
 ghost use Rattle.outputs.specs.Taken.{HasGrown};
 ghost use Rattle.schedule_text.specs.Items.{events_of};
+ghost use Rattle.event_trace.specs.Deadlocks.{IsDeadlockOf};
 ghost use Rattle.event_trace.specs.Places.{ArePlacesOf};
 ghost use Rattle.run_picture.specs.Pictures.{IsDrawn, IsPicture, IsPictureInPart};
 ghost use Rattle.run_picture.specs.Rows.{drawn_rows};
 ghost use Rattle.run_picture.specs.declared.errors.PictureError.TheVariants.{Device as CantWrite, Memory as WantsMemory};
+ghost use Rattle.run_picture.specs.Sentences.{deadlock_sentence};
 ghost use Rattle.run_picture.specs.declared.rows.TheConstants.{ROWS};
 
+use crate::deadlocks::deadlock_sentence;
 use crate::document::document;
 use crate::errors::PictureError;
 use crate::layout::Layout;
@@ -28,7 +31,8 @@ use schedule_text::Item;
 use std::alloc::{AllocError, Global};
 
 /// Does the events that these items stand for in order, as `Machine::run` does, and writes a picture of those of the window: one document
-/// of SVG, which is put together in memory and written once, at the end.
+/// of SVG, which is put together in memory and written once, at the end. If threads are deadlocked after the last event, a sentence names exactly those
+/// (`event_trace::deadlocked_threads`).
 ///
 /// Of a window with more events than `MOST_EVENTS` the first ones are drawn, and where it has none, the picture is of none. It takes memory for
 /// the document and what is gathered for it, and no more than the machine itself for events. It stops at the first want of memory, before
@@ -135,11 +139,19 @@ impl Sketch {
         Ok(())
     }
 
-    /// The document of so many events.
-    fn document(&self, alloc: Global, machine: &Machine, events: usize) -> Result<String, NoMemory>
-        ensures { IfOk result (λ text. IsDrawn (string_bytes text) self.now.rows.rows.items) }
+    /// The document of a machine after all events, given their number.
+    fn document(
+        &mut self,
+        alloc: Global,
+        machine: &Machine,
+        events: usize,
+    ) -> Result<String, NoMemory>
+        ensures { IfOk result (λ text. (deadlocked : List Bool) × IsDeadlockOf machine.now deadlocked × IsDrawn (string_bytes text) self.old.rows.rows.items (deadlock_sentence deadlocked)) }
     {
+        let deadlocked = deadlock_sentence(alloc, machine)?;
+        self.scene.deadlocked = deadlocked;
         let layout = Layout::new(self.window, events, &self.scene);
-        document(alloc, machine, &layout, &self.scene, &self.rows)
+        let text = document(alloc, machine, &layout, &self.scene, &self.rows)?;
+        Ok(text)
     }
 }

@@ -1,6 +1,8 @@
 //! What a picture shows beside its rows, gathered while the events are done.
 
 use crate::changes::{HeapChanges, Phases};
+use crate::fields::StaticFields;
+use crate::monitors::{Holdings, Monitors};
 use crate::tips::Tips;
 use cil_model::reports::End;
 use interleaving_core::Wait;
@@ -36,6 +38,8 @@ pub(crate) struct Lane {
     /// The phases that it has acknowledged.
     pub(crate) phases: Phases,
     pub(crate) waits: Vec<Waiting>,
+    /// The monitors that it holds.
+    pub(crate) holdings: Holdings,
 }
 
 impl Lane {
@@ -48,10 +52,11 @@ impl Lane {
             end: None,
             phases: Phases::new(alloc),
             waits: Vec::new(alloc),
+            holdings: Holdings::new(alloc),
         }
     }
 
-    /// The step at this event is blocked. Says whether it is the first one of a time of waiting.
+    /// The step at this event is blocked. Returns whether it is the first one of a time of waiting.
     pub(crate) fn block(&mut self, at: usize, wait: Option<Wait>) -> Result<bool, AllocError> {
         if self.is_waiting() {
             return Ok(false);
@@ -118,9 +123,15 @@ pub(crate) struct Scene {
     pub(crate) prints: Vec<Print>,
     pub(crate) acknowledgements: Vec<Acknowledgement>,
     pub(crate) tips: Tips,
+    /// The monitors that were entered.
+    pub(crate) monitors: Monitors,
+    /// The static fields that were loaded or stored by events that are drawn.
+    pub(crate) fields: StaticFields,
     /// The first deadlock.
     pub(crate) deadlock: Option<Deadlock>,
-    /// How many cycles of the collector ended.
+    /// The sentence of the threads that are deadlocked after the last event. Empty if there are none.
+    pub(crate) deadlocked: String,
+    /// The number of cycles of the collector that ended.
     pub(crate) cycles: usize,
     /// Whether there is an event of the collector.
     pub(crate) has_collector: bool,
@@ -136,7 +147,10 @@ impl Scene {
             prints: Vec::new(alloc),
             acknowledgements: Vec::new(alloc),
             tips: Tips::new(alloc),
+            monitors: Monitors::new(alloc),
+            fields: StaticFields::new(alloc),
             deadlock: None,
+            deadlocked: String::new(alloc),
             cycles: 0,
             has_collector: false,
         }

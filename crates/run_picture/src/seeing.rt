@@ -3,34 +3,52 @@
 ghost use Rattle.event_trace.specs.Places.{ArePlacesOf};
 
 use crate::changes::HeapChange;
+use crate::deadlocks::waits_of;
+use crate::event_instructions::{MonitorCall, instruction_of, monitor_call};
 use crate::scene::{Acknowledgement, Deadlock, Lane, LaneEnd, Print, Scene};
 use crate::tips::TipText;
 use cil_model::events::Event;
-use cil_model::limits::MOST_THREADS;
 use cil_model::memory::NoMemory;
+use cil_model::phases::Phase;
 use cil_model::reports::{End, Report};
 use event_trace::{InstructionPlace, MethodPlaces, deadlocked_threads, instruction_at};
 use instruction_text::MethodNameText;
-use interleaving_core::{Machine, Position, Wait};
+use interleaving_core::{Machine, Position};
+use object_memory::Addr;
 use std::alloc::{AllocError, Global};
-use std::fmt::Write;
+use std::fmt::{Display, Write};
 
 /// What a machine was like before an event.
 #[derive(Clone, Copy)]
 pub(crate) struct Before {
     /// Where the event's thread was.
     position: Option<Position>,
-    /// How many bytes were printed.
+    /// The object whose monitor the event's step enters or exits.
+    monitor: Option<Addr>,
+    /// Whether the step is to enter a monitor that another thread holds.
+    is_blocked: bool,
+    /// The phase that the collector had posted.
+    posted: Phase,
+    /// The number of bytes that were printed.
     printed: usize,
 }
 
 impl Before {
     pub(crate) fn new(machine: &Machine, event: Event) -> Before {
+        let (position, monitor, is_blocked) = match event {
+            Event::Step(thread) => {
+                let monitor = machine.monitor_of(thread);
+                let is_blocked = monitor.is_some() && machine.wait_of(thread).is_some();
+                (machine.position_of(thread), monitor, is_blocked)
+            }
+            Event::Ack(thread) => (machine.position_of(thread), None, false),
+            Event::Gc => (None, None, false),
+        };
         Before {
-            position: match event {
-                Event::Step(thread) | Event::Ack(thread) => machine.position_of(thread),
-                Event::Gc => None,
-            },
+            position,
+            monitor,
+            is_blocked,
+            posted: machine.posted(),
             printed: machine.console().len(),
         }
     }
@@ -49,6 +67,15 @@ pub(crate) struct Done {
 }
 
 impl Done {
+    /// Whether it is a step that has executed its instruction. The step that uses up the budget of its thread may be a blocked one.
+    fn has_executed(self) -> bool {
+        match self.report {
+            Report::Ran => true,
+            Report::Ended(End::Budget) => !self.before.is_blocked,
+            _ => false,
+        }
+    }
+
     /// The thread whose step it is, where it is drawn.
     fn starter(self) -> Option<u8> {
         match self.event {
@@ -57,7 +84,7 @@ impl Done {
         }
     }
 
-    /// The event behind which its effects are seen.
+    /// The number of the event from which on its effects are seen.
     fn after(self) -> usize {
         if self.is_drawn {
             self.at.saturating_add(1)
@@ -90,13 +117,16 @@ impl Scene {
         self.see_machine(machine, done.after())?;
         match done.event {
             Event::Step(thread) => {
+                if done.has_executed() {
+                    self.see_instruction(alloc, machine, methods, thread, done)?;
+                }
                 if self.see_step(machine, methods, thread, done)? {
                     self.see_deadlock(alloc, machine, done.at)?;
                 }
                 self.see_print(machine, thread, done)?;
             }
             Event::Ack(thread) => self.see_acknowledgement(machine, thread, done)?,
-            Event::Gc => self.see_collector(done),
+            Event::Gc => self.see_collector(alloc, machine, done)?,
         }
         if done.is_drawn {
             self.tips.add(
@@ -142,7 +172,7 @@ impl Scene {
         Ok(())
     }
 
-    /// A step of a thread. Says whether the thread waits from this one on.
+    /// A step of a thread. Returns whether the thread waits from this step on.
     fn see_step(
         &mut self,
         machine: &Machine,
@@ -170,6 +200,55 @@ impl Scene {
         Ok(false)
     }
 
+    /// The instruction that a step of a thread has executed.
+    fn see_instruction(
+        &mut self,
+        alloc: Global,
+        machine: &Machine,
+        methods: &MethodPlaces,
+        thread: u8,
+        done: Done,
+    ) -> Result<(), AllocError>
+        requires { ArePlacesOf machine.now.tree methods.now }
+    {
+        let at = instruction_at(machine, methods, done.before.position);
+        let Some(instruction) = instruction_of(at) else {
+            return Ok(());
+        };
+        if let Some(address) = done.before.monitor {
+            self.see_monitor(machine, thread, monitor_call(instruction), address, done)?;
+        }
+        if done.is_drawn {
+            self.fields
+                .see(alloc, machine.tree(), instruction, thread, done.at)?;
+        }
+        Ok(())
+    }
+
+    /// A thread has entered or exited the monitor of an object.
+    fn see_monitor(
+        &mut self,
+        machine: &Machine,
+        thread: u8,
+        call: MonitorCall,
+        address: Addr,
+        done: Done,
+    ) -> Result<(), AllocError> {
+        let Some(lane) = self.lanes.as_mut_slice().get_mut(usize::from(thread)) else {
+            return Ok(());
+        };
+        match call {
+            MonitorCall::Enter => {
+                lane.holdings
+                    .enter(machine, &mut self.monitors, address, done.at)
+            }
+            MonitorCall::Exit => match self.monitors.number(machine, address) {
+                Some(monitor) => lane.holdings.exit(monitor, done.after()),
+                None => Ok(()),
+            },
+        }
+    }
+
     /// What a step has printed.
     fn see_print(&mut self, machine: &Machine, thread: u8, done: Done) -> Result<(), AllocError> {
         let to = machine.console().len();
@@ -184,7 +263,7 @@ impl Scene {
         Ok(())
     }
 
-    /// Whether threads are deadlocked since this event. Only the first deadlock is told.
+    /// Keeps the deadlock that this event closes, if it is the first one.
     fn see_deadlock(
         &mut self,
         alloc: Global,
@@ -195,7 +274,7 @@ impl Scene {
             return Ok(());
         }
         let deadlocked = deadlocked_threads(alloc, machine)?;
-        let sentence = deadlock_sentence(alloc, machine, deadlocked.as_slice())?;
+        let sentence = waits_of(alloc, machine, &self.monitors, deadlocked.as_slice())?;
         if !sentence.as_str().is_empty() {
             self.deadlock = Some(Deadlock { at, sentence });
         }
@@ -222,14 +301,24 @@ impl Scene {
         Ok(())
     }
 
-    /// An event of the collector.
-    fn see_collector(&mut self, done: Done) {
+    /// An event of the collector. When it posts `ThreadFlip`, each object that a thread can reach has its final address of the cycle.
+    fn see_collector(
+        &mut self,
+        alloc: Global,
+        machine: &Machine,
+        done: Done,
+    ) -> Result<(), AllocError> {
+        let posted = machine.posted();
+        if posted == Phase::ThreadFlip && posted != done.before.posted {
+            self.monitors.forward(alloc, machine)?;
+        }
         if done.is_drawn {
             self.has_collector = true;
             if done.report == Report::CycleDone {
                 self.cycles = self.cycles.saturating_add(1);
             }
         }
+        Ok(())
     }
 }
 
@@ -241,51 +330,4 @@ fn name_method(text: &mut String, at: Option<InstructionPlace>) -> Result<(), Al
     let owner = at.found.owner;
     let name = MethodNameText(&at.found.method.name);
     write!(text, "{owner}::{name}")
-}
-
-/// The most threads that the sentence of a deadlock has, so that it fits the picture.
-const MOST_NAMED: usize = 4;
-
-/// Who waits for whom, of the first threads that are deadlocked. Empty where none is.
-fn deadlock_sentence(
-    alloc: Global,
-    machine: &Machine,
-    deadlocked: &[bool],
-) -> Result<String, AllocError> {
-    let mut text = String::new(alloc);
-    let mut named = 0usize;
-    for thread in 0..deadlocked.len().min(MOST_THREADS) {
-        if deadlocked[thread] {
-            if named == MOST_NAMED {
-                text.push_str(", ..")?;
-                break;
-            }
-            add_wait(&mut text, machine, thread as u8)?;
-            named = named.saturating_add(1);
-        }
-    }
-    Ok(text)
-}
-
-/// What a thread waits for, behind what others wait for.
-fn add_wait(text: &mut String, machine: &Machine, thread: u8) -> Result<(), AllocError> {
-    if !text.as_str().is_empty() {
-        text.push_str(", ")?;
-    }
-    match machine.wait_of(thread) {
-        Some(Wait::Monitor { owner, .. }) if machine.is_live(owner) => {
-            write!(
-                text,
-                "thread {thread} waits for a monitor of thread {owner}"
-            )
-        }
-        Some(Wait::Monitor { owner, .. }) => write!(
-            text,
-            "thread {thread} waits for a monitor of thread {owner}, which has ended"
-        ),
-        Some(Wait::Join { thread: joined }) => {
-            write!(text, "thread {thread} waits for the end of thread {joined}")
-        }
-        None => Ok(()),
-    }
 }

@@ -25,15 +25,17 @@ path{fill:none}\
 .diamond{fill:#212529;stroke:#fff;stroke-width:.6}\
 .ring{fill:#fff;stroke-width:2}.cross{stroke:#c92a2a;stroke-width:2.4}\
 .mark{fill:#1f2933}\
+.held{stroke-width:4}.held.slim{stroke-width:3}.letter{font-size:9px}.code{font-family:DejaVu Sans Mono,monospace;font-size:9px;fill:#6b7785}\
+.load{fill:#fff;stroke-width:1.5}.store{fill:none;stroke-width:4}.update{stroke-width:1.4}.lost{stroke:#c92a2a;stroke-width:2}\
 .p1{fill:#e6b400}.p2{fill:#f08c00}.p3{fill:#40a840}.p4{fill:#22a6c4}.p5{fill:#3b7ae0}.p6{fill:#7a5be0}.p7{fill:#dd5a98}\
 rect.p1,rect.p2,rect.p3,rect.p4,rect.p5,rect.p6,rect.p7{fill-opacity:.28}\
 .old{stroke:#4c6ef5;stroke-width:1.6}.new{stroke:#f08c00;stroke-width:1.6}\
 .old-area{fill:#4c6ef5;fill-opacity:.2}.new-area{fill:#f08c00;fill-opacity:.2}\
 .tip{fill-opacity:0}\
 @media(prefers-color-scheme:dark){\
-svg{fill:#d7dde4}.back{fill:#14181d}.lane{fill:#1e242b}.quiet{fill:#8b96a3}.bad{fill:#ff8787}\
+svg{fill:#d7dde4}.back{fill:#14181d}.lane{fill:#1e242b}.quiet,.code{fill:#8b96a3}.bad{fill:#ff8787}\
 .grid{stroke:#323a44}.cut{stroke:#14181d}.ack{stroke:#f1f3f5}.idle{stroke:#5c6773}\
-.diamond{fill:#f1f3f5;stroke:#14181d}.ring{fill:#14181d}.mark{fill:#d7dde4}.hatch{stroke:#8a3b3b}.work{stroke:#ced4da}.pause{stroke:#5c6773}}";
+.diamond{fill:#f1f3f5;stroke:#14181d}.ring,.load{fill:#14181d}.mark{fill:#d7dde4}.hatch{stroke:#8a3b3b}.work{stroke:#ced4da}.pause{stroke:#5c6773}}";
 
 /// The color of a thread. Readers who see few colors can tell them apart.
 pub(crate) fn color_of(thread: usize) -> &'static str {
@@ -57,6 +59,18 @@ pub(crate) fn color_of(thread: usize) -> &'static str {
     }
 }
 
+/// The color of the stripes of a monitor, by its number.
+pub(crate) fn color_of_monitor(monitor: usize) -> &'static str {
+    match monitor % 6 {
+        0 => "#E69F00",
+        1 => "#56B4E9",
+        2 => "#6BBF59",
+        3 => "#C77CFF",
+        4 => "#F06595",
+        _ => "#94A3B8",
+    }
+}
+
 /// The class of a phase in the style. None between cycles.
 pub(crate) fn phase_class(phase: Phase) -> Option<&'static str> {
     match phase {
@@ -68,19 +82,5 @@ pub(crate) fn phase_class(phase: Phase) -> Option<&'static str> {
         Phase::HeapFlip => Some("p5"),
         Phase::ThreadFlip => Some("p6"),
         Phase::Reclaim => Some("p7"),
-    }
-}
-
-/// The name of a phase.
-pub(crate) fn phase_name(phase: Phase) -> &'static str {
-    match phase {
-        Phase::Idle => "idle",
-        Phase::Mark => "mark",
-        Phase::Allocate => "allocate",
-        Phase::Copy => "copy",
-        Phase::PreFlip => "pre-flip",
-        Phase::HeapFlip => "heap-flip",
-        Phase::ThreadFlip => "thread-flip",
-        Phase::Reclaim => "reclaim",
     }
 }

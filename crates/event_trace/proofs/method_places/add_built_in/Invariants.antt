@@ -7,7 +7,7 @@ use Rattle.cil_model.specs.Declarations.{Declaration}
 use Rattle.event_trace.proofs.PlaceLaws.{Stand}
 use Rattle.event_trace.proofs.method_places.add_built_in.Given as goal
 
--- the places of so many methods are listed
+-- the places of the methods so far are listed
 abbrev pub invariant-loop-method : goal.invariant-loop-method
 invariant-loop-method l = (first : List (ClassName × Declaration)) (tree : Tree) (e : ClassName × Declaration) → slice_get first l.class ≡ Some e → length e.1.methods ≡ l.methods →
     Stand first tree l.initial.places.items l.places.items (map (λ (m : Method). (e.0, m)) (take l.method e.1.methods))

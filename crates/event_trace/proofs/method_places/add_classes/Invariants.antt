@@ -8,7 +8,7 @@ use Rattle.interleaving_core.specs.simulation.loaded_program.AllMethods.{owned_m
 use Rattle.event_trace.proofs.PlaceLaws.{Stand}
 use Rattle.event_trace.proofs.method_places.add_classes.Given as goal
 
--- the places of the methods of so many classes are listed
+-- the places of the methods of the classes so far are listed
 abbrev pub invariant-loop-class : goal.invariant-loop-class
 invariant-loop-class l = (first : List (ClassName × Declaration)) (tree : Tree) → tree.classes ≡ l.classes →
     Stand first tree l.initial.places.items l.places.items (flat_map owned_methods (map source_entry (take l.class l.classes)))

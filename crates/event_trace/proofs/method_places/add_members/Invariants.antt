@@ -7,7 +7,7 @@ use Rattle.cil_model.specs.Declarations.{Declaration}
 use Rattle.event_trace.proofs.PlaceLaws.{Stand, own_methods}
 use Rattle.event_trace.proofs.method_places.add_members.Given as goal
 
--- the places of the methods among so many members are listed
+-- the places of the methods among the members so far are listed
 abbrev pub invariant-loop-member : goal.invariant-loop-member
 invariant-loop-member l = (first : List (ClassName × Declaration)) (tree : Tree) (c : Class) → slice_get tree.classes l.class ≡ Some c → c.members ≡ l.members →
     Stand first tree l.initial.places.items l.places.items (own_methods c l.member)

@@ -14,7 +14,7 @@ invariant-loop-item g l = record {
   kept : (g.W.Out.taken l.out).failures ≡ (g.W.Out.taken l.fn.out).failures;
 }
 
--- so are so many of the item's own
+-- so are the item's own events so far
 abbrev pub invariant-loop-time : goal.invariant-loop-time
 invariant-loop-time g l = record {
   traced : TracedSoFar l.fn.machine (so_far l.items l.item-index l.item.event l._time) l.machine l.pending.items (g.W.Out.taken l.fn.out).contents (g.W.Out.taken l.out).contents;

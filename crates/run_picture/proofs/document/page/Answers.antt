@@ -1,7 +1,15 @@
-use Rattle.run_picture.proofs.PathLaws.{paths_before}
+use Rattle.std.proofs.Common.{subst}
+use Rattle.run_picture.specs.Paths.{HasWords}
+use Rattle.run_picture.proofs.PathLaws.{paths_before, words_after}
 use Rattle.run_picture.proofs.document.page.Goals as goal
 
-pub returns : goal.returns
-returns c =
+pub returns-clause-paths : goal.returns-clause-paths
+returns-clause-paths c =
     let rows = c.args.drawn.now.rows.items in
-    paths_before c.add_plot-2.new.page c.append-2.new.self c.front.result rows c.append-2.ensures (c.add_plot-2.ensures rows c.rows.ensures)
+    paths_before c.append-2.new.self c.append-4.new.self c.deadlocked.result rows c.append-4.ensures
+    (paths_before c.add_plot-2.new.page c.append-2.new.self c.front.result rows c.append-2.ensures (c.add_plot-2.ensures rows c.rows.ensures))
+
+pub returns-clause-sentence : goal.returns-clause-sentence
+returns-clause-sentence c =
+    subst (HasWords c.append-4.new.self) c.as_str.ensures.value
+    (words_after c.append-2.new.self c.append-4.new.self c.deadlocked.result c.as_str.result.now c.append-4.ensures c.deadlocked.ensures)

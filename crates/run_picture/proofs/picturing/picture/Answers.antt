@@ -16,7 +16,7 @@ pub loop-item-init : goal.loop-item-init
 loop-item-init g c = record {
   sketched = sketch_begun c.args.machine.now (clamped c.args.window) c.in_ok-sketch.sketch.rows.rows.items c.in_ok-sketch.ensures.1 c.in_ok-sketch.sketch.rows.all;
   number = search rules;
-  places = search rules;
+  places = subst (λ (t : Tree). ArePlacesOf t c.in_ok-methods.methods) c.tree.ensures c.in_ok-methods.ensures;
   window = c.in_ok-sketch.ensures.0 ∙ c.clamped.ensures;
 }
 
@@ -65,7 +65,7 @@ returns-clause-drawn g c =
     let rows = c.loop-item.sketch.rows.rows.items in
     all_drawn c.args.machine.now c.loop-item.machine (events_of c.args.items.now) c.args.window rows _
     (subst (λ es. SketchedSoFar c.args.machine.now es c.loop-item.machine (clamped c.args.window) rows) (so_far_whole c.args.items.now c.loop-item.item-index past) c.loop-item.invariant.sketched)
-    c.in_ok-document.ensures (g.W.Out.taken c.args.out.now).contents (g.W.Out.taken c.write_whole.new.self).contents
+    c.in_ok-document.ensures.0 c.in_ok-document.ensures.1 c.in_ok-document.ensures.2 (g.W.Out.taken c.args.out.now).contents (g.W.Out.taken c.write_whole.new.self).contents
     (subst (λ bytes. Appends (g.W.Out.taken c.args.out.now).contents (g.W.Out.taken c.write_whole.new.self).contents bytes) (c.as_bytes.ensures.value ∙ c.as_str.ensures.value) c.in_ok-write_whole.ensures.whole.0)
 
 pub returns-clause-same : goal.returns-clause-same
@@ -83,7 +83,7 @@ returns-in_err-write_whole-clause-stopped g c =
     on_err c.from_residual-in_err-write_whole.result
     (write_cut c.args.machine.now c.loop-item.machine (events_of c.args.items.now) c.args.window rows _
     (subst (λ es. SketchedSoFar c.args.machine.now es c.loop-item.machine (clamped c.args.window) rows) (so_far_whole c.args.items.now c.loop-item.item-index past) c.loop-item.invariant.sketched)
-    c.in_ok-document.ensures (g.W.Out.taken c.args.out.now).contents (g.W.Out.taken c.write_whole.new.self).contents
+    c.in_ok-document.ensures.0 c.in_ok-document.ensures.1 c.in_ok-document.ensures.2 (g.W.Out.taken c.args.out.now).contents (g.W.Out.taken c.write_whole.new.self).contents
     (subst (λ bytes. AppendsBeginning (g.W.Out.taken c.args.out.now).contents (g.W.Out.taken c.write_whole.new.self).contents bytes) (c.as_bytes.ensures.value ∙ c.as_str.ensures.value) c.in_err-write_whole.ensures.cut.0))
 
 pub returns-in_err-document-clause-same : goal.returns-in_err-document-clause-same

@@ -15,7 +15,7 @@ invariant-loop-item g l = record {
   window : l.sketch.window ≡ clamped l.fn.window;
 }
 
--- so are so many of the item's own
+-- so are the item's own events so far
 abbrev pub invariant-loop-time : goal.invariant-loop-time
 invariant-loop-time g l = record {
   sketched : SketchedSoFar l.fn.machine (so_far l.items l.item-index l.item.event l._time) l.machine (clamped l.fn.window) l.sketch.rows.rows.items;

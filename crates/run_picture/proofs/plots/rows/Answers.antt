@@ -1,4 +1,4 @@
-use Rattle.std.proofs.Common.{◌∙◌, [], arith, subst, sym}
+use Rattle.std.proofs.Common.{◌∙◌, [], arith, subst}
 use Rattle.std.proofs.lemmas.List.{get_or_default}
 use Rattle.run_picture.specs.Paths.{Draws}
 use Rattle.run_picture.proofs.PathLaws.{paths_more}

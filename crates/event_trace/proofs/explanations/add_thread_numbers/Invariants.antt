@@ -1,7 +1,7 @@
 use Rattle.std.proofs.Common.{◌≡◌, ◌++◌}
 use Rattle.std.specs.Prelude.{string_bytes}
 use Rattle.event_trace.specs.Texts.{count_below, numbers_below}
-use Rattle.event_trace.proofs.explanations.add_numbers.Given as goal
+use Rattle.event_trace.proofs.explanations.add_thread_numbers.Given as goal
 
 -- the numbers so far were added, and counted
 abbrev pub invariant-loop-thread : goal.invariant-loop-thread
