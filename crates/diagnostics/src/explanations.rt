@@ -1,12 +1,14 @@
 //! Why a source is not accepted.
 
-ghost use Rattle.std.specs.Prelude.{◌≡◌, None, IfOk, IsSome, is_none};
+ghost use Rattle.std.specs.Prelude.{◌≡◌, None, IfOk, IfSome, IsSome, is_none};
+ghost use Rattle.cil_model.specs.Sources.{HasTree, IsAnswer};
+ghost use Rattle.cil_model.specs.declared.trees.Tree.{Tree};
 ghost use Rattle.diagnostics.specs.Verdicts.{IsAcceptedSource, is_acceptance};
 
-use crate::legality::{broken, explain_rule};
+use crate::legality::{broken, explain_rule, notes_on_runs};
 use crate::reading::explain_reading;
 use crate::source_map::Named;
-use crate::typing::explain_typing;
+use crate::typing::{explain_typing, needed_height, with_largest_stack};
 use crate::verdicts::{Verdict, verdict_of};
 use cil_model::memory::NoMemory;
 use cil_model::trees::Tree;
@@ -14,10 +16,12 @@ use ilasm_reader::{ReadError, read};
 use metadata::violations::Violation;
 use metadata::{MetaError, Program, resolve};
 use std::alloc::Global;
-use verifier::failures::FailurePoint;
+use verifier::failures::{FailurePoint, Reason, TypingError};
 
 /// The tree of a source that was read before; None where it has none.
-fn tree_of(alloc: Global, source: &[u8]) -> Result<Option<Tree>, NoMemory> {
+fn tree_of(alloc: Global, source: &[u8]) -> Result<Option<Tree>, NoMemory>
+    ensures { IfOk result (λ found. IfSome found (λ tree. IsAnswer source.now (HasTree tree))) }
+{
     match read(alloc, source) {
         Ok(tree) => Ok(Some(tree)),
         Err(ReadError::OutOfMemory) => Err(NoMemory),
@@ -45,17 +49,60 @@ fn illegal(alloc: Global, named: Named, violation: Violation) -> Result<String, 
     }
 }
 
+/// The program of a source with the largest `.maxstack` in one method. None where it has none.
+fn program_with_largest_stack(
+    alloc: Global,
+    source: &[u8],
+    program: &Program,
+    method: usize,
+) -> Result<Option<Program>, NoMemory> {
+    match with_largest_stack(alloc, source, program, method)? {
+        None => Ok(None),
+        Some(changed) => program_of(alloc, changed.as_slice()),
+    }
+}
+
+/// Whether a stack was too high.
+fn is_too_high(failure: &FailurePoint) -> bool {
+    matches!(failure.reason, Reason::TooHigh(_))
+}
+
+/// Why a method has no typing in which a stack is too high. Where it has none with the largest `.maxstack` either, for another reason, it is
+/// that reason; else its text says how high the stack has to be.
+fn untyped_by_height(
+    alloc: Global,
+    named: Named,
+    program: &Program,
+    method: usize,
+    failure: &FailurePoint,
+) -> Result<Option<String>, NoMemory> {
+    let Some(largest) = program_with_largest_stack(alloc, named.text, program, method)? else {
+        return explain_typing(alloc, named, program, method, failure, None);
+    };
+    match needed_height(alloc, &largest, method) {
+        Ok(height) => explain_typing(alloc, named, program, method, failure, height),
+        Err(TypingError::OutOfMemory) => Err(NoMemory),
+        Err(TypingError::Untyped(other)) => {
+            let shown = if is_too_high(&other) { failure } else { &other };
+            explain_typing(alloc, named, program, method, shown, None)
+        }
+    }
+}
+
 /// Why the method of a number has no typing. The program is made once more, since a refusal drops it. None where it has no such method.
-fn told_typing(
+fn untyped_in_program(
     alloc: Global,
     named: Named,
     method: usize,
     failure: &FailurePoint,
 ) -> Result<Option<String>, NoMemory> {
-    match program_of(alloc, named.text)? {
-        None => Ok(None),
-        Some(program) => explain_typing(alloc, named, &program, method, failure),
+    let Some(program) = program_of(alloc, named.text)? else {
+        return Ok(None);
+    };
+    if is_too_high(failure) {
+        return untyped_by_height(alloc, named, &program, method, failure);
     }
+    explain_typing(alloc, named, &program, method, failure, None)
 }
 
 /// Why the method of a number has no typing.
@@ -65,7 +112,7 @@ fn untyped(
     method: usize,
     failure: &FailurePoint,
 ) -> Result<String, NoMemory> {
-    match told_typing(alloc, named, method, failure)? {
+    match untyped_in_program(alloc, named, method, failure)? {
         None => named.message(alloc, None, "a method has no typing"),
         Some(message) => Ok(message),
     }
@@ -107,4 +154,22 @@ pub fn explain(alloc: Global, file: &str, source: &[u8]) -> Result<Option<String
     let verdict = verdict_of(alloc, source)?;
     let named = Named { file, text: source };
     text_of(alloc, named, &verdict)
+}
+
+/// Notes on a source that is accepted, and may not do what it seems to: a class that extends `Cilvm.Thread` has methods `Run`, and none of
+/// them overrides `Cilvm.Thread::Run`, so no thread runs them. Each note is laid out as an explanation. None where there is nothing to
+/// note, and where the source has no tree. Fails for want of memory alone.
+pub fn note(alloc: Global, file: &str, source: &[u8]) -> Result<Option<String>, NoMemory>
+    ensures { IfOk result (λ text. IsSome text → (tree : Tree) × IsAnswer source.now (HasTree tree)) }
+{
+    let Some(noted) = tree_of(alloc, source)? else {
+        return Ok(None);
+    };
+    let named = Named { file, text: source };
+    let notes = notes_on_runs(alloc, named, &noted)?;
+    if notes.is_empty() {
+        Ok(None)
+    } else {
+        Ok(Some(notes))
+    }
 }

@@ -5,6 +5,7 @@ mod breaches;
 mod cycles;
 mod doubled;
 mod entry;
+mod idle_runs;
 mod implemented;
 mod kinds;
 mod limits;
@@ -14,4 +15,5 @@ mod sentences;
 mod sites;
 mod unknown;
 
+pub use idle_runs::notes_on_runs;
 pub use rules::{broken, explain_rule};

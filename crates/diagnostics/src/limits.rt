@@ -28,7 +28,7 @@ fn add_limit(
     if (least..=most).contains(&value) {
         return Ok(());
     }
-    writeln!(text, "{name} are {value}, and not from {least} to {most}")?;
+    writeln!(text, "{name} is {value}, expected {least} to {most}")?;
     Ok(())
 }
 
@@ -49,7 +49,7 @@ pub fn explain_limits(alloc: Global, limits: Limits) -> Result<Option<String>, N
     let mut text = String::new(alloc);
     add_limit(
         &mut text,
-        "the words of a space",
+        "the number of words of a space",
         words,
         LEAST_WORDS,
         MOST_WORDS,
@@ -57,13 +57,25 @@ pub fn explain_limits(alloc: Global, limits: Limits) -> Result<Option<String>, N
     if words <= MOST_WORDS {
         add_limit(
             &mut text,
-            "the most words of a space",
+            "the largest number of words of a space",
             max_words,
             words,
             MOST_WORDS,
         )?;
     }
-    add_limit(&mut text, "the steps of a thread", budget, 1, MOST_BUDGET)?;
-    add_limit(&mut text, "the frames of a thread", depth, 1, MOST_DEPTH)?;
+    add_limit(
+        &mut text,
+        "the number of steps of a thread",
+        budget,
+        1,
+        MOST_BUDGET,
+    )?;
+    add_limit(
+        &mut text,
+        "the number of frames of a thread",
+        depth,
+        1,
+        MOST_DEPTH,
+    )?;
     Ok(Some(text))
 }

@@ -11,6 +11,7 @@ mod outlines;
 mod places;
 
 pub use lexemes::token_at;
+pub use lines::{Position, position_of};
 pub use members::{MethodPlace, method_of_number, nth_field, nth_method};
 pub use messages::Named;
 pub use name_texts::{ClassText, MethodText, TypeText};

@@ -1,9 +1,12 @@
 //! What to write in the place of names that this profile lacks.
 
 use super::sentences::{tell_one, tell_two};
+use super::sites::key_of;
 use super::unknown::{Role, Unknown, library_of};
+use cil_model::trees::{Field, Method};
 use metadata::violations::ClassFault;
-use name_tables::keys::{ClassKey, MethodKey};
+use name_tables::keys::{ClassKey, FieldKey, MethodKey};
+use name_tables::kinds::is_static;
 use std::fmt;
 
 /// What to write in the place of what breaks a rule. It prints as one sentence without an end.
@@ -13,6 +16,8 @@ pub enum Advice<'a> {
     Sentence(&'static str),
     /// The declaration of this library.
     Extern(&'a str),
+    /// This name, which differs in letter case.
+    Name(&'a str),
     /// A class of a library.
     BuiltIn {
         library: &'static str,
@@ -27,6 +32,10 @@ impl fmt::Display for Advice<'_> {
             Advice::Extern(library) => {
                 let behind = " {}` before the classes";
                 tell_one(f, "write `.assembly extern ", &library, behind)
+            }
+            Advice::Name(name) => {
+                let after = "`: names are case-sensitive";
+                tell_one(f, "write `", &name, after)
             }
             Advice::BuiltIn { library, class } => {
                 tell_two(f, "write `[", &library, "]", &class, "`")
@@ -103,7 +112,13 @@ fn advice_on_fault<'a>(class: ClassKey<'a>, role: Role, fault: ClassFault) -> Op
             Some(Advice::Extern(assembly))
         }
         ClassFault::NoExtern | ClassFault::Absent => advice_on_absent_class(class, role),
-        _ => None,
+        ClassFault::IsInterface => Some(Advice::Sentence(
+            "write it after `implements`, which follows `extends [mscorlib]System.Object`",
+        )),
+        ClassFault::IsClass => Some(Advice::Sentence(
+            "a class has one base, which is named after `extends`",
+        )),
+        ClassFault::IsBuiltIn => None,
     }
 }
 
@@ -125,7 +140,55 @@ fn advice_on_method(owner: ClassKey, method: MethodKey) -> Option<&'static str> 
         "ToString" | "GetHashCode" | "GetType" | "Equals" => {
             Some("write a virtual method of a class of the source")
         }
+        "Sleep" | "Yield" | "SpinWait" => {
+            Some("leave the call out: a schedule decides which thread runs, and there is no clock")
+        }
         _ if owner.assembly.is_some() => advice_on_member(owner.name.as_str()),
+        _ => None,
+    }
+}
+
+/// The instructions for a field that is static where an instance field is named, or the other way round.
+fn advice_on_near_field(field: FieldKey, near: &Field) -> Option<&'static str> {
+    match (field.is_static, near.is_static) {
+        (false, true) => Some("write `ldsfld` or `stsfld` for a static field"),
+        (true, false) => Some("write `ldfld` or `stfld` for an instance field"),
+        _ => None,
+    }
+}
+
+/// What to write where a method is named that has another kind than that which is there.
+fn advice_on_near_method(
+    method: MethodKey,
+    is_called_static: bool,
+    near: &Method,
+) -> Option<&'static str> {
+    let found = key_of(near);
+    if method.name.is_none() && found.name.is_some() {
+        return Some(
+            "declare a constructor by `.method public specialname rtspecialname instance void .ctor`",
+        );
+    }
+    match (is_called_static, is_static(&near.kind)) {
+        (true, false) => Some("write `callvirt instance` for an instance method"),
+        (false, true) => Some("write `call` without `instance` for a static method"),
+        _ => None,
+    }
+}
+
+fn advice_on_member_near<'a>(unknown: &Unknown<'a>) -> Option<&'static str> {
+    match unknown {
+        Unknown::Field {
+            field,
+            near: Some(near),
+            ..
+        } => advice_on_near_field(*field, near),
+        Unknown::Method {
+            method,
+            is_static,
+            near: Some(near),
+            ..
+        } => advice_on_near_method(*method, *is_static, near),
         _ => None,
     }
 }
@@ -134,11 +197,25 @@ fn advice_on_method(owner: ClassKey, method: MethodKey) -> Option<&'static str> 
 pub(crate) fn advice_on<'a>(unknown: &Unknown<'a>) -> Option<Advice<'a>> {
     match unknown {
         Unknown::Extern(_) => Some(Advice::Extern("mscorlib")),
-        Unknown::Class { class, role, fault } => advice_on_fault(*class, *role, *fault),
+        Unknown::Class {
+            near: Some(near),
+            ..
+        }
+        | Unknown::Label {
+            near: Some(near),
+            ..
+        } => Some(Advice::Name(near.as_str())),
+        Unknown::Class {
+            class,
+            role,
+            fault,
+            ..
+        } => advice_on_fault(*class, *role, *fault),
         Unknown::Method { owner, method, .. } => {
-            let sentence = advice_on_method(*owner, *method)?;
+            let sentence = advice_on_method(*owner, *method).or(advice_on_member_near(unknown))?;
             Some(Advice::Sentence(sentence))
         }
-        _ => None,
+        Unknown::Field { .. } => Some(Advice::Sentence(advice_on_member_near(unknown)?)),
+        Unknown::Label { near: None, .. } => None,
     }
 }

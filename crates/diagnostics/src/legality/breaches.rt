@@ -8,7 +8,7 @@ use std::fmt;
 pub trait Breach: fmt::Display {
     /// What is said at the place with which it does not agree.
     fn note(&self) -> &'static str {
-        "that method stands here"
+        "that method is declared here"
     }
 
     /// What to write in its place; None where its sentence says it, or nothing is to be said.

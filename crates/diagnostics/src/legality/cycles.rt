@@ -25,9 +25,9 @@ impl fmt::Display for OwnBase<'_> {
         let class = ClassText(self.class);
         tell_two(
             f,
-            "the bases of `",
+            "the class `",
             &class,
-            "` lead back to it: `",
+            "` inherits from itself: `",
             &class,
             "`",
         )?;

@@ -38,7 +38,7 @@ pub enum Doubled<'a> {
 impl fmt::Display for Doubled<'_> {
     fn fmt<W: fmt::Write>(&self, f: &mut fmt::Formatter<W>) -> fmt::Result {
         match self {
-            Doubled::Extern(name) => tell_name(f, "the extern `", *name, "` stands twice"),
+            Doubled::Extern(name) => tell_name(f, "the extern `", *name, "` is declared twice"),
             Doubled::Class(name) => tell_name(f, "two classes have the name `", *name, "`"),
             Doubled::Interface { class, interface } => {
                 let interface = ClassText(*interface);
@@ -53,7 +53,7 @@ impl fmt::Display for Doubled<'_> {
                 tell_of_class(f, *class, "` has two methods `", &method, "`")
             }
             Doubled::Label(name) => {
-                tell_name(f, "the label `", *name, "` stands twice in the method")
+                tell_name(f, "the label `", *name, "` is defined twice in the method")
             }
         }
     }
@@ -61,7 +61,7 @@ impl fmt::Display for Doubled<'_> {
 
 impl Breach for Doubled<'_> {
     fn note(&self) -> &'static str {
-        "the first stands here"
+        "first declared here"
     }
 }
 

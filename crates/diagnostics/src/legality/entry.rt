@@ -54,7 +54,7 @@ fn entry_at(tree: &Tree, method: SourceMember) -> Option<(Place, &Method)> {
 
 impl Breach for BadEntry<'_> {
     fn note(&self) -> &'static str {
-        "the first stands here"
+        "first declared here"
     }
 
     fn advice(&self) -> Option<Advice<'_>> {

@@ -27,7 +27,7 @@ impl fmt::Display for NotImplemented<'_> {
         let method = MethodText(self.method);
         write!(
             f,
-            "the class `{class}` lists `{interface}`, but has and inherits no virtual method `{method}`"
+            "the class `{class}` implements `{interface}`, but has no virtual method `{method}`, declared or inherited"
         )?;
         match self.plain_in {
             None => Ok(()),

@@ -110,7 +110,7 @@ impl fmt::Display for Passed<'_> {
                 )
             }
             Passed::MaxStack(height) => {
-                write!(f, "`.maxstack` is {height}, and not from 0 to {MOST_STACK}")
+                write!(f, "`.maxstack` is {height}, expected 0 to {MOST_STACK}")
             }
             Passed::Brackets(count) => {
                 write!(

@@ -66,7 +66,7 @@ impl Telling<'_> {
         let mut message = sentence_at(self.alloc, self.named, &breach, sites.place)?;
         push_note(self.alloc, &mut message, self.named, &breach, sites.other)?;
         if let Some(advice) = breach.advice() {
-            writeln!(message, "{advice}")?;
+            writeln!(message, "help: {advice}")?;
         }
         Ok(message)
     }

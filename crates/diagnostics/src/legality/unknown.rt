@@ -4,14 +4,16 @@ use super::advice::{Advice, advice_on};
 use super::breaches::{Breach, Found};
 use super::references::{MemberKey, class_of, class_place, line_at, member_of, type_at};
 use super::sentences::tell_two;
-use super::sites::{Sites, key_of, listed_interface};
+use super::sites::{Sites, key_of, listed_interface, located_method};
+use crate::letters::is_same_ignoring_case;
 use crate::source_map::{ClassPart, ClassText, LinePart, MethodText, Place, TypeText};
 use cil_model::instructions::Instruction;
 use cil_model::texts::Text;
-use cil_model::trees::{Class, ClassKind, Field, Method, Tree};
+use cil_model::trees::{Class, ClassKind, Field, Line, Method, Tree};
 use metadata::mentions::labels_of;
 use metadata::violations;
 use metadata::violations::{ClassFault, HeadingName, SourceMember, TypeSite};
+use name_tables::bodies::lines_of;
 use name_tables::keys::{ClassKey, FieldKey, MethodKey};
 use name_tables::kinds::is_static;
 use name_tables::lookups::NameTables;
@@ -35,13 +37,18 @@ pub enum Role {
 pub enum Unknown<'a> {
     /// An extern that is no library.
     Extern(&'a Text),
+    /// A class, and one that has its name in other letter case.
     Class {
         class: ClassKey<'a>,
         role: Role,
         fault: ClassFault,
+        near: Option<&'a Text>,
     },
-    /// A label that no instruction of the method has.
-    Label(&'a Text),
+    /// A label that no instruction of the method has, and one that has its name in other letter case.
+    Label {
+        label: &'a Text,
+        near: Option<&'a Text>,
+    },
     /// A field that no class of its owner's chain has, and the nearest that has its name.
     Field {
         owner: ClassKey<'a>,
@@ -76,9 +83,14 @@ impl fmt::Display for Unknown<'_> {
                     "`{name}` is no library: an extern is `mscorlib` or `cilvm`"
                 )
             }
-            Unknown::Class { class, role, fault } => tell_class(f, class, role, fault),
-            Unknown::Label(name) => {
-                let name = name.as_str();
+            Unknown::Class {
+                class,
+                role,
+                fault,
+                ..
+            } => tell_class(f, class, role, fault),
+            Unknown::Label { label, .. } => {
+                let name = label.as_str();
                 write!(f, "no instruction of the method has the label `{name}`")
             }
             Unknown::Field { owner, field, near } => {
@@ -115,18 +127,18 @@ fn tell_absent_field<W: fmt::Write>(
     let name = field.name.as_str();
     write!(
         f,
-        "`{owner}` has and inherits no {kind} field `{declared} {name}`"
+        "`{owner}` has no {kind} field `{declared} {name}`, declared or inherited"
     )
 }
 
-/// What a class lacks that has no such method; a constructor is not inherited.
-fn lack_of(method: MethodKey, is_static: bool) -> &'static str {
+/// What a class lacks that has no such method, and what follows its name; a constructor is not inherited.
+fn lack_of(method: MethodKey, is_static: bool) -> (&'static str, &'static str) {
     if is_static {
-        return "has and inherits no static method";
+        return ("static method", ", declared or inherited");
     }
     match method.name {
-        None => "has no constructor",
-        Some(_) => "has and inherits no instance method",
+        None => ("constructor", ""),
+        Some(_) => ("instance method", ", declared or inherited"),
     }
 }
 
@@ -137,9 +149,9 @@ fn tell_absent_method<W: fmt::Write>(
     is_static: bool,
 ) -> fmt::Result {
     let owner = ClassText(owner);
-    let lack = lack_of(method, is_static);
+    let (kind, after) = lack_of(method, is_static);
     let method = MethodText(method);
-    write!(f, "`{owner}` {lack} `{method}`")
+    write!(f, "`{owner}` has no {kind} `{method}`{after}")
 }
 
 /// What stands before the name of a class that may not be named so, and behind it.
@@ -217,13 +229,13 @@ fn tell_near_field<W: fmt::Write>(f: &mut fmt::Formatter<W>, near: Option<&Field
     let kind = kind_word(field.is_static);
     let declared = TypeText(&field.field_type);
     let name = field.name.as_str();
-    write!(f, ", but the {kind} field `{declared} {name}`")
+    write!(f, "; it has the {kind} field `{declared} {name}`")
 }
 
-/// What stands before a method with the name of another; nothing before a constructor.
+/// What is said before a method with the name of another.
 fn kind_of_method(method: &Method) -> &'static str {
     if key_of(method).name.is_none() {
-        return "";
+        return "the constructor ";
     }
     if is_static(&method.kind) {
         "the static method "
@@ -241,10 +253,38 @@ fn tell_near_method<W: fmt::Write>(
     };
     let kind = kind_of_method(method);
     let method = MethodText(key_of(method));
-    write!(f, ", but {kind}`{method}`")
+    write!(f, "; it has {kind}`{method}`")
 }
 
 // ---- classes
+
+/// The class of the source that has this name but for letter case.
+fn near_class<'a>(tree: &'a Tree, name: &Text) -> Option<&'a Text> {
+    for class in tree.classes.as_slice() {
+        if is_same_ignoring_case(class.name.as_str(), name.as_str()) {
+            return Some(&class.name);
+        }
+    }
+    None
+}
+
+fn unknown_class<'a>(
+    tree: &'a Tree,
+    class: ClassKey<'a>,
+    role: Role,
+    fault: ClassFault,
+) -> Unknown<'a> {
+    let near = match fault {
+        ClassFault::Absent => near_class(tree, class.name),
+        _ => None,
+    };
+    Unknown::Class {
+        class,
+        role,
+        fault,
+        near,
+    }
+}
 
 /// A class that the first line of a class names.
 fn named_in_heading(class: &Class, name: HeadingName) -> Option<(ClassKey<'_>, Role)> {
@@ -277,25 +317,29 @@ fn unknown_in_heading(
         class: number,
         part,
     };
-    found(Unknown::Class { class, role, fault }, place)
+    found(unknown_class(tree, class, role, fault), place)
 }
 
 fn unknown_in_type(tree: &Tree, site: TypeSite, fault: ClassFault) -> Option<Found<Unknown<'_>>> {
     let class = class_of(type_at(tree, site)?)?;
     let place = class_place(tree, site)?;
-    let role = Role::Type;
-    found(Unknown::Class { class, role, fault }, place)
+    found(unknown_class(tree, class, Role::Type, fault), place)
 }
 
 // ---- instructions
 
+/// The field of this name; else the last one that has it in other letter case.
 fn field_named<'a>(fields: &[&'a Field], name: &Text) -> Option<&'a Field> {
+    let mut near = None;
     for field in fields {
         if field.name.is_same(name) {
             return Some(*field);
         }
+        if is_same_ignoring_case(field.name.as_str(), name.as_str()) {
+            near = Some(*field);
+        }
     }
-    None
+    near
 }
 
 /// The nearest field of this name, from a class on through its bases.
@@ -321,16 +365,34 @@ fn has_name(method: &Method, name: Option<&Text>) -> bool {
     }
 }
 
-fn method_named<'a>(methods: &[&'a Method], name: Option<&Text>) -> Option<&'a Method> {
+/// Whether a method has this name in any letter case.
+fn has_near_name(method: &Method, name: &Text) -> bool {
+    match key_of(method).name {
+        None => false,
+        Some(own) => is_same_ignoring_case(own.as_str(), name.as_str()),
+    }
+}
+
+/// The method of this name; else the last one that has the second name in any letter case.
+fn method_named<'a>(
+    methods: &[&'a Method],
+    name: Option<&Text>,
+    other: &Text,
+) -> Option<&'a Method> {
+    let mut near = None;
     for method in methods {
         if has_name(method, name) {
             return Some(*method);
         }
+        if has_near_name(method, other) {
+            near = Some(*method);
+        }
     }
-    None
+    near
 }
 
-/// The nearest method of this name, from a class on through its bases; of a constructor the first of its class.
+/// The nearest method of this name, from a class on through its bases. Of a constructor it is the first of its class, else a method with
+/// the name of the class.
 fn near_method<'a>(
     names: &NameTables<'a>,
     owner: ClassKey,
@@ -338,11 +400,12 @@ fn near_method<'a>(
 ) -> Option<&'a Method> {
     let longest = names.classes.longest_chain();
     let most = if name.is_some() { longest } else { 1 };
+    let other = name.unwrap_or(owner.name);
     let mut next = names.classes.number(owner);
     for _ in 0..most {
         let class = next?;
         let declared = names.classes.class(class)?;
-        if let Some(method) = method_named(declared.methods.as_slice(), name) {
+        if let Some(method) = method_named(declared.methods.as_slice(), name, other) {
             return Some(method);
         }
         next = names.base(class);
@@ -379,11 +442,7 @@ fn unknown_owner(
 ) -> Option<Found<Unknown<'_>>> {
     let (spot, instruction) = line_at(tree, method, line)?;
     let (owner, _) = member_of(instruction)?;
-    let unknown = Unknown::Class {
-        class: ClassKey::of(owner),
-        role: Role::Owner,
-        fault,
-    };
+    let unknown = unknown_class(tree, ClassKey::of(owner), Role::Owner, fault);
     found(unknown, spot.line(line, LinePart::Owner))
 }
 
@@ -398,6 +457,18 @@ fn unknown_member<'a>(
     found(unknown, spot.line(line, LinePart::Member))
 }
 
+/// The label of a method that has this name but for letter case.
+fn near_label<'a>(lines: &'a [Line], label: &Text) -> Option<&'a Text> {
+    for line in lines {
+        for own in line.labels.as_slice() {
+            if is_same_ignoring_case(own.as_str(), label.as_str()) {
+                return Some(own);
+            }
+        }
+    }
+    None
+}
+
 fn unknown_label(
     tree: &Tree,
     method: SourceMember,
@@ -407,7 +478,9 @@ fn unknown_label(
     let (spot, instruction) = line_at(tree, method, line)?;
     let label = labels_of(instruction).get(target)?;
     let place = spot.line(line, LinePart::Target(target));
-    found(Unknown::Label(label), place)
+    let (_, declared) = located_method(tree, method)?;
+    let near = near_label(lines_of(declared), label);
+    found(Unknown::Label { label, near }, place)
 }
 
 // ---- the whole tree

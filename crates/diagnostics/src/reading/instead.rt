@@ -1,9 +1,11 @@
 //! What to write in the place of what a source has.
 
-use super::left_out::{INSTRUCTIONS, MARKS, NEEDLESS, WORDS};
+use super::left_out::{FOREIGN, INSTRUCTIONS, MARKS, NEEDLESS, WORDS};
 use super::places::advice_at;
 use super::spots::{Spot, is_name};
 use super::tables::{Entry, advice_in, is_listed};
+use crate::letters::to_lower;
+use crate::source_map::Position;
 use cil_model::tokens::Symbol;
 use ilasm_tokens::expected::Expected;
 use ilasm_tokens::words::{WordUse, use_of};
@@ -18,6 +20,12 @@ pub(crate) enum Instead<'a> {
     Named { before: &'static str, name: &'a str },
     /// A member behind the name of its class.
     Member { class: &'a str, member: &'a str },
+    /// The constructor of this class.
+    Constructor(&'a str),
+    /// This name of an instruction, in lower case.
+    LowerCase(&'a str),
+    /// A member of the class whose `}` stands at this position.
+    InClass(Position),
 }
 
 impl<'a> Instead<'a> {
@@ -52,8 +60,35 @@ impl fmt::Display for Instead<'_> {
             Instead::Advice(advice) => f.write_str(advice),
             Instead::Named { before, name } => write!(f, "{before}{name}`"),
             Instead::Member { class, member } => write!(f, "write `{class}::{member}`"),
+            Instead::Constructor(class) => {
+                write!(
+                    f,
+                    "write `instance void {class}::.ctor` and the types of its parameters"
+                )
+            }
+            Instead::LowerCase(name) => write_lower_case(f, name),
+            Instead::InClass(end) => write_class_end(f, *end),
         }
     }
+}
+
+/// The name of an instruction in lower case.
+fn write_lower_case<W: fmt::Write>(f: &mut fmt::Formatter<W>, name: &str) -> fmt::Result {
+    f.write_str("write `")?;
+    for byte in name.as_bytes() {
+        let letter = char::from(to_lower(*byte));
+        write!(f, "{letter}")?;
+    }
+    f.write_str("`, in lower case")
+}
+
+/// Where the class ends to which a member may belong.
+fn write_class_end<W: fmt::Write>(f: &mut fmt::Formatter<W>, end: Position) -> fmt::Result {
+    let Position { line, column } = end;
+    write!(
+        f,
+        "write it in a class: the class before it ends with the `}}` at {line}:{column}"
+    )
 }
 
 /// What a table says of a word.
@@ -82,6 +117,27 @@ fn instruction(name: &str) -> Option<Instead<'_>> {
     }
 }
 
+/// The most bytes of the name of an instruction.
+const MOST_NAME_BYTES: usize = 16;
+
+/// The first bytes of a name in lower case, and zeros after them.
+fn lower_case_bytes(name: &[u8]) -> [u8; MOST_NAME_BYTES] {
+    let mut bytes = [0u8; MOST_NAME_BYTES];
+    for (place, byte) in bytes.iter_mut().enumerate() {
+        *byte = to_lower(name.get(place).copied().unwrap_or(0));
+    }
+    bytes
+}
+
+/// The name of an instruction that is written in upper case.
+fn instead_of_upper_case(name: &str) -> Option<Instead<'_>> {
+    let bytes = lower_case_bytes(name.as_bytes());
+    match use_of(bytes.get(..name.len())?) {
+        Some(WordUse::Instruction(_)) => Some(Instead::LowerCase(name)),
+        _ => None,
+    }
+}
+
 /// The signed form of an instruction.
 fn signed(name: &str) -> Option<Instead<'_>> {
     instruction(name.strip_suffix(".un")?)
@@ -94,6 +150,8 @@ fn instead_of_instruction(name: &str) -> Option<Instead<'_>> {
     instruction(long)
         .or(advice_of(INSTRUCTIONS, long))
         .or(signed(long))
+        .or(advice_of(FOREIGN, long))
+        .or(instead_of_upper_case(name))
 }
 
 /// What is said of the digits of what begins like a number.
@@ -104,6 +162,8 @@ fn advice_on_digits(digits: &str) -> Option<&'static str> {
         Some("write the brackets with nothing between")
     } else if digits.contains('.') {
         Some("write an integer: there are no floating-point numbers")
+    } else if digits.ends_with('L') || digits.ends_with('l') {
+        Some("write the digits alone: `ldc.i8` loads an integer of 64 bits")
     } else {
         None
     }
@@ -120,6 +180,7 @@ pub(crate) fn instead_of_bytes(bytes: &str) -> Option<Instead<'_>> {
     let instead = instead_of_word(bytes);
     match bytes.as_bytes() {
         [b'0'..=b'9', ..] | [b'-', b'0'..=b'9', ..] => instead.or(instead_of_number(bytes)),
+        [b'A'..=b'Z', ..] => instead.or(instead_of_upper_case(bytes)),
         _ => instead.or(advice_of(MARKS, bytes)),
     }
 }
@@ -135,6 +196,9 @@ fn instead_of_member(name: &str) -> Instead<'_> {
 /// What a token says, or the token before it.
 fn instead_by_token<'a>(expected: Expected, spot: Spot<'a>) -> Option<Instead<'a>> {
     match expected {
+        Expected::Word(_) if spot.before == "newobj" && is_name(spot.found) => {
+            Some(Instead::Constructor(spot.found))
+        }
         Expected::Word(_) | Expected::ListEnd(_) => instead_of_needless(spot.before),
         Expected::Symbol(Symbol::DoubleColon) if !is_name(spot.found) => {
             Some(instead_of_member(spot.before))

@@ -19,7 +19,7 @@ pub(crate) static WORDS: &[Entry] = &[
     },
     Entry {
         words: ".namespace",
-        advice: "write the whole name behind `.class`, as `N.P`",
+        advice: "write the whole name after `.class`, as `N.P`",
     },
     Entry {
         words: ".property .event .get .set .addon .removeon",
@@ -95,10 +95,42 @@ pub(crate) static WORDS: &[Entry] = &[
     },
 ];
 
+/// Words of other languages where an instruction is expected.
+pub(crate) static FOREIGN: &[Entry] = &[
+    Entry {
+        words: "if else then elif",
+        advice: "write `brtrue` or `brfalse` and a label, after the condition",
+    },
+    Entry {
+        words: "while for do loop foreach",
+        advice: "write a label at the beginning of the loop, and a branch back to it",
+    },
+    Entry {
+        words: "goto jump",
+        advice: "write `br`",
+    },
+    Entry {
+        words: "return",
+        advice: "write `ret`",
+    },
+    Entry {
+        words: "new",
+        advice: "write `newobj`",
+    },
+    Entry {
+        words: "lock synchronized",
+        advice: "write calls of `[mscorlib]System.Threading.Monitor::Enter` and `Exit`",
+    },
+    Entry {
+        words: "print println echo",
+        advice: "write `call void [mscorlib]System.Console::WriteLine(int32)`",
+    },
+];
+
 /// Names of instructions, in their long form.
 pub(crate) static INSTRUCTIONS: &[Entry] = &[
     Entry {
-        words: "throw rethrow leave endfinally endfault endfilter",
+        words: "throw rethrow leave endfinally endfault endfilter try catch finally",
         advice: "write the code without handlers: a fault ends its thread",
     },
     Entry {
@@ -115,7 +147,7 @@ pub(crate) static INSTRUCTIONS: &[Entry] = &[
     },
     Entry {
         words: "cgt.un",
-        advice: "write `cgt`; behind `ldnull` write `ceq ldc.i4.0 ceq`",
+        advice: "write `cgt`; after `ldnull` write `ceq ldc.i4.0 ceq`",
     },
     Entry {
         words: "ldc.i4.M1",
@@ -179,7 +211,7 @@ pub(crate) static MARKS: &[Entry] = &[
     },
     Entry {
         words: "#",
-        advice: "leave this line out",
+        advice: "leave this line out, or write `//` before a comment",
     },
     Entry {
         words: "/",
@@ -191,11 +223,11 @@ pub(crate) static MARKS: &[Entry] = &[
     },
     Entry {
         words: "-",
-        advice: "write the digits directly behind the `-`",
+        advice: "write the digits directly after the `-`",
     },
     Entry {
         words: "=",
-        advice: "write `stsfld` at the beginning of `Main`",
+        advice: "leave the value out: a local gets it by `stloc` in the code, a static field by `stsfld` at the beginning of `Main`",
     },
     Entry {
         words: "& *",

@@ -25,7 +25,7 @@ static CLASSES: &[Entry] = &[
     },
     Entry {
         words: "class interface public",
-        advice: "write `.class` before it",
+        advice: "begin a class with `.class public auto ansi`, an interface with `.class interface public abstract auto ansi`",
     },
     Entry {
         words: "}",
@@ -36,7 +36,7 @@ static CLASSES: &[Entry] = &[
 static MEMBERS: &[Entry] = &[
     Entry {
         words: ".class",
-        advice: "write it as a class of its own, behind the `}` of the other",
+        advice: "write it as a class of its own, after the `}` of the other",
     },
     Entry {
         words: ".field",
@@ -90,7 +90,7 @@ static METHOD_KINDS: &[Entry] = &[Entry {
 static RETURN_TYPES: &[Entry] = &[
     Entry {
         words: "hidebysig",
-        advice: "write `hidebysig` right behind `public`",
+        advice: "write `hidebysig` directly after `public`",
     },
     Entry {
         words: "virtual newslot abstract",
@@ -124,7 +124,7 @@ static LINES: &[Entry] = &[
     },
     Entry {
         words: ".locals",
-        advice: "write `.locals` once, right behind `.maxstack`",
+        advice: "write `.locals` once, directly after `.maxstack`",
     },
 ];
 
@@ -188,6 +188,7 @@ fn advice_on_name(expected: Expected, after: &str) -> Option<&'static str> {
         Expected::CalledMethod if is_listed(":: (", after) => {
             Some("write `void` or a type before the class")
         }
+        Expected::Type if after == "::" => Some("write the type of the field before the class"),
         Expected::StringLiteral => Some("write a string between two `\"`"),
         Expected::ListEnd(_) => Some("write the types alone, without names"),
         _ => None,
@@ -230,7 +231,7 @@ fn advice_on_array(expected: Expected, after: &str) -> Option<&'static str> {
 /// What to write where an assembly in brackets stands in the place of a type.
 const TYPE: &str = "write `class` before it; `int32`, `int64`, `object` and `string` stand alone";
 
-/// Where a type is wanted, and a bracket stands before an assembly, a local's number or a parameter's attribute.
+/// Where a type is expected, and a bracket stands before an assembly, a local's number or a parameter's attribute.
 fn advice_on_type(after: &str) -> &'static str {
     if let Form::Number = form_of(after) {
         return "write the types of locals without their numbers";
@@ -247,7 +248,7 @@ fn advice_on_bracket(expected: Expected, spot: Spot) -> Option<&'static str> {
             advice_on_array(expected, spot.after)
         }
         Expected::CalledMethod => {
-            Some("write `void` or a type first; a class stands behind `class`")
+            Some("write `void` or a type first; a class is written after `class`")
         }
         Expected::Type => Some(advice_on_type(spot.after)),
         Expected::ReturnType => Some(TYPE),
@@ -279,19 +280,27 @@ fn advice_behind(expected: Expected, spot: Spot) -> Option<&'static str> {
     }
 }
 
-fn advice_anyway(expected: Expected) -> Option<&'static str> {
+fn advice_anyway(expected: Expected, spot: Spot) -> Option<&'static str> {
     match expected {
         Expected::Symbol(Symbol::CloseBrace) => {
             Some("write `{}`: nothing stands between these braces")
         }
         Expected::CodeStart => Some("write `.maxstack 8` before it"),
-        Expected::Constructor => Some("write `.ctor` for the name of the method, with its `.`"),
+        Expected::Constructor if spot.after == "void" => {
+            Some("write `.ctor` for the name of the method, with its `.`")
+        }
+        Expected::Constructor => {
+            Some("write `void` after `instance`: a constructor returns nothing")
+        }
         Expected::VirtualMethod => Some("write `call`, or `newobj` for a new object"),
+        Expected::Symbol(Symbol::OpenParenthesis) if !is_listed("init switch", spot.before) => {
+            Some("write the types of the parameters between `(` and `)`, or `()` for none")
+        }
         _ => None,
     }
 }
 
-// ---- where one word alone is wanted
+// ---- where one word alone is expected
 
 static PUBLIC: &[Entry] = &[Entry {
     words: "static",
@@ -324,8 +333,8 @@ static INIT: &[Entry] = &[Entry {
     advice: "write `.locals init`",
 }];
 
-fn table_of(wanted: &str) -> &'static [Entry] {
-    match wanted {
+fn table_of(word: &str) -> &'static [Entry] {
+    match word {
         "public" => PUBLIC,
         "extends" => EXTENDS,
         "virtual" => VIRTUAL,
@@ -335,20 +344,20 @@ fn table_of(wanted: &str) -> &'static [Entry] {
     }
 }
 
-fn advice_for(wanted: &str, found: &str) -> Option<&'static str> {
-    match wanted {
+fn advice_for(word: &str, found: &str) -> Option<&'static str> {
+    match word {
         "rtspecialname" => Some("leave out `specialname`: it stands before `.ctor` alone"),
         ".maxstack" => Some("write `.maxstack 8` before it"),
-        _ => advice_in(table_of(wanted), found),
+        _ => advice_in(table_of(word), found),
     }
 }
 
 /// What to write in the place of a token that the grammar does not have there; None where the place alone says nothing of that.
 pub(crate) fn advice_at(expected: Expected, spot: Spot) -> Option<&'static str> {
-    if let Expected::Word(wanted) = expected {
-        return advice_for(str::from_utf8(wanted).unwrap_or(""), spot.found);
+    if let Expected::Word(word) = expected {
+        return advice_for(str::from_utf8(word).unwrap_or(""), spot.found);
     }
-    advice_anyway(expected)
+    advice_anyway(expected, spot)
         .or(advice_on_word(expected, spot.found))
         .or(advice_on_form(expected, spot))
         .or(advice_behind(expected, spot))

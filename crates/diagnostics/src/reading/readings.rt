@@ -1,9 +1,10 @@
 //! Why a source has no tree (numbers 101 to 104).
 
+use super::file_kinds::explain_source_kind;
 use super::hints::ExpectedText;
 use super::instead::{Instead, instead_at, instead_of_bytes};
-use super::spots::{offset_before, spot_at, word_at};
-use crate::source_map::{Named, token_at};
+use super::spots::{Spot, offset_before, spot_at, word_at};
+use crate::source_map::{Named, position_of, token_at};
 use cil_model::limits::MOST_SOURCE_BYTES;
 use cil_model::memory::NoMemory;
 use ilasm_reader::ReadError;
@@ -73,7 +74,7 @@ enum Unread<'a> {
     Foreign(u8),
     /// No token begins with these bytes: all from there on, and what a token of them would be.
     NoToken { rest: &'a [u8], token: &'a [u8] },
-    /// A name where an instruction is wanted.
+    /// A name where an instruction is expected.
     NoInstruction(&'a [u8]),
     NoTree { token: &'a [u8], expected: Expected },
 }
@@ -96,13 +97,13 @@ impl fmt::Display for Unread<'_> {
                 let name = text_of(name);
                 write!(
                     f,
-                    "`{name}` is no instruction, and no label without a `:` behind it"
+                    "`{name}` is not an instruction; a label needs a `:` after it"
                 )
             }
             Unread::NoTree { token, expected } => {
                 let found = Found(token);
                 let expected = ExpectedText(*expected);
-                write!(f, "{found} stands where {expected} is wanted")
+                write!(f, "expected {expected}, found {found}")
             }
         }
     }
@@ -119,10 +120,10 @@ fn fault_of_literal(literal: &[u8]) -> &'static str {
 }
 
 /// What a token is not that begins with this byte; None where no token does.
-fn wanted_of(first: u8) -> Option<&'static str> {
+fn form_of_first(first: u8) -> Option<&'static str> {
     match first {
         b'0'..=b'9' | b'-' => Some("decimal integer of 64 bits"),
-        b'.' => Some("word of the grammar, and no name"),
+        b'.' => Some("word of the grammar or a name"),
         b'A'..=b'Z' | b'a'..=b'z' | b'_' => Some(
             "name: one `.` stands between two parts, and each begins with a letter or `_`",
         ),
@@ -132,14 +133,14 @@ fn wanted_of(first: u8) -> Option<&'static str> {
 
 /// Why no token begins with these bytes, the first of which is no quote.
 fn tell_no_word<W: fmt::Write>(f: &mut fmt::Formatter<W>, first: u8, token: &[u8]) -> fmt::Result {
-    match wanted_of(first) {
+    match form_of_first(first) {
         None => {
             let byte = ByteText(first);
             write!(f, "no token begins with {byte}")
         }
-        Some(wanted) => {
+        Some(form) => {
             let token = text_of(token);
-            write!(f, "`{token}` is no {wanted}")
+            write!(f, "`{token}` is not a {form}")
         }
     }
 }
@@ -199,7 +200,7 @@ fn told(
 ) -> Result<String, NoMemory> {
     let mut message = sentence_of(alloc, named, offset, unread)?;
     if let Some(instead) = instead {
-        writeln!(message, "{instead}")?;
+        writeln!(message, "help: {instead}")?;
     }
     Ok(message)
 }
@@ -210,6 +211,23 @@ fn no_instruction(alloc: Global, named: Named, offset: usize) -> Result<String, 
     let instead = instead_at(Expected::LabelColon, spot_at(alloc, named.text, name)?);
     let unread = Unread::NoInstruction(token_at(named.text, name));
     told(alloc, named, Some(name), unread, instead)
+}
+
+/// Whether a member stands after the end of a class.
+fn is_outside_of_class(expected: Expected, spot: Spot) -> bool {
+    let is_after_brace = matches!(expected, Expected::Class | Expected::Declaration)
+        && spot.before == "}";
+    is_after_brace && matches!(spot.found, ".field" | ".method")
+}
+
+/// What to write of a member that stands right after the end of a class.
+fn before_class_end<'a>(
+    alloc: Global,
+    text: &[u8],
+    offset: usize,
+) -> Result<Instead<'a>, NoMemory> {
+    let end = offset_before(alloc, text, offset)?;
+    Ok(Instead::InClass(position_of(text, end)))
 }
 
 fn no_tree(
@@ -223,7 +241,12 @@ fn no_tree(
     }
     let token = token_at(named.text, offset);
     let shown = offset.min(end_of_tokens(named.text));
-    let instead = instead_at(expected, spot_at(alloc, named.text, offset)?);
+    let spot = spot_at(alloc, named.text, offset)?;
+    let instead = if is_outside_of_class(expected, spot) {
+        Some(before_class_end(alloc, named.text, offset)?)
+    } else {
+        instead_at(expected, spot)
+    };
     let unread = Unread::NoTree { token, expected };
     told(alloc, named, Some(shown), unread, instead)
 }
@@ -246,9 +269,16 @@ fn no_token(alloc: Global, named: Named, offset: usize) -> Result<String, NoMemo
     told(alloc, named, Some(offset), unread, instead)
 }
 
-/// Why a source has no tree. The last line says what to write instead, where that can be told by the token at fault and its place. Fails
-/// for want of memory alone, and where memory was wanted for the tree.
+/// Why a source has no tree: the file is of another kind, or the error at its place. The last line says what to write instead, where that
+/// is known by the token at fault and its place. Fails when out of memory alone, also where the tree was.
 pub fn explain_reading(alloc: Global, named: Named, error: ReadError) -> Result<String, NoMemory> {
+    match explain_source_kind(alloc, named)? {
+        None => explain_error(alloc, named, error),
+        Some(message) => Ok(message),
+    }
+}
+
+fn explain_error(alloc: Global, named: Named, error: ReadError) -> Result<String, NoMemory> {
     match error {
         ReadError::TooLong => {
             let unread = Unread::TooLong(named.text.len());

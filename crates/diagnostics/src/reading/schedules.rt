@@ -1,5 +1,6 @@
 //! Why a text is no schedule (numbers 501 to 503).
 
+use super::file_kinds::explain_schedule_kind;
 use crate::source_map::Named;
 use cil_model::memory::NoMemory;
 use schedule_text::{MOST_EVENTS, ScheduleError, read_schedule};
@@ -77,10 +78,13 @@ impl fmt::Display for BadItem<'_> {
         match &self.error {
             ScheduleError::NoItem => write!(
                 f,
-                "{item} is no item: an item is g, sN or aN, with *COUNT behind it or without, and no number has a leading zero"
+                "{item} is not an item: an item is g, sN or aN, with or without *COUNT after it, and no number has a leading zero"
             ),
             ScheduleError::NoThread => {
-                write!(f, "{item} names no thread: they have the numbers 0 to 15")
+                write!(
+                    f,
+                    "{item} names no thread: threads have the numbers 0 to 15"
+                )
             }
             ScheduleError::TooLong => {
                 write!(f, "with {item} there are more than {MOST_EVENTS} events")
@@ -99,6 +103,9 @@ pub fn explain_schedule(
     error: ScheduleError,
 ) -> Result<String, NoMemory> {
     let named = Named { file, text };
+    if let Some(message) = explain_schedule_kind(alloc, named)? {
+        return Ok(message);
+    }
     match first_bad(alloc, text)? {
         None => {
             let sentence = error.to_string(alloc)?;

@@ -2,7 +2,7 @@
 
 /// A place of a text as a person counts it, line and column from 1. Each byte is one column, a tab too.
 #[derive(Clone, Copy)]
-pub(crate) struct Position {
+pub struct Position {
     pub line: usize,
     pub column: usize,
 }
@@ -47,7 +47,7 @@ pub(crate) fn line_at(text: &[u8], offset: usize) -> TextLine<'_> {
 }
 
 /// The line and the column of the byte at an offset of a text, which is counted in bytes from 0.
-pub(crate) fn position_of(text: &[u8], offset: usize) -> Position {
+pub fn position_of(text: &[u8], offset: usize) -> Position {
     let line = line_at(text, offset);
     Position {
         line: line.number,

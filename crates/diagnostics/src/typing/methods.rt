@@ -33,6 +33,16 @@ impl<'a> SourceMethod<'a> {
         }
     }
 
+    /// A part of the method before its first instruction.
+    pub fn part(self, part: MemberPart) -> Place {
+        let MethodPlace { class, member, .. } = self.number;
+        Place::InMember {
+            class,
+            member,
+            part,
+        }
+    }
+
     /// The name of an instruction, and of the method where it has no such instruction.
     pub fn line(self, line: usize, lines: usize) -> Place {
         let MethodPlace { class, member, .. } = self.number;
@@ -44,10 +54,6 @@ impl<'a> SourceMethod<'a> {
                 part: LinePart::Name,
             };
         }
-        Place::InMember {
-            class,
-            member,
-            part: MemberPart::Name,
-        }
+        self.part(MemberPart::Name)
     }
 }

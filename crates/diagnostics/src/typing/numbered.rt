@@ -79,19 +79,43 @@ impl fmt::Display for EntryOf<'_> {
     }
 }
 
-/// A stack, which is kept with its top first, written with its top last; `empty` where it holds nothing.
+/// A stack with the lines of the instructions that pushed its topmost values, both with the top first. It is written with its top last,
+/// and each line, where it is known, after its value: `int32 (line 6), string`. It is `empty` where it holds nothing.
 #[derive(Clone, Copy)]
-pub(crate) struct StackOf<'a>(pub ClassNames<'a>, pub &'a [StackEntry]);
+pub(crate) struct StackOf<'a> {
+    pub names: ClassNames<'a>,
+    pub entries: &'a [StackEntry],
+    pub lines: &'a [Option<usize>],
+}
+
+impl StackOf<'_> {
+    /// A value, and the line of the instruction that pushed it.
+    fn write_entry<W: fmt::Write>(
+        &self,
+        f: &mut fmt::Formatter<W>,
+        entry: StackEntry,
+        above: usize,
+    ) -> fmt::Result {
+        EntryOf(self.names, entry).fmt(f)?;
+        match self.lines.get(above) {
+            Some(Some(line)) => write!(f, " (line {line})"),
+            _ => Ok(()),
+        }
+    }
+}
 
 impl fmt::Display for StackOf<'_> {
     fn fmt<W: fmt::Write>(&self, f: &mut fmt::Formatter<W>) -> fmt::Result {
-        let Some((deepest, others)) = self.1.split_last() else {
+        if self.entries.is_empty() {
             return f.write_str("empty");
-        };
-        EntryOf(self.0, *deepest).fmt(f)?;
-        for entry in others.iter().rev() {
-            let entry = EntryOf(self.0, *entry);
-            write!(f, ", {entry}")?;
+        }
+        let mut above = self.entries.len();
+        for entry in self.entries.iter().rev() {
+            if above < self.entries.len() {
+                f.write_str(", ")?;
+            }
+            above = above.saturating_sub(1);
+            self.write_entry(f, *entry, above)?;
         }
         Ok(())
     }

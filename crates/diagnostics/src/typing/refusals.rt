@@ -1,7 +1,7 @@
 //! Why a method has no typing (number 301), in words.
 
+use super::expected::Scene;
 use super::numbered::{EntryOf, NumberedClass};
-use super::wanted::Scene;
 use flow_rules::entries::StackEntry;
 use flow_rules::mismatches::Mismatch;
 use resolved_code::operations::Operation;
@@ -27,14 +27,14 @@ impl fmt::Display for Refusal<'_> {
             Reason::NoResult(mismatch) => self.tell_operands(f, mismatch),
             Reason::NoMerge(StackMismatch::Heights(one, other)) => write!(
                 f,
-                "ways meet here with stacks of {one} and of {other} values"
+                "control paths merge here with stack heights {one} and {other}"
             ),
             Reason::NoMerge(StackMismatch::Types(one, other)) => {
                 let one = EntryOf(names, *one);
                 let other = EntryOf(names, *other);
                 write!(
                     f,
-                    "ways meet here with {one} and with {other} at one place of the stack, and no type is above both"
+                    "control paths merge here with {one} and {other} in one stack slot, and these have no common supertype"
                 )
             }
             Reason::TooHigh(height) => {
@@ -52,7 +52,7 @@ impl fmt::Display for Refusal<'_> {
 }
 
 impl Refusal<'_> {
-    /// Whether what is wanted of the stack helps a reader.
+    /// Whether the operands that the instruction expects help a reader.
     pub fn is_of_operands(&self) -> bool {
         match self.reason {
             Reason::NoResult(Mismatch::OperandType(found)) => !self.is_cast_of(found),
@@ -79,14 +79,14 @@ impl Refusal<'_> {
         write!(f, "`{name}` {verb} {entry}{behind}")
     }
 
-    /// The instruction wants a type of references, and this one is none.
+    /// The instruction expects a reference type, and this one is none.
     fn tell_no_reference<W: fmt::Write>(
         &self,
         f: &mut fmt::Formatter<W>,
         declared: NumberedType,
     ) -> fmt::Result {
         let declared = StackEntry::Declared(declared);
-        self.tell_entry(f, "wants a reference type, and", declared, " is none")
+        self.tell_entry(f, "expects a reference type, found", declared, "")
     }
 
     /// The instruction, and what it does with a class that is as it must not be.
@@ -108,16 +108,15 @@ impl Refusal<'_> {
         write!(f, "`{name}` {verb}")
     }
 
-    /// A value that stands where the instruction wants one of another type.
+    /// A value in the place of one of another type.
     fn tell_unassignable<W: fmt::Write>(
         &self,
         f: &mut fmt::Formatter<W>,
         found: StackEntry,
-        wanted: NumberedType,
+        expected: NumberedType,
     ) -> fmt::Result {
-        EntryOf(self.scene.names, found).fmt(f)?;
-        f.write_str(" stands where ")?;
-        self.tell_entry(f, "wants", StackEntry::Declared(wanted), "")
+        self.tell_entry(f, "expects", StackEntry::Declared(expected), ", found ")?;
+        EntryOf(self.scene.names, found).fmt(f)
     }
 
     /// Why an instruction has no result on a stack.
@@ -134,7 +133,9 @@ impl Refusal<'_> {
                 self.tell_entry(f, "does not take", *one, " together with ")?;
                 EntryOf(self.scene.names, *other).fmt(f)
             }
-            Mismatch::NotAssignable(found, wanted) => self.tell_unassignable(f, *found, *wanted),
+            Mismatch::NotAssignable(found, expected) => {
+                self.tell_unassignable(f, *found, *expected)
+            }
             Mismatch::LeftOnStack(found) => self.tell_entry(f, "leaves", *found, " on the stack"),
             _ => self.tell_members(f, mismatch),
         }
@@ -154,7 +155,7 @@ impl Refusal<'_> {
             Some(Operation::CastClass(declared) | Operation::IsInstance(declared)) => {
                 self.tell_no_reference(f, *declared)
             }
-            _ => self.tell_verb(f, "wants a reference type"),
+            _ => self.tell_verb(f, "expects a reference type"),
         }
     }
 

@@ -1,4 +1,4 @@
-//! The operands that an instruction wants.
+//! The operands that an instruction expects.
 
 use super::numbered::{ClassNames, TypeOf};
 use cil_model::instructions::{BranchComparison, Comparison};
@@ -27,7 +27,7 @@ pub(crate) struct Scene<'a> {
 
 /// The operands that an instruction of a method takes, the topmost last.
 #[derive(Clone, Copy)]
-pub(crate) struct Wanted<'a>(pub Scene<'a>, pub &'a Operation);
+pub(crate) struct Expected<'a>(pub Scene<'a>, pub &'a Operation);
 
 /// Types, with commas between them, and one more before them; `nothing` where there are none.
 fn tell_types<W: fmt::Write>(
@@ -94,7 +94,10 @@ impl<'a> Scene<'a> {
     }
 
     /// The operands of an instruction that are declared types, the first by itself; None where they are told otherwise.
-    fn declared(self, operation: &Operation) -> Option<(Option<NumberedType>, &'a [NumberedType])> {
+    pub fn declared(
+        self,
+        operation: &Operation,
+    ) -> Option<(Option<NumberedType>, &'a [NumberedType])> {
         match operation {
             Operation::StoreArgument(number) => Some((self.argument(*number), &[])),
             Operation::StoreLocal(number) => Some((self.local(*number), &[])),
@@ -120,7 +123,7 @@ impl<'a> Scene<'a> {
 }
 
 /// Operands that are no declared types.
-fn kinds_wanted(operation: &Operation) -> &'static str {
+fn kinds_expected(operation: &Operation) -> &'static str {
     match operation {
         Operation::Duplicate | Operation::Pop => "a value",
         Operation::Binary(_) | Operation::Compare(Comparison::Greater | Comparison::Less) =>
@@ -142,12 +145,12 @@ fn kinds_wanted(operation: &Operation) -> &'static str {
         Operation::Switch(_) => "int32",
         Operation::NewArray(_) => "int32 or native int",
         Operation::CastClass(_) | Operation::IsInstance(_) => "a reference",
-        _ => elements_wanted(operation),
+        _ => elements_expected(operation),
     }
 }
 
 /// The operands of instructions on arrays.
-fn elements_wanted(operation: &Operation) -> &'static str {
+fn elements_expected(operation: &Operation) -> &'static str {
     match operation {
         Operation::LoadLength => "an array",
         Operation::LoadElementInt32 => "int32[], and int32 or native int",
@@ -162,11 +165,11 @@ fn elements_wanted(operation: &Operation) -> &'static str {
     }
 }
 
-impl fmt::Display for Wanted<'_> {
+impl fmt::Display for Expected<'_> {
     fn fmt<W: fmt::Write>(&self, f: &mut fmt::Formatter<W>) -> fmt::Result {
         match self.0.declared(self.1) {
             Some((first, others)) => tell_types(f, self.0.names, first, others),
-            None => f.write_str(kinds_wanted(self.1)),
+            None => f.write_str(kinds_expected(self.1)),
         }
     }
 }
