@@ -1,0 +1,68 @@
+-- What is printed of a thread that a fault or its budget ended (this profile).
+use Rattle.std.specs.Prelude.{◌++◌, ◌-◌, ◌∷◌, [], ℕ, zero, suc, if◌then◌else◌, List, length, min, nat_lt, Option, Some, None, codes, decimal, option_and_then, option_map, slice_get}
+use Rattle.std.specs.Option.{option_map_or}
+use Rattle.cil_model.specs.ExceptionNames.{name_of}
+use Rattle.cil_model.specs.declared.events.Event.{Event}
+use Rattle.cil_model.specs.declared.events.Event.TheVariants.{Step, Ack, Gc}
+use Rattle.cil_model.specs.declared.reports.End.TheVariants.{Done, Budget, Fault}
+use Rattle.cil_model.specs.declared.reports.Report.{Report}
+use Rattle.cil_model.specs.declared.reports.Report.TheVariants.{Ended}
+use Rattle.cil_model.specs.declared.trees.Method.{Method}
+use Rattle.cil_model.specs.declared.types.ClassName.{ClassName}
+use Rattle.interleaving_core.specs.simulation.MachineContents.{Content}
+use Rattle.interleaving_core.specs.Positions.{position_at}
+use Rattle.interleaving_core.specs.Waits.{wait_at}
+use Rattle.interleaving_core.specs.declared.positions.Position.{Position}
+use Rattle.event_trace.specs.Columns.{found_at, instruction_column}
+use Rattle.event_trace.specs.Texts.{wait_text}
+use Rattle.end_explanations.specs.declared.ends.Cause.{Cause}
+use Rattle.end_explanations.specs.declared.ends.Cause.TheVariants.{Budget as BudgetCause, Fault as FaultCause}
+use Rattle.end_explanations.specs.declared.ends.EarlyEnd.{EarlyEnd}
+use Rattle.end_explanations.specs.declared.texts.TheConstants.{MOST_CALLERS}
+
+-- ---- which threads end early
+
+-- why a report ends a thread whose budget has so many steps, before its first method returns
+abbrev pub cause : ℕ → Report → Option Cause
+cause budget (Ended Budget) = Some (BudgetCause budget)
+cause budget (Ended (Fault fault)) = Some (FaultCause fault)
+cause budget _ = None
+
+-- the thread that an event with this report ends so
+abbrev pub early_end : ℕ → Event → Report → Option EarlyEnd
+early_end budget (Step t) r = option_map (λ (why : Cause). record { thread = t; cause = why }) (cause budget r)
+early_end budget (Ack t) r = None
+early_end budget Gc r = None
+
+-- ---- the text
+
+abbrev pub cause_text : Cause → List ℕ
+cause_text (BudgetCause steps) = codes "budget after " ++ decimal steps ++ codes " steps (--budget allows 1000000)"
+cause_text (FaultCause fault) = name_of fault
+
+-- why a thread ended, where it was, and what it waited for
+abbrev pub end_lines : ℕ → Cause → Option ((ClassName × Method) × ℕ) → Option (List ℕ) → List ℕ
+end_lines t why at None = codes "thread " ++ decimal t ++ codes ": " ++ cause_text why ++ 10 ∷ codes "  at " ++ instruction_column at ++ 10 ∷ []
+end_lines t why at (Some awaited) =
+    codes "thread " ++ decimal t ++ codes ": " ++ cause_text why ++ 10 ∷ codes "  at " ++ instruction_column at ++ codes ", waits for " ++ awaited ++ 10 ∷ []
+
+-- the same, of a content before the thread's last step
+abbrev pub end_text : Content → EarlyEnd → List ℕ
+end_text c e = end_lines e.thread e.cause (option_and_then (found_at c.tree) (position_at c.threads e.thread)) (option_map (wait_text c) (wait_at c e.thread))
+
+-- the line of a caller
+abbrev pub caller_text : Content → Position → List ℕ
+caller_text c p = codes "  called from " ++ instruction_column (found_at c.tree p) ++ 10 ∷ []
+
+-- the lines of so many innermost callers, of which the innermost is the first
+abbrev pub caller_lines : Content → List Position → ℕ → List ℕ
+caller_lines c callers zero = []
+caller_lines c callers (suc n) = caller_lines c callers n ++ option_map_or (caller_text c) (slice_get callers (length callers - 1 - n)) []
+
+-- how many more callers there are
+abbrev pub more_text : ℕ → List ℕ
+more_text n = if nat_lt 0 n then codes "  and " ++ decimal n ++ codes " more callers" ++ 10 ∷ [] else []
+
+-- the innermost callers, and how many more there are
+abbrev pub callers_text : Content → List Position → List ℕ
+callers_text c callers = caller_lines c callers (min (length callers) MOST_CALLERS) ++ more_text (length callers - MOST_CALLERS)
