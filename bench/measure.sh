@@ -2,9 +2,10 @@
 # Measures: `bench/measure.sh NAME..` builds each of these programs of bench/programs, runs it, and prints a table of what it tells.
 # bench/README.md says what they measure.
 #
-# A program is made in a temporary folder, on this repository's own crates, which it names in its file `uses`. `rt run` proves it
-# and builds it by LLVM, as it builds any program of the repository. So the figures are of what is shipped, and no crate of the
-# repository is there for them alone. Its files end in `.txt` here, since the gate asks that every source belongs to a crate.
+# A program is copied to a temporary folder, where `tools/build --program` proves it on this repository's own crates, which it names in its
+# file `uses`, and builds it as `./cilvm --prove` builds cilvm. So the figures are of what is shipped, and no crate of the
+# repository is there for them alone. Crates that `./cilvm --prove` has proved are not proved again. The program's files end in `.txt` here,
+# since the gate asks that every source belongs to a crate.
 #
 # What a program prints is lines `NAME: FIGURE UNIT (WHAT WAS DONE)`, the last part where there is something to tell.
 #
@@ -17,44 +18,21 @@ set -eu
 top=$(cd "$(dirname "$0")/.." && pwd)
 work=$(mktemp -d)
 trap 'rm -rf "$work"' EXIT
-mkdir "$work/crates"
-cp "$top/HANDLES" "$work"
-
-# Copies these crates and all that they stand on, those of the kit apart, with their lines of crates.txt.
-copy() {
-    for crate in "$@"; do
-        if [ -d "$top/crates/$crate" ] && [ ! -d "$work/crates/$crate" ]; then
-            mkdir -p "$work/crates/$crate/out"
-            for part in src specs proofs out/rlib; do
-                if [ -d "$top/crates/$crate/$part" ]; then
-                    cp -r "$top/crates/$crate/$part" "$work/crates/$crate/$part"
-                fi
-            done
-            line=$(grep "^$crate[ :]" "$top/crates.txt")
-            echo "$line" >> "$work/libraries.txt"
-            copy ${line#*:}
-        fi
-    done
-}
 
 # Builds the program of a folder and runs it, with its baseline where it has one: their lines are in `ours` and `theirs`.
 run() {
-    uses=$(cat "$1/uses")
-    copy $uses
-    { cat "$work/libraries.txt"; echo "measured: $uses"; } > "$work/crates.txt"
-    rm -rf "$work/crates/measured"
-    cp -r "$1" "$work/crates/measured"
-    cd "$work/crates/measured"
-    find . -name '*.txt' | while read -r file; do mv "$file" "${file%.txt}"; done
-    rm -f baseline.rs
-    : > stdin
-    rt run > "$work/ours" 2> log.txt || { cat log.txt >&2; exit 1; }
+    rm -rf "$work/measured"
+    cp -r "$1" "$work/measured"
+    find "$work/measured" -name '*.txt' | while read -r file; do mv "$file" "${file%.txt}"; done
+    rm -f "$work/measured/baseline.rs"
+    "$top/tools/build" --program "$work/measured" "$work/program" 2> "$work/log" || { cat "$work/log" >&2; exit 1; }
+    "$work/program" > "$work/ours" < /dev/null
     : > "$work/theirs"
     if [ -f "$1/baseline.rs" ]; then
         rustc -O --edition 2024 -o "$work/baseline" "$1/baseline.rs"
         : > "$work/ours"
         for turn in 1 2 3 4 5; do
-            out/measured >> "$work/ours" < stdin
+            "$work/program" >> "$work/ours" < /dev/null
             "$work/baseline" >> "$work/theirs"
         done
     fi

@@ -4,16 +4,16 @@ use Rattle.std.specs.Prelude.{IfErr, IfOk, Option, Result, Ok, Err}
 use Rattle.std.specs.Str.Parse.{IsNumeral, digits_value, without_leading_plus}
 use Rattle.clap.proofs.ValueTestLemmas.{Accepts-accepts, accepts-Accepts}
 use Rattle.clap.specs.ValueTests.{is_unsigned_in}
-use Rattle.clap.specs.Words.{App, HasKind, HasMatchesOf, Text, fault_of, is_simple, is_simple_and_free, kind_of, subcommand_rows_of, subcommand_of}
+use Rattle.clap.specs.Words.{App, HasKind, HasMatchesOf, Text, fault_of, found_of, is_simple, is_simple_and_free, kind_of, matches_of, rows_of, subcommand_rows_of, subcommand_of}
 use Rattle.clap.proofs.OnLiterals.{clap_on_literals}
 use Rattle.clap.specs.declared.parser.matches.ArgMatches.{ArgMatches}
 use Rattle.clap.specs.declared.error.kind.ErrorKind.{ErrorKind}
 use Rattle.clap.specs.declared.builder.value_parser.ValueParser.TheVariants as vp
-use Rattle.clap.specs.Words.{IsAmong}
+use Rattle.clap.specs.Words.{IsAmong, Kinds}
 use Rattle.clap.specs.declared.error.Error.{Error}
 use Rattle.clap.specs.declared.error.kind.ErrorKind.TheVariants.{DisplayVersion, ValueValidation}
 use Rattle.orders.specs.declared.order.Order.{Order}
-use Rattle.command_line.specs.CommandLine.{run, Answers, FaultIs, IsOfNone, Refuses, Wanted, cilvm_app, faults_of, number_in, wanted_by, wanted_in, wanted_of}
+use Rattle.command_line.specs.CommandLine.{run, AnswersBy, FaultIs, IsOfNone, Refuses, Wanted, cilvm_app, faults_of, number_in, threads_app, threads_in, wanted_by, wanted_in, wanted_of}
 use Rattle.command_line.specs.declared.line.LineFault.{LineFault}
 use Rattle.command_line.specs.declared.line.LineFault.TheVariants.{Help, Version, Bad, Memory}
 
@@ -48,43 +48,58 @@ pub cilvm_app-simple : is_simple cilvm_app ≡ true
 unfolding clap_on_literals
 cilvm_app-simple = refl
 
+pub threads_app-exact : is_simple_and_free threads_app ≡ true
+unfolding clap_on_literals
+threads_app-exact = refl
+
+threads_app-simple : is_simple threads_app ≡ true
+unfolding clap_on_literals
+threads_app-simple = refl
+
 -- what clap found is what the words ask for
-pub wanted_by-found : (a : App) (words : List Text) (m : ArgMatches) → a ≡ cilvm_app → HasMatchesOf a words m
-    → wanted_by words ≡ wanted_in (subcommand_rows_of m)
-wanted_by-found a words m is found =
+pub wanted_in-found : (a : App) (words : List Text) (m : ArgMatches) → a ≡ cilvm_app → HasMatchesOf a words m
+    → wanted_in (subcommand_of cilvm_app words) ≡ wanted_in (subcommand_rows_of m)
+wanted_in-found a words m is found =
     let rows = (found (ap is_simple is ∙ cilvm_app-simple)).1 in
     ap wanted_in (ap (λ (x : App). subcommand_of x words) (sym is) ∙ sym rows)
 
--- what clap has against the words, where the command that it read is this one
-pub faults_of-app : (a : App) (words : List Text) → a ≡ cilvm_app → fault_of a words ≡ faults_of words
-faults_of-app a words is = ap (λ (x : App). fault_of x words) is
+-- the same, where `threads` reads the words
+pub threads_in-found : (a : App) (words : List Text) (m : ArgMatches) → a ≡ threads_app → HasMatchesOf a words m
+    → threads_in (matches_of threads_app words) ≡ threads_in (rows_of (found_of m))
+threads_in-found a words m is found =
+    let rows = (found (ap is_simple is ∙ threads_app-simple)).0 in
+    ap threads_in (ap (λ (x : App). matches_of x words) (sym is) ∙ sym rows)
 
-pub exact_at : (a : App) → a ≡ cilvm_app → is_simple_and_free a ≡ true
-exact_at a is = ap is_simple_and_free is ∙ cilvm_app-exact
+-- what clap has against the words, where the command that it read is this one
+pub fault_of-app : (a app : App) (words : List Text) → a ≡ app → fault_of a words ≡ fault_of app words
+fault_of-app a app words is = ap (λ (x : App). fault_of x words) is
+
+pub exact_at : (a app : App) → a ≡ app → is_simple_and_free app ≡ true → is_simple_and_free a ≡ true
+exact_at a app is exact = ap is_simple_and_free is ∙ exact
 
 -- an error of clap becomes a fault that the words deserve
-pub refuses : (words : List Text) (e : Error) (fault : LineFault) → HasKind (faults_of words) e → FaultIs (kind_of e) fault
-    → Refuses words fault
-refuses words e (Help text) (inl memory) is = absurd (cc (sym is ∙ memory))
-refuses words e (Help text) (inr among) is = subst (λ (k : ErrorKind). IsAmong k (faults_of words)) is among
-refuses words e (Version text) (inl memory) is = absurd (cc (sym is ∙ memory))
-refuses words e (Version text) (inr among) is = subst (λ (k : ErrorKind). IsAmong k (faults_of words)) is among
-refuses words e (Bad text) (inl memory) is = absurd (is.2 memory)
-refuses words e (Bad text) (inr among) is = inl (kind_of e, among, is.0, is.1)
-refuses words e Memory kind is = tt
+pub refuses : (faults : Kinds) (wanted : Option Wanted) (e : Error) (fault : LineFault) → HasKind faults e → FaultIs (kind_of e) fault
+    → Refuses faults wanted fault
+refuses faults wanted e (Help text) (inl memory) is = absurd (cc (sym is ∙ memory))
+refuses faults wanted e (Help text) (inr among) is = subst (λ (k : ErrorKind). IsAmong k faults) is among
+refuses faults wanted e (Version text) (inl memory) is = absurd (cc (sym is ∙ memory))
+refuses faults wanted e (Version text) (inr among) is = subst (λ (k : ErrorKind). IsAmong k faults) is among
+refuses faults wanted e (Bad text) (inl memory) is = absurd (is.2 memory)
+refuses faults wanted e (Bad text) (inr among) is = inl (kind_of e, among, is.0, is.1)
+refuses faults wanted e Memory kind is = tt
 
 -- what the words ask for, or that they ask for nothing, where clap takes them
-pub answers_wanted : (words : List Text) (w : Option Wanted) (answer : Result Order LineFault) → wanted_by words ≡ w → faults_of words ≡ []
-    → IfOk answer (λ order. w ≡ Some (wanted_of order)) → IfErr answer (IsOfNone w) → Answers words answer
-answers_wanted words w (Ok order) found free value none = (free, found ∙ value)
-answers_wanted words w (Err (Bad text)) found free value none = inr (found ∙ none)
-answers_wanted words w (Err Memory) found free value none = tt
-answers_wanted words w (Err (Help text)) found free value none = absurd none
-answers_wanted words w (Err (Version text)) found free value none = absurd none
+pub answers_wanted : (faults : Kinds) (wanted w : Option Wanted) (answer : Result Order LineFault) → wanted ≡ w → faults ≡ []
+    → IfOk answer (λ order. w ≡ Some (wanted_of order)) → IfErr answer (IsOfNone w) → AnswersBy faults wanted answer
+answers_wanted faults wanted w (Ok order) found free value none = (free, found ∙ value)
+answers_wanted faults wanted w (Err (Bad text)) found free value none = inr (found ∙ none)
+answers_wanted faults wanted w (Err Memory) found free value none = tt
+answers_wanted faults wanted w (Err (Help text)) found free value none = absurd none
+answers_wanted faults wanted w (Err (Version text)) found free value none = absurd none
 
 -- the definitions at words that are written out
 run_example : wanted_by (codes "cilvm" ∷ codes "run" ∷ codes "p.il" ∷ codes "--schedule" ∷ codes "s0*5" ∷ codes "--budget=3" ∷ [])
-    ≡ Some (run (codes "p.il") (codes "s0*5") (record { words = 65536; max_words = 65536; budget = 3; depth = 64 }) false)
+    ≡ Some (run (codes "p.il") (codes "s0*5") (record { words = 65536; max_words = 65536; budget = 3; depth = 64 }) false false)
 unfolding clap_on_literals
 run_example = refl
 
@@ -96,6 +111,16 @@ words_63 : faults_of (codes "cilvm" ∷ codes "run" ∷ codes "p.il" ∷ codes "
     ≡ ValueValidation ∷ []
 unfolding clap_on_literals
 words_63 = refl
+
+-- a source in the place of a command asks for what it asks for after `threads`
+source_example : wanted_by (codes "cilvm" ∷ codes "p.il" ∷ codes "--workers" ∷ codes "2" ∷ codes "--stop-at-deadlock" ∷ [])
+    ≡ wanted_by (codes "cilvm" ∷ codes "threads" ∷ codes "p.il" ∷ codes "--workers" ∷ codes "2" ∷ codes "--stop-at-deadlock" ∷ [])
+unfolding clap_on_literals
+source_example = refl
+
+source_example-free : faults_of (codes "cilvm" ∷ codes "p.il" ∷ codes "--workers" ∷ codes "2" ∷ codes "--stop-at-deadlock" ∷ []) ≡ []
+unfolding clap_on_literals
+source_example-free = refl
 
 asks_version : faults_of (codes "cilvm" ∷ codes "--version" ∷ []) ≡ DisplayVersion ∷ []
 unfolding clap_on_literals

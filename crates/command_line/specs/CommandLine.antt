@@ -2,12 +2,13 @@
 -- hold (this profile).
 use Rattle.std.specs.Prelude.{◌≡◌, ◌≢◌, ◌⊎◌, ◌≤◌, ℕ, Bool, pos, true, false, List, [], ◌∷◌, codes}
 use Rattle.std.specs.Prelude.{Option, Some, None, Result, Ok, Err, option_map, option_and_then}
-use Rattle.std.specs.Prelude.{if◌then◌else◌, IfSome, ⊤}
+use Rattle.std.specs.Prelude.{if◌then◌else◌, IfSome, ⊤, nat_eq, slice_get}
+use Rattle.std.specs.List.{ends_with}
 use Rattle.std.specs.Option.{option_map_or}
 use Rattle.std.specs.Str.{bytes_eq}
 use Rattle.std.specs.Str.Parse.{digits_value, without_leading_plus}
 use Rattle.clap.specs.ValueTests.{is_unsigned_in}
-use Rattle.clap.specs.Words.{App, IsAmong, Kinds, Row, Rule, Text, app_of, fault_of, first_of, new_app}
+use Rattle.clap.specs.Words.{App, IsAmong, Kinds, Row, Rule, Text, app_of, fault_of, first_of, matches_of, new_app}
 use Rattle.clap.specs.Words.{new_rule, rule_of, subcommand_of, with_rule, with_subcommand}
 use Rattle.clap.specs.declared.builder.action.ArgAction.TheVariants.{SetTrue}
 use Rattle.clap.specs.declared.builder.arg.Arg.{Arg}
@@ -21,11 +22,14 @@ use Rattle.cil_model.specs.declared.limits.Limits.{Limits}
 use Rattle.cil_model.specs.declared.limits.TheConstants.{LEAST_WORDS, MOST_WORDS}
 use Rattle.cil_model.specs.declared.limits.TheConstants.{MOST_BUDGET, MOST_DEPTH}
 use Rattle.orders.specs.declared.order.Order.{Order}
-use Rattle.orders.specs.declared.order.Order.TheVariants.{Check, Run, Replay, Trace, Picture, Threads, Flip}
+use Rattle.orders.specs.declared.order.Order.TheVariants.{Check, Run, Replay, Trace, Picture, Threads, Explore, Flip}
 use Rattle.orders.specs.declared.part.Part.{Part}
 use Rattle.orders.specs.declared.part.TheConstants.{LAST_NUMBER}
-use Rattle.orders.specs.declared.stop_at.StopAt.{StopAt}
-use Rattle.orders.specs.declared.stop_at.StopAt.TheVariants.{Deadlock, End}
+use Rattle.cil_model.specs.declared.stops.StopAt.{StopAt}
+use Rattle.cil_model.specs.declared.stops.StopAt.TheVariants.{Deadlock, End}
+use Rattle.orders.specs.declared.extents.Extent.{Extent}
+use Rattle.orders.specs.declared.extents.Goal.{Goal}
+use Rattle.orders.specs.declared.extents.Goal.TheVariants.{Fault, Deadlock, Output}
 use Rattle.command_line.specs.declared.line.LineFault.{LineFault}
 use Rattle.command_line.specs.declared.line.LineFault.TheVariants.{Help, Version, Bad, Memory}
 
@@ -72,6 +76,10 @@ with_limits a = with_rule (with_rule (with_rule (with_rule a
 abbrev pub with_explain : App → App
 with_explain a = with_rule a (flag_rule (codes "explain"))
 
+-- `--stats`
+abbrev pub with_stats : App → App
+with_stats a = with_rule a (flag_rule (codes "stats"))
+
 -- the options of a run
 abbrev pub with_run_options : App → App
 with_run_options a = with_limits (with_explain a)
@@ -88,10 +96,10 @@ abbrev pub check_app : App
 check_app = with_explain (with_source (codes "check"))
 
 abbrev pub run_app : App
-run_app = with_run_options (with_rule (with_source (codes "run")) (needed (text_rule (codes "schedule"))))
+run_app = with_run_options (with_stats (with_rule (with_source (codes "run")) (needed (text_rule (codes "schedule")))))
 
 abbrev pub replay_app : App
-replay_app = with_run_options (with_files (codes "replay"))
+replay_app = with_run_options (with_stats (with_files (codes "replay")))
 
 abbrev pub trace_app : App
 trace_app = with_run_options (with_files (codes "trace"))
@@ -106,9 +114,15 @@ picture_app = with_run_options (with_part (with_files (codes "picture")))
 
 -- 1 to 16 workers, 1 where none is said, perhaps the file of a record, and whether a deadlock ends the run
 abbrev pub threads_app : App
-threads_app = with_run_options (with_rule (with_rule (with_rule (with_source (codes "threads"))
+threads_app = with_run_options (with_stats (with_rule (with_rule (with_rule (with_source (codes "threads"))
     (with_default (codes "1") (number_rule (codes "workers") 1 16))) (text_rule (codes "record")))
-    (flag_rule (codes "stop-at-deadlock")))
+    (flag_rule (codes "stop-at-deadlock"))))
+
+-- the maximum number of states, 100,000 by default; perhaps that of preemptions, the outcome at which it stops, and the file of a schedule
+abbrev pub explore_app : App
+explore_app = with_run_options (with_rule (with_rule (with_rule (with_rule (with_source (codes "explore"))
+    (with_default (codes "100000") (number_rule (codes "states") 1 1000000))) (number_rule (codes "preemptions") 0 1000)) (text_rule (codes "until")))
+    (text_rule (codes "save")))
 
 -- all four numbers have to be given
 abbrev pub flip_app : App
@@ -125,29 +139,31 @@ abbrev pub with_version : App → App
 with_version a = record a { top = record a.top { has_version = true } }
 
 abbrev pub cilvm_app : App
-cilvm_app = with_subcommand (with_subcommand (with_subcommand (with_subcommand (with_subcommand (with_subcommand (with_subcommand
+cilvm_app = with_subcommand (with_subcommand (with_subcommand (with_subcommand (with_subcommand (with_subcommand (with_subcommand (with_subcommand
     (with_version (with_required_subcommand (new_app (codes "cilvm")))) check_app.top) threads_app.top) run_app.top)
-    replay_app.top) trace_app.top) picture_app.top) flip_app.top
+    replay_app.top) trace_app.top) picture_app.top) explore_app.top) flip_app.top
 
 -- ---- what the words ask for
 
 -- the command with its files and options
 pub data Wanted : Type 0 where
   check : Text → Bool → Wanted
-  run : Text → Text → Limits → Bool → Wanted
-  replay : Text → Text → Limits → Bool → Wanted
+  run : Text → Text → Limits → Bool → Bool → Wanted
+  replay : Text → Text → Limits → Bool → Bool → Wanted
   trace : Text → Text → Limits → Bool → Wanted
   picture : Text → Text → ℕ → Option ℕ → Limits → Bool → Wanted
-  threads : Text → ℕ → Option Text → StopAt → Limits → Bool → Wanted
+  threads : Text → ℕ → Option Text → StopAt → Limits → Bool → Bool → Wanted
+  explore : Text → Extent → Option Text → Limits → Bool → Wanted
   flip : ℕ → ℕ → ℕ → ℕ → Wanted
 
 abbrev pub wanted_of : Order → Wanted
 wanted_of (Check file explain) = check file.now explain
-wanted_of (Run file schedule limits explain) = run file.now schedule.now limits explain
-wanted_of (Replay file schedule limits explain) = replay file.now schedule.now limits explain
+wanted_of (Run file schedule limits explain stats) = run file.now schedule.now limits explain stats
+wanted_of (Replay file schedule limits explain stats) = replay file.now schedule.now limits explain stats
 wanted_of (Trace file schedule limits explain) = trace file.now schedule.now limits explain
 wanted_of (Picture file schedule part limits explain) = picture file.now schedule.now part.first part.last limits explain
-wanted_of (Threads file workers kept stop_at limits explain) = threads file.now workers.count (option_map (λ name. name.now) kept) stop_at limits explain
+wanted_of (Threads file workers kept stop_at limits explain stats) = threads file.now workers.count (option_map (λ name. name.now) kept) stop_at limits explain stats
+wanted_of (Explore file extent kept limits explain) = explore file.now extent (option_map (λ name. name.now) kept) limits explain
 wanted_of (Flip sizes) = flip sizes.seats sizes.objects sizes.slots sizes.rounds
 
 -- the number that the text writes in decimal digits, where it lies in the range
@@ -189,10 +205,10 @@ scheduled_in rows = option_and_then (λ file. option_and_then (λ schedule. opti
     (limits_in rows)) (first_of (codes "schedule") rows)) (first_of (codes "file") rows)
 
 abbrev pub run_in : List Row → Option Wanted
-run_in rows = option_map (λ (s : Text × Text × Limits). run s.0 s.1 s.2 (flag_at (codes "explain") rows)) (scheduled_in rows)
+run_in rows = option_map (λ (s : Text × Text × Limits). run s.0 s.1 s.2 (flag_at (codes "explain") rows) (flag_at (codes "stats") rows)) (scheduled_in rows)
 
 abbrev pub replay_in : List Row → Option Wanted
-replay_in rows = option_map (λ (s : Text × Text × Limits). replay s.0 s.1 s.2 (flag_at (codes "explain") rows)) (scheduled_in rows)
+replay_in rows = option_map (λ (s : Text × Text × Limits). replay s.0 s.1 s.2 (flag_at (codes "explain") rows) (flag_at (codes "stats") rows)) (scheduled_in rows)
 
 abbrev pub trace_in : List Row → Option Wanted
 trace_in rows = option_map (λ (s : Text × Text × Limits). trace s.0 s.1 s.2 (flag_at (codes "explain") rows)) (scheduled_in rows)
@@ -218,9 +234,42 @@ worked_in rows = option_and_then (λ file. option_and_then (λ workers. option_m
 abbrev pub stop_at_in : List Row → StopAt
 stop_at_in rows = if flag_at (codes "stop-at-deadlock") rows then Deadlock else End
 
+-- whether a run by workers is explained: if it is asked for, and if the run is to stop at a deadlock
+abbrev pub is_explained_in : List Row → Bool
+is_explained_in rows = if flag_at (codes "explain") rows then true else flag_at (codes "stop-at-deadlock") rows
+
 abbrev pub threads_in : List Row → Option Wanted
-threads_in rows = option_map (λ (s : Text × ℕ × Limits). threads s.0 s.1 (first_of (codes "record") rows) (stop_at_in rows) s.2 (flag_at (codes "explain") rows))
+threads_in rows = option_map (λ (s : Text × ℕ × Limits). threads s.0 s.1 (first_of (codes "record") rows) (stop_at_in rows) s.2 (is_explained_in rows) (flag_at (codes "stats") rows))
     (worked_in rows)
+
+-- the outcome at which an exploration stops, by its word
+abbrev pub goal_in : Text → Option Goal
+goal_in text =
+    if bytes_eq text (codes "fault") then Some Fault
+    else (if bytes_eq text (codes "deadlock") then Some Deadlock
+    else (if bytes_eq text (codes "output") then Some Output else None))
+
+-- none where no text is given; no answer where the text can't be read
+abbrev pub said : {X : Type 0} → (Text → Option X) → Option Text → Option (Option X)
+said read None = Some None
+said read (Some text) = option_map (λ x. Some x) (read text)
+
+-- the bounds of an exploration
+abbrev pub extent_in : List Row → Option Extent
+extent_in rows = option_and_then (λ states. option_and_then (λ preemptions. option_map (λ until. record {
+  states = states;
+  preemptions = preemptions;
+  until = until;
+}) (said goal_in (first_of (codes "until") rows))) (said (number_in 0 1000) (first_of (codes "preemptions") rows)))
+    (number_at 1 1000000 (codes "states") rows)
+
+-- a source's file, the bounds of its exploration, and the limits of its runs
+abbrev pub explored_in : List Row → Option (Text × Extent × Limits)
+explored_in rows = option_and_then (λ file. option_and_then (λ extent. option_map (λ limits. (file, extent, limits))
+    (limits_in rows)) (extent_in rows)) (first_of (codes "file") rows)
+
+abbrev pub explore_in : List Row → Option Wanted
+explore_in rows = option_map (λ (s : Text × Extent × Limits). explore s.0 s.1 (first_of (codes "save") rows) s.2 (flag_at (codes "explain") rows)) (explored_in rows)
 
 abbrev pub flip_in : List Row → Option Wanted
 flip_in rows = option_and_then (λ seats. option_and_then (λ objects. option_and_then (λ slots.
@@ -237,22 +286,33 @@ named_in name rows =
     else (if bytes_eq name (codes "replay") then replay_in rows
     else (if bytes_eq name (codes "trace") then trace_in rows
     else (if bytes_eq name (codes "picture") then picture_in rows
-    else (if bytes_eq name (codes "flip") then flip_in rows else None))))))
+    else (if bytes_eq name (codes "explore") then explore_in rows
+    else (if bytes_eq name (codes "flip") then flip_in rows else None)))))))
 
 abbrev pub wanted_in : Option (Text × List Row) → Option Wanted
 wanted_in = option_and_then (λ p. named_in p.0 p.1)
 
--- what the words ask for, by what clap finds in them
+-- a file's name ends in `.il`, as no command does
+abbrev pub is_source_name : Text → Bool
+is_source_name name = ends_with nat_eq name (codes ".il")
+
+-- the word after the program's name is the name of a source
+abbrev pub begins_with_source : List Text → Bool
+begins_with_source words = option_map_or is_source_name (slice_get words 1) false
+
+-- what the words ask for, by what clap finds in them: where they begin with a source, all of them are for `threads`
 abbrev pub wanted_by : List Text → Option Wanted
-wanted_by words = wanted_in (subcommand_of cilvm_app words)
+wanted_by words =
+    if begins_with_source words then threads_in (matches_of threads_app words)
+    else wanted_in (subcommand_of cilvm_app words)
 
 -- what clap has against the words, a wish for help or for the version among it
 abbrev pub faults_of : List Text → Kinds
-faults_of words = fault_of cilvm_app words
+faults_of words = if begins_with_source words then fault_of threads_app words else fault_of cilvm_app words
 
 -- a mistake is among what clap has against the words
-abbrev pub HasMistake : List Text → Type 0
-HasMistake words = (k : ErrorKind) × IsAmong k (faults_of words) × (k ≢ DisplayHelp) × (k ≢ DisplayVersion)
+abbrev pub HasMistake : Kinds → Type 0
+HasMistake faults = (k : ErrorKind) × IsAmong k faults × (k ≢ DisplayHelp) × (k ≢ DisplayVersion)
 
 -- ---- the answer
 
@@ -269,16 +329,19 @@ IsOfNone wanted (Bad text) = wanted ≡ None
 IsOfNone wanted Memory = ⊤
 IsOfNone wanted _ = ⊥
 
-abbrev pub Refuses : List Text → LineFault → Type 0
-Refuses words (Help text) = IsAmong DisplayHelp (faults_of words)
-Refuses words (Version text) = IsAmong DisplayVersion (faults_of words)
-Refuses words (Bad text) = HasMistake words ⊎ (wanted_by words ≡ None)
-Refuses words Memory = ⊤
+abbrev pub Refuses : Kinds → Option Wanted → LineFault → Type 0
+Refuses faults wanted (Help text) = IsAmong DisplayHelp faults
+Refuses faults wanted (Version text) = IsAmong DisplayVersion faults
+Refuses faults wanted (Bad text) = HasMistake faults ⊎ (wanted ≡ None)
+Refuses faults wanted Memory = ⊤
 
--- Ok comes where clap takes the words, and holds what they ask for
+-- Ok comes where clap has nothing against the words, and holds what they ask for
+abbrev pub AnswersBy : Kinds → Option Wanted → Result Order LineFault → Type 0
+AnswersBy faults wanted (Ok order) = (faults ≡ []) × (wanted ≡ Some (wanted_of order))
+AnswersBy faults wanted (Err fault) = Refuses faults wanted fault
+
 abbrev pub Answers : List Text → Result Order LineFault → Type 0
-Answers words (Ok order) = (faults_of words ≡ []) × (wanted_by words ≡ Some (wanted_of order))
-Answers words (Err fault) = Refuses words fault
+Answers words answer = AnswersBy (faults_of words) (wanted_by words) answer
 
 -- the numbers of events from 1 on, of which the last one is not before the first
 abbrev pub IsPartInRange : Part → Type 0
@@ -287,9 +350,10 @@ IsPartInRange part = (1 ≤ part.first) × (part.first ≤ LAST_NUMBER) × IfSom
 -- each number of the order lies in its range
 abbrev pub IsInRange : Order → Type 0
 IsInRange (Check file explain) = ⊤
-IsInRange (Run file schedule limits explain) = are_numbers_in_range limits ≡ true
-IsInRange (Replay file schedule limits explain) = are_numbers_in_range limits ≡ true
+IsInRange (Run file schedule limits explain stats) = are_numbers_in_range limits ≡ true
+IsInRange (Replay file schedule limits explain stats) = are_numbers_in_range limits ≡ true
 IsInRange (Trace file schedule limits explain) = are_numbers_in_range limits ≡ true
 IsInRange (Picture file schedule part limits explain) = (are_numbers_in_range limits ≡ true) × IsPartInRange part
-IsInRange (Threads file workers kept stop_at limits explain) = are_numbers_in_range limits ≡ true
+IsInRange (Threads file workers kept stop_at limits explain stats) = are_numbers_in_range limits ≡ true
+IsInRange (Explore file extent kept limits explain) = are_numbers_in_range limits ≡ true
 IsInRange (Flip sizes) = ⊤

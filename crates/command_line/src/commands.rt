@@ -2,9 +2,9 @@
 ghost use Rattle.std.specs.Prelude.{◌≡◌, IfOk, codes, pos};
 ghost use Rattle.clap.specs.Words.{App, Rule, app_of, new_app, with_rule, with_subcommand};
 ghost use Rattle.clap.specs.declared.builder.value_parser.ValueParser.TheVariants as vp;
-ghost use Rattle.command_line.specs.CommandLine.{IsArgument, IsCommand, check_app, cilvm_app, file_rule, flag_rule};
+ghost use Rattle.command_line.specs.CommandLine.{IsArgument, IsCommand, check_app, cilvm_app, explore_app, file_rule, flag_rule};
 ghost use Rattle.command_line.specs.CommandLine.{flip_app, needed, number_rule, picture_app, replay_app, run_app, text_rule, threads_app, trace_app, with_default};
-ghost use Rattle.command_line.specs.CommandLine.{with_explain, with_files, with_limits, with_part, with_required_subcommand, with_run_options, with_source, with_version};
+ghost use Rattle.command_line.specs.CommandLine.{with_explain, with_files, with_limits, with_part, with_required_subcommand, with_run_options, with_source, with_stats, with_version};
 
 use crate::version::VERSION;
 use cil_model::limits::{LEAST_WORDS, MOST_BUDGET, MOST_DEPTH, MOST_WORDS};
@@ -13,12 +13,22 @@ use clap::{Arg, ArgAction, Command, value_parser};
 use orders::LAST_NUMBER;
 use std::alloc::{AllocError, Global};
 
-/// What the explanation of a source is.
-const EXPLAIN_REFUSAL: &str = "After a refusal, shows its place and its rule";
+/// What the explanation of a check is.
+const EXPLAIN_CHECK: &str =
+    "After a refusal, shows its place and its rule; after 'accepted', notes on the source";
 
 /// What the explanation of a run is.
 const EXPLAIN_RUN: &str =
     "After a refusal, shows its place and its rule; after a run, what its live threads wait for";
+
+const EXPLAIN_EXPLORATION: &str =
+    "After a refusal, shows its place and its rule; draws the schedule of each outcome in columns";
+
+/// The greatest value of `--states`.
+pub(crate) const MOST_STATES: u32 = 1_000_000;
+
+/// The greatest value of `--preemptions`.
+pub(crate) const MOST_PREEMPTIONS: u32 = 1000;
 
 fn file_argument<'a>(alloc: Global, id: &'a str, name: &'a str, help: &'a str) -> Arg<'a>
     ensures { IsArgument (file_rule id.entry.now) result }
@@ -109,6 +119,23 @@ fn with_explain<'a>(
     ensures { (app : App) → IfOk command.entry (IsCommand app) → IfOk result (IsCommand (with_explain app)) }
 {
     with_argument(command, flag(alloc, "explain", help))
+}
+
+/// The option that has the numbers of a run printed.
+fn with_stats<'a>(
+    alloc: Global,
+    command: Result<Command<'a>, AllocError>,
+) -> Result<Command<'a>, AllocError>
+    ensures { (app : App) → IfOk command.entry (IsCommand app) → IfOk result (IsCommand (with_stats app)) }
+{
+    with_argument(
+        command,
+        flag(
+            alloc,
+            "stats",
+            "At the end, prints the numbers of the run on the standard error, as 'events: 5'",
+        ),
+    )
 }
 
 /// A command without arguments: what it does, and what its help ends with.
@@ -212,10 +239,11 @@ fn check_command<'a>(alloc: Global) -> Result<Command<'a>, AllocError>
         "Says whether a source is accepted",
         "Example:\n  cilvm check examples/add.il",
     );
-    with_explain(alloc, command, EXPLAIN_REFUSAL)
+    with_explain(alloc, command, EXPLAIN_CHECK)
 }
 
-fn threads_command<'a>(alloc: Global) -> Result<Command<'a>, AllocError>
+/// The command of a run by workers, which also reads a command line that names a source in the place of a command.
+pub fn threads_command<'a>(alloc: Global) -> Result<Command<'a>, AllocError>
     ensures { IfOk result (IsCommand threads_app) }
 {
     let command = source_command(
@@ -236,9 +264,10 @@ fn threads_command<'a>(alloc: Global) -> Result<Command<'a>, AllocError>
     let stop = flag(
         alloc,
         "stop-at-deadlock",
-        "Stops also once all live threads wait for one another",
+        "Stops also once all live threads wait for one another, and explains that",
     );
-    with_run_options(alloc, with_argument(command, stop), EXPLAIN_REFUSAL)
+    let command = with_stats(alloc, with_argument(command, stop));
+    with_run_options(alloc, command, EXPLAIN_RUN)
 }
 
 fn run_command<'a>(alloc: Global) -> Result<Command<'a>, AllocError>
@@ -256,7 +285,8 @@ fn run_command<'a>(alloc: Global) -> Result<Command<'a>, AllocError>
         "EVENTS",
         "The events in their order, as 's0*5 g a0'",
     );
-    with_run_options(alloc, with_argument(command, schedule), EXPLAIN_RUN)
+    let command = with_stats(alloc, with_argument(command, schedule));
+    with_run_options(alloc, command, EXPLAIN_RUN)
 }
 
 fn replay_command<'a>(alloc: Global) -> Result<Command<'a>, AllocError>
@@ -268,7 +298,7 @@ fn replay_command<'a>(alloc: Global) -> Result<Command<'a>, AllocError>
         "Runs a source by a schedule that a file holds",
         "The file has the events in the form that 'cilvm run --help' tells, on as many lines as you like.\n\nExample, which prints 5:\n  cilvm replay examples/add.il examples/add.schedule",
     );
-    with_run_options(alloc, command, EXPLAIN_RUN)
+    with_run_options(alloc, with_stats(alloc, command), EXPLAIN_RUN)
 }
 
 fn trace_command<'a>(alloc: Global) -> Result<Command<'a>, AllocError>
@@ -321,6 +351,48 @@ fn picture_command<'a>(alloc: Global) -> Result<Command<'a>, AllocError>
     with_run_options(alloc, with_part(alloc, command), EXPLAIN_RUN)
 }
 
+fn explore_command<'a>(alloc: Global) -> Result<Command<'a>, AllocError>
+    ensures { IfOk result (IsCommand explore_app) }
+{
+    let command = source_command(
+        alloc,
+        "explore",
+        "Finds every outcome of a source over all schedules",
+        "A program with threads can end in several ways, depending on which thread happens to go first. 'explore' tries all schedules, and prints each outcome with the schedule that has the fewest preemptions, and of those the fewest steps, for 'cilvm replay'. If the last line says 'of all schedules', it is proved that no schedule ends in any other way, whatever the collector does, as long as no thread uses up its budget and none is refused memory.\n\nThe status is 0 if in each outcome all threads are done and the output is the same, 3 if in some outcome a thread ended by a fault or the output differs, 4 if some schedule deadlocks, and 6 if none of these was found, but the search stopped before it had found all outcomes.\n\nExample:\n  cilvm explore examples/deadlock.il",
+    );
+    let states = limit_option(
+        alloc,
+        "states",
+        1,
+        MOST_STATES,
+        "100000",
+        "The maximum number of states, 1 to 1000000",
+    );
+    let command = with_argument(command, states);
+    let preemptions = number_option(
+        alloc,
+        "preemptions",
+        0,
+        MOST_PREEMPTIONS,
+        "The maximum number of preemptions of a schedule, 0 to 1000; no limit by default",
+    );
+    let command = with_argument(command, preemptions);
+    let until = text_option(
+        alloc,
+        "until",
+        "GOAL",
+        "Stops at the first 'fault', the first 'deadlock', or the first 'output' that differs",
+    );
+    let command = with_argument(command, until);
+    let save = text_option(
+        alloc,
+        "save",
+        "SCHEDULE",
+        "Writes the schedule of the first fault, the first deadlock or the first other output to this file",
+    );
+    with_run_options(alloc, with_argument(command, save), EXPLAIN_EXPLORATION)
+}
+
 fn flip_command<'a>(alloc: Global) -> Result<Command<'a>, AllocError>
     ensures { IfOk result (IsCommand flip_app) }
 {
@@ -359,7 +431,7 @@ fn program<'a>(alloc: Global) -> Command<'a>
         .version(VERSION)
         .about("Checks CIL programs, and runs their threads, freely or by a schedule of steps")
         .after_help(
-            "'cilvm COMMAND --help' says what a command takes.\n\nExample, which prints 5:\n  cilvm threads examples/add.il",
+            "'cilvm COMMAND --help' says what a command takes. 'cilvm FILE.il' is short for 'cilvm threads FILE.il'.\n\nExample, which prints 5:\n  cilvm threads examples/add.il",
         )
         .subcommand_required(true)
         .arg_required_else_help(true)
@@ -391,5 +463,6 @@ pub fn cilvm_command<'a>(alloc: Global) -> Result<Command<'a>, AllocError>
     let program = with_command(program, replay_command(alloc));
     let program = with_command(program, trace_command(alloc));
     let program = with_command(program, picture_command(alloc));
+    let program = with_command(program, explore_command(alloc));
     with_command(program, flip_command(alloc))
 }

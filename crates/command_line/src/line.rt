@@ -1,18 +1,20 @@
 //! Reads the command line.
-ghost use Rattle.std.specs.Prelude.{◌≡◌, ◌≤◌, IfErr, IfOk, IfSome, Some, map, option_map, true};
-ghost use Rattle.clap.specs.Words.{found_of, first_of, kind_of, rows_of, subcommand_rows_of};
-ghost use Rattle.command_line.specs.CommandLine.{Answers, FaultIs, IsInRange, IsOfNone, IsPartInRange, check_in, limits_in, most_in};
-ghost use Rattle.command_line.specs.CommandLine.{flag_at, number_at, number_in, flip_in, part_in, picture_in, replay_in, run_in, scheduled_in, stop_at_in, threads_in, trace_in, wanted_in};
-ghost use Rattle.command_line.specs.CommandLine.{wanted_of, worked_in};
+ghost use Rattle.std.specs.Prelude.{◌≡◌, ◌≤◌, IfErr, IfOk, IfSome, Some, codes, map, option_map, true};
+ghost use Rattle.clap.specs.Words.{fault_of, found_of, first_of, kind_of, matches_of, rows_of, subcommand_of, subcommand_rows_of};
+ghost use Rattle.command_line.specs.CommandLine.{Answers, AnswersBy, begins_with_source, cilvm_app, is_source_name, threads_app};
+ghost use Rattle.command_line.specs.CommandLine.{FaultIs, IsInRange, IsOfNone, IsPartInRange, check_in, limits_in, most_in};
+ghost use Rattle.command_line.specs.CommandLine.{flag_at, number_at, number_in, flip_in, part_in, is_explained_in, picture_in, replay_in, run_in, scheduled_in, stop_at_in, threads_in, trace_in, wanted_in};
+ghost use Rattle.command_line.specs.CommandLine.{explore_in, explored_in, extent_in, goal_in, said, wanted_of, worked_in};
 ghost use Rattle.cil_model.specs.Ranges.{are_numbers_in_range};
 ghost use Rattle.command_line.specs.declared.line.LineFault.TheVariants.{Memory};
 
-use crate::commands::cilvm_command;
+use crate::commands::{MOST_PREEMPTIONS, MOST_STATES, cilvm_command, threads_command};
 use cil_model::limits::{LEAST_WORDS, Limits, MOST_BUDGET, MOST_DEPTH, MOST_WORDS};
+use cil_model::stops::StopAt;
 use clap::error::ErrorKind;
 use clap::{ArgMatches, Error};
 use flip_trial::Sizes;
-use orders::{LAST_NUMBER, Order, Part, StopAt, Workers};
+use orders::{Extent, Goal, LAST_NUMBER, Order, Part, Workers};
 use std::alloc::{AllocError, Global};
 
 /// Why the words of a command line hold no order.
@@ -36,9 +38,52 @@ impl From<AllocError> for LineFault {
     }
 }
 
-/// Reads the words of a command line, of which the first is the program's name.
+/// Reads the words of a command line, of which the first is the program's name. Where the second one ends in `.il`, as no command does,
+/// the words after the program's name are read as those of `threads`.
 pub fn order<'a>(alloc: Global, words: &'a [&'a str]) -> Result<Order<'a>, LineFault>
     ensures answer { Answers (map (λ word. word.now) words.entry.now) result }
+    ensures range { IfOk result IsInRange }
+{
+    if begins_with_source(words) {
+        threads_order(alloc, words)
+    } else {
+        command_order(alloc, words)
+    }
+}
+
+/// Whether the word after the program's name is the name of a source.
+#[tactic(auto, using(crate::proofs::WordLemmas::word_at))]
+fn begins_with_source(words: &[&str]) -> bool
+    ensures { result ≡ begins_with_source (map (λ word. word.now) words.now) }
+{
+    match words.get(1) {
+        Some(word) => is_source_name(word),
+        None => false,
+    }
+}
+
+/// Whether a file's name ends in `.il`.
+fn is_source_name(name: &str) -> bool
+    ensures { result ≡ is_source_name name.now }
+{
+    name.as_bytes().ends_with(b".il")
+}
+
+/// Reads the words of `threads`, of which the first is the program's name in the place of the command's.
+fn threads_order<'a>(alloc: Global, words: &'a [&'a str]) -> Result<Order<'a>, LineFault>
+    ensures answer { AnswersBy (fault_of threads_app (map (λ word. word.now) words.entry.now)) (threads_in (matches_of threads_app (map (λ word. word.now) words.entry.now))) result }
+    ensures range { IfOk result IsInRange }
+{
+    let command = threads_command(alloc)?;
+    match command.try_get_matches_from(words) {
+        Ok(matches) => wanted_threads_order(alloc, &matches),
+        Err(error) => Err(line_fault(alloc, &error)),
+    }
+}
+
+/// Reads the words of a command line that names a command.
+fn command_order<'a>(alloc: Global, words: &'a [&'a str]) -> Result<Order<'a>, LineFault>
+    ensures answer { AnswersBy (fault_of cilvm_app (map (λ word. word.now) words.entry.now)) (wanted_in (subcommand_of cilvm_app (map (λ word. word.now) words.entry.now))) result }
     ensures range { IfOk result IsInRange }
 {
     let command = cilvm_command(alloc)?;
@@ -60,14 +105,31 @@ fn wanted_order<'a>(alloc: Global, matches: &ArgMatches<'a>) -> Result<Order<'a>
     }
 }
 
-/// What is told of words that clap takes and that ask for nothing: a last event before the first one is all that there can be. Fails for
-/// want of memory alone.
+/// The order that the matches of `threads` hold.
+fn wanted_threads_order<'a>(alloc: Global, found: &ArgMatches<'a>) -> Result<Order<'a>, LineFault>
+    ensures value { IfOk result (λ order. threads_in (rows_of (found_of found.now)) ≡ Some (wanted_of order)) }
+    ensures range { IfOk result IsInRange }
+    ensures none { IfErr result (IsOfNone (threads_in (rows_of (found_of found.now)))) }
+{
+    match wanted_threads(found) {
+        Some(order) => Ok(order),
+        None => Err(LineFault::Bad(told_of_none(alloc, found)?)),
+    }
+}
+
+/// The error of words that clap takes and that hold no order: of a last event before the first one, or of an unknown goal. It fails only if memory
+/// runs out.
 fn told_of_none(alloc: Global, matches: &ArgMatches<'_>) -> Result<String, AllocError> {
     if let Some((_, found)) = matches.subcommand() {
         if let Some(first) = text(found, "from") {
             let last = text(found, "to").unwrap_or("");
             return format!(in alloc;
                 "error: invalid value '{last}' for '--to <N>': {last} is not in {first}..={LAST_NUMBER}\n\nFor more information, try '--help'.\n"
+            );
+        }
+        if let Some(goal) = text(found, "until") {
+            return format!(in alloc;
+                "error: invalid value '{goal}' for '--until <GOAL>'\n  [possible values: fault, deadlock, output]\n\nFor more information, try '--help'.\n"
             );
         }
     }
@@ -114,6 +176,7 @@ fn wanted<'a>(matches: &ArgMatches<'a>) -> Option<Order<'a>>
         "replay" => wanted_replay(found),
         "trace" => wanted_trace(found),
         "picture" => wanted_picture(found),
+        "explore" => wanted_explore(found),
         "flip" => wanted_flip(found),
         _ => None,
     }
@@ -134,11 +197,13 @@ fn wanted_run<'a>(found: &ArgMatches<'a>) -> Option<Order<'a>>
 {
     let (file, schedule, limits) = scheduled(found)?;
     let explain = flag(found, "explain");
+    let stats = flag(found, "stats");
     Some(Order::Run {
         file,
         schedule,
         limits,
         explain,
+        stats,
     })
 }
 
@@ -148,11 +213,13 @@ fn wanted_replay<'a>(found: &ArgMatches<'a>) -> Option<Order<'a>>
 {
     let (file, schedule, limits) = scheduled(found)?;
     let explain = flag(found, "explain");
+    let stats = flag(found, "stats");
     Some(Order::Replay {
         file,
         schedule,
         limits,
         explain,
+        stats,
     })
 }
 
@@ -206,7 +273,8 @@ fn wanted_threads<'a>(found: &ArgMatches<'a>) -> Option<Order<'a>>
     let (file, workers, limits) = worked(found)?;
     let record = text(found, "record");
     let stop_at = stop_at(found);
-    let explain = flag(found, "explain");
+    let explain = is_explained(found);
+    let stats = flag(found, "stats");
     Some(Order::Threads {
         file,
         workers,
@@ -214,7 +282,15 @@ fn wanted_threads<'a>(found: &ArgMatches<'a>) -> Option<Order<'a>>
         stop_at,
         limits,
         explain,
+        stats,
     })
+}
+
+/// Whether a run by workers is explained: if it is asked for, and if the run is to stop at a deadlock.
+fn is_explained(found: &ArgMatches<'_>) -> bool
+    ensures { result ≡ is_explained_in (rows_of (found_of found.now)) }
+{
+    flag(found, "explain") || flag(found, "stop-at-deadlock")
 }
 
 /// When a run by workers stops.
@@ -226,6 +302,22 @@ fn stop_at(found: &ArgMatches<'_>) -> StopAt
     } else {
         StopAt::End
     }
+}
+
+fn wanted_explore<'a>(found: &ArgMatches<'a>) -> Option<Order<'a>>
+    ensures value { option_map wanted_of result ≡ explore_in (rows_of (found_of found.now)) }
+    ensures range { IfSome result IsInRange }
+{
+    let (file, extent, limits) = explored(found)?;
+    let save = text(found, "save");
+    let explain = flag(found, "explain");
+    Some(Order::Explore {
+        file,
+        extent,
+        save,
+        limits,
+        explain,
+    })
 }
 
 fn wanted_flip<'a>(found: &ArgMatches<'a>) -> Option<Order<'a>>
@@ -259,6 +351,63 @@ fn worked<'a>(found: &ArgMatches<'a>) -> Option<(&'a str, Workers, Limits)>
     let workers = number(found, "workers", 1, 16)?;
     let limits = limits(found)?;
     Some((file, Workers::new(workers as u8), limits))
+}
+
+/// The source's file, the bounds of its exploration, and the limits of its runs.
+fn explored<'a>(found: &ArgMatches<'a>) -> Option<(&'a str, Extent, Limits)>
+    ensures value { option_map (λ s. (s.0.now, s.1, s.2)) result ≡ explored_in (rows_of (found_of found.now)) }
+    ensures range { IfSome result (λ s. are_numbers_in_range s.2 ≡ true) }
+{
+    let file = text(found, "file")?;
+    let extent = extent(found)?;
+    let limits = limits(found)?;
+    Some((file, extent, limits))
+}
+
+/// The bounds of an exploration. None if a number or the goal can't be read.
+fn extent(found: &ArgMatches<'_>) -> Option<Extent>
+    ensures { result ≡ extent_in (rows_of (found_of found.now)) }
+{
+    let states = number(found, "states", 1, MOST_STATES)?;
+    let preemptions = most_preemptions(found)?;
+    let until = goal(found)?;
+    Some(Extent {
+        states,
+        preemptions,
+        until,
+    })
+}
+
+/// The maximum number of preemptions; none if none is given.
+fn most_preemptions(found: &ArgMatches<'_>) -> Option<Option<u32>>
+    ensures { result ≡ said (number_in 0 1000) (first_of (codes "preemptions") (rows_of (found_of found.now))) }
+{
+    match text(found, "preemptions") {
+        None => Some(None),
+        Some(text) => Some(Some(number_in(text, 0, MOST_PREEMPTIONS)?)),
+    }
+}
+
+/// The outcome at which an exploration stops; none if none is given.
+fn goal(found: &ArgMatches<'_>) -> Option<Option<Goal>>
+    ensures { result ≡ said goal_in (first_of (codes "until") (rows_of (found_of found.now))) }
+{
+    match text(found, "until") {
+        None => Some(None),
+        Some(text) => Some(Some(goal_in(text)?)),
+    }
+}
+
+/// The outcome at which an exploration stops, by its word.
+fn goal_in(text: &str) -> Option<Goal>
+    ensures { result ≡ goal_in text.now }
+{
+    match text {
+        "fault" => Some(Goal::Fault),
+        "deadlock" => Some(Goal::Deadlock),
+        "output" => Some(Goal::Output),
+        _ => None,
+    }
 }
 
 fn limits(found: &ArgMatches<'_>) -> Option<Limits>

@@ -1,4 +1,6 @@
+pub mod ExplorationLemmas
 pub mod OutcomeLemmas
+pub mod EndLemmas
 pub mod PictureLemmas
 pub mod Refusals
 pub mod ThreadLemmas

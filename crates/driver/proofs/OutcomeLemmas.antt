@@ -1,5 +1,6 @@
 -- What a run that is shown, whole or in part, shows of its source.
 use Rattle.std.proofs.Common.{◌≡◌, ◌⊎◌, ◌++◌, ◌<◌, ◌≤◌, ℕ, Bool, true, false, List, [], map, Result, Ok, Err, refl, ap, sym, ◌∙◌, subst, inl, inr, append-nil}
+use Rattle.std.specs.List.{zip}
 use Rattle.std.specs.Prelude.{IfErr}
 use Rattle.source_runs.proofs.simulation.StandsLaws.{ends_stand, printed_stands}
 use Rattle.source_runs.specs.simulation.MachineContents.{Content}
@@ -16,7 +17,8 @@ use Rattle.acceptance.specs.declared.failure.Failure.TheVariants.{Refused, OutOf
 use Rattle.event_trace.specs.Traces.{IsTraced}
 use Rattle.source_runs.specs.Runs.{IsNotRunBy, IsReady, IsRunBy}
 use Rattle.source_runs.specs.shared_machine.Worlds.{AreDoneOf}
-use Rattle.driver.specs.Outcomes.{AreCut, AreThreadsExplained, HasBroken, HasRun, HasTraced, IsExplanation, IsMachineShown, IsMachineShownInPart, IsRun, IsRunInPart, IsShown, IsThreadText, IsTracedThenInPart, status_after, stop_text}
+use Rattle.driver.specs.Outcomes.{AreCut, AreEndsExplainedFor, AreNotesShownInPart, AreThreadsExplained, HasBroken, HasRun, HasTraced, IsEndText, IsExplanation, IsMachineShown, IsMachineShownInPart, IsRun, IsRunInPart, IsRunShown, IsRunShownInPart, IsRunText, IsShown, IsThreadText, IsTracedThenInPart, status_after, stop_text}
+use Rattle.driver.specs.Statistics.{stats_text}
 use Rattle.driver.specs.Threads.{ends_of, lines_from, status_of}
 use Rattle.outputs.specs.Taken.{Fails, HasGrown, Taken, Takes}
 use Rattle.outputs.proofs.TakenLaws.{fails_first, fails_second, takes_both}
@@ -48,6 +50,22 @@ pub whole_thread_text : (explain : Bool) (c : Content) (text : List ℕ) → exp
 whole_thread_text true c text told are = inr are
 whole_thread_text false c text told are = absurd (cc told)
 
+-- nothing explains how threads ended, as where memory is wanted
+pub no_end_text : (explain : Bool) (source : List ℕ) (limits : Limits) (events : List (Event × Report)) → IsEndText explain source limits events []
+no_end_text true source limits events = inl refl
+no_end_text false source limits events = refl
+
+-- what explains how live threads stand, and nothing of those that ended
+pub live_text : (explain ended : Bool) (source : List ℕ) (limits : Limits) (events : List (Event × Report)) (c : Content) (text : List ℕ) → IsThreadText explain c text
+    → IsRunText explain ended source limits events c text
+live_text explain ended source limits events c text explains = (text, [], explains, no_end_text ended source limits events, sym (append-nil text))
+
+-- the whole text explains how threads ended, where that is asked for
+pub whole_end_text : (explain : Bool) (source : List ℕ) (limits : Limits) (events : List (Event × Report)) (text : List ℕ) → explain ≡ true → AreEndsExplainedFor source limits events text
+    → IsEndText explain source limits events text
+whole_end_text true source limits events text asked are = inr are
+whole_end_text false source limits events text asked are = absurd (cc asked)
+
 -- what a machine shows is what the state shows that it represents
 shown_of : (c : Content) (state : State) (more : List ℕ) (out out' err err' : Taken) (status : ℕ) → Represents c state → IsShown c.printed (map end_of c.threads) more out out' err err' status
     → IsShown state.printed (ends_of state) more out out' err err' status
@@ -77,13 +95,18 @@ pub breaks_later : (out between out' err err' : Taken) → between.failures ≡ 
 breaks_later out between out' err err' same (inl grown) = inl (subst (λ n. HasGrown n out'.failures) same grown)
 breaks_later out between out' err err' same (inr grown) = inr grown
 
+-- where a write of the notes failed, a call of that output failed
+pub notes_break : (explain : Bool) (err err' : Taken) → AreNotesShownInPart explain err err' → HasGrown err.failures err'.failures
+notes_break true err err' (notes, cut) = cut.1
+notes_break false err err' none = absurd none
+
 -- ---- what a run shows
 
 -- a machine that was run shows a run
-run_of : (source : List ℕ) (limits : Limits) (text : List ℕ) (explain stopped : Bool) (done : List Event) (reports : List Report) (c : Content) (more : List ℕ)
-    → (by : IsRunBy source limits text done reports stopped c) → IsThreadText explain c more
-    → IsRun source limits text explain stopped by.ran.2.stands.state ((lines_from 0 (map end_of c.threads) ++ more) ++ stop_text stopped)
-run_of source limits text explain stopped done reports c more by explains =
+run_of : (source : List ℕ) (limits : Limits) (text : List ℕ) (explain stats ended stopped : Bool) (done : List Event) (reports : List Report) (c : Content) (more : List ℕ)
+    → (by : IsRunBy source limits text done reports stopped c) → IsRunText explain ended source limits (zip done reports) c more
+    → IsRun source limits text explain stats ended stopped by.ran.2.stands.state ((lines_from 0 (map end_of c.threads) ++ more) ++ (stop_text stopped ++ stats_text stats done reports c))
+run_of source limits text explain stats ended stopped done reports c more by explains =
     let after : StandsAfter by.ran.0 limits done reports c = by.ran.2.stands in
     record {
       events = by.events;
@@ -96,54 +119,63 @@ run_of source limits text explain stopped done reports c more by explains =
       represents = after.represents;
       explanation = more;
       explains = explains;
-      reports_all = ap (λ es. lines_from 0 es ++ more ++ stop_text stopped) (ends_stand c after.state after.represents);
+      reports_all = ap (λ es. lines_from 0 es ++ more ++ (stop_text stopped ++ stats_text stats done reports c)) (ends_stand c after.state after.represents);
     }
 
-module _ (source : List ℕ) (limits : Limits) (text : List ℕ) (explain stopped : Bool) (done : List Event) (reports : List Report) (c : Content) (by : IsRunBy source limits text done reports stopped c) where
+module _ (source : List ℕ) (limits : Limits) (text : List ℕ) (explain stats stopped : Bool) (done : List Event) (reports : List Report) (c : Content) (by : IsRunBy source limits text done reports stopped c) where
   abbrev state : State
   state = by.ran.2.stands.state
 
   printed : c.printed ≡ state.printed
   printed = printed_stands c state by.ran.2.stands.represents
 
+  -- what comes last: that it was stopped, and its numbers
+  abbrev last : List ℕ
+  last = stop_text stopped ++ stats_text stats done reports c
+
   -- all that it shows is written
-  pub has_run : (out out' err between err' : Taken) (before status : ℕ) → IsMachineShown explain c out out' err between before
-      → (status ≡ status_after stopped before) × Takes between err' (stop_text stopped) → HasRun source limits text explain out out' err err' status
+  pub has_run : (out out' err between err' : Taken) (before status : ℕ) → IsRunShown explain source limits done reports c out out' err between before
+      → (status ≡ status_after stopped before) × Takes between err' last → HasRun source limits text explain stats out out' err err' status
   has_run out out' err between err' before status (more, explains, shown) (after, stop) =
       let lines = lines_from 0 (map end_of c.threads) ++ more in
       record {
         stopped = stopped;
         state = state;
-        reported = lines ++ stop_text stopped;
-        is_run = run_of source limits text explain stopped done reports c more by explains;
+        reported = lines ++ last;
+        is_run = run_of source limits text explain stats explain stopped done reports c more by explains;
         output = subst (Takes out out') printed shown.output;
-        errors = takes_both err between err' lines (stop_text stopped) shown.errors stop;
+        errors = takes_both err between err' lines last shown.errors stop;
         status_is = after ∙ ap (status_after stopped) (shown.status_is ∙ ap status_of (ends_stand c state by.ran.2.stands.represents));
       }
 
-  -- a write of what it shows failed
-  pub run_in_part : (out out' err err' : Taken) → IsMachineShownInPart explain c out out' err err' → IsRunInPart source limits text explain out out' err err'
-  run_in_part out out' err err' (more, explains, cut) =
+  -- a write of its lines failed
+  pub lines_in_part : (ended : Bool) (more : List ℕ) (out out' err err' : Taken) → IsRunText explain ended source limits (zip done reports) c more
+      → AreCut c.printed (lines_from 0 (map end_of c.threads) ++ more) out out' err err' → IsRunInPart source limits text explain stats ended out out' err err'
+  lines_in_part ended more out out' err err' explains cut =
       let lines = lines_from 0 (map end_of c.threads) ++ more in
       record {
         stopped = stopped;
         state = state;
-        reported = lines ++ stop_text stopped;
-        is_run = run_of source limits text explain stopped done reports c more by explains;
-        cut = subst (λ p. AreCut p (lines ++ stop_text stopped) out out' err err') printed (cut_more c.printed lines (stop_text stopped) out out' err err' cut);
+        reported = lines ++ last;
+        is_run = run_of source limits text explain stats ended stopped done reports c more by explains;
+        cut = subst (λ p. AreCut p (lines ++ last) out out' err err') printed (cut_more c.printed lines last out out' err err' cut);
       }
 
-  -- a write failed that was to report that it was stopped
-  pub run_then_in_part : (out out' err between err' : Taken) (before : ℕ) → IsMachineShown explain c out out' err between before → Fails between err' (stop_text stopped)
-      → IsRunInPart source limits text explain out out' err err'
+  -- a write of what it shows failed
+  pub run_in_part : (out out' err err' : Taken) → IsRunShownInPart explain source limits done reports c out out' err err' → IsRunInPart source limits text explain stats explain out out' err err'
+  run_in_part out out' err err' (more, explains, cut) = lines_in_part explain more out out' err err' explains cut
+
+  -- a write failed of what comes last
+  pub run_then_in_part : (out out' err between err' : Taken) (before : ℕ) → IsRunShown explain source limits done reports c out out' err between before → Fails between err' last
+      → IsRunInPart source limits text explain stats explain out out' err err'
   run_then_in_part out out' err between err' before (more, explains, shown) stop =
       let lines = lines_from 0 (map end_of c.threads) ++ more in
       record {
         stopped = stopped;
         state = state;
-        reported = lines ++ stop_text stopped;
-        is_run = run_of source limits text explain stopped done reports c more by explains;
-        cut = subst (λ p. AreCut p (lines ++ stop_text stopped) out out' err err') printed (cut_after c.printed lines (stop_text stopped) out out' err between err' shown.output shown.errors stop);
+        reported = lines ++ last;
+        is_run = run_of source limits text explain stats explain stopped done reports c more by explains;
+        cut = subst (λ p. AreCut p (lines ++ last) out out' err err') printed (cut_after c.printed lines last out out' err between err' shown.output shown.errors stop);
       }
 
 -- ---- what a trace shows
@@ -167,7 +199,7 @@ module _ (source : List ℕ) (limits : Limits) (text : List ℕ) (explain : Bool
     reports = reports;
     between = between;
     traced = traced;
-    shown = run_in_part source limits text explain false events reports after by between out' err err' left;
+    shown = lines_in_part source limits text explain false false events reports after by false left.0 between out' err err' (live_text explain false source limits (zip events reports) after left.0 left.1) left.2;
   }
 
   -- all that it shows is written

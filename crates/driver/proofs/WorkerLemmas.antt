@@ -4,7 +4,7 @@ use Rattle.std.proofs.lemmas.Bool.{lt-ltb}
 use Rattle.std.proofs.lemmas.List.{append-nil}
 use Rattle.std.proofs.lemmas.List.Elements.{All-head, All-tail}
 use Rattle.std.proofs.lemmas.List.Sums.{sum_by-cons}
-use Rattle.std.specs.List.{count_by, list_all, list_any}
+use Rattle.std.specs.List.{count_by, list_all, list_any, zip}
 use Rattle.cil_model.specs.declared.events.Event.{Event}
 use Rattle.cil_model.specs.declared.events.Event.TheVariants.{Step, Ack, Gc}
 use Rattle.cil_model.specs.declared.limits.Limits.{Limits}
@@ -25,14 +25,14 @@ use Rattle.source_runs.specs.simulation.threads_monitors.declared.threads.Thread
 use Rattle.source_runs.specs.shared_machine.Work.{HasEnded, IsOwn, IsOwnOf}
 use Rattle.source_runs.specs.simulation.StandsFor.{Represents}
 use Rattle.source_runs.specs.reference_machine.States.{State}
-use Rattle.orders.specs.declared.stop_at.StopAt.{StopAt}
-use Rattle.orders.specs.declared.stop_at.StopAt.TheVariants.{End as AtEnd, Deadlock as AtDeadlock}
-use Rattle.driver.specs.Stops.{stop_of}
+use Rattle.cil_model.specs.declared.stops.StopAt.{StopAt}
+use Rattle.cil_model.specs.declared.stops.StopAt.TheVariants.{End as AtEnd, Deadlock as AtDeadlock}
 use Rattle.orders.specs.Orders.{record_file_of}
 use Rattle.orders.specs.declared.order.Order.{Order}
-use Rattle.orders.specs.declared.order.Order.TheVariants.{Check, Run, Replay, Trace, Picture, Threads, Flip}
-use Rattle.driver.specs.Outcomes.{AreCut, HasRunThreads, HaveEnded, IsOutcome, IsMachineShown, IsMachineShownInPart, IsRunByWorkers, IsRunByWorkersInPart, IsThreadText, status_after, stop_text}
+use Rattle.orders.specs.declared.order.Order.TheVariants.{Check, Run, Replay, Trace, Picture, Threads, Explore, Flip}
+use Rattle.driver.specs.Outcomes.{AreCut, HasRunThreads, HaveEnded, IsOutcome, IsRunByWorkers, IsRunByWorkersInPart, IsRunShown, IsRunShownInPart, IsRunText, status_after, stop_text}
 use Rattle.driver.specs.Records.{IsRecordOf, is_short, status_with, text_of, too_long_text}
+use Rattle.driver.specs.Statistics.{stats_text}
 use Rattle.driver.specs.Threads.{ends_of, is_live, lines_from, status_of}
 use Rattle.driver.proofs.OutcomeLemmas.{cut_after, cut_more}
 use Rattle.driver.specs.declared.recording.Record.{Record}
@@ -66,23 +66,27 @@ none_live (t ∷ ts) none =
     rw (not_shown_live (end_of t) here) (none_live ts later)
 
 -- how workers leave a machine is how they leave the state that it represents
-have_ended : (stop_at : StopAt) (c : Content) (s : State) (marked : Bool) → Represents c s → HasEnded (stop_of stop_at) c marked → HaveEnded stop_at c s
+have_ended : (stop_at : StopAt) (c : Content) (s : State) (marked : Bool) → Represents c s → HasEnded stop_at c marked → HaveEnded stop_at c s
 have_ended AtEnd c s marked represents none = subst (λ es. list_any is_live es ≡ false) (ends_stand c s represents) (none_live c.threads none)
 have_ended AtDeadlock c s marked represents (inl none) = inl (subst (λ es. list_any is_live es ≡ false) (ends_stand c s represents) (none_live c.threads none))
 have_ended AtDeadlock c s marked represents (inr (stop, deadlocked)) = inr deadlocked
 
 -- what is reported of a machine that workers ran
-abbrev pub reported_of : Content → List ℕ → Bool → Record → List ℕ
-reported_of c text stopped made = lines_from 0 (map end_of c.threads) ++ text ++ (too_long_text made ++ stop_text (is_short stopped made))
+abbrev pub reported_of : Content → List ℕ → List ℕ → List ℕ
+reported_of c text last = lines_from 0 (map end_of c.threads) ++ text ++ last
 
-module _ (source : List ℕ) (limits : Limits) (workers : ℕ) (stop_at : StopAt) (asked explain stopped : Bool) (h : List Entry) (c : Content) (made : Record)
+module _ (source : List ℕ) (limits : Limits) (workers : ℕ) (stop_at : StopAt) (asked explain stats stopped : Bool) (h : List Entry) (c : Content) (made : Record)
     (ran : HasRunTo source limits (events_of h) (reports_of h) c) (own : All (IsOwnOf workers) h)
-    (marked : Bool) (ended : stopped ≡ false → HasEnded (stop_of stop_at) c marked) (is_record : IsRecordOf asked (events_of h) made) where
+    (marked : Bool) (ended : stopped ≡ false → HasEnded stop_at c marked) (is_record : IsRecordOf asked (events_of h) made) where
   abbrev after : StandsAfter ran.0 limits (events_of h) (reports_of h) c
   after = ran.2.stands
 
+  -- what comes last: why there is no record, that memory ran out, and the numbers of the run
+  abbrev last : List ℕ
+  last = too_long_text made ++ stop_text (is_short stopped made) ++ stats_text stats (events_of h) (reports_of h) c
+
   -- a machine that workers ran shows a run by workers
-  run_by_workers : (text : List ℕ) → IsThreadText explain c text → IsRunByWorkers source limits workers stop_at asked explain stopped after.state made (reported_of c text stopped made)
+  run_by_workers : (text : List ℕ) → IsRunText explain explain source limits (zip (events_of h) (reports_of h)) c text → IsRunByWorkers source limits workers stop_at asked explain stats stopped after.state made (reported_of c text last)
   run_by_workers text explains =
       let ends = ends_stand c after.state after.represents in
       record {
@@ -95,55 +99,53 @@ module _ (source : List ℕ) (limits : Limits) (workers : ℕ) (stop_at : StopAt
         represents = after.represents;
         explanation = text;
         explains = explains;
-        reports_all = ap (λ es. lines_from 0 es ++ text ++ (too_long_text made ++ stop_text (is_short stopped made))) ends;
+        reports_all = ap (λ es. lines_from 0 es ++ text ++ last) ends;
       }
 
   -- all that it shows is written, and the record is put after the bytes that are kept
   pub has_run_threads : (out out' err between err' : Taken) (kept kept' : List ℕ) (before status : ℕ)
-      → IsMachineShown explain c out out' err between before → kept' ≡ kept ++ text_of made
-      → (status ≡ status_after (is_short stopped made) (status_with made before)) × Takes between err' (too_long_text made ++ stop_text (is_short stopped made))
-      → HasRunThreads source limits workers stop_at asked explain out out' err err' kept kept' status
+      → IsRunShown explain source limits (events_of h) (reports_of h) c out out' err between before → kept' ≡ kept ++ text_of made
+      → (status ≡ status_after (is_short stopped made) (status_with made before)) × Takes between err' last
+      → HasRunThreads source limits workers stop_at asked explain stats out out' err err' kept kept' status
   has_run_threads out out' err between err' kept kept' before status (text, explains, shown) behind (is, more) =
       record {
         stopped = stopped;
         state = after.state;
         made = made;
-        reported = reported_of c text stopped made;
+        reported = reported_of c text last;
         is_run = run_by_workers text explains;
         output = subst (Takes out out') (printed_stands c after.state after.represents) shown.output;
-        errors = takes_both err between err' (lines_from 0 (map end_of c.threads) ++ text) (too_long_text made ++ stop_text (is_short stopped made)) shown.errors more;
+        errors = takes_both err between err' (lines_from 0 (map end_of c.threads) ++ text) last shown.errors more;
         behind = behind;
         status_is = is ∙ ap (λ n. status_after (is_short stopped made) (status_with made n)) (shown.status_is ∙ ap status_of (ends_stand c after.state after.represents));
       }
 
   -- a write of what it shows failed
-  pub threads_in_part : (out out' err err' : Taken) → IsMachineShownInPart explain c out out' err err' → IsRunByWorkersInPart source limits workers stop_at asked explain out out' err err'
+  pub threads_in_part : (out out' err err' : Taken) → IsRunShownInPart explain source limits (events_of h) (reports_of h) c out out' err err' → IsRunByWorkersInPart source limits workers stop_at asked explain stats out out' err err'
   threads_in_part out out' err err' (text, explains, cut) =
       let lines = lines_from 0 (map end_of c.threads) ++ text in
-      let more = too_long_text made ++ stop_text (is_short stopped made) in
       record {
         stopped = stopped;
         state = after.state;
         made = made;
-        reported = reported_of c text stopped made;
+        reported = reported_of c text last;
         is_run = run_by_workers text explains;
-        cut = subst (λ p. AreCut p (lines ++ more) out out' err err') (printed_stands c after.state after.represents) (cut_more c.printed lines more out out' err err' cut);
+        cut = subst (λ p. AreCut p (lines ++ last) out out' err err') (printed_stands c after.state after.represents) (cut_more c.printed lines last out out' err err' cut);
       }
 
-  -- a write failed that was to report why there is no record, or that memory ran out
+  -- a write of what comes last failed
   pub threads_then_in_part : (out out' err between err' : Taken) (before : ℕ)
-      → IsMachineShown explain c out out' err between before → Fails between err' (too_long_text made ++ stop_text (is_short stopped made))
-      → IsRunByWorkersInPart source limits workers stop_at asked explain out out' err err'
+      → IsRunShown explain source limits (events_of h) (reports_of h) c out out' err between before → Fails between err' last
+      → IsRunByWorkersInPart source limits workers stop_at asked explain stats out out' err err'
   threads_then_in_part out out' err between err' before (text, explains, shown) failed =
       let lines = lines_from 0 (map end_of c.threads) ++ text in
-      let more = too_long_text made ++ stop_text (is_short stopped made) in
       record {
         stopped = stopped;
         state = after.state;
         made = made;
-        reported = reported_of c text stopped made;
+        reported = reported_of c text last;
         is_run = run_by_workers text explains;
-        cut = subst (λ p. AreCut p (lines ++ more) out out' err err') (printed_stands c after.state after.represents) (cut_after c.printed lines more out out' err between err' shown.output shown.errors failed);
+        cut = subst (λ p. AreCut p (lines ++ last) out out' err err') (printed_stands c after.state after.represents) (cut_after c.printed lines last out out' err between err' shown.output shown.errors failed);
       }
 
 -- some record is of events, whether one is asked for or not
@@ -162,12 +164,15 @@ no_text events NoMemory is = absurd (cc is)
 pub nothing_kept : (order : Order) (source schedule : List ℕ) (out out' err err' : Taken) (kept kept' : List ℕ) (status : ℕ)
     → IsOutcome order source schedule out out' err err' kept kept' status → record_file_of order ≡ None → kept' ≡ kept
 nothing_kept order source schedule out out' err err' kept kept' status (inr told) none = told.1
-nothing_kept (Check file explain) source schedule out out' err err' kept kept' status (inl done) none = done.2
-nothing_kept (Run file text limits explain) source schedule out out' err err' kept kept' status (inl done) none = done.1
-nothing_kept (Replay file name limits explain) source schedule out out' err err' kept kept' status (inl done) none = done.1
+nothing_kept (Check file explain) source schedule out out' err err' kept kept' status (inl done) none = done.1
+nothing_kept (Run file text limits explain stats) source schedule out out' err err' kept kept' status (inl done) none = done.1
+nothing_kept (Replay file name limits explain stats) source schedule out out' err err' kept kept' status (inl done) none = done.1
 nothing_kept (Trace file name limits explain) source schedule out out' err err' kept kept' status (inl done) none = done.1
 nothing_kept (Picture file name part limits explain) source schedule out out' err err' kept kept' status (inl done) none = done.1
-nothing_kept (Threads file workers None stop_at limits explain) source schedule out out' err err' kept kept' status (inl done) none =
+nothing_kept (Threads file workers None stop_at limits explain stats) source schedule out out' err err' kept kept' status (inl done) none =
     done.behind ∙ ap (λ text. kept ++ text) (no_text (events_of done.is_run.entries) done.made done.is_run.is_record) ∙ append-nil kept
-nothing_kept (Threads file workers (Some name) stop_at limits explain) source schedule out out' err err' kept kept' status (inl done) none = absurd (cc none)
+nothing_kept (Threads file workers (Some name) stop_at limits explain stats) source schedule out out' err err' kept kept' status (inl done) none = absurd (cc none)
+nothing_kept (Explore file extent None limits explain) source schedule out out' err err' kept kept' status (inl done) none =
+    done.0.after ∙ ap (λ text. kept ++ text) done.0.is_saved ∙ append-nil kept
+nothing_kept (Explore file extent (Some name) limits explain) source schedule out out' err err' kept kept' status (inl done) none = absurd (cc none)
 nothing_kept (Flip sizes) source schedule out out' err err' kept kept' status (inl done) none = done.2

@@ -1,9 +1,10 @@
 -- What comes of an order: what is printed, and the status that the program ends with (this profile).
 use Rattle.std.specs.Fmt.{decimal}
 use Rattle.std.specs.Prelude.{◌≡◌, ◌⊎◌, ◌*◌, ◌++◌, ◌∷◌, ◌<◌, ◌≤◌, [], ℕ, Bool, true, false, All, List, Option, codes, is_some, length, map, if◌then◌else◌}
-use Rattle.std.specs.List.{list_any}
+use Rattle.std.specs.List.{list_any, zip}
 use Rattle.flip_trial.specs.Trial.{place_count}
 use Rattle.flip_trial.specs.declared.sizes.Sizes.{Sizes}
+use Rattle.end_explanations.specs.Replays.{AreEndsExplained}
 use Rattle.event_trace.specs.Deadlocks.{IsDeadlockOf}
 use Rattle.event_trace.specs.Texts.{threads_text}
 use Rattle.event_trace.specs.Traces.{IsTraced, IsTracedInPart}
@@ -23,12 +24,14 @@ use Rattle.acceptance.specs.Failures.{IsOfWriting, status_of_failure}
 use Rattle.outputs.specs.Taken.{Fails, HasGrown, Taken, Takes}
 use Rattle.orders.specs.Orders.{event_count, is_explained}
 use Rattle.orders.specs.declared.part.Part.{Part}
-use Rattle.orders.specs.declared.stop_at.StopAt.{StopAt}
-use Rattle.orders.specs.declared.stop_at.StopAt.TheVariants.{End as AtEnd, Deadlock as AtDeadlock}
+use Rattle.cil_model.specs.declared.stops.StopAt.{StopAt}
+use Rattle.cil_model.specs.declared.stops.StopAt.TheVariants.{End as AtEnd, Deadlock as AtDeadlock}
 use Rattle.run_picture.specs.Pictures.{IsPicture, IsPictureInPart}
 use Rattle.run_picture.specs.declared.windows.TheConstants.{MOST_EVENTS}
+use Rattle.driver.specs.Explorations.{HasExplored, IsExploredInPart}
 use Rattle.driver.specs.Pictures.{too_many_text, window_of}
 use Rattle.driver.specs.Records.{IsRecordOf, is_short, status_with, text_of, too_long_text}
+use Rattle.driver.specs.Statistics.{stats_text}
 use Rattle.driver.specs.Threads.{ends_of, is_live, lines_from, status_of}
 use Rattle.driver.specs.declared.recording.Record.{Record}
 use Rattle.source_runs.specs.shared_machine.Histories.{events_of, reports_of}
@@ -37,8 +40,8 @@ use Rattle.source_runs.specs.shared_machine.Work.{IsDeadlocked, IsOwnOf}
 use Rattle.acceptance.specs.declared.failure.Failure.{Failure}
 use Rattle.acceptance.specs.declared.failure.Failure.TheVariants.{Memory, Device}
 use Rattle.orders.specs.declared.order.Order.{Order}
-use Rattle.orders.specs.declared.order.Order.TheVariants.{Check, Run, Replay, Trace, Picture, Threads, Flip}
-use Rattle.acceptance.specs.Sources.{IsLetIn, IsNotAccepted, IsNotRun, IsOpened}
+use Rattle.orders.specs.declared.order.Order.TheVariants.{Check, Run, Replay, Trace, Picture, Threads, Explore, Flip}
+use Rattle.acceptance.specs.Sources.{IsLetIn, IsMade, IsNotAccepted, IsNotRun, IsOpened}
 use Rattle.source_runs.specs.Runs.{IsNotRunBy, ComesTo, ComesToBy, IsReady}
 use Rattle.source_runs.specs.shared_machine.Worlds.{AreDoneOf}
 use Rattle.schedule_text.specs.Items.{words}
@@ -53,6 +56,20 @@ abbrev pub IsThreadText : Bool → Content → List ℕ → Type 0
 IsThreadText false c text = text ≡ []
 IsThreadText true c text = (text ≡ []) ⊎ AreThreadsExplained c text
 
+-- the text on the threads that a fault or their budget ended in these events with their reports, which a new machine of the source performs
+abbrev pub AreEndsExplainedFor : List ℕ → Limits → List (Event × Report) → List ℕ → Type 0
+AreEndsExplainedFor source limits events text = (begins : Content) × IsMade source limits begins × AreEndsExplained begins events text
+
+-- that text, if it is asked for, unless memory runs out; else nothing
+abbrev pub IsEndText : Bool → List ℕ → Limits → List (Event × Report) → List ℕ → Type 0
+IsEndText false source limits events text = text ≡ []
+IsEndText true source limits events text = (text ≡ []) ⊎ AreEndsExplainedFor source limits events text
+
+-- what explains how the threads of a run are, where each is asked for: the live ones of its machine, and then those that a fault or their budget ended
+abbrev pub IsRunText : (live ended : Bool) → List ℕ → Limits → List (Event × Report) → Content → List ℕ → Type 0
+IsRunText live ended source limits events c text =
+    (first second : List ℕ) × IsThreadText live c first × IsEndText ended source limits events second × (text ≡ first ++ second)
+
 -- what is shown on the two outputs of bytes that were printed, of how the threads stand, and of what explains that; and the status
 pub record IsShown (printed : List ℕ) (ends : List (Option End)) (text : List ℕ) (out out' err err' : Taken) (status : ℕ) : Type 0 where
   pub output : Takes out out' printed
@@ -64,6 +81,11 @@ abbrev pub IsMachineShown : Bool → Content → Taken → Taken → Taken → T
 IsMachineShown explain c out out' err err' status =
     (text : List ℕ) × IsThreadText explain c text × IsShown c.printed (map end_of c.threads) text out out' err err' status
 
+-- what a run of a source has printed and how its threads stand is shown
+abbrev pub IsRunShown : Bool → List ℕ → Limits → List Event → List Report → Content → Taken → Taken → Taken → Taken → ℕ → Type 0
+IsRunShown explain source limits events reports c out out' err err' status =
+    (text : List ℕ) × IsRunText explain explain source limits (zip events reports) c text × IsShown c.printed (map end_of c.threads) text out out' err err' status
+
 -- A write failed of what was to be written on the two outputs, the first text before the second: a prefix of the first is written, and
 -- nothing of the second; or the whole first, and a prefix of the second.
 abbrev pub AreCut : List ℕ → List ℕ → Taken → Taken → Taken → Taken → Type 0
@@ -73,6 +95,11 @@ AreCut first second out out' err err' = (Fails out out' first × (err' ≡ err))
 abbrev pub IsMachineShownInPart : Bool → Content → Taken → Taken → Taken → Taken → Type 0
 IsMachineShownInPart explain c out out' err err' =
     (text : List ℕ) × IsThreadText explain c text × AreCut c.printed (lines_from 0 (map end_of c.threads) ++ text) out out' err err'
+
+-- a write of what a run shows failed
+abbrev pub IsRunShownInPart : Bool → List ℕ → Limits → List Event → List Report → Content → Taken → Taken → Taken → Taken → Type 0
+IsRunShownInPart explain source limits events reports c out out' err err' =
+    (text : List ℕ) × IsRunText explain explain source limits (zip events reports) c text × AreCut c.printed (lines_from 0 (map end_of c.threads) ++ text) out out' err err'
 
 -- how the threads of a machine stand is shown, and what explains that; and the status
 abbrev pub AreThreadsShown : Bool → Content → Taken → Taken → ℕ → Type 0
@@ -97,10 +124,29 @@ IsTried sizes out out' status = (retired : ℕ) × Takes out out' (flip_text (si
 
 -- ---- an order
 
--- a check is done: the one line that it prints
-abbrev pub IsChecked : List ℕ → Taken → Taken → ℕ → Type 0
-IsChecked source out out' status =
-    IsLetIn source × Takes out out' (codes "accepted" ++ 10 ∷ []) × (status ≡ 0)
+-- what a check prints of an accepted source
+abbrev pub accepted_text : List ℕ
+accepted_text = codes "accepted" ++ 10 ∷ []
+
+-- the notes on an accepted source are written where explanations are asked for, and else nothing
+abbrev pub AreNotesShown : Bool → Taken → Taken → Type 0
+AreNotesShown false err err' = err' ≡ err
+AreNotesShown true err err' = (notes : List ℕ) × Takes err err' notes
+
+-- a write of the notes failed
+abbrev pub AreNotesShownInPart : Bool → Taken → Taken → Type 0
+AreNotesShownInPart false err err' = ⊥
+AreNotesShownInPart true err err' = (notes : List ℕ) × Fails err err' notes
+
+-- a check is done: the one line that it prints, and the notes on the source
+abbrev pub IsChecked : List ℕ → Bool → Taken → Taken → Taken → Taken → ℕ → Type 0
+IsChecked source explain out out' err err' status =
+    IsLetIn source × Takes out out' accepted_text × AreNotesShown explain err err' × (status ≡ 0)
+
+-- a write failed of the line that a check prints, or of the notes after it
+abbrev pub IsCheckedInPart : List ℕ → Bool → Taken → Taken → Taken → Taken → Type 0
+IsCheckedInPart source explain out out' err err' =
+    IsLetIn source × ((Fails out out' accepted_text × (err' ≡ err)) ⊎ (Takes out out' accepted_text × AreNotesShownInPart explain err err'))
 
 -- why a check is not done
 abbrev pub IsNotChecked : List ℕ → Failure → Type 0
@@ -116,8 +162,9 @@ abbrev pub status_after : Bool → ℕ → ℕ
 status_after stopped status = if stopped then status_of_failure Memory else status
 
 -- A run by a text comes to a state: the events done are the first of those that the text writes, and all of them unless memory ran out. This
--- is reported: how the threads stand, what explains that of a machine that represents the state, and whether memory ran out.
-pub record IsRun (source : List ℕ) (limits : Limits) (text : List ℕ) (explain stopped : Bool) (state : State) (reported : List ℕ) : Type 0 where
+-- is reported: how the threads stand, what explains that of a machine that represents the state and, where asked, of the threads that ended, whether memory
+-- ran out, and the numbers of the run.
+pub record IsRun (source : List ℕ) (limits : Limits) (text : List ℕ) (explain stats ended stopped : Bool) (state : State) (reported : List ℕ) : Type 0 where
   pub events : List Event
   pub are_read : AreRead (words text) events
   pub done : List Event
@@ -127,15 +174,15 @@ pub record IsRun (source : List ℕ) (limits : Limits) (text : List ℕ) (explai
   pub after : Content
   pub represents : Represents after state
   pub explanation : List ℕ
-  pub explains : IsThreadText explain after explanation
-  pub reports_all : reported ≡ lines_from 0 (ends_of state) ++ explanation ++ stop_text stopped
+  pub explains : IsRunText explain ended source limits (zip done reports) after explanation
+  pub reports_all : reported ≡ lines_from 0 (ends_of state) ++ explanation ++ (stop_text stopped ++ stats_text stats done reports after)
 
 -- a run is done: what its state has printed and what is reported is shown
-pub record HasRun (source : List ℕ) (limits : Limits) (text : List ℕ) (explain : Bool) (out out' err err' : Taken) (status : ℕ) : Type 0 where
+pub record HasRun (source : List ℕ) (limits : Limits) (text : List ℕ) (explain stats : Bool) (out out' err err' : Taken) (status : ℕ) : Type 0 where
   pub stopped : Bool
   pub state : State
   pub reported : List ℕ
-  pub is_run : IsRun source limits text explain stopped state reported
+  pub is_run : IsRun source limits text explain stats explain stopped state reported
   pub output : Takes out out' state.printed
   pub errors : Takes err err' reported
   pub status_is : status ≡ status_after stopped (status_of (ends_of state))
@@ -210,8 +257,8 @@ HaveEnded AtDeadlock after state = (list_any is_live (ends_of state) ≡ false) 
 
 -- Workers have run a source. There is a list of entries, each an event of its worker's own. The reference machine's run over the steps
 -- among the events comes to this state, in which the threads have ended unless memory ran out. The record is that of these events, and this is
--- what is reported: how the threads stand, what explains that, why there is no record, and whether memory ran out, for an event, a thread or the record.
-pub record IsRunByWorkers (source : List ℕ) (limits : Limits) (workers : ℕ) (stop_at : StopAt) (asked explain stopped : Bool) (state : State) (made : Record) (reported : List ℕ) : Type 0 where
+-- what is reported: how the threads stand, what explains that, why there is no record, whether memory ran out, for an event, a thread or the record, and the numbers of the run.
+pub record IsRunByWorkers (source : List ℕ) (limits : Limits) (workers : ℕ) (stop_at : StopAt) (asked explain stats stopped : Bool) (state : State) (made : Record) (reported : List ℕ) : Type 0 where
   pub entries : List Entry
   pub own : All (IsOwnOf workers) entries
   pub comes_to : ComesToBy source limits (events_of entries) (reports_of entries) state
@@ -220,16 +267,16 @@ pub record IsRunByWorkers (source : List ℕ) (limits : Limits) (workers : ℕ) 
   pub ended : stopped ≡ false → HaveEnded stop_at after state
   pub represents : Represents after state
   pub explanation : List ℕ
-  pub explains : IsThreadText explain after explanation
-  pub reports_all : reported ≡ lines_from 0 (ends_of state) ++ explanation ++ (too_long_text made ++ stop_text (is_short stopped made))
+  pub explains : IsRunText explain explain source limits (zip (events_of entries) (reports_of entries)) after explanation
+  pub reports_all : reported ≡ lines_from 0 (ends_of state) ++ explanation ++ (too_long_text made ++ stop_text (is_short stopped made) ++ stats_text stats (events_of entries) (reports_of entries) after)
 
 -- a run by workers is done: what its state has printed and what is reported is shown, and the record is put after the bytes that are kept
-pub record HasRunThreads (source : List ℕ) (limits : Limits) (workers : ℕ) (stop_at : StopAt) (asked explain : Bool) (out out' err err' : Taken) (kept kept' : List ℕ) (status : ℕ) : Type 0 where
+pub record HasRunThreads (source : List ℕ) (limits : Limits) (workers : ℕ) (stop_at : StopAt) (asked explain stats : Bool) (out out' err err' : Taken) (kept kept' : List ℕ) (status : ℕ) : Type 0 where
   pub stopped : Bool
   pub state : State
   pub made : Record
   pub reported : List ℕ
-  pub is_run : IsRunByWorkers source limits workers stop_at asked explain stopped state made reported
+  pub is_run : IsRunByWorkers source limits workers stop_at asked explain stats stopped state made reported
   pub output : Takes out out' state.printed
   pub errors : Takes err err' reported
   pub behind : kept' ≡ kept ++ text_of made
@@ -239,46 +286,54 @@ pub record HasRunThreads (source : List ℕ) (limits : Limits) (workers : ℕ) (
 abbrev pub HasNotRunThreads : List ℕ → Limits → Failure → Type 0
 HasNotRunThreads source limits failure = IsNotRun source limits failure ⊎ (IsLetIn source × (failure ≡ Device))
 
--- an order is carried out: a run takes its schedule from the command line, a replay from the file; only workers leave a record
+-- why a source is not explored: there is no machine of it, memory ran out, or a write failed
+abbrev pub HasNotExplored : List ℕ → Limits → Failure → Type 0
+HasNotExplored source limits failure = IsNotRun source limits failure ⊎ (IsLetIn source × IsOfWriting failure)
+
+-- an order is carried out: a run takes its schedule from the command line, a replay from the file; only workers and explorations leave a record
 abbrev pub IsDone : Order → List ℕ → List ℕ → Taken → Taken → Taken → Taken → List ℕ → List ℕ → ℕ → Type 0
 IsDone (Check file explain) source schedule out out' err err' kept kept' status =
-    IsChecked source out out' status × (err' ≡ err) × (kept' ≡ kept)
-IsDone (Run file text limits explain) source schedule out out' err err' kept kept' status =
-    HasRun source limits text.now explain out out' err err' status × (kept' ≡ kept)
-IsDone (Replay file name limits explain) source schedule out out' err err' kept kept' status =
-    HasRun source limits schedule explain out out' err err' status × (kept' ≡ kept)
+    IsChecked source explain out out' err err' status × (kept' ≡ kept)
+IsDone (Run file text limits explain stats) source schedule out out' err err' kept kept' status =
+    HasRun source limits text.now explain stats out out' err err' status × (kept' ≡ kept)
+IsDone (Replay file name limits explain stats) source schedule out out' err err' kept kept' status =
+    HasRun source limits schedule explain stats out out' err err' status × (kept' ≡ kept)
 IsDone (Trace file name limits explain) source schedule out out' err err' kept kept' status =
     HasTraced source limits schedule explain out out' err err' status × (kept' ≡ kept)
 IsDone (Picture file name part limits explain) source schedule out out' err err' kept kept' status =
     (HasDrawn source limits schedule part explain out out' err err' status ⊎ HasTooMany source limits schedule part out out' err err' status) × (kept' ≡ kept)
-IsDone (Threads file workers name stop_at limits explain) source schedule out out' err err' kept kept' status =
-    HasRunThreads source limits workers.count stop_at (is_some name) explain out out' err err' kept kept' status
+IsDone (Threads file workers name stop_at limits explain stats) source schedule out out' err err' kept kept' status =
+    HasRunThreads source limits workers.count stop_at (is_some name) explain stats out out' err err' kept kept' status
+IsDone (Explore file extent name limits explain) source schedule out out' err err' kept kept' status =
+    HasExplored source limits extent (is_some name) explain out out' kept kept' status × (err' ≡ err)
 IsDone (Flip sizes) source schedule out out' err err' kept kept' status =
     IsTried sizes out out' status × (err' ≡ err) × (kept' ≡ kept)
 
 -- why an order is not carried out
 abbrev pub IsNotDone : Order → List ℕ → List ℕ → Failure → Type 0
 IsNotDone (Check file explain) source schedule failure = IsNotChecked source failure
-IsNotDone (Run file text limits explain) source schedule failure =
+IsNotDone (Run file text limits explain stats) source schedule failure =
     HasNotRun source limits text.now failure
-IsNotDone (Replay file name limits explain) source schedule failure =
+IsNotDone (Replay file name limits explain stats) source schedule failure =
     HasNotRun source limits schedule failure
 IsNotDone (Trace file name limits explain) source schedule failure =
     HasNotTraced source limits schedule failure
 IsNotDone (Picture file name part limits explain) source schedule failure =
     HasNotTraced source limits schedule failure
-IsNotDone (Threads file workers name stop_at limits explain) source schedule failure =
+IsNotDone (Threads file workers name stop_at limits explain stats) source schedule failure =
     HasNotRunThreads source limits failure
+IsNotDone (Explore file extent name limits explain) source schedule failure =
+    HasNotExplored source limits failure
 IsNotDone (Flip sizes) source schedule failure = IsOfWriting failure
 
 -- ---- an order that is not carried out
 
 -- a write failed of what a run shows
-pub record IsRunInPart (source : List ℕ) (limits : Limits) (text : List ℕ) (explain : Bool) (out out' err err' : Taken) : Type 0 where
+pub record IsRunInPart (source : List ℕ) (limits : Limits) (text : List ℕ) (explain stats ended : Bool) (out out' err err' : Taken) : Type 0 where
   pub stopped : Bool
   pub state : State
   pub reported : List ℕ
-  pub is_run : IsRun source limits text explain stopped state reported
+  pub is_run : IsRun source limits text explain stats ended stopped state reported
   pub cut : AreCut state.printed reported out out' err err'
 
 -- a run is traced in part: a prefix of the lines of its first events is shown
@@ -298,7 +353,7 @@ pub record IsTracedThenInPart (source : List ℕ) (limits : Limits) (text : List
   pub reports : List Report
   pub between : Taken
   pub traced : IsTraced begins events after reports out.contents between.contents
-  pub shown : IsRunInPart source limits text explain between out' err err'
+  pub shown : IsRunInPart source limits text explain false false between out' err err'
 
 -- a run is drawn in part: its first events are done, and nothing or a prefix of the picture is shown
 pub record IsPictureCut (source : List ℕ) (limits : Limits) (text : List ℕ) (part : Part) (out out' : Taken) : Type 0 where
@@ -340,28 +395,30 @@ IsDrawnInPart source limits text part explain out out' err err' =
     ⊎ (IsPicturedThenInPart source limits text part explain out out' err err' ⊎ (IsTooManyInPart source limits text part err err' × (out' ≡ out)))
 
 -- a write failed of what a run by workers shows
-pub record IsRunByWorkersInPart (source : List ℕ) (limits : Limits) (workers : ℕ) (stop_at : StopAt) (asked explain : Bool) (out out' err err' : Taken) : Type 0 where
+pub record IsRunByWorkersInPart (source : List ℕ) (limits : Limits) (workers : ℕ) (stop_at : StopAt) (asked explain stats : Bool) (out out' err err' : Taken) : Type 0 where
   pub stopped : Bool
   pub state : State
   pub made : Record
   pub reported : List ℕ
-  pub is_run : IsRunByWorkers source limits workers stop_at asked explain stopped state made reported
+  pub is_run : IsRunByWorkers source limits workers stop_at asked explain stats stopped state made reported
   pub cut : AreCut state.printed reported out out' err err'
 
 -- a part of what the order shows where it is carried out
 abbrev pub IsDoneInPart : Order → List ℕ → List ℕ → Taken → Taken → Taken → Taken → Type 0
 IsDoneInPart (Check file explain) source schedule out out' err err' =
-    IsLetIn source × Fails out out' (codes "accepted" ++ 10 ∷ []) × (err' ≡ err)
-IsDoneInPart (Run file text limits explain) source schedule out out' err err' =
-    IsRunInPart source limits text.now explain out out' err err'
-IsDoneInPart (Replay file name limits explain) source schedule out out' err err' =
-    IsRunInPart source limits schedule explain out out' err err'
+    IsCheckedInPart source explain out out' err err'
+IsDoneInPart (Run file text limits explain stats) source schedule out out' err err' =
+    IsRunInPart source limits text.now explain stats explain out out' err err'
+IsDoneInPart (Replay file name limits explain stats) source schedule out out' err err' =
+    IsRunInPart source limits schedule explain stats explain out out' err err'
 IsDoneInPart (Trace file name limits explain) source schedule out out' err err' =
     (IsTraceInPart source limits schedule out out' × (err' ≡ err)) ⊎ IsTracedThenInPart source limits schedule explain out out' err err'
 IsDoneInPart (Picture file name part limits explain) source schedule out out' err err' =
     IsDrawnInPart source limits schedule part explain out out' err err'
-IsDoneInPart (Threads file workers name stop_at limits explain) source schedule out out' err err' =
-    IsRunByWorkersInPart source limits workers.count stop_at (is_some name) explain out out' err err'
+IsDoneInPart (Threads file workers name stop_at limits explain stats) source schedule out out' err err' =
+    IsRunByWorkersInPart source limits workers.count stop_at (is_some name) explain stats out out' err err'
+IsDoneInPart (Explore file extent name limits explain) source schedule out out' err err' =
+    IsExploredInPart source limits extent explain out out' × (err' ≡ err)
 IsDoneInPart (Flip sizes) source schedule out out' err err' =
     ((retired : ℕ) × Fails out out' (flip_text (sizes.rounds * place_count sizes) retired)) × (err' ≡ err)
 

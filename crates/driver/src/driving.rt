@@ -10,14 +10,17 @@ ghost use Rattle.acceptance.specs.Failures.{IsOfWriting, is_refusal};
 ghost use Rattle.acceptance.specs.Sources.{IsLetIn};
 ghost use Rattle.acceptance.specs.declared.failure.Failure.TheVariants.{Device as DeviceFailure};
 ghost use Rattle.orders.specs.Orders.{record_file_of};
-ghost use Rattle.driver.specs.Outcomes.{HasBroken, HasNotRun, HasNotTraced, HasRun, HasTraced, IsChecked, IsDone, IsNotChecked, failure_of_tracing};
+ghost use Rattle.driver.specs.Outcomes.{HasBroken, HasNotRun, HasNotTraced, HasRun, HasTraced, IsChecked, IsCheckedInPart, IsDone, IsNotChecked, failure_of_tracing};
 ghost use Rattle.driver.specs.Outcomes.{IsNotDone, IsDoneInPart, IsOutcome, IsOutcomeOrCut};
 ghost use Rattle.driver.specs.Outcomes.{IsRunInPart, IsTellingCut, IsTraceInPart, IsTracedThenInPart, IsTried, flip_text};
 
 use crate::drawing::show_picture;
-use crate::explaining::tell_failure;
+use crate::explaining::{show_notes, tell_failure};
+use crate::exploring::show_exploration;
+use crate::outcomes::show_outcome;
 use crate::running_threads::show_threads;
-use crate::showing::{say_accepted, show, show_flip, show_stop};
+use crate::showing::{say_accepted, show, show_flip};
+use crate::statistics::show_last;
 use cil_model::limits::Limits;
 use event_trace::{TraceError, trace};
 use flip_trial::Sizes;
@@ -34,9 +37,11 @@ use std::thread::Threads;
 /// the schedule, the run.
 ///
 /// What a run prints goes to `out`, and how its threads stand to `err`, once the run has ended; where the command
-/// asks for that, what its live threads wait for follows, unless memory runs out for it. Nothing is written to `err` before all is
-/// written to `out`. A trace has printed a line of each event and an empty line to `out` before. A picture goes to `out` in the place of
-/// what the run has printed; where it would have more than 20,000 events, nothing is run, their number is reported on
+/// asks for that, what its live threads wait for follows, and of `run`, `replay` and `threads` how a fault or their budget ended threads, for
+/// which the events are performed again; neither if memory runs out for it. The numbers of the run come last. Nothing is written to `err` before
+/// all is written to `out`. A check that asks for explanations prints the notes on an accepted source to `err`, unless memory runs out for them.
+/// A trace has printed a line of each event and an empty line to `out` before. A picture goes to `out` in the place of what the run has printed;
+/// where it would have more than 20,000 events, nothing is run, their number is reported on
 /// `err`, and the status is 2. A refusal prints `error` and its number to `err`, and what explains it where the
 /// command asks for that; out of memory prints `memory`, a failed write `device`, and only a failed write does. Where that can't be
 /// written either, the status is 5, and a prefix of it is written.
@@ -46,8 +51,9 @@ use std::thread::Threads;
 ///
 /// Where workers run the program and a record is asked for, the text of the run's events is put after the bytes of `record`, once all is
 /// printed: a replay of it with the same limits prints the same. Of more than 1,000,000 events there is no record; that is reported by
-/// `error 503` after the lines of the threads, and the status is 1. Where memory runs out for the record, `memory` is, and the status is 5. In every
-/// other case `record` has the bytes that it had.
+/// `error 503` after the lines of the threads, and the status is 1. Where memory runs out for the record, `memory` is, and the status is 5. Where a source is
+/// explored and a schedule is to be saved, that of the first fault, deadlock or other output is put there. In every other case `record` has the
+/// bytes that it had.
 pub fn drive<W: Out, E: Out>(
     rt: &(impl Threads + Wait + Sync),
     alloc: Global,
@@ -113,11 +119,12 @@ fn perform<W: Out, E: Out>(
         ⊎ IsDoneInPart order.now source.now schedule.now (W.taken out.old) (W.taken out.new) (E.taken err.old) (E.taken err.new)) }
 {
     match *order {
-        Order::Check { .. } => check(alloc, source, out),
+        Order::Check { file, explain } => check(alloc, file, source, explain, out, err),
         Order::Run {
             schedule: text,
             limits,
             explain,
+            stats,
             ..
         } => show_run(
             rt,
@@ -126,14 +133,18 @@ fn perform<W: Out, E: Out>(
             limits,
             text.as_bytes(),
             explain,
+            stats,
             out,
             err,
         ),
         Order::Replay {
             limits,
             explain,
+            stats,
             ..
-        } => show_run(rt, alloc, source, limits, schedule, explain, out, err),
+        } => show_run(
+            rt, alloc, source, limits, schedule, explain, stats, out, err,
+        ),
         Order::Trace {
             limits,
             explain,
@@ -151,6 +162,7 @@ fn perform<W: Out, E: Out>(
             stop_at,
             limits,
             explain,
+            stats,
             ..
         } => show_threads(
             rt,
@@ -161,8 +173,25 @@ fn perform<W: Out, E: Out>(
             stop_at,
             file.is_some(),
             explain,
+            stats,
             out,
             err,
+            record,
+        ),
+        Order::Explore {
+            extent,
+            save,
+            limits,
+            explain,
+            ..
+        } => show_exploration(
+            alloc,
+            source,
+            limits,
+            extent,
+            save.is_some(),
+            explain,
+            out,
             record,
         ),
         Order::Flip(sizes) => try_flip(rt, alloc, sizes, out),
@@ -187,23 +216,32 @@ fn try_flip<W: Out>(
     Ok(if outcome.finished { 0 } else { 3 })
 }
 
-/// Says that a source is accepted, and answers the status.
-fn check<W: Out>(alloc: Global, source: &[u8], out: &mut W) -> Result<u8, Failure>
-    ensures done { IfOk result (IsChecked source.now (W.taken out.old) (W.taken out.new)) }
+/// Reports that a source is accepted, prints the notes on it where explanations are asked for, and returns the status.
+fn check<W: Out, E: Out>(
+    alloc: Global,
+    file: &str,
+    source: &[u8],
+    explain: bool,
+    out: &mut W,
+    err: &mut E,
+) -> Result<u8, Failure>
+    ensures done { IfOk result (IsChecked source.now explain (W.taken out.old) (W.taken out.new) (E.taken err.old) (E.taken err.new)) }
     ensures failed { IfErr result (IsNotChecked source.now) }
     ensures untouched { IfErr result (λ failure. is_refusal failure ≡ true
-        → W.taken out.new ≡ W.taken out.old) }
-    ensures device { IfErr result (λ failure. failure ≡ DeviceFailure → HasGrown (W.taken out.old).failures (W.taken out.new).failures) }
-    ensures in_part { OnErr result ((W.taken out.new ≡ W.taken out.old)
-        ⊎ (IsLetIn source.now × Fails (W.taken out.old) (W.taken out.new) (codes "accepted" ++ 10 ∷ []))) }
+        → (W.taken out.new ≡ W.taken out.old) × (E.taken err.new ≡ E.taken err.old)) }
+    ensures device { IfErr result (λ failure. failure ≡ DeviceFailure
+        → HasBroken (W.taken out.old) (W.taken out.new) (E.taken err.old) (E.taken err.new)) }
+    ensures in_part { OnErr result (((W.taken out.new ≡ W.taken out.old) × (E.taken err.new ≡ E.taken err.old))
+        ⊎ IsCheckedInPart source.now explain (W.taken out.old) (W.taken out.new) (E.taken err.old) (E.taken err.new)) }
 {
     accept(alloc, source)?;
     say_accepted(out)?;
+    show_notes(alloc, file, source, explain, err)?;
     Ok(0)
 }
 
 /// Runs a source by the events of a text, prints what the run leaves, and returns its status. Where memory runs out before an event, the run
-/// is stopped there, and that is reported last.
+/// is stopped there, and that is reported after this. The numbers of the run come last, where they are asked for.
 fn show_run<W: Out, E: Out>(
     rt: &impl Wait,
     alloc: Global,
@@ -211,10 +249,11 @@ fn show_run<W: Out, E: Out>(
     limits: Limits,
     text: &[u8],
     explain: bool,
+    stats: bool,
     out: &mut W,
     err: &mut E,
 ) -> Result<u8, Failure>
-    ensures done { IfOk result (HasRun source.now limits text.now explain (W.taken out.old)
+    ensures done { IfOk result (HasRun source.now limits text.now explain stats (W.taken out.old)
         (W.taken out.new) (E.taken err.old) (E.taken err.new)) }
     ensures failed { IfErr result (HasNotRun source.now limits text.now) }
     ensures untouched { IfErr result (λ failure. is_refusal failure ≡ true
@@ -222,11 +261,11 @@ fn show_run<W: Out, E: Out>(
     ensures device { IfErr result (λ failure. failure ≡ DeviceFailure
         → HasBroken (W.taken out.old) (W.taken out.new) (E.taken err.old) (E.taken err.new)) }
     ensures in_part { OnErr result (((W.taken out.new ≡ W.taken out.old) × (E.taken err.new ≡ E.taken err.old))
-        ⊎ IsRunInPart source.now limits text.now explain (W.taken out.old) (W.taken out.new) (E.taken err.old) (E.taken err.new)) }
+        ⊎ IsRunInPart source.now limits text.now explain stats explain (W.taken out.old) (W.taken out.new) (E.taken err.old) (E.taken err.new)) }
 {
     let outcome = run_source(rt, alloc, source, limits, text)?;
-    let status = show(alloc, explain, &outcome.machine, out, err)?;
-    Ok(show_stop(outcome.is_out_of_memory, status, err)?)
+    let status = show_outcome(alloc, explain, source, limits, &outcome, out, err)?;
+    Ok(show_last(stats, &outcome, status, err)?)
 }
 
 /// Runs a source by the events of a text, prints a line of each and an empty line, then what the run leaves, and answers its status.

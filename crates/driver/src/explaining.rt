@@ -1,13 +1,13 @@
-//! What a person needs where an order is refused.
+//! What a person needs where an order is refused, and notes on a source that is accepted.
 
 ghost use Rattle.std.specs.Prelude.{◌≡◌, ◌++◌, IfErr, IfOk, List, ℕ, OnErr, OnOk};
 ghost use Rattle.outputs.specs.Taken.{Fails, Takes};
 ghost use Rattle.acceptance.specs.Failures.{message_of, status_of_failure};
-ghost use Rattle.driver.specs.Outcomes.{IsExplanation, is_told_why};
+ghost use Rattle.driver.specs.Outcomes.{AreNotesShown, AreNotesShownInPart, IsExplanation, is_told_why};
 
 use cil_model::limits::Limits;
 use cil_model::memory::NoMemory;
-use diagnostics::{explain, explain_limits, explain_schedule};
+use diagnostics::{explain, explain_limits, explain_schedule, note};
 use orders::Order;
 use outputs::{Device, Out};
 use schedule_text::read_schedule;
@@ -83,6 +83,27 @@ fn show_explanation<E: Out>(
     err.write_whole(text.as_bytes())
 }
 
+/// Writes the notes on an accepted source, where explanations are asked for. Writes nothing where there are none, and where memory runs out
+/// for them.
+pub(crate) fn show_notes<E: Out>(
+    alloc: Global,
+    file: &str,
+    source: &[u8],
+    explain: bool,
+    err: &mut E,
+) -> Result<(), Device>
+    ensures whole { OnOk result (AreNotesShown explain (E.taken err.old) (E.taken err.new)) }
+    ensures cut { OnErr result (AreNotesShownInPart explain (E.taken err.old) (E.taken err.new)) }
+{
+    if !explain {
+        return Ok(());
+    }
+    match note(alloc, file, source) {
+        Ok(Some(notes)) => err.write_whole(notes.as_bytes()),
+        Ok(None) | Err(_) => Ok(()),
+    }
+}
+
 /// What explains the refusal of an order: of its source, else of its limits, else of its schedule. Empty where none of them is refused.
 fn explanation(
     alloc: Global,
@@ -114,7 +135,9 @@ fn explanation(
             limits,
             ..
         } => explain_run(alloc, limits, name, schedule)?,
-        Order::Threads { limits, .. } => explain_limits(alloc, limits)?,
+        Order::Threads { limits, .. } | Order::Explore { limits, .. } => {
+            explain_limits(alloc, limits)?
+        }
         Order::Check { .. } | Order::Flip(_) => None,
     };
     Ok(text.unwrap_or(String::new(alloc)))

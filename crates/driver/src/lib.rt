@@ -5,9 +5,14 @@
 mod drawing;
 mod driving;
 mod explaining;
+mod exploring;
+mod outcome_pictures;
+mod outcome_texts;
+mod outcomes;
 mod recording;
 mod running_threads;
 mod showing;
+mod statistics;
 
 pub use driving::drive;
 pub use outputs::{Device, Out, WriterOut};

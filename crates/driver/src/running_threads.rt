@@ -3,21 +3,23 @@
 ghost use Rattle.std.specs.Prelude.{◌≡◌, ◌⊎◌, IfErr, IfOk, OnErr, true};
 ghost use Rattle.acceptance.specs.Failures.{is_refusal};
 ghost use Rattle.acceptance.specs.declared.failure.Failure.TheVariants.{Device as DeviceFailure};
-ghost use Rattle.driver.specs.Stops.{stop_of};
 ghost use Rattle.driver.specs.Outcomes.{HasBroken, HasNotRunThreads, HasRunThreads, IsRunByWorkersInPart};
 
-use crate::recording::{keep, record_of, report_record};
-use crate::showing::show;
+use crate::outcomes::show_outcome;
+use crate::recording::{keep, record_of};
+use crate::statistics::show_last_of_workers;
 use cil_model::limits::Limits;
-use orders::{StopAt, Workers};
+use cil_model::stops::StopAt;
+use orders::Workers;
 use outputs::Out;
-use source_runs::{Failure, OpenGate, StopAt as WorkersStopAt, run_threads};
+use source_runs::{Failure, OpenGate, run_threads};
 use std::alloc::Global;
 use std::sync::Wait;
 use std::thread::Threads;
 
 /// Runs a source by workers, prints what the run leaves, puts its record after what is kept where one is asked for, and returns the status.
-/// Where memory runs out for the run or its record, that is reported last. A failed write leaves what is kept as it was.
+/// Where memory runs out for the run or its record, that is reported after this. The numbers of the run come last, where they are asked
+/// for. A failed write leaves what is kept as it was.
 pub(crate) fn show_threads<W: Out, E: Out>(
     rt: &(impl Threads + Wait + Sync),
     alloc: Global,
@@ -27,11 +29,12 @@ pub(crate) fn show_threads<W: Out, E: Out>(
     stop_at: StopAt,
     is_recorded: bool,
     explain: bool,
+    stats: bool,
     out: &mut W,
     err: &mut E,
     kept: &mut Vec<u8>,
 ) -> Result<u8, Failure>
-    ensures done { IfOk result (HasRunThreads source.now limits workers.count stop_at is_recorded explain (W.taken out.old)
+    ensures done { IfOk result (HasRunThreads source.now limits workers.count stop_at is_recorded explain stats (W.taken out.old)
         (W.taken out.new) (E.taken err.old) (E.taken err.new) kept.old.items kept.new.items) }
     ensures failed { IfErr result (HasNotRunThreads source.now limits) }
     ensures same { OnErr result (kept.new.items ≡ kept.old.items) }
@@ -40,35 +43,17 @@ pub(crate) fn show_threads<W: Out, E: Out>(
     ensures device { IfErr result (λ failure. failure ≡ DeviceFailure
         → HasBroken (W.taken out.old) (W.taken out.new) (E.taken err.old) (E.taken err.new)) }
     ensures in_part { OnErr result (((W.taken out.new ≡ W.taken out.old) × (E.taken err.new ≡ E.taken err.old))
-        ⊎ IsRunByWorkersInPart source.now limits workers.count stop_at is_recorded explain (W.taken out.old) (W.taken out.new) (E.taken err.old) (E.taken err.new)) }
+        ⊎ IsRunByWorkersInPart source.now limits workers.count stop_at is_recorded explain stats (W.taken out.old) (W.taken out.new) (E.taken err.old) (E.taken err.new)) }
 {
-    let outcome = run_threads(
-        rt,
-        alloc,
-        source,
-        limits,
-        workers.count,
-        stop_of(stop_at),
-        &OpenGate,
-    )?;
-    let status = show(alloc, explain, &outcome.machine, out, err)?;
+    let outcome = run_threads(rt, alloc, source, limits, workers.count, stop_at, &OpenGate)?;
+    let status = show_outcome(alloc, explain, source, limits, &outcome, out, err)?;
     let before = kept.len();
     let record = keep(record_of(alloc, is_recorded, &outcome.history), kept);
-    match report_record(&record, outcome.is_out_of_memory, status, err) {
+    match show_last_of_workers(&record, stats, &outcome, status, err) {
         Ok(status) => Ok(status),
         Err(device) => {
             kept.truncate(before);
             Err(Failure::from(device))
         }
-    }
-}
-
-/// What the command asks for, as workers are told it.
-fn stop_of(stop_at: StopAt) -> WorkersStopAt
-    ensures { result ≡ stop_of stop_at }
-{
-    match stop_at {
-        StopAt::End => WorkersStopAt::End,
-        StopAt::Deadlock => WorkersStopAt::Deadlock,
     }
 }

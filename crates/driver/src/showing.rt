@@ -3,13 +3,12 @@
 ghost use Rattle.std.specs.Prelude.{◌≡◌, ◌++◌, ◌∷◌, [], ℕ, codes, IfOk, List, OnErr, OnOk, map};
 ghost use Rattle.std.specs.List.{list_all, list_any};
 ghost use Rattle.outputs.specs.Taken.{Fails, Takes};
-ghost use Rattle.cil_model.specs.ExceptionNames.{name_of};
 ghost use Rattle.source_runs.specs.simulation.threads_monitors.Threads.{end_of};
-ghost use Rattle.driver.specs.Outcomes.{AreCut, AreThreadsShown, AreThreadsShownInPart, IsMachineShown, IsMachineShownInPart, IsThreadText, flip_text, status_after, stop_text};
+ghost use Rattle.driver.specs.Outcomes.{AreCut, AreThreadsShown, AreThreadsShownInPart, IsMachineShown, IsMachineShownInPart, IsThreadText, accepted_text, flip_text, status_after, stop_text};
 ghost use Rattle.driver.specs.Threads.{end_text, is_done, is_live, line_of, lines_from, status_of};
 
 use arrayvec::ArrayVec;
-use cil_model::reports::{End, Fault};
+use cil_model::reports::End;
 use event_trace::explain_threads;
 use flip_trial::Outcome as FlipOutcome;
 use itoa::Buffer;
@@ -22,8 +21,8 @@ type Ends = ArrayVec<Option<End>, 16>;
 
 /// Writes the one line of a check.
 pub(crate) fn say_accepted<W: Out>(out: &mut W) -> Result<(), Device>
-    ensures whole { OnOk result (Takes (W.taken out.old) (W.taken out.new) (codes "accepted" ++ 10 ∷ [])) }
-    ensures cut { OnErr result (Fails (W.taken out.old) (W.taken out.new) (codes "accepted" ++ 10 ∷ [])) }
+    ensures whole { OnOk result (Takes (W.taken out.old) (W.taken out.new) accepted_text) }
+    ensures cut { OnErr result (Fails (W.taken out.old) (W.taken out.new) accepted_text) }
 {
     out.write_whole(b"accepted\n")
 }
@@ -157,27 +156,7 @@ fn end_text(end: Option<End>) -> &'static str
         None => "live",
         Some(End::Done) => "done",
         Some(End::Budget) => "budget",
-        Some(End::Fault(fault)) => fault_name(fault),
-    }
-}
-
-/// The exception's full name, as `Display` of the fault writes it, without memory (ECMA-335 IV).
-fn fault_name(fault: Fault) -> &'static str
-    ensures { result.now ≡ name_of fault }
-{
-    match fault {
-        Fault::NullReference => "System.NullReferenceException",
-        Fault::IndexOutOfRange => "System.IndexOutOfRangeException",
-        Fault::ArrayTypeMismatch => "System.ArrayTypeMismatchException",
-        Fault::InvalidCast => "System.InvalidCastException",
-        Fault::DivideByZero => "System.DivideByZeroException",
-        Fault::Arithmetic => "System.ArithmeticException",
-        Fault::Overflow => "System.OverflowException",
-        Fault::OutOfMemory | Fault::TooManyThreads => "System.OutOfMemoryException",
-        Fault::StackOverflow => "System.StackOverflowException",
-        Fault::ArgumentNull => "System.ArgumentNullException",
-        Fault::SynchronizationLock => "System.Threading.SynchronizationLockException",
-        Fault::ThreadState => "System.Threading.ThreadStateException",
+        Some(End::Fault(fault)) => fault.name(),
     }
 }
 
@@ -194,13 +173,15 @@ fn status_of(ends: &[Option<End>]) -> u8
     }
 }
 
-fn is_some_live(ends: &[Option<End>]) -> bool
+/// Whether some thread is live.
+pub(crate) fn is_some_live(ends: &[Option<End>]) -> bool
     ensures { result ≡ list_any is_live ends.now }
 {
     ends.iter().any(|end| end.is_none())
 }
 
-fn are_all_done(ends: &[Option<End>]) -> bool
+/// Whether each thread is done.
+pub(crate) fn are_all_done(ends: &[Option<End>]) -> bool
     ensures { result ≡ list_all is_done ends.now }
 {
     ends.iter().all(|end| *end == Some(End::Done))

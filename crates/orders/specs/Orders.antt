@@ -2,40 +2,43 @@
 use Rattle.std.specs.Prelude.{◌≡◌, ◌⊎◌, ℕ, Bool, true, false, List, Option, Some, None, option_map}
 use Rattle.cil_model.specs.Sources.{is_too_long}
 use Rattle.orders.specs.declared.order.Order.{Order}
-use Rattle.orders.specs.declared.order.Order.TheVariants.{Check, Run, Replay, Trace, Picture, Threads, Flip}
+use Rattle.orders.specs.declared.order.Order.TheVariants.{Check, Run, Replay, Trace, Picture, Threads, Explore, Flip}
 use Rattle.orders.specs.declared.part.Part.{Part}
 use Rattle.orders.specs.Parts.{count_in, last_in}
 
 -- the name of the file that holds the source, where one does
 abbrev pub file_of : Order → Option (List ℕ)
 file_of (Check file explain) = Some file.now
-file_of (Run file schedule limits explain) = Some file.now
-file_of (Replay file schedule limits explain) = Some file.now
+file_of (Run file schedule limits explain stats) = Some file.now
+file_of (Replay file schedule limits explain stats) = Some file.now
 file_of (Trace file schedule limits explain) = Some file.now
 file_of (Picture file schedule part limits explain) = Some file.now
-file_of (Threads file workers kept stop_at limits explain) = Some file.now
+file_of (Threads file workers kept stop_at limits explain stats) = Some file.now
+file_of (Explore file extent kept limits explain) = Some file.now
 file_of (Flip sizes) = None
 
 -- the name of the file that holds the schedule's text, where one does
 abbrev pub schedule_file_of : Order → Option (List ℕ)
-schedule_file_of (Replay file schedule limits explain) = Some schedule.now
+schedule_file_of (Replay file schedule limits explain stats) = Some schedule.now
 schedule_file_of (Trace file schedule limits explain) = Some schedule.now
 schedule_file_of (Picture file schedule part limits explain) = Some schedule.now
 schedule_file_of _ = None
 
--- the name of the file that the record is to be written to, where one is asked for
+-- the name of the file that the record of a run or the schedule of an outcome is to be written to, where one is asked for
 abbrev pub record_file_of : Order → Option (List ℕ)
-record_file_of (Threads file workers kept stop_at limits explain) = option_map (λ name. name.now) kept
+record_file_of (Threads file workers kept stop_at limits explain stats) = option_map (λ name. name.now) kept
+record_file_of (Explore file extent kept limits explain) = option_map (λ name. name.now) kept
 record_file_of _ = None
 
 -- a refusal is to be explained, and what threads wait for when a run has ended
 abbrev pub is_explained : Order → Bool
 is_explained (Check file explain) = explain
-is_explained (Run file schedule limits explain) = explain
-is_explained (Replay file schedule limits explain) = explain
+is_explained (Run file schedule limits explain stats) = explain
+is_explained (Replay file schedule limits explain stats) = explain
 is_explained (Trace file schedule limits explain) = explain
 is_explained (Picture file schedule part limits explain) = explain
-is_explained (Threads file workers kept stop_at limits explain) = explain
+is_explained (Threads file workers kept stop_at limits explain stats) = explain
+is_explained (Explore file extent kept limits explain) = explain
 is_explained (Flip sizes) = false
 
 -- the number of the last event of a part of a run that has so many, and how many of them it has

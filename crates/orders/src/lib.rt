@@ -2,14 +2,14 @@
 //! Files are read whole, a source no further than shows that it is too long.
 #![tactic(auto)]
 
+mod extents;
 mod files;
 mod order;
 mod part;
-mod stop_at;
 mod workers;
 
+pub use extents::{Extent, Goal};
 pub use files::{read_source, read_text};
 pub use order::Order;
 pub use part::{LAST_NUMBER, Part};
-pub use stop_at::StopAt;
 pub use workers::Workers;

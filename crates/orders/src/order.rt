@@ -2,10 +2,11 @@
 ghost use Rattle.std.specs.Prelude.{◌≡◌, option_map};
 ghost use Rattle.orders.specs.Orders.{file_of, is_explained, record_file_of, schedule_file_of};
 
+use crate::extents::Extent;
 use crate::part::Part;
-use crate::stop_at::StopAt;
 use crate::workers::Workers;
 use cil_model::limits::Limits;
+use cil_model::stops::StopAt;
 use flip_trial::Sizes;
 
 /// A command with its files and options, each default filled in. With `explain`, a refusal is told with its place and its rule, and a run
@@ -17,19 +18,21 @@ pub enum Order<'a> {
         file: &'a str,
         explain: bool,
     },
-    /// Runs the source of this file by the events of a schedule text.
+    /// Runs the source of this file by the events of a schedule text. With `stats`, the numbers of the run are printed at the end.
     Run {
         file: &'a str,
         schedule: &'a str,
         limits: Limits,
         explain: bool,
+        stats: bool,
     },
-    /// Runs the source of this file by the events of the schedule text that another file holds.
+    /// Runs the source of this file by the events of the schedule text that another file holds. With `stats`, as of `Run`.
     Replay {
         file: &'a str,
         schedule: &'a str,
         limits: Limits,
         explain: bool,
+        stats: bool,
     },
     /// Runs it as a replay does, and prints a line of each event before what the run leaves.
     Trace {
@@ -47,12 +50,22 @@ pub enum Order<'a> {
         explain: bool,
     },
     /// Runs the source of this file by workers, each in a thread of its own, until no thread of the program is live, or until `stop_at` says.
-    /// Where a file is named for the record, it is to get the text of the schedule that the run had.
+    /// Where a file is named for the record, it is to get the text of the schedule that the run had. With `stats`, as of `Run`.
     Threads {
         file: &'a str,
         workers: Workers,
         record: Option<&'a str>,
         stop_at: StopAt,
+        limits: Limits,
+        explain: bool,
+        stats: bool,
+    },
+    /// Explores all schedules of the source of this file, and prints each outcome with a schedule. Where a file is named, it is to get the
+    /// schedule of the first outcome with a blocked thread, with a thread that ended early, or with other printed bytes than the first one.
+    Explore {
+        file: &'a str,
+        extent: Extent,
+        save: Option<&'a str>,
         limits: Limits,
         explain: bool,
     },
@@ -71,7 +84,8 @@ impl<'a> Order<'a> {
             | Order::Replay { file, .. }
             | Order::Trace { file, .. }
             | Order::Picture { file, .. }
-            | Order::Threads { file, .. } => Some(file),
+            | Order::Threads { file, .. }
+            | Order::Explore { file, .. } => Some(file),
             Order::Flip(_) => None,
         }
     }
@@ -86,7 +100,8 @@ impl<'a> Order<'a> {
             | Order::Replay { explain, .. }
             | Order::Trace { explain, .. }
             | Order::Picture { explain, .. }
-            | Order::Threads { explain, .. } => explain,
+            | Order::Threads { explain, .. }
+            | Order::Explore { explain, .. } => explain,
             Order::Flip(_) => false,
         }
     }
@@ -99,17 +114,21 @@ impl<'a> Order<'a> {
             Order::Replay { schedule, .. }
             | Order::Trace { schedule, .. }
             | Order::Picture { schedule, .. } => Some(schedule),
-            Order::Check { .. } | Order::Run { .. } | Order::Threads { .. } | Order::Flip(_) =>
-                None,
+            Order::Check { .. }
+            | Order::Run { .. }
+            | Order::Threads { .. }
+            | Order::Explore { .. }
+            | Order::Flip(_) => None,
         }
     }
 
-    /// The file that the record is to be written to, where one is asked for.
+    /// The file that the record of a run or the schedule of an outcome is to be written to, where one is asked for.
     pub fn record_file(&self) -> Option<&'a str>
         ensures { option_map (λ file. file.now) result ≡ record_file_of self.now }
     {
         match *self {
             Order::Threads { record, .. } => record,
+            Order::Explore { save, .. } => save,
             Order::Check { .. }
             | Order::Run { .. }
             | Order::Replay { .. }

@@ -4,7 +4,8 @@ ghost use Rattle.std.specs.Prelude.{◌≤◌};
 
 use call_trials::{LIMITS, SUM};
 use cil_model::limits::Limits;
-use source_runs::{Failure, OpenGate, Outcome, StopAt, run_source, run_threads, write_record};
+use cil_model::stops::StopAt;
+use source_runs::{Failure, OpenGate, Outcome, run_source, run_threads, write_record};
 use std::alloc::Global;
 use std::sync::Wait;
 use std::thread::Threads;

@@ -12,8 +12,8 @@ use Rattle.interleaving_core.specs.simulation.threads_monitors.Threads.{is_live,
 use Rattle.shared_machine.specs.Histories.{IsSmall, counted}
 use Rattle.shared_machine.specs.declared.history.Entry.{Entry}
 use Rattle.shared_machine.specs.Counts.{Count}
-use Rattle.shared_machine.specs.declared.plan.StopAt.{StopAt}
-use Rattle.shared_machine.specs.declared.plan.StopAt.TheVariants.{End, Deadlock}
+use Rattle.cil_model.specs.declared.stops.StopAt.{StopAt}
+use Rattle.cil_model.specs.declared.stops.StopAt.TheVariants.{End, Deadlock}
 
 -- ---- whose events they are
 

@@ -32,7 +32,6 @@ pub use gate::{Gate, OpenGate};
 pub use history::{Entry, History, Run, counts_fix_events};
 pub use interleaving_core::{Machine, Refused};
 pub use outcome::Outcome;
-pub use plan::StopAt;
 pub use record::write_record;
 pub use shared::{MOST_WORKERS, Shared, Unfinished};
 pub use together::run_together;

@@ -10,7 +10,6 @@ mod threads;
 pub use acceptance::{Failure, accept, report, status_of_failure, tell};
 pub use running::{open, run_events, run_source};
 pub use shared_machine::{
-    Answer, Gate, History, Machine, OpenGate, Opening, Outcome, Run, Shared, StopAt, stop,
-    write_record,
+    Answer, Gate, History, Machine, OpenGate, Opening, Outcome, Run, Shared, stop, write_record,
 };
 pub use threads::run_threads;

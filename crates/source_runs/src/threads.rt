@@ -9,7 +9,8 @@ ghost use Rattle.shared_machine.specs.Work.{HasEnded, IsOwnOf};
 
 use acceptance::{Failure, accept};
 use cil_model::limits::Limits;
-use shared_machine::{Blank, Gate, Machine, Outcome, StopAt, run_together};
+use cil_model::stops::StopAt;
+use shared_machine::{Blank, Gate, Machine, Outcome, run_together};
 use std::alloc::Global;
 use std::marker::Brand;
 use std::sync::Wait;

@@ -138,6 +138,7 @@ fn ends_at_a_cut_console(threads: &(impl Threads + Wait + Sync), alloc: Global) 
         schedule: "s0*5",
         limits: LIMITS,
         explain: false,
+        stats: false,
     };
     let mut page = WriterOut::new(Cursor::new([0; 1]));
     let mut err = WriterOut::new(Vec::new(alloc));

@@ -62,12 +62,14 @@ fn limited<'a>(order: Order<'a>, limits: Option<&str>) -> Order<'a> {
             file,
             schedule,
             explain,
+            stats,
             ..
         } => Order::Run {
             file,
             schedule,
             limits,
             explain,
+            stats,
         },
         Order::Threads {
             file,
@@ -75,6 +77,7 @@ fn limited<'a>(order: Order<'a>, limits: Option<&str>) -> Order<'a> {
             record,
             stop_at,
             explain,
+            stats,
             ..
         } => Order::Threads {
             file,
@@ -83,6 +86,7 @@ fn limited<'a>(order: Order<'a>, limits: Option<&str>) -> Order<'a> {
             stop_at,
             limits,
             explain,
+            stats,
         },
         other => other,
     }

@@ -41,6 +41,7 @@ fn add_replay(
         file,
         limits,
         explain,
+        stats,
         ..
     } = *order
     else {
@@ -51,6 +52,7 @@ fn add_replay(
         schedule: "",
         limits,
         explain,
+        stats,
     };
     let mut source = Vec::new(rt.alloc());
     source.extend_from_slice(files.source.as_slice())?;

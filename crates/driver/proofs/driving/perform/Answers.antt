@@ -1,12 +1,13 @@
 use Rattle.std.proofs.Common.{inl, refl, subst}
 use Rattle.std.specs.Prelude.{◌≡◌, ◌⊎◌, IfErr, IfOk, OnErr}
 use Rattle.acceptance.proofs.SourceLemmas.{if_err, if_ok, on_err, on_err_of}
+use Rattle.driver.specs.Explorations.{HasExplored}
 use Rattle.driver.specs.Outcomes.{HasNotRun, HasRun, HasRunThreads, IsRunByWorkersInPart, IsRunInPart}
 use Rattle.driver.proofs.OutcomeLemmas.{by_either, no_refusal}
 use Rattle.driver.proofs.driving.perform.Goals as goal
 
 pub returns-in-Check-clause-done : goal.returns-in-Check-clause-done
-returns-in-Check-clause-done g c = rw c.in-Check.is (if_ok c.check.result c.check.ensures.done (λ _ done. (done, refl, refl)))
+returns-in-Check-clause-done g c = rw c.in-Check.is (if_ok c.check.result c.check.ensures.done (λ _ done. (done, refl)))
 
 pub returns-in-Check-clause-failed : goal.returns-in-Check-clause-failed
 returns-in-Check-clause-failed g c = rw c.in-Check.is c.check.ensures.failed
@@ -15,14 +16,14 @@ pub returns-in-Check-clause-same : goal.returns-in-Check-clause-same
 returns-in-Check-clause-same g c = on_err c.check.result refl
 
 pub returns-in-Check-clause-untouched : goal.returns-in-Check-clause-untouched
-returns-in-Check-clause-untouched g c = if_err c.check.result c.check.ensures.untouched (λ failure same refused. (same refused, refl))
+returns-in-Check-clause-untouched g c = c.check.ensures.untouched
 
 pub returns-in-Check-clause-in_part : goal.returns-in-Check-clause-in_part
-returns-in-Check-clause-in_part g c = rw c.in-Check.is (on_err_of c.check.result c.check.ensures.in_part (λ part. by_either part (λ same. (same, refl)) (λ begun. (begun.0, begun.1, refl))))
+returns-in-Check-clause-in_part g c = rw c.in-Check.is c.check.ensures.in_part
 
 pub returns-in-Run-clause-done : goal.returns-in-Run-clause-done
 returns-in-Run-clause-done g c =
-    let done = subst (λ text. IfOk c.show_run.result (HasRun c.args.source.now c.in-Run.limits text c.in-Run.explain (g.W.Out.taken c.args.out.now) (g.W.Out.taken c.show_run.new.out)
+    let done = subst (λ text. IfOk c.show_run.result (HasRun c.args.source.now c.in-Run.limits text c.in-Run.explain c.in-Run.stats (g.W.Out.taken c.args.out.now) (g.W.Out.taken c.show_run.new.out)
     (g.E.Out.taken c.args.err.now) (g.E.Out.taken c.show_run.new.err))) c.as_bytes.ensures.value c.show_run.ensures.done in
     rw c.in-Run.is (if_ok c.show_run.result done (λ _ done. (done, refl)))
 
@@ -43,7 +44,7 @@ returns-in-Run-clause-in_part g c =
     let out' = g.W.Out.taken c.show_run.new.out in
     let err = g.E.Out.taken c.args.err.now in
     let err' = g.E.Out.taken c.show_run.new.err in
-    rw c.in-Run.is (subst (λ text. OnErr c.show_run.result (((out' ≡ out) × (err' ≡ err)) ⊎ IsRunInPart c.args.source.now c.in-Run.limits text c.in-Run.explain out out' err err'))
+    rw c.in-Run.is (subst (λ text. OnErr c.show_run.result (((out' ≡ out) × (err' ≡ err)) ⊎ IsRunInPart c.args.source.now c.in-Run.limits text c.in-Run.explain c.in-Run.stats c.in-Run.explain out out' err err'))
     c.as_bytes.ensures.value c.show_run.ensures.in_part)
 
 pub returns-in-Replay-clause-done : goal.returns-in-Replay-clause-done
@@ -93,7 +94,7 @@ returns-in-Picture-clause-in_part g c = rw c.in-Picture.is c.show_picture.ensure
 
 pub returns-in-Threads-clause-done : goal.returns-in-Threads-clause-done
 returns-in-Threads-clause-done g c =
-    rw c.in-Threads.is (subst (λ asked. IfOk c.show_threads.result (HasRunThreads c.args.source.now c.in-Threads.limits c.in-Threads.workers.count c.in-Threads.stop_at asked c.in-Threads.explain
+    rw c.in-Threads.is (subst (λ asked. IfOk c.show_threads.result (HasRunThreads c.args.source.now c.in-Threads.limits c.in-Threads.workers.count c.in-Threads.stop_at asked c.in-Threads.explain c.in-Threads.stats
     (g.W.Out.taken c.args.out.now) (g.W.Out.taken c.show_threads.new.out) (g.E.Out.taken c.args.err.now) (g.E.Out.taken c.show_threads.new.err)
     c.args.record.now.items c.show_threads.new.kept.items)) c.is_some.ensures c.show_threads.ensures.done)
 
@@ -113,8 +114,27 @@ returns-in-Threads-clause-in_part g c =
     let err = g.E.Out.taken c.args.err.now in
     let err' = g.E.Out.taken c.show_threads.new.err in
     rw c.in-Threads.is (subst (λ asked. OnErr c.show_threads.result (((out' ≡ out) × (err' ≡ err))
-    ⊎ IsRunByWorkersInPart c.args.source.now c.in-Threads.limits c.in-Threads.workers.count c.in-Threads.stop_at asked c.in-Threads.explain out out' err err'))
+    ⊎ IsRunByWorkersInPart c.args.source.now c.in-Threads.limits c.in-Threads.workers.count c.in-Threads.stop_at asked c.in-Threads.explain c.in-Threads.stats out out' err err'))
     c.is_some.ensures c.show_threads.ensures.in_part)
+
+pub returns-in-Explore-clause-done : goal.returns-in-Explore-clause-done
+returns-in-Explore-clause-done g c =
+    rw c.in-Explore.is (subst (λ asked. IfOk c.show_exploration.result (λ status. HasExplored c.args.source.now c.in-Explore.limits c.in-Explore.extent asked c.in-Explore.explain
+    (g.W.Out.taken c.args.out.now) (g.W.Out.taken c.show_exploration.new.out) c.args.record.now.items c.show_exploration.new.kept.items status
+    × (g.E.Out.taken c.args.err.now ≡ g.E.Out.taken c.args.err.now))) c.is_some-in-Explore.ensures
+    (if_ok c.show_exploration.result c.show_exploration.ensures.done (λ _ done. (done, refl))))
+
+pub returns-in-Explore-clause-failed : goal.returns-in-Explore-clause-failed
+returns-in-Explore-clause-failed g c = rw c.in-Explore.is c.show_exploration.ensures.failed
+
+pub returns-in-Explore-clause-same : goal.returns-in-Explore-clause-same
+returns-in-Explore-clause-same g c = c.show_exploration.ensures.same
+
+pub returns-in-Explore-clause-untouched : goal.returns-in-Explore-clause-untouched
+returns-in-Explore-clause-untouched g c = if_err c.show_exploration.result c.show_exploration.ensures.untouched (λ failure same refused. (same refused, refl))
+
+pub returns-in-Explore-clause-in_part : goal.returns-in-Explore-clause-in_part
+returns-in-Explore-clause-in_part g c = rw c.in-Explore.is (on_err_of c.show_exploration.result c.show_exploration.ensures.in_part (λ part. by_either part (λ same. (same, refl)) (λ begun. (begun, refl))))
 
 pub returns-in-Flip-clause-done : goal.returns-in-Flip-clause-done
 returns-in-Flip-clause-done g c = rw c.in-Flip.is (if_ok c.try_flip.result c.try_flip.ensures.done (λ _ done. (done, refl, refl)))
@@ -134,7 +154,10 @@ returns-in-Flip-clause-in_part g c = rw c.in-Flip.is (on_err_of c.try_flip.resul
 -- ---- a device is reported only where a write failed
 
 pub returns-in-Check-clause-device : goal.returns-in-Check-clause-device
-returns-in-Check-clause-device g c = if_err c.check.result c.check.ensures.device (λ failure broken device. inl (broken device))
+returns-in-Check-clause-device g c = c.check.ensures.device
+
+pub returns-in-Explore-clause-device : goal.returns-in-Explore-clause-device
+returns-in-Explore-clause-device g c = if_err c.show_exploration.result c.show_exploration.ensures.device (λ failure broken device. inl (broken device))
 
 pub returns-in-Run-clause-device : goal.returns-in-Run-clause-device
 returns-in-Run-clause-device g c = c.show_run.ensures.device

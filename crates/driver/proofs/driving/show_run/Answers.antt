@@ -37,39 +37,39 @@ pub returns-in_err-status-clause-in_part : goal.returns-in_err-status-clause-in_
 returns-in_err-status-clause-in_part g c =
     let outcome = c.in_ok-outcome.outcome in
     on_err c.from_residual-in_err-status.result
-    (inr (run_in_part c.args.source.now c.args.limits c.args.text.now c.args.explain outcome.is_out_of_memory (events_of outcome.history.entries) (reports_of outcome.history.entries) outcome.machine c.in_ok-outcome.ensures.ran
-    (g.W.Out.taken c.args.out.now) (g.W.Out.taken c.show.new.out) (g.E.Out.taken c.args.err.now) (g.E.Out.taken c.show.new.err) c.in_err-status.ensures.cut))
+    (inr (run_in_part c.args.source.now c.args.limits c.args.text.now c.args.explain c.args.stats outcome.is_out_of_memory (events_of outcome.history.entries) (reports_of outcome.history.entries) outcome.machine c.in_ok-outcome.ensures.ran
+    (g.W.Out.taken c.args.out.now) (g.W.Out.taken c.show_outcome.new.out) (g.E.Out.taken c.args.err.now) (g.E.Out.taken c.show_outcome.new.err) c.in_err-status.ensures.cut))
 
--- ---- a write failed that was to report that memory ran out
+-- ---- a write of what comes last failed
 
-pub returns-in_err-show_stop-clause-failed : goal.returns-in_err-show_stop-clause-failed
-returns-in_err-show_stop-clause-failed g c =
+pub returns-in_err-show_last-clause-failed : goal.returns-in_err-show_last-clause-failed
+returns-in_err-show_last-clause-failed g c =
     let ran = c.in_ok-outcome.ensures.ran.ran in
-    handed_on c.from_residual-in_err-show_stop.result c.from_residual-in_err-show_stop.ensures.1 (λ failure is. inr ((ran.0, ran.1), is))
+    handed_on c.from_residual-in_err-show_last.result c.from_residual-in_err-show_last.ensures.1 (λ failure is. inr ((ran.0, ran.1), is))
 
-pub returns-in_err-show_stop-clause-untouched : goal.returns-in_err-show_stop-clause-untouched
-returns-in_err-show_stop-clause-untouched g c =
-    handed_on c.from_residual-in_err-show_stop.result c.from_residual-in_err-show_stop.ensures.1 (λ failure is refused. absurd (no_refusal failure (inr is) refused))
+pub returns-in_err-show_last-clause-untouched : goal.returns-in_err-show_last-clause-untouched
+returns-in_err-show_last-clause-untouched g c =
+    handed_on c.from_residual-in_err-show_last.result c.from_residual-in_err-show_last.ensures.1 (λ failure is refused. absurd (no_refusal failure (inr is) refused))
 
-pub returns-in_err-show_stop-clause-device : goal.returns-in_err-show_stop-clause-device
-returns-in_err-show_stop-clause-device g c =
+pub returns-in_err-show_last-clause-device : goal.returns-in_err-show_last-clause-device
+returns-in_err-show_last-clause-device g c =
     let outcome = c.in_ok-outcome.outcome in
-    let part = run_then_in_part c.args.source.now c.args.limits c.args.text.now c.args.explain outcome.is_out_of_memory (events_of outcome.history.entries) (reports_of outcome.history.entries) outcome.machine c.in_ok-outcome.ensures.ran
-    (g.W.Out.taken c.args.out.now) (g.W.Out.taken c.show.new.out) (g.E.Out.taken c.args.err.now) (g.E.Out.taken c.show.new.err) (g.E.Out.taken c.show_stop.new.err) c.in_ok-status.status c.in_ok-status.ensures.whole c.in_err-show_stop.ensures.cut in
-    handed_on c.from_residual-in_err-show_stop.result c.from_residual-in_err-show_stop.ensures.1 (λ failure is device. cut_breaks _ _ _ _ _ _ part.cut)
+    let part = run_then_in_part c.args.source.now c.args.limits c.args.text.now c.args.explain c.args.stats outcome.is_out_of_memory (events_of outcome.history.entries) (reports_of outcome.history.entries) outcome.machine c.in_ok-outcome.ensures.ran
+    (g.W.Out.taken c.args.out.now) (g.W.Out.taken c.show_outcome.new.out) (g.E.Out.taken c.args.err.now) (g.E.Out.taken c.show_outcome.new.err) (g.E.Out.taken c.show_last.new.err) c.in_ok-status.status c.in_ok-status.ensures.whole c.in_err-show_last.ensures.cut in
+    handed_on c.from_residual-in_err-show_last.result c.from_residual-in_err-show_last.ensures.1 (λ failure is device. cut_breaks _ _ _ _ _ _ part.cut)
 
-pub returns-in_err-show_stop-clause-in_part : goal.returns-in_err-show_stop-clause-in_part
-returns-in_err-show_stop-clause-in_part g c =
+pub returns-in_err-show_last-clause-in_part : goal.returns-in_err-show_last-clause-in_part
+returns-in_err-show_last-clause-in_part g c =
     let outcome = c.in_ok-outcome.outcome in
-    let part = run_then_in_part c.args.source.now c.args.limits c.args.text.now c.args.explain outcome.is_out_of_memory (events_of outcome.history.entries) (reports_of outcome.history.entries) outcome.machine c.in_ok-outcome.ensures.ran
-    (g.W.Out.taken c.args.out.now) (g.W.Out.taken c.show.new.out) (g.E.Out.taken c.args.err.now) (g.E.Out.taken c.show.new.err) (g.E.Out.taken c.show_stop.new.err) c.in_ok-status.status c.in_ok-status.ensures.whole c.in_err-show_stop.ensures.cut in
-    on_err c.from_residual-in_err-show_stop.result (inr part)
+    let part = run_then_in_part c.args.source.now c.args.limits c.args.text.now c.args.explain c.args.stats outcome.is_out_of_memory (events_of outcome.history.entries) (reports_of outcome.history.entries) outcome.machine c.in_ok-outcome.ensures.ran
+    (g.W.Out.taken c.args.out.now) (g.W.Out.taken c.show_outcome.new.out) (g.E.Out.taken c.args.err.now) (g.E.Out.taken c.show_outcome.new.err) (g.E.Out.taken c.show_last.new.err) c.in_ok-status.status c.in_ok-status.ensures.whole c.in_err-show_last.ensures.cut in
+    on_err c.from_residual-in_err-show_last.result (inr part)
 
 -- ---- all is written
 
 pub returns-clause-done : goal.returns-clause-done
 returns-clause-done g c =
     let outcome = c.in_ok-outcome.outcome in
-    has_run c.args.source.now c.args.limits c.args.text.now c.args.explain outcome.is_out_of_memory (events_of outcome.history.entries) (reports_of outcome.history.entries) outcome.machine c.in_ok-outcome.ensures.ran
-    (g.W.Out.taken c.args.out.now) (g.W.Out.taken c.show.new.out) (g.E.Out.taken c.args.err.now) (g.E.Out.taken c.show.new.err) (g.E.Out.taken c.show_stop.new.err) c.in_ok-status.status _
-    c.in_ok-status.ensures.whole c.in_ok-show_stop.ensures.whole
+    has_run c.args.source.now c.args.limits c.args.text.now c.args.explain c.args.stats outcome.is_out_of_memory (events_of outcome.history.entries) (reports_of outcome.history.entries) outcome.machine c.in_ok-outcome.ensures.ran
+    (g.W.Out.taken c.args.out.now) (g.W.Out.taken c.show_outcome.new.out) (g.E.Out.taken c.args.err.now) (g.E.Out.taken c.show_outcome.new.err) (g.E.Out.taken c.show_last.new.err) c.in_ok-status.status _
+    c.in_ok-status.ensures.whole c.in_ok-show_last.ensures.whole

@@ -3,7 +3,6 @@ use Rattle.acceptance.proofs.SourceLemmas.{handed_on, on_err}
 use Rattle.source_runs.specs.shared_machine.Histories.{events_of}
 use Rattle.source_runs.specs.shared_machine.Work.{HasEnded}
 use Rattle.driver.specs.Outcomes.{HasNotRunThreads}
-use Rattle.driver.specs.Stops.{stop_of}
 use Rattle.driver.proofs.Refusals.{not_run}
 use Rattle.driver.proofs.WorkerLemmas.{all_numbered, has_run_threads, some_record, threads_in_part, threads_then_in_part}
 use Rattle.driver.proofs.running_threads.show_threads.Goals as goal
@@ -30,21 +29,21 @@ returns-in_err-status-clause-in_part g c =
     let outcome = c.in_ok-outcome.outcome in
     let h = outcome.history.entries in
     let ran = c.in_ok-outcome.ensures in
-    let ended : outcome.is_out_of_memory ≡ false → HasEnded (stop_of c.args.stop_at) outcome.machine outcome.stopped = λ whole. subst (λ s. HasEnded s outcome.machine outcome.stopped) c.stop_of.ensures (ran.ended whole) in
+    let ended : outcome.is_out_of_memory ≡ false → HasEnded c.args.stop_at outcome.machine outcome.stopped = ran.ended in
     let (made, is_record) = some_record c.args.is_recorded (events_of h) in
     on_err c.from_residual-in_err-status.result
-    (inr (threads_in_part c.args.source.now c.args.limits c.args.workers.count c.args.stop_at c.args.is_recorded c.args.explain outcome.is_out_of_memory h outcome.machine made ran.ran ran.own outcome.stopped ended is_record
-    (g.W.Out.taken c.args.out.now) (g.W.Out.taken c.show.new.out) (g.E.Out.taken c.args.err.now) (g.E.Out.taken c.show.new.err) c.in_err-status.ensures.cut))
+    (inr (threads_in_part c.args.source.now c.args.limits c.args.workers.count c.args.stop_at c.args.is_recorded c.args.explain c.args.stats outcome.is_out_of_memory h outcome.machine made ran.ran ran.own outcome.stopped ended is_record
+    (g.W.Out.taken c.args.out.now) (g.W.Out.taken c.show_outcome.new.out) (g.E.Out.taken c.args.err.now) (g.E.Out.taken c.show_outcome.new.err) c.in_err-status.ensures.cut))
 
 pub returns-clause-in_part : goal.returns-clause-in_part
 returns-clause-in_part g c =
     let outcome = c.in_ok-outcome.outcome in
     let h = outcome.history.entries in
     let ran = c.in_ok-outcome.ensures in
-    let ended : outcome.is_out_of_memory ≡ false → HasEnded (stop_of c.args.stop_at) outcome.machine outcome.stopped = λ whole. subst (λ s. HasEnded s outcome.machine outcome.stopped) c.stop_of.ensures (ran.ended whole) in
+    let ended : outcome.is_out_of_memory ≡ false → HasEnded c.args.stop_at outcome.machine outcome.stopped = ran.ended in
     let is_record = c.keep-record.ensures.same c.args.is_recorded (events_of h) c.record_of.ensures in
-    inr (threads_then_in_part c.args.source.now c.args.limits c.args.workers.count c.args.stop_at c.args.is_recorded c.args.explain outcome.is_out_of_memory h outcome.machine c.keep-record.result ran.ran ran.own outcome.stopped ended is_record
-    (g.W.Out.taken c.args.out.now) (g.W.Out.taken c.show.new.out) (g.E.Out.taken c.args.err.now) (g.E.Out.taken c.show.new.err) (g.E.Out.taken c.report_record.new.err) c.in_ok-status.status c.in_ok-status.ensures.whole c.in-Err.ensures.cut)
+    inr (threads_then_in_part c.args.source.now c.args.limits c.args.workers.count c.args.stop_at c.args.is_recorded c.args.explain c.args.stats outcome.is_out_of_memory h outcome.machine c.keep-record.result ran.ran ran.own outcome.stopped ended is_record
+    (g.W.Out.taken c.args.out.now) (g.W.Out.taken c.show_outcome.new.out) (g.E.Out.taken c.args.err.now) (g.E.Out.taken c.show_outcome.new.err) (g.E.Out.taken c.show_last_of_workers.new.err) c.in_ok-status.status c.in_ok-status.ensures.whole c.in-Err.ensures.cut)
 
 -- ---- all is written
 
@@ -53,8 +52,8 @@ returns-in-Ok-clause-done g c =
     let outcome = c.in_ok-outcome.outcome in
     let h = outcome.history.entries in
     let ran = c.in_ok-outcome.ensures in
-    let ended : outcome.is_out_of_memory ≡ false → HasEnded (stop_of c.args.stop_at) outcome.machine outcome.stopped = λ whole. subst (λ s. HasEnded s outcome.machine outcome.stopped) c.stop_of.ensures (ran.ended whole) in
+    let ended : outcome.is_out_of_memory ≡ false → HasEnded c.args.stop_at outcome.machine outcome.stopped = ran.ended in
     let is_record = c.keep-record.ensures.same c.args.is_recorded (events_of h) c.record_of.ensures in
-    has_run_threads c.args.source.now c.args.limits c.args.workers.count c.args.stop_at c.args.is_recorded c.args.explain outcome.is_out_of_memory h outcome.machine c.keep-record.result ran.ran ran.own outcome.stopped ended is_record
-    (g.W.Out.taken c.args.out.now) (g.W.Out.taken c.show.new.out) (g.E.Out.taken c.args.err.now) (g.E.Out.taken c.show.new.err) (g.E.Out.taken c.report_record.new.err)
+    has_run_threads c.args.source.now c.args.limits c.args.workers.count c.args.stop_at c.args.is_recorded c.args.explain c.args.stats outcome.is_out_of_memory h outcome.machine c.keep-record.result ran.ran ran.own outcome.stopped ended is_record
+    (g.W.Out.taken c.args.out.now) (g.W.Out.taken c.show_outcome.new.out) (g.E.Out.taken c.args.err.now) (g.E.Out.taken c.show_outcome.new.err) (g.E.Out.taken c.show_last_of_workers.new.err)
     c.args.kept.now.items c.keep-record.new.kept.items c.in_ok-status.status c.in-Ok.status c.in_ok-status.ensures.whole c.keep-record.ensures.after c.in-Ok.ensures.whole

@@ -1,0 +1,46 @@
+-- What a run shows: what its machine shows, and what explains how threads ended.
+use Rattle.std.proofs.Common.{◌++◌, ℕ, Bool, List, append_assoc, inr, map, refl, subst}
+use Rattle.std.specs.List.{zip}
+use Rattle.cil_model.specs.declared.events.Event.{Event}
+use Rattle.cil_model.specs.declared.limits.Limits.{Limits}
+use Rattle.cil_model.specs.declared.reports.Report.{Report}
+use Rattle.outputs.specs.Taken.{Fails, Taken, Takes}
+use Rattle.outputs.proofs.TakenLaws.{fails_second, takes_both}
+use Rattle.source_runs.specs.simulation.MachineContents.{Content}
+use Rattle.source_runs.specs.simulation.threads_monitors.Threads.{end_of}
+use Rattle.driver.specs.Outcomes.{IsEndText, IsMachineShown, IsMachineShownInPart, IsRunShown, IsRunShownInPart}
+use Rattle.driver.specs.Threads.{lines_from}
+use Rattle.driver.proofs.OutcomeLemmas.{live_text}
+
+module _ (explain : Bool) (source : List ℕ) (limits : Limits) (events : List Event) (reports : List Report) (c : Content) (out out' err : Taken) where
+  -- a write of what the machine shows failed
+  pub cut_run : (err' : Taken) → IsMachineShownInPart explain c out out' err err' → IsRunShownInPart explain source limits events reports c out out' err err'
+  cut_run err' (live, explains, cut) = (live, live_text explain explain source limits (zip events reports) c live explains, cut)
+
+  -- all that the machine shows is written, and nothing more
+  pub live_run : (err' : Taken) (status : ℕ) → IsMachineShown explain c out out' err err' status → IsRunShown explain source limits events reports c out out' err err' status
+  live_run err' status (live, explains, shown) = (live, live_text explain explain source limits (zip events reports) c live explains, shown)
+
+  -- what explains how threads ended is written too
+  pub whole_run : (between err' : Taken) (status : ℕ) → IsMachineShown explain c out out' err between status
+      → (ended : List ℕ) × IsEndText explain source limits (zip events reports) ended × Takes between err' ended → IsRunShown explain source limits events reports c out out' err err' status
+  whole_run between err' status (live, explains, shown) (ended, is_end, taken) =
+      let lines = lines_from 0 (map end_of c.threads) in (
+        live ++ ended,
+        (live, ended, explains, is_end, refl),
+        record {
+          output = shown.output;
+          errors = subst (Takes err err') (append_assoc lines live ended) (takes_both err between err' (lines ++ live) ended shown.errors taken);
+          status_is = shown.status_is;
+        },
+      )
+
+  -- a write of that failed
+  pub ends_cut : (between err' : Taken) (status : ℕ) → IsMachineShown explain c out out' err between status
+      → (ended : List ℕ) × IsEndText explain source limits (zip events reports) ended × Fails between err' ended → IsRunShownInPart explain source limits events reports c out out' err err'
+  ends_cut between err' status (live, explains, shown) (ended, is_end, cut) =
+      let lines = lines_from 0 (map end_of c.threads) in (
+        live ++ ended,
+        (live, ended, explains, is_end, refl),
+        inr (shown.output, subst (Fails err err') (append_assoc lines live ended) (fails_second err between err' (lines ++ live) ended shown.errors cut)),
+      )

@@ -1,0 +1,129 @@
+//! Explores all schedules of a source, and prints what it finds.
+
+ghost use Rattle.std.specs.Prelude.{◌≡◌, ◌⊎◌, [], IfErr, IfOk, OnErr, option_map, string_bytes, true};
+ghost use Rattle.std.specs.List.{list_all, list_any};
+ghost use Rattle.std.specs.Str.{bytes_eq};
+ghost use Rattle.acceptance.specs.Failures.{is_refusal};
+ghost use Rattle.acceptance.specs.Sources.{IsNotRun};
+ghost use Rattle.acceptance.specs.declared.failure.Failure.TheVariants.{Device as DeviceFailure};
+ghost use Rattle.outputs.specs.Taken.{HasGrown};
+ghost use Rattle.driver.specs.Explorations.{HasExplored, IsExploredInPart, IsSaved, first_other, has_deadlock, is_other, status_of_exploration};
+ghost use Rattle.driver.specs.Outcomes.{HasNotExplored};
+
+use crate::outcome_texts::text_of;
+use crate::showing::{are_all_done, is_some_live};
+use acceptance::Failure;
+use cil_model::limits::Limits;
+use cil_model::memory::NoMemory;
+use orders::{Extent, Goal};
+use outcome_search::{Bounds, Exploration, Found, explore};
+use outcome_text::schedule_text;
+use outputs::Out;
+use std::alloc::Global;
+
+/// Explores all schedules of a source, prints its outcomes, puts the schedule of the first fault, deadlock or other output after the bytes that are kept
+/// if that is asked for, and returns the status. A failed write leaves the bytes that are kept as they were.
+pub(crate) fn show_exploration<W: Out>(
+    alloc: Global,
+    source: &[u8],
+    limits: Limits,
+    extent: Extent,
+    is_saved: bool,
+    explain: bool,
+    out: &mut W,
+    kept: &mut Vec<u8>,
+) -> Result<u8, Failure>
+    ensures done { IfOk result (HasExplored source.now limits extent is_saved explain (W.taken out.old) (W.taken out.new) kept.old.items kept.new.items) }
+    ensures failed { IfErr result (HasNotExplored source.now limits) }
+    ensures same { OnErr result (kept.new.items ≡ kept.old.items) }
+    ensures untouched { IfErr result (λ failure. is_refusal failure ≡ true → W.taken out.new ≡ W.taken out.old) }
+    ensures device { IfErr result (λ failure. failure ≡ DeviceFailure → HasGrown (W.taken out.old).failures (W.taken out.new).failures) }
+    ensures in_part { OnErr result ((W.taken out.new ≡ W.taken out.old)
+        ⊎ IsExploredInPart source.now limits extent explain (W.taken out.old) (W.taken out.new)) }
+{
+    let exploration = explore(alloc, source, limits, bounds_of(extent))?;
+    let text = text_of(alloc, source, limits, extent, explain, &exploration)?;
+    let schedule = saved_schedule(alloc, is_saved, &exploration.found)?;
+    let before = kept.len();
+    kept.extend_from_slice(schedule.as_bytes())?;
+    match out.write_whole(text.as_bytes()) {
+        Ok(()) => Ok(status_of(exploration.is_complete, &exploration.found)),
+        Err(device) => {
+            kept.truncate(before);
+            Err(Failure::from(device))
+        }
+    }
+}
+
+/// The schedule that is to be saved; empty if that is not asked for, or all outcomes are alike.
+fn saved_schedule(alloc: Global, is_saved: bool, found: &[Found]) -> Result<String, NoMemory>
+    ensures { IfOk result (λ text. IsSaved is_saved found.now (string_bytes text)) }
+{
+    if !is_saved {
+        return Ok(String::new(alloc));
+    }
+    match first_other(found) {
+        Some(other) => schedule_text(alloc, &other.events),
+        None => Ok(String::new(alloc)),
+    }
+}
+
+/// The first outcome in which a thread is blocked or ended early, or whose printed bytes are not those of the first outcome. None if there is none.
+fn first_other(found: &[Found]) -> Option<&Found>
+    ensures { option_map (λ other. other.now) result ≡ first_other found.now }
+{
+    let first = found.first()?;
+    for index in 0..found.len() {
+        if is_other(&first.printed, &found[index]) {
+            return Some(&found[index]);
+        }
+    }
+    None
+}
+
+/// Whether a thread of an outcome is blocked or ended early, or its printed bytes are not these.
+fn is_other(printed: &[u8], found: &Found) -> bool
+    ensures { result ≡ is_other printed.now found.now }
+{
+    !are_all_done(&found.ends) || *printed != *found.printed.as_slice()
+}
+
+/// The bounds of a search, by what the command says.
+fn bounds_of(extent: Extent) -> Bounds {
+    Bounds {
+        states: extent.states as usize,
+        preemptions: extent.preemptions.map(|most| most as usize),
+        until: extent.until.map(goal_of),
+    }
+}
+
+/// The outcome at which a search stops, by what the command says.
+fn goal_of(goal: Goal) -> outcome_search::Goal {
+    match goal {
+        Goal::Fault => outcome_search::Goal::Fault,
+        Goal::Deadlock => outcome_search::Goal::Deadlock,
+        Goal::Output => outcome_search::Goal::Output,
+    }
+}
+
+/// The status of an exploration.
+fn status_of(is_complete: bool, found: &[Found]) -> u8
+    ensures { result ≡ status_of_exploration is_complete found.now }
+{
+    if has_deadlock(found) {
+        4
+    } else if first_other(found).is_some() {
+        3
+    } else if is_complete {
+        0
+    } else {
+        6
+    }
+}
+
+/// Whether a thread is blocked in some outcome.
+fn has_deadlock(found: &[Found]) -> bool
+    ensures { result ≡ list_any has_deadlock found.now }
+{
+    found.iter().any(|found| is_some_live(&found.ends))
+}

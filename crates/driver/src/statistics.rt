@@ -1,0 +1,68 @@
+//! The numbers of a run, after all else that it prints.
+
+ghost use Rattle.std.specs.Prelude.{◌≡◌, ◌++◌, IfOk, OnErr, OnOk};
+ghost use Rattle.outputs.specs.Taken.{Fails, Takes};
+ghost use Rattle.source_runs.specs.shared_machine.Histories.{events_of, reports_of};
+ghost use Rattle.driver.specs.Outcomes.{status_after, stop_text};
+ghost use Rattle.driver.specs.Records.{is_short, status_with, too_long_text};
+ghost use Rattle.driver.specs.Statistics.{stats_text};
+
+use crate::recording::{Record, report_record};
+use crate::showing::show_stop;
+use outputs::{Device, Out};
+use run_statistics::write_statistics;
+use source_runs::Outcome;
+
+/// Prints what comes last of a run by a schedule, and returns its status, which is this one where the run was not stopped: that memory ran
+/// out, where it did, and the numbers of the run, where they are asked for. It takes no memory.
+pub(crate) fn show_last<E: Out>(
+    stats: bool,
+    outcome: &Outcome,
+    status: u8,
+    err: &mut E,
+) -> Result<u8, Device>
+    ensures whole { IfOk result (λ after. (after ≡ status_after outcome.now.is_out_of_memory status)
+        × Takes (E.taken err.old) (E.taken err.new) (stop_text outcome.now.is_out_of_memory
+        ++ stats_text stats (events_of outcome.now.history.entries) (reports_of outcome.now.history.entries) outcome.now.machine)) }
+    ensures cut { OnErr result (Fails (E.taken err.old) (E.taken err.new) (stop_text outcome.now.is_out_of_memory
+        ++ stats_text stats (events_of outcome.now.history.entries) (reports_of outcome.now.history.entries) outcome.now.machine)) }
+{
+    let status = show_stop(outcome.is_out_of_memory, status, err)?;
+    show_statistics(stats, outcome, err)?;
+    Ok(status)
+}
+
+/// Prints what comes last of a run by workers, and returns its status, which is this one where it was not stopped and has a record: what
+/// `report_record` reports, and the numbers of the run, where they are asked for. It takes no memory.
+pub(crate) fn show_last_of_workers<E: Out>(
+    record: &Record,
+    stats: bool,
+    outcome: &Outcome,
+    status: u8,
+    err: &mut E,
+) -> Result<u8, Device>
+    ensures whole { IfOk result (λ after. let short = is_short outcome.now.is_out_of_memory «record».now in
+        (after ≡ status_after short (status_with «record».now status))
+        × Takes (E.taken err.old) (E.taken err.new) (too_long_text «record».now ++ stop_text short
+        ++ stats_text stats (events_of outcome.now.history.entries) (reports_of outcome.now.history.entries) outcome.now.machine)) }
+    ensures cut { OnErr result (Fails (E.taken err.old) (E.taken err.new)
+        (too_long_text «record».now ++ stop_text (is_short outcome.now.is_out_of_memory «record».now)
+        ++ stats_text stats (events_of outcome.now.history.entries) (reports_of outcome.now.history.entries) outcome.now.machine)) }
+{
+    let status = report_record(record, outcome.is_out_of_memory, status, err)?;
+    show_statistics(stats, outcome, err)?;
+    Ok(status)
+}
+
+/// Prints the numbers of a run, where they are asked for. It takes no memory.
+fn show_statistics<E: Out>(stats: bool, outcome: &Outcome, err: &mut E) -> Result<(), Device>
+    ensures whole { OnOk result (Takes (E.taken err.old) (E.taken err.new)
+        (stats_text stats (events_of outcome.now.history.entries) (reports_of outcome.now.history.entries) outcome.now.machine)) }
+    ensures cut { OnErr result (Fails (E.taken err.old) (E.taken err.new)
+        (stats_text stats (events_of outcome.now.history.entries) (reports_of outcome.now.history.entries) outcome.now.machine)) }
+{
+    if !stats {
+        return Ok(());
+    }
+    write_statistics(outcome, err)
+}
