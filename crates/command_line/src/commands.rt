@@ -358,7 +358,7 @@ fn explore_command<'a>(alloc: Global) -> Result<Command<'a>, AllocError>
         alloc,
         "explore",
         "Finds every outcome of a source over all schedules",
-        "A program with threads can end in several ways, depending on which thread happens to go first. 'explore' tries all schedules, and prints each outcome with the schedule that has the fewest preemptions, and of those the fewest steps, for 'cilvm replay'. If the last line says 'of all schedules', it is proved that no schedule ends in any other way, whatever the collector does, as long as no thread uses up its budget and none is refused memory.\n\nThe status is 0 if in each outcome all threads are done and the output is the same, 3 if in some outcome a thread ended by a fault or the output differs, 4 if some schedule deadlocks, and 6 if none of these was found, but the search stopped before it had found all outcomes.\n\nExample:\n  cilvm explore examples/deadlock.il",
+        "A program with threads can end in several ways, depending on which thread happens to go first. 'explore' tries all schedules, and prints each outcome with the schedule that has the fewest preemptions, and of those the fewest steps, for 'cilvm replay'. If the last line says 'of all schedules', it is proved that no schedule ends in any other way, whatever the collector does, as long as no thread uses up its budget.\n\nThe status is 0 if in each outcome all threads are done and the output is the same, 3 if in some outcome a thread ended by a fault or the output differs, 4 if some schedule deadlocks, and 6 if none of these was found, but the search stopped before it had found all outcomes.\n\nExample:\n  cilvm explore examples/deadlock.il",
     );
     let states = limit_option(
         alloc,

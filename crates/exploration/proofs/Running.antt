@@ -1,12 +1,15 @@
 -- A run from a content that a closed list covers.
-use Rattle.std.proofs.Common.{◌≡◌, ◌⊎◌, ℕ, Bool, true, false, List, [], ◌∷◌, Option, Some, None, option_map, option_and_then, length, slice_get, refl, inl, inr, sym, ap, ◌∙◌, subst, arith}
+use Rattle.std.proofs.Common.{◌≡◌, ◌⊎◌, ◌≢◌, IsTrue, ℕ, Bool, true, false, List, [], ◌∷◌, Option, Some, None, option_map, option_and_then, length, slice_get, refl, inl, inr, sym, ap, ◌∙◌, subst, arith}
 use Rattle.std.specs.List.{zip}
 use Rattle.std.proofs.lemmas.Option.{same_Some}
 use Rattle.simulation.specs.cil_model.Bodies.{entry_points}
+use Rattle.simulation.specs.cil_model.Ranges.{are_in_range}
+use Rattle.simulation.specs.cil_model.Typings.{IsAccepted}
 use Rattle.simulation.specs.cil_model.declared.trees.Method.{Method}
 use Rattle.simulation.specs.cil_model.declared.types.ClassName.{ClassName}
 use Rattle.simulation.specs.loaded_program.MethodNumbers.{number_of}
-use Rattle.simulation.specs.Runs.{AreSteps, AreTurns, IsRunOf}
+use Rattle.simulation.specs.Rooms.{ExceedsRoom}
+use Rattle.simulation.specs.Runs.{AreSteps, AreTurns, IsRunOf, RefusesBeyondRoom}
 use Rattle.simulation.proofs.cil_model.Lists.{none_is_some}
 use Rattle.simulation.specs.cil_model.declared.events.Event.{Event}
 use Rattle.simulation.specs.cil_model.declared.events.Event.TheVariants.{Step, Ack, Gc}
@@ -15,6 +18,7 @@ use Rattle.simulation.specs.cil_model.declared.reports.End.TheVariants.{Budget}
 use Rattle.simulation.specs.cil_model.declared.reports.Report.{Report}
 use Rattle.simulation.specs.cil_model.declared.reports.Report.TheVariants.{Absent, Ran, Ended as HasEnded}
 use Rattle.simulation.specs.cil_model.declared.trees.Tree.{Tree}
+use Rattle.simulation.specs.reference_machine.Rooms.{ExceedsRoom as ExceedsOneSpace, words_of_all}
 use Rattle.simulation.specs.reference_machine.Runs.{RunsTo, is_refusal, opening, run, step_reports, thread_part}
 use Rattle.simulation.specs.reference_machine.States.{State}
 use Rattle.simulation.specs.reference_machine.Steps.{Answers, step}
@@ -25,7 +29,9 @@ use Rattle.simulation.specs.Turns.{IsTurn, content_at, opening_content}
 use Rattle.simulation.proofs.reference_machine.RunLaws.{first_of, same_state}
 use Rattle.simulation.proofs.Finished.{same_program}
 use Rattle.simulation.proofs.OneTurn.{one_turn}
-use Rattle.simulation.proofs.Whole.{step_is_followed}
+use Rattle.simulation.proofs.BornWords.{AreWithin, IsWithinBirths, acknowledgement_granted, acknowledgement_within, collection_granted, collection_within, exceeds_one_space, opened_within, step_within}
+use Rattle.simulation.proofs.StepRuns.{HasWhole, beyond_own, opened_whole, whole_stepped}
+use Rattle.simulation.proofs.Whole.{acknowledgement_keeps, collection_keeps, each_alike, step_is_refused}
 use Rattle.exploration.specs.Behind.{IsBehind}
 use Rattle.exploration.specs.Searches.{AreOrdinary, IsClosed, IsCovered, IsSeen, KeepBudgets, LeadsInto}
 use Rattle.exploration.proofs.Covering.{covered_more, one_covers}
@@ -43,7 +49,7 @@ tail_of : (a b : Report) (as' bs : List Report) → a ∷ as' ≡ b ∷ bs → a
 tail_of a b as' bs e = cc
 
 module _ (known : Content → Type 0) (closed : IsClosed known) where
-  -- a step of a covered machine that uses up no budget and is refused nothing
+  -- a step of a covered machine: it uses up the budget or leads to a covered one, and is refused nothing
   record IsNext (c : Content) (t : ℕ) : Type 0 where
     pub after : Content
     pub report : Report
@@ -70,33 +76,110 @@ module _ (known : Content → Type 0) (closed : IsClosed known) where
           by_step leads after q turn (inr (inr both)) =
               record { after = after; report = q; turn = turn; over = inr (covered_more known after leads.next both.1 leads.covered); granted = ap is_refusal both.0 ∙ leads.granted }
 
-  pub runs_are_seen : (tree : Tree) (limits : Limits) (last : State) (events : List Event) (reports : List Report) → length reports ≡ length events → (c : Content) (s : State) → c.tree ≡ tree → c.limits ≡ limits →
-      Represents c s → IsCovered known c → run tree limits s (thread_part (zip events reports)) ≡ RunsTo (step_reports (zip events reports)) last → AreOrdinary reports → IsSeen tree limits known last
-  runs_are_seen tree limits last [] rs each c s program within represents covered comes ordinary =
-      record { content = c; program = program; within = within; represents = subst (Represents c) (same_state [] [] s last comes) represents; covered = covered }
-  runs_are_seen tree limits last (e ∷ es) [] each c s program within represents covered comes ordinary = absurd (omega (arith, each))
-  runs_are_seen tree limits last (Ack t ∷ es) (r ∷ rs) each c s program within represents covered comes ordinary =
-      runs_are_seen tree limits last es rs (omega (arith, each)) c s program within represents covered comes ordinary.2
-  runs_are_seen tree limits last (Gc ∷ es) (r ∷ rs) each c s program within represents covered comes ordinary =
-      runs_are_seen tree limits last es rs (omega (arith, each)) c s program within represents covered comes ordinary.2
-  runs_are_seen tree limits last (Step t ∷ es) (r ∷ rs) each c s program within represents covered comes ordinary =
-      let first = first_of tree limits s (t, is_refusal r) (thread_part (zip es rs)) (r ∷ step_reports (zip es rs)) last comes in
-      let next : IsNext c t = next_of c covered t in
-      let follows = step_is_followed c s represents t (next.after, next.report) next.turn in
-      let reports : r ≡ first.report = head_of r first.report (step_reports (zip es rs)) first.later first.are in
-      let rest : step_reports (zip es rs) ≡ first.later = tail_of r first.report (step_reports (zip es rs)) first.later first.are in
-      let granted : step c.tree c.limits s t false ≡ Answers next.report follows.0 = ap (step c.tree c.limits s t) (sym next.granted) ∙ follows.1 in
-      let here : step tree limits s t false ≡ Answers next.report follows.0 = ap (λ p. step p limits s t false) (sym program) ∙ (ap (λ l. step c.tree l s t false) (sym within) ∙ granted) in
-      let asked : step tree limits s t false ≡ Answers first.report first.after = ap (step tree limits s t) (sym ordinary.1) ∙ first.answers in
-      let same = same_answer next.report first.report follows.0 first.after (sym here ∙ asked) in
-      let kept = same_program c (next.after, next.report) (Step t) next.turn in
-      by_budget next.after next.report next.over (reports ∙ sym same.0) (λ covered'.
-      runs_are_seen tree limits last es rs (omega (arith, each)) next.after first.after (kept.0 ∙ program) (kept.1 ∙ within) (subst (Represents next.after) same.1 follows.2) covered'
-      (first.runs ∙ ap (λ l. RunsTo l last) (sym rest)) ordinary.2)
-    where
-      by_budget : (after : Content) (q : Report) → (q ≡ HasEnded Budget) ⊎ IsCovered known after → r ≡ q → (IsCovered known after → IsSeen tree limits known last) → IsSeen tree limits known last
-      by_budget after q (inl over) same go = absurd (ordinary.0 (same ∙ over))
-      by_budget after q (inr covered') same go = go covered'
+  -- a step that uses up no budget leads to a covered content
+  still : (d : Content) (q : Report) → (q ≡ HasEnded Budget) ⊎ IsCovered known d → ((q ≡ HasEnded Budget) → ⊥) → IsCovered known d
+  still d q (inl over) not = absurd (not over)
+  still d q (inr covered') not = covered'
+
+  -- ---- a run
+
+  module _ (tree : Tree) (limits : Limits) where
+    -- a machine that collects nothing is at a covered content
+    record IsAlone (c : Content) (s : State) : Type 0 where
+      pub program : c.tree ≡ tree
+      pub within : c.limits ≡ limits
+      pub whole : HasWhole each_alike c s
+      pub covered : IsCovered known c
+
+    -- a machine with a collector is at the same state
+    record IsBeside (d : Content) (s : State) : Type 0 where
+      pub program : d.tree ≡ tree
+      pub within : d.limits ≡ limits
+      pub represents : Represents d s
+      pub births : IsWithinBirths d s
+
+    beside_next : (d next : Content) (s : State) → (next.tree ≡ d.tree) × (next.limits ≡ d.limits) → (d.tree ≡ tree) × (d.limits ≡ limits) → Represents next s → AreWithin d.limits.words (words_of_all d.tree s.objects) next.objects.spaces → IsBeside next s
+    beside_next d next s same of represents births = record {
+      program = same.0 ∙ of.0;
+      within = same.1 ∙ of.1;
+      represents = represents;
+      births = subst (λ (l : Limits). AreWithin l.words (words_of_all next.tree s.objects) next.objects.spaces) (sym same.1) (subst (λ (u : Tree). AreWithin d.limits.words (words_of_all u s.objects) next.objects.spaces) (sym same.0) births);
+    }
+
+    -- what the machine that collects nothing is granted, the other one is granted too
+    granted_beside : (c d : Content) (s : State) (t : ℕ) (r : Report) → IsAlone c s → IsBeside d s → (IsTrue (is_refusal r) → ExceedsRoom d s t) → (next : Content × Report) → IsTurn c (Step t) next → is_refusal next.1 ≡ false → is_refusal r ≡ false
+    granted_beside c d s t r alone beside refused next turn granted = by_refusal (is_refusal r) refl
+      where
+        by_refusal : (b : Bool) → is_refusal r ≡ b → is_refusal r ≡ false
+        by_refusal false is = is
+        by_refusal true is =
+            let one : ExceedsOneSpace d.tree d.limits s t = exceeds_one_space d s beside.represents beside.births t (refused is) in
+            let here : ExceedsOneSpace c.tree c.limits s t =
+            subst (λ (u : Tree). ExceedsOneSpace u c.limits s t) (beside.program ∙ sym alone.program) (subst (λ (l : Limits). ExceedsOneSpace d.tree l s t) (beside.within ∙ sym alone.within) one) in
+            let is_refused : is_refusal next.1 ≡ true = (step_is_refused c s alone.whole.represents t next turn).1 (beyond_own each_alike c s alone.whole t here) in
+            let no : false ≡ true = sym granted ∙ is_refused in
+            absurd (cc no)
+
+    -- the two machines after a step with this report
+    record AreNext (r : Report) (after : State) (next : Content) : Type 0 where
+      pub content : Content
+      pub granted : is_refusal r ≡ false
+      pub alone : IsAlone content after
+      pub beside : IsBeside next after
+
+    step_beside : (c d : Content) (s : State) (t : ℕ) (r : Report) (after : State) → IsAlone c s → IsBeside d s → step tree limits s t (is_refusal r) ≡ Answers r after → r ≢ HasEnded Budget →
+        (next : Content) → IsTurn d (Step t) (next, r) → (IsTrue (is_refusal r) → ExceedsRoom d s t) → AreNext r after next
+    step_beside c d s t r after alone beside answers lasts next turn refused =
+        let own : IsNext c t = next_of c alone.covered t in
+        let stepped = whole_stepped each_alike c s alone.whole t (own.after, own.report) own.turn in
+        let none : is_refusal r ≡ false = granted_beside c d s t r alone beside refused (own.after, own.report) own.turn own.granted in
+        let asked : step tree limits s t false ≡ Answers r after = ap (step tree limits s t) (sym none) ∙ answers in
+        let here : step tree limits s t false ≡ Answers own.report stepped.0 =
+        ap (λ (u : Tree). step u limits s t false) (sym alone.program) ∙ (ap (λ (l : Limits). step c.tree l s t false) (sym alone.within) ∙ (ap (step c.tree c.limits s t) (sym own.granted) ∙ stepped.1)) in
+        let same = same_answer own.report r stepped.0 after (sym here ∙ asked) in
+        let kept = same_program c (own.after, own.report) (Step t) own.turn in
+        let other = step_within each_alike d s beside.represents t (next, r) turn beside.births in
+        let there : step tree limits s t (is_refusal r) ≡ Answers r other.0 =
+        ap (λ (u : Tree). step u limits s t (is_refusal r)) (sym beside.program) ∙ (ap (λ (l : Limits). step d.tree l s t (is_refusal r)) (sym beside.within) ∙ other.1) in
+        let state : other.0 ≡ after = (same_answer r r other.0 after (sym there ∙ answers)).1 in
+        record {
+          content = own.after;
+          granted = none;
+          alone = record {
+            program = kept.0 ∙ alone.program;
+            within = kept.1 ∙ alone.within;
+            whole = subst (HasWhole each_alike own.after) same.1 stepped.2;
+            covered = still own.after own.report own.over (λ over. lasts (sym same.0 ∙ over));
+          };
+          beside = subst (IsBeside next) state (beside_next d next other.0 (same_program d (next, r) (Step t) turn) (beside.program, beside.within) other.2 other.3);
+        }
+
+    runs_are_seen : (last : State) (events : List Event) (reports : List Report) → length reports ≡ length events → (c : Content) (s : State) → IsAlone c s → (d end : Content) → IsBeside d s → RefusesBeyondRoom d s (zip events reports) end →
+        run tree limits s (thread_part (zip events reports)) ≡ RunsTo (step_reports (zip events reports)) last → KeepBudgets reports → IsSeen tree limits known last × AreOrdinary reports
+    runs_are_seen last [] [] each c s alone d end beside refuses comes keep =
+        (record { content = c; program = alone.program; within = alone.within; represents = subst (Represents c) (same_state [] [] s last comes) alone.whole.represents; covered = alone.covered }, tt)
+    runs_are_seen last [] (r ∷ rs) each c s alone d end beside refuses comes keep = absurd (omega (arith, each))
+    runs_are_seen last (e ∷ es) [] each c s alone d end beside refuses comes keep = absurd (omega (arith, each))
+    runs_are_seen last (Ack t ∷ es) (r ∷ rs) each c s alone d end beside (next, turn, any, later) comes keep =
+        let kept = acknowledgement_keeps d s beside.represents t (next, r) turn in
+        let births = acknowledgement_within d s t beside.births (next, r) turn in
+        let seen = runs_are_seen last es rs (omega (arith, each)) c s alone next end (beside_next d next s (same_program d (next, r) (Ack t) turn) (beside.program, beside.within) kept births) (later s refl) comes keep.1 in
+        (seen.0, (keep.0, acknowledgement_granted d t (next, r) turn, seen.1))
+    runs_are_seen last (Gc ∷ es) (r ∷ rs) each c s alone d end beside (next, turn, any, later) comes keep =
+        let kept = collection_keeps d s beside.represents (next, r) turn in
+        let births = collection_within d s beside.represents beside.births (next, r) turn in
+        let seen = runs_are_seen last es rs (omega (arith, each)) c s alone next end (beside_next d next s (same_program d (next, r) Gc turn) (beside.program, beside.within) kept births) (later s refl) comes keep.1 in
+        (seen.0, (keep.0, collection_granted d (next, r) turn, seen.1))
+    runs_are_seen last (Step t ∷ es) (r ∷ rs) each c s alone d end beside (next, turn, refused, later) comes keep =
+        let first = first_of tree limits s (t, is_refusal r) (thread_part (zip es rs)) (r ∷ step_reports (zip es rs)) last comes in
+        let reports : r ≡ first.report = head_of r first.report (step_reports (zip es rs)) first.later first.are in
+        let rest : step_reports (zip es rs) ≡ first.later = tail_of r first.report (step_reports (zip es rs)) first.later first.are in
+        let answers : step tree limits s t (is_refusal r) ≡ Answers r first.after = first.answers ∙ ap (λ q. Answers q first.after) (sym reports) in
+        let there : step d.tree d.limits s t (is_refusal r) ≡ Answers r first.after =
+        ap (λ (u : Tree). step u d.limits s t (is_refusal r)) beside.program ∙ (ap (λ (l : Limits). step tree l s t (is_refusal r)) beside.within ∙ answers) in
+        let both : AreNext r first.after next = step_beside c d s t r first.after alone beside answers keep.0 next turn refused.0 in
+        let seen = runs_are_seen last es rs (omega (arith, each)) both.content first.after both.alone next end both.beside (later first.after there) (first.runs ∙ ap (λ l. RunsTo l last) (sym rest)) keep.1 in
+        (seen.0, (keep.0, both.granted, seen.1))
 
   -- ---- the turns of steps alone
 
@@ -115,10 +198,6 @@ module _ (known : Content → Type 0) (closed : IsClosed known) where
       let program = same_program c (turns.0, r) (Step t) turns.1 in
       let later = steps_are_covered es steps turns.0 (subst IsOneOperation (sym program.0) one) (subst (IsCovered known) contents (still next.after next.report next.over (λ over. keep.0 (sym reports ∙ over)))) after rs turns.2 keep.1 in
       (later.0, (keep.0, sym (ap is_refusal reports) ∙ next.granted, later.1))
-    where
-      still : (d : Content) (q : Report) → (q ≡ HasEnded Budget) ⊎ IsCovered known d → ((q ≡ HasEnded Budget) → ⊥) → IsCovered known d
-      still d q (inl over) not = absurd (not over)
-      still d q (inr covered') not = covered'
 
 -- ---- from the opening on
 
@@ -137,9 +216,15 @@ module _ (tree : Tree) (limits : Limits) where
       by_entry (Some entry) h = by_number entry (number_of tree entry) h
 
   pub opened_runs_are_seen : (known : Content → Type 0) → IsClosed known → (c : Content) (s : State) → opening_content tree limits ≡ Some c → opening tree limits ≡ Some s → Represents c s → IsCovered known c →
-      (events : List Event) (reports : List Report) (last : State) → IsRunOf tree limits events reports last → AreOrdinary reports → IsSeen tree limits known last
-  opened_runs_are_seen known closed c s opened begins represents covered events reports last is ordinary =
+      (events : List Event) (reports : List Report) (last : State) → IsRunOf tree limits events reports last → KeepBudgets reports → IsSeen tree limits known last × AreOrdinary reports
+  opened_runs_are_seen known closed c s opened begins represents covered events reports last is keep =
       let of = opened_of c opened in
-      let same : is.first ≡ s = same_Some is.first s (sym is.begins ∙ begins) in
-      runs_are_seen known closed tree limits last events reports is.each c s of.0 of.1 represents covered
-      (ap (λ u. run tree limits u (thread_part (zip events reports))) (sym same) ∙ is.comes) ordinary
+      let machine : is.machine ≡ c = same_Some is.machine c (sym is.opened ∙ opened) in
+      let state : is.first ≡ s = same_Some is.first s (sym is.begins ∙ begins) in
+      let accepted : IsAccepted tree = subst IsAccepted of.0 represents.accepted in
+      let in_range : IsTrue (are_in_range limits) = subst (λ (l : Limits). IsTrue (are_in_range l)) of.1 represents.limits in
+      runs_are_seen known closed tree limits last events reports is.each c s
+      (record { program = of.0; within = of.1; whole = opened_whole tree limits each_alike accepted in_range c opened s begins; covered = covered })
+      c is.last (record { program = of.0; within = of.1; represents = represents; births = opened_within tree limits c opened s })
+      (subst (λ (x : Content). RefusesBeyondRoom x s (zip events reports) is.last) machine (subst (λ (u : State). RefusesBeyondRoom is.machine u (zip events reports) is.last) state is.refuses))
+      (ap (λ u. run tree limits u (thread_part (zip events reports))) (sym state) ∙ is.comes) keep

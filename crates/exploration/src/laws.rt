@@ -30,10 +30,10 @@ pub fn a_machine_behind_stays_behind()
 {}
 
 /// If a closed set covers the initial content, it covers the final state of each run, with any events of a collector: a machine that is behind a content of the set represents
-/// that state. This holds up to the first step that uses up a budget or is refused memory.
+/// that state, and no step was refused memory. This holds up to the first step that uses up a budget.
 pub fn a_closed_set_covers_all_runs()
     ensures { (tree : Tree) (limits : Limits) (first : Content) (paths : List (List Event)) → IsClosed (IsLedTo first paths) → (s : State) → opening_content tree limits ≡ Some first → opening tree limits ≡ Some s → Represents first s → IsCovered (IsLedTo first paths) first →
-        (events : List Event) (reports : List Report) (last : State) → IsRunOf tree limits events reports last → AreOrdinary reports → IsSeen tree limits (IsLedTo first paths) last }
+        (events : List Event) (reports : List Report) (last : State) → IsRunOf tree limits events reports last → KeepBudgets reports → IsSeen tree limits (IsLedTo first paths) last × AreOrdinary reports }
 {}
 
 /// A state that a closed set covers has the outcome of a content of the set: the same printed bytes, and the same end of each thread. If no thread can make a step in that
@@ -56,10 +56,10 @@ pub fn steps_alone_stay_covered()
         (events : List Event) → AreSteps events → (after : Content) (reports : List Report) → AreTurns first events after reports → KeepBudgets reports → IsCovered (IsLedTo first paths) after × AreOrdinary reports }
 {}
 
-/// If each content of a closed set in which no thread can make a step shows one of these outcomes, each run that is over has one of them, with any events of a collector: up to
-/// the first step that uses up a budget or is refused memory.
+/// If each content of a closed set in which no thread can make a step shows one of these outcomes, each run that is over has one of them, with any events of a collector, if no
+/// thread used up its budget.
 pub fn no_outcome_is_missing()
     ensures { (tree : Tree) (limits : Limits) (first : Content) (paths : List (List Event)) → IsClosed (IsLedTo first paths) → (s : State) → opening_content tree limits ≡ Some first → opening tree limits ≡ Some s → Represents first s → IsCovered (IsLedTo first paths) first →
         (outcomes : List Outcome) → ShowOnly (IsLedTo first paths) outcomes →
-        (events : List Event) (reports : List Report) (last : State) → IsRunOf tree limits events reports last → AreOrdinary reports → IsOver tree limits last → Contains outcomes (outcome_of last) }
+        (events : List Event) (reports : List Report) (last : State) → IsRunOf tree limits events reports last → KeepBudgets reports → IsOver tree limits last → Contains outcomes (outcome_of last) }
 {}

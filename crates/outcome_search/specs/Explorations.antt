@@ -6,7 +6,7 @@ use Rattle.cil_model.specs.declared.reports.Report.{Report}
 use Rattle.cil_model.specs.declared.trees.Tree.{Tree}
 use Rattle.acceptance.specs.Sources.{HasRunTo, IsAcceptedSource}
 use Rattle.exploration.specs.Paths.{IsComplete, outcome_found}
-use Rattle.exploration.specs.Searches.{AreOrdinary}
+use Rattle.exploration.specs.Searches.{KeepBudgets}
 use Rattle.exploration.specs.Shown.{IsOver, IsTerminal, Outcome, outcome_of, outcome_shown}
 use Rattle.exploration.specs.declared.findings.Found.{Found}
 use Rattle.exploration.specs.simulation.MachineContents.{Content}
@@ -17,11 +17,11 @@ use Rattle.exploration.specs.simulation.reference_machine.States.{State}
 abbrev pub IsOutcomeList : Content → List Outcome → Type 0
 IsOutcomeList first outcomes = (paths : List (List Event)) × IsComplete first paths outcomes
 
--- Each run of the program, with any events of the collector, in which no thread uses up its budget and none is refused memory, has one of these outcomes once no thread can make
--- a step: each has ended or is blocked.
+-- Each run of the program, with any events of the collector, in which no thread uses up its budget, has one of these outcomes once no thread can make a step: each has ended or is
+-- blocked.
 abbrev pub HasAllOutcomes : List ℕ → Limits → List Outcome → Type 0
 HasAllOutcomes source limits outcomes =
-    (tree : Tree) → IsAcceptedSource source tree → (events : List Event) (reports : List Report) (s : State) → IsRunOf tree limits events reports s → AreOrdinary reports → IsOver tree limits s → Contains outcomes (outcome_of s)
+    (tree : Tree) → IsAcceptedSource source tree → (events : List Event) (reports : List Report) (s : State) → IsRunOf tree limits events reports s → KeepBudgets reports → IsOver tree limits s → Contains outcomes (outcome_of s)
 
 -- no thread can make a step, and the machine shows the outcome
 pub record IsEnd (content : Content) (found : Found) : Type 0 where

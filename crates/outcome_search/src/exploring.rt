@@ -36,8 +36,8 @@ pub struct Exploration {
 /// Finds every outcome of a source over all schedules. Each outcome is that of a run by the events of its schedule, after which no thread can make a step: each has ended or is
 /// blocked.
 ///
-/// If `is_complete` is true, there are no others: every run in which no thread uses up its budget and none is refused memory, with any events of the collector, has one of these
-/// outcomes once no thread can make a step.
+/// If `is_complete` is true, there are no others: every run in which no thread uses up its budget, with any events of the collector, has one of these outcomes once no thread can
+/// make a step.
 ///
 /// Faults are looked for in this order: the source (as `accept` does), the limits (`OutOfRange(401)`); `Memory` if memory runs out.
 pub fn explore(

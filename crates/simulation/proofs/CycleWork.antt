@@ -19,7 +19,7 @@ use Rattle.interpreter.specs.cil_model.Bodies.{entry_points}
 use Rattle.interpreter.specs.cil_model.Fields.{FieldKey, static_fields}
 use Rattle.interpreter.specs.cil_model.Ranges.{are_in_range}
 use Rattle.interpreter.specs.cil_model.Typings.{IsAccepted}
-use Rattle.interpreter.specs.reference_machine.Cycles.{Space, ends_cycle, larger_words, most_working, work_of, work_of_newest, work_since, working_in_cycle}
+use Rattle.interpreter.specs.reference_machine.Cycles.{Space, ends_cycle, larger_words, work_of, work_of_newest, work_since}
 use Rattle.interpreter.specs.reference_machine.States.{State}
 use Rattle.interpreter.specs.reference_machine.Values.{Value as StateValue}
 use Rattle.interpreter.specs.reference_machine.TypedStates.{HaveFieldTypes}

@@ -130,7 +130,7 @@ pub mod Whole
 pub mod OneRun
 pub mod LocalTurns
 pub mod OtherThreads
-mod StepRuns
+pub mod StepRuns
 mod KeptPosts
 mod NextWords
 pub mod CycleWork
@@ -139,3 +139,4 @@ mod OwedStates
 pub mod OpenCycles
 mod OwedCycles
 pub mod OwedRuns
+pub mod BornWords

@@ -1,5 +1,5 @@
 -- Local instructions on the top frame of a live thread are steps of the thread, which report Ran, whatever else the machine holds.
-use Rattle.std.proofs.Common.{◌≡◌, ◌<◌, ◌+◌, ◌-◌, ◌==◌, if◌then◌else◌, ℕ, zero, suc, Bool, true, false, List, [], ◌∷◌, ◌++◌, Option, Some, None, slice_get, slice_set, replicate, refl, sym, ap, ◌∙◌, subst, arith}
+use Rattle.std.proofs.Common.{◌≡◌, ◌<◌, ◌-◌, ◌==◌, if◌then◌else◌, ℕ, zero, suc, Bool, false, List, [], ◌∷◌, ◌++◌, Some, None, slice_set, replicate, refl, sym, ap, ◌∙◌, subst, arith}
 use Rattle.std.proofs.lemmas.Bool.Decides.{nat_tests}
 use Rattle.interpreter.specs.cil_model.declared.events.Event.{Event}
 use Rattle.interpreter.specs.cil_model.declared.events.Event.TheVariants.{Step}
@@ -20,7 +20,7 @@ use Rattle.simulation.specs.Runs.{AreTurns}
 use Rattle.simulation.specs.StandsFor.{Represents}
 use Rattle.simulation.specs.Turns.{IsThreadTurn, IsTurn, finished, left_by, live_thread, seats_after}
 use Rattle.simulation.proofs.Whole.{step_is_followed, thread_is_ready}
-use Rattle.interpreter.proofs.cil_model.Lists.{none_is_some, set_is_there, set_itself}
+use Rattle.interpreter.proofs.cil_model.Lists.{set_is_there, set_itself}
 
 -- one place set twice
 pub set_twice : {X : Type 0} (xs : List X) (n : ℕ) (x y : X) → slice_set (slice_set xs n x) n y ≡ slice_set xs n y

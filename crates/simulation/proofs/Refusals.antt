@@ -39,10 +39,10 @@ use Rattle.simulation.proofs.Mutators.{own_model, own_names, own_phase_is}
 
 -- ---- a test of room
 
-beyond : (words left : ℕ) → left < words → (if nat_le words left then false else true) ≡ true
+pub beyond : (words left : ℕ) → left < words → (if nat_le words left then false else true) ≡ true
 beyond words left h = let test : nat_le words left ≡ false = grind (arith, nat_tests) in ap (λ b. if b then false else true) test
 
-is_beyond : (words left : ℕ) → (if nat_le words left then false else true) ≡ true → left < words
+pub is_beyond : (words left : ℕ) → (if nat_le words left then false else true) ≡ true → left < words
 is_beyond words left h = by_test (nat_le words left) refl h
   where
     by_test : (b : Bool) → nat_le words left ≡ b → (if b then false else true) ≡ true → left < words

@@ -1,6 +1,7 @@
 -- The memory of a thread with its room for births: whatever it is a memory of else, that room and the words of all objects are together as many as where
--- it began, since stores keep both, and a birth takes of the room what its object has; and until Allocate is posted no more is left to mark.
-use Rattle.std.proofs.Common.{◌≡◌, ◌+◌, ℕ, true, replicate, List, Option, Some, None, refl, sym, ap, ◌∙◌, arith}
+-- it began, since stores keep both, and a birth takes of the room what its object has; no block has more words in use more than the objects have; and until
+-- Allocate is posted no more is left to mark.
+use Rattle.std.proofs.Common.{◌≡◌, ◌≤◌, ◌+◌, ℕ, true, replicate, List, Option, Some, None, refl, sym, ap, ◌∙◌, arith}
 use Rattle.std.proofs.lemmas.List.{length-replicate}
 use Rattle.std.proofs.lemmas.List.Sums.{sum_by_push}
 use Rattle.std.proofs.lemmas.Option.{same_Some}
@@ -12,9 +13,9 @@ use Rattle.interpreter.specs.reference_machine.States.{Contents, Free as IsFree,
 use Rattle.interpreter.specs.object_memory.declared.addresses.Addr.{Addr}
 use Rattle.interpreter.specs.object_memory.declared.kinds.Kind.{Kind}
 use Rattle.interpreter.specs.object_memory.declared.values.Value.{Value}
-use Rattle.interpreter.specs.object_memory.Cells.{Cell, size, store_monitor, store_slot}
+use Rattle.interpreter.specs.object_memory.Cells.{Cell, size, store_monitor, store_slot, used_words}
 use Rattle.interpreter.specs.object_memory.Objects.{Objects, object_cell}
-use Rattle.interpreter.specs.object_memory.Spaces.{room_for}
+use Rattle.interpreter.specs.object_memory.Spaces.{Spaces, room_for}
 use Rattle.interpreter.specs.object_memory.Values.{value_word}
 use Rattle.interpreter.specs.instructions.barriers.Barriers.{object_born, stored_int, stored_monitor, stored_static, stored_value}
 use Rattle.interpreter.proofs.object_memory.TwoBlocks.{slot_keeps}
@@ -25,19 +26,31 @@ use Rattle.simulation.proofs.MarkingLeft.{LeavesNoMore, leaves_itself, leaves_th
 use Rattle.simulation.proofs.MarkingStores.{birth_leaves, monitor_leaves, static_leaves, value_leaves, word_leaves}
 use Rattle.simulation.proofs.MemoryModels.{IsBirth, MemoryModel}
 use Rattle.simulation.proofs.Rooms.{cell_size, contents_size, words_stay}
-use Rattle.simulation.proofs.UsedWords.{AreAsLarge, UsesAsMuch, as_large, birth_large, birth_takes, large_then, monitor_uses, room_stays, static_uses, uses_itself, value_uses, word_uses}
+use Rattle.simulation.proofs.UsedWords.{AreAsLarge, UsesAsMuch, as_large, birth_adds, birth_large, birth_takes, large_then, monitor_uses, room_stays, static_uses, uses_itself, value_uses, word_uses}
+
+-- from these spaces to others each block gets at most as many words in use more as the objects have words more
+pub record AddsNoMore (m n : Spaces) (words words' : ℕ) : Type 0 where
+  pub old : used_words n.old.cells + words ≤ used_words m.old.cells + words'
+  pub new : used_words n.new.cells + words ≤ used_words m.new.cells + words'
+
+adds_as_much : (used was start words words' began : ℕ) → used ≡ was → words' ≡ words → was + began ≤ start + words → used + began ≤ start + words'
+adds_as_much used was start words words' began same as_many before = omega arith
+
+adds_birth : (used was taken more start words words' began : ℕ) → used ≤ was + taken → taken ≡ more → words' ≡ words + more → was + began ≤ start + words → used + began ≤ start + words'
+adds_birth used was taken more start words words' began birth cell more_words before = omega arith
 
 -- from one heap with its objects to another, the room for births in a phase and the words of all objects stay together as many, and in the phases
--- before there are copies no more is left to mark; each block stays as large
+-- before there are copies no more is left to mark; each block stays as large, and gets no more words in use than the objects get
 pub record KeepsRoom (tree : Tree) (own : Phase) (o o' : Objects) (objects objects' : List HeapObject) : Type 0 where
   pub together : room_for own o'.spaces + words_of_all tree objects' ≡ room_for own o.spaces + words_of_all tree objects
   pub marking : is_before_copies own ≡ true → LeavesNoMore o.spaces o'.spaces
   pub large : AreAsLarge o.spaces o'.spaces
+  pub used : AddsNoMore o.spaces o'.spaces (words_of_all tree objects) (words_of_all tree objects')
 
 module _ (tree : Tree) (own : Phase) (start : Objects) (first : List HeapObject) where
   -- they do at first,
   pub keeps_itself : KeepsRoom tree own start start first first
-  keeps_itself = record { together = refl; marking = λ early. leaves_itself start.spaces; large = record { old = refl; new = refl } }
+  keeps_itself = record { together = refl; marking = λ early. leaves_itself start.spaces; large = record { old = refl; new = refl }; used = record { old = omega arith; new = omega arith } }
 
   -- and where as many words are used, the objects have as many, and no more is left to mark
   pub keeps_more : (o o' : Objects) (objects objects' : List HeapObject) → UsesAsMuch o.spaces o'.spaces → (is_before_copies own ≡ true → LeavesNoMore o.spaces o'.spaces) → words_of_all tree objects' ≡ words_of_all tree objects →
@@ -46,6 +59,10 @@ module _ (tree : Tree) (own : Phase) (start : Objects) (first : List HeapObject)
     together = ap (λ n. n + words_of_all tree objects') (room_stays own o.spaces o'.spaces same) ∙ ap (λ n. room_for own o.spaces + n) words ∙ keeps.together;
     marking = λ early. leaves_then start.spaces o.spaces o'.spaces (keeps.marking early) (leaves early);
     large = large_then start.spaces o.spaces o'.spaces keeps.large (as_large o.spaces o'.spaces same);
+    used = record {
+      old = adds_as_much (used_words o'.spaces.old.cells) (used_words o.spaces.old.cells) (used_words start.spaces.old.cells) (words_of_all tree objects) (words_of_all tree objects') (words_of_all tree first) same.old words keeps.used.old;
+      new = adds_as_much (used_words o'.spaces.new.cells) (used_words o.spaces.new.cells) (used_words start.spaces.new.cells) (words_of_all tree objects) (words_of_all tree objects') (words_of_all tree first) same.new words keeps.used.new;
+    };
   }
 
 module _ (tree : Tree) (base : MemoryModel tree) (start : Objects) (first : List HeapObject) where
@@ -70,7 +87,7 @@ module _ (tree : Tree) (base : MemoryModel tree) (start : Objects) (first : List
       (born : Objects) (a : Addr) → ◌≡◌ {A = Objects × Option Addr} (object_born base.phase o k count) (born, Some a) → IsBirth FitsInRoom name ss s contents born a
   born_in_room name o ss s h k count contents stands born a e =
       let b = base.births name o ss s h.fits k count contents stands born a e in
-      record { names = b.names; extends = b.extends; named = b.named; fits = record { fits = b.fits; room = record { together = together; marking = marking; large = large_then start.spaces o.spaces born.spaces h.room.large (birth_large base.phase o k count born a e) } } }
+      record { names = b.names; extends = b.extends; named = b.named; fits = record { fits = b.fits; room = record { together = together; marking = marking; large = large_then start.spaces o.spaces born.spaces h.room.large (birth_large base.phase o k count born a e); used = used } } }
     where
       own : 3 + count ≡ cell_words tree contents
       own = ap (λ n. 3 + n) (sym (length-replicate {A = ℕ} count 0)) ∙ contents_size tree name k (replicate count 0) contents None (stands name)
@@ -87,6 +104,16 @@ module _ (tree : Tree) (base : MemoryModel tree) (start : Objects) (first : List
       together : room_for base.phase born.spaces + words_of_all tree (with_state_birth s contents).objects ≡ room_for base.phase start.spaces + words_of_all tree first
       together = added (room_for base.phase born.spaces) (3 + count) (room_for base.phase o.spaces) (words_of_all tree s.objects) (cell_words tree contents) (words_of_all tree (with_state_birth s contents).objects) (room_for base.phase start.spaces + words_of_all tree first)
           (birth_takes base.phase o k count born a e) own all h.room.together
+
+      used : AddsNoMore start.spaces born.spaces (words_of_all tree first) (words_of_all tree (with_state_birth s contents).objects)
+      used =
+          let adds = birth_adds base.phase o k count born a e in
+          record {
+            old = adds_birth (used_words born.spaces.old.cells) (used_words o.spaces.old.cells) (3 + count) (cell_words tree contents) (used_words start.spaces.old.cells) (words_of_all tree s.objects) (words_of_all tree (with_state_birth s contents).objects)
+                (words_of_all tree first) adds.old own all h.room.used.old;
+            new = adds_birth (used_words born.spaces.new.cells) (used_words o.spaces.new.cells) (3 + count) (cell_words tree contents) (used_words start.spaces.new.cells) (words_of_all tree s.objects) (words_of_all tree (with_state_birth s contents).objects)
+                (words_of_all tree first) adds.new own all h.room.used.new;
+          }
 
   unfoldable pub in_room : MemoryModel tree
   in_room = record {

@@ -23,11 +23,11 @@ module _ (o : Objects) where
   newer opened = if opened then Some (record { words = o.spaces.new.words; used = used_words o.spaces.new.cells }) else None
 
   -- it is the second block while a cycle is open,
-  open_room : o.spaces.is_open ≡ true → new_room (spaces_of o) ≡ free_words o.spaces.new
+  pub open_room : o.spaces.is_open ≡ true → new_room (spaces_of o) ≡ free_words o.spaces.new
   open_room opened = ap (λ t. space_room (unwrap_or (newer t) (spaces_of o).old)) opened
 
   -- and else the only one
-  closed_room : o.spaces.is_open ≡ false → new_room (spaces_of o) ≡ free_words o.spaces.old
+  pub closed_room : o.spaces.is_open ≡ false → new_room (spaces_of o) ≡ free_words o.spaces.old
   closed_room closed = ap (λ t. space_room (unwrap_or (newer t) (spaces_of o).old)) closed
 
 -- ---- the room

@@ -45,7 +45,7 @@ use Rattle.simulation.proofs.Steps.{step_follows}
 -- ---- seats
 
 -- each live thread is between cycles
-abbrev AreBetween : Handshakes → Type 0
+abbrev pub AreBetween : Handshakes → Type 0
 AreBetween h = (t : ℕ) (s : Seat) → seat_of h t ≡ Some s → s.phase ≡ Idle
 
 -- they stay so where a seat is one that is between, or none
@@ -101,10 +101,10 @@ what_is_left left all words e = omega (arith, e)
 
 module _ (each : InstructionsAreAlike) where
   -- a run from here on may have all words that the objects of the state have not
-  record HasWhole (c : Content) (s : State) : Type 0 where
-    represents : Represents c s
-    between : AreBetween c.posts
-    whole : room_for Idle c.objects.spaces + words_of_all c.tree s.objects ≡ c.limits.words
+  pub record HasWhole (c : Content) (s : State) : Type 0 where
+    pub represents : Represents c s
+    pub between : AreBetween c.posts
+    pub whole : room_for Idle c.objects.spaces + words_of_all c.tree s.objects ≡ c.limits.words
 
   module _ (c : Content) (s : State) (h : HasWhole c s) (t : ℕ) where
     -- the room of the machine is that of one space
@@ -123,7 +123,7 @@ module _ (each : InstructionsAreAlike) where
       exceeds = subst (λ n. IsTrue (if nat_le (cell_words c.tree x.object.contents) n then false else true)) same_room x.exceeds;
     }
 
-    beyond_own : ExceedsOneSpace c.tree c.limits s t → ExceedsRoom c s t
+    pub beyond_own : ExceedsOneSpace c.tree c.limits s t → ExceedsRoom c s t
     beyond_own x = record {
       report = x.report;
       after = x.after;
@@ -134,7 +134,7 @@ module _ (each : InstructionsAreAlike) where
     }
 
     -- it stays so after a step
-    whole_stepped : (after : Content × Report) → IsTurn c (Step t) after → (s' : State) × (step c.tree c.limits s t (is_refusal after.1) ≡ Answers after.1 s') × HasWhole after.0 s'
+    pub whole_stepped : (after : Content × Report) → IsTurn c (Step t) after → (s' : State) × (step c.tree c.limits s t (is_refusal after.1) ≡ Answers after.1 s') × HasWhole after.0 s'
     whole_stepped after turn =
         let follows = step_follows each c s h.represents t after turn in
         let same = same_program c after (Step t) turn in
@@ -212,17 +212,28 @@ module _ (tree : Tree) (limits : Limits) where
       by_entry (Some entry) h = by_code entry (code_of entry.1.kind) h
 
   module _ (each : InstructionsAreAlike) (accepted : IsAccepted tree) (in_range : IsTrue (are_in_range limits)) where
+    -- before its first event a machine has all words of its limits
+    pub opened_whole : (machine : Content) → opening_content tree limits ≡ Some machine → (first : State) → opening tree limits ≡ Some first → HasWhole each machine first
+    opened_whole machine opens first begins =
+        let opened = opening_represents tree limits accepted in_range in
+        let content : opened.0 ≡ machine = same_Some opened.0 machine (sym opened.2 ∙ opens) in
+        let state : opened.1 ≡ first = same_Some opened.1 first (sym opened.3 ∙ begins) in
+        let is_first = opened_first machine opens in
+        let none : words_of_all machine.tree first.objects ≡ 0 = ap (words_of_all machine.tree) (opens_empty first begins) in
+        record {
+          represents = subst (λ (c : Content). Represents c first) content (subst (λ (x : State). Represents opened.0 x) state opened.4);
+          between = is_first.between;
+          whole = all_left is_first.room none (ap (λ (l : Limits). l.words) is_first.limits_are);
+        }
+      where
+        all_left : {left words all own : ℕ} → left ≡ words → all ≡ 0 → own ≡ words → left + all ≡ own
+        all_left e f g = omega (arith, e, f, g)
+
     -- a run of steps is one of a machine that has one space and collects nothing
     pub steps_refuse : (events : List Event) (reports : List Report) (s : State) → AreSteps events → IsRunOf tree limits events reports s → IsStateAfter tree limits (zip events reports) s
     steps_refuse events reports s steps h =
-        let opened = opening_represents tree limits accepted in_range in
-        let content : opened.0 ≡ h.machine = same_Some opened.0 h.machine (sym opened.2 ∙ h.opened) in
-        let state : opened.1 ≡ h.first = same_Some opened.1 h.first (sym opened.3 ∙ h.begins) in
-        let represents : Represents h.machine h.first = subst (λ (c : Content). Represents c h.first) content (subst (λ (x : State). Represents opened.0 x) state opened.4) in
         let first = opened_first h.machine h.opened in
-        let none : words_of_all h.machine.tree h.first.objects ≡ 0 = ap (words_of_all h.machine.tree) (opens_empty h.first h.begins) in
-        let whole : HasWhole each h.machine h.first =
-        record { represents = represents; between = first.between; whole = all_left first.room none (ap (λ (l : Limits). l.words) first.limits_are) } in
+        let whole : HasWhole each h.machine h.first = opened_whole h.machine h.opened h.first h.begins in
         let refuses = one_space each events reports steps h.machine h.first h.last whole h.refuses in
         record {
           first = h.first;
@@ -230,6 +241,3 @@ module _ (tree : Tree) (limits : Limits) where
           comes = h.comes;
           refuses = subst (λ (l : Limits). RefusesBeyondOneSpace tree l h.first (thread_part (zip events reports))) first.limits_are (subst (λ (u : Tree). RefusesBeyondOneSpace u h.machine.limits h.first (thread_part (zip events reports))) first.tree_is refuses);
         }
-      where
-        all_left : {left words all own : ℕ} → left ≡ words → all ≡ 0 → own ≡ words → left + all ≡ own
-        all_left e f g = omega (arith, e, f, g)

@@ -42,14 +42,14 @@ large_then m n l f g = record { old = g.old ∙ f.old; new = g.new ∙ f.new }
 pub uses_itself : (m : Spaces) → UsesAsMuch m m
 uses_itself m = record { old = refl; new = refl; old_words = refl; new_words = refl; held = refl }
 
-uses_then : (m n l : Spaces) → UsesAsMuch m n → UsesAsMuch n l → UsesAsMuch m l
+pub uses_then : (m n l : Spaces) → UsesAsMuch m n → UsesAsMuch n l → UsesAsMuch m l
 uses_then m n l f g = record { old = g.old ∙ f.old; new = g.new ∙ f.new; old_words = g.old_words ∙ f.old_words; new_words = g.new_words ∙ f.new_words; held = g.held ∙ f.held }
 
 -- ---- changes that keep sizes
 
 module _ (f : Cell → Cell) (keeps : (c : Cell) → size (f c) ≡ size c) where
   -- of a cell, where there is one
-  change_uses : (m : Spaces) (a : Addr) → UsesAsMuch m (change_at f m a)
+  pub change_uses : (m : Spaces) (a : Addr) → UsesAsMuch m (change_at f m a)
   change_uses m a = record { old = used_in f keeps m.old a; new = used_in f keeps m.new a; old_words = refl; new_words = refl; held = refl }
 
   change_if_uses : (m : Spaces) (x : Option Addr) → UsesAsMuch m (change_if f m x)
@@ -200,6 +200,27 @@ born_large InNew m k n = record { old = refl; new = refl }
 
 pub birth_large : (own : Phase) (o : Objects) (k : Kind) (count : ℕ) (o' : Objects) (a : Addr) → ◌≡◌ {A = Objects × Option Addr} (object_born own o k count) (o', Some a) → AreAsLarge o.spaces o'.spaces
 birth_large own o k count o' a e = subst (λ (x : Objects). AreAsLarge o.spaces x.spaces) (granted own o k count o' a e).1 (born_large (place_of own o.spaces.is_open) o.spaces k count)
+
+-- no block has more words in use than before and these
+pub record AddsAtMost (words : ℕ) (m n : Spaces) : Type 0 where
+  pub old : used_words n.old.cells ≤ used_words m.old.cells + words
+  pub new : used_words n.new.cells ≤ used_words m.new.cells + words
+
+empty_adds : (s : Cells) (k : Kind) (n : ℕ) (marked : Bool) (other : Option Addr) → used_words (with_last s (empty_cell k n marked other)).cells ≤ used_words s.cells + (3 + n)
+empty_adds s k n marked other =
+    let same : size (empty_cell k n marked other) ≡ 3 + n = size-empty k n marked other in
+    omega (arith, used_last s (empty_cell k n marked other), same)
+
+place_adds : (place : Place) (m : Spaces) (k : Kind) (n : ℕ) → AddsAtMost (3 + n) m (born place m k n)
+place_adds InOld m k n = record { old = empty_adds m.old k n false None; new = omega arith }
+place_adds Listed m k n = record { old = empty_adds m.old k n true None; new = omega arith }
+place_adds InBoth m k n = record { old = empty_adds m.old k n true (Some (next_address m.new)); new = empty_adds m.new k n true (Some (next_address m.old)) }
+place_adds InNew m k n = record { old = omega arith; new = empty_adds m.new k n false None }
+
+-- a birth adds no more than its object's words to a block, in each phase
+pub birth_adds : (own : Phase) (o : Objects) (k : Kind) (count : ℕ) (o' : Objects) (a : Addr) → ◌≡◌ {A = Objects × Option Addr} (object_born own o k count) (o', Some a) → AddsAtMost (3 + count) o.spaces o'.spaces
+birth_adds own o k count o' a e =
+    subst (λ (x : Objects). AddsAtMost (3 + count) o.spaces x.spaces) (granted own o k count o' a e).1 (place_adds (place_of own o.spaces.is_open) o.spaces k count)
 
 -- a birth takes its object's words of the thread's room, in each phase
 pub birth_takes : (own : Phase) (o : Objects) (k : Kind) (count : ℕ) (o' : Objects) (a : Addr) → ◌≡◌ {A = Objects × Option Addr} (object_born own o k count) (o', Some a) → room_for own o'.spaces + (3 + count) ≡ room_for own o.spaces

@@ -4,6 +4,6 @@ use Rattle.exploration.specs.Searches.{IsLedTo}
 use Rattle.exploration.proofs.laws.no_outcome_is_missing.Goals as goal
 
 pub returns : goal.returns
-returns c tree limits first paths closed s opened begins represents covered outcomes only events reports last is ordinary over =
+returns c tree limits first paths closed s opened begins represents covered outcomes only events reports last is keep over =
     let known = IsLedTo first paths in
-    outcome_listed tree limits known closed last (opened_runs_are_seen tree limits known closed first s opened begins represents covered events reports last is ordinary) outcomes only over
+    outcome_listed tree limits known closed last (opened_runs_are_seen tree limits known closed first s opened begins represents covered events reports last is keep).0 outcomes only over

@@ -39,13 +39,13 @@ pub returns-clause-accepted : goal.returns-clause-accepted
 returns-clause-accepted c = let made = c.in_ok-machine.ensures.made in (made.tree, made.is_accepted)
 
 pub returns-clause-complete : goal.returns-clause-complete
-returns-clause-complete c = λ known tree accepted events reports s run ordinary over.
+returns-clause-complete c = λ known tree accepted events reports s run keep over.
     let made = c.in_ok-machine.ensures.made in
     let same : tree ≡ made.tree = same_tree tree made.tree (c.answers_are_unique.ensures c.args.source.now (HasTree tree) (HasTree made.tree) accepted.read made.is_accepted.read) in
     let all = c.in_ok-explore_machines.ensures.complete known in
     let represents = made.opened.represents in
     c.no_outcome_is_missing.ensures made.tree c.args.limits c.in_ok-machine.machine all.0 all.1.closed represents.0 made.opened.begins represents.1 represents.2 all.1.begins
-    _ all.1.only events reports s (subst (λ (t : Tree). IsRunOf t c.args.limits events reports s) same run) ordinary (subst (λ (t : Tree). IsOver t c.args.limits s) same over)
+    _ all.1.only events reports s (subst (λ (t : Tree). IsRunOf t c.args.limits events reports s) same run) keep (subst (λ (t : Tree). IsOver t c.args.limits s) same over)
 
 pub returns-clause-real : goal.returns-clause-real
 returns-clause-real c = λ n f at.
