@@ -55,13 +55,13 @@ use Rattle.interleaving_core.specs.Waits.{HasObject, action_at, called_member}
 -- ---- what an instruction calls
 
 -- a call, with what runs for it; or an instruction that calls no built-in member that acts
-data Calls (tree : Tree) : Instruction → Operation → Type 0 where
+pub data Calls (tree : Tree) : Instruction → Operation → Type 0 where
   plainly : (flag : Bool) (r : MethodReference) (owner : ℕ) (method : MemberNumber) → IsMethod tree flag r method → Calls tree (Named.Call flag r) (Resolved.Call flag owner method)
   virtually : (c : ClassName) (name : List ℕ) (signature : Signature) (owner : ℕ) (method : MemberNumber) → IsMethod tree true (virtual_reference c name signature) method →
       Calls tree (Named.CallVirtual c name signature) (Resolved.CallVirtual owner method)
   nothing : (i : Instruction) (op : Operation) → called_action tree i ≡ None → called_member op ≡ None → Calls tree i op
 
-calls_of : (tree : Tree) (lines : List Line) (i : Instruction) (op : Operation) → IsOperation tree lines i op → Calls tree i op
+pub calls_of : (tree : Tree) (lines : List Line) (i : Instruction) (op : Operation) → IsOperation tree lines i op → Calls tree i op
 calls_of tree lines _ _ no_operation = nothing _ _ refl refl
 calls_of tree lines _ _ (load_int32 z) = nothing _ _ refl refl
 calls_of tree lines _ _ (load_int64 z) = nothing _ _ refl refl
@@ -109,7 +109,7 @@ module _ (tree : Tree) (m : Frames) (op : Operation) (at : IsAt tree m op) where
   line_is : line_at tree m ≡ Some at.line
   line_is = ap (option_and_then (λ (x : ClassName × Method). slice_get (lines_of x.1) m.running.place)) at.found_is ∙ at.line_is
 
-  action_is : action_at tree m ≡ called_action tree at.line.instruction
+  pub action_is : action_at tree m ≡ called_action tree at.line.instruction
   action_is = ap (option_and_then (λ (l : Line). called_action tree l.instruction)) line_is
 
   -- where the instruction is no call there is none

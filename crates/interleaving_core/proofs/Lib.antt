@@ -17,6 +17,7 @@ pub mod Collecting
 pub mod Requests
 pub mod Ends
 pub mod AwaitedObjects
+pub mod Printing
 pub mod AddressWalks
 pub mod Doing
 pub mod LocalRuns

@@ -8,6 +8,7 @@ pub mod Statics
 pub mod Positions
 pub mod Waits
 pub mod Monitors
+pub mod Prints
 pub mod Forwards
 pub mod Histories
 pub mod Loans

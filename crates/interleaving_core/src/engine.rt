@@ -19,6 +19,7 @@ ghost use Rattle.simulation.specs.Turns.{IsTurn, TakesMemory, answered, counted,
 ghost use Rattle.interleaving_core.specs.Views.{CanGoOn, content_of, end_at};
 ghost use Rattle.interleaving_core.specs.Monitors.{next_monitor};
 ghost use Rattle.interleaving_core.specs.Positions.{position_at};
+ghost use Rattle.interleaving_core.specs.Prints.{next_print};
 ghost use Rattle.interleaving_core.specs.Waits.{wait_at};
 ghost use Rattle.interleaving_core.specs.Finishing.{IsInstructed};
 
@@ -27,6 +28,7 @@ use crate::cycle_memory::CycleMemory;
 use crate::monitors::monitor_in;
 use crate::openings::{opening_parts, reset_heap};
 use crate::positions::{Position, position_in};
+use crate::prints::print_length_in;
 use crate::steps::{answer, instruct, leave_if_ended, seat_started};
 use crate::waits::{Wait, wait_in};
 use cil_model::events::Event;
@@ -275,6 +277,31 @@ impl Engine {
         match &self.thread(thread)?.standing {
             Standing::Live(frames) => monitor_in(&self.program, frames),
             Standing::Ended(_) => None,
+        }
+    }
+
+    /// How many bytes an event prints.
+    pub fn print_length(&self, event: Event) -> usize
+        requires ready { CanGoOn self.now }
+        ensures { result ≡ length (next_print (content_of self.now) event) }
+    {
+        match event {
+            Event::Step(number) => self.thread_print_length(number),
+            Event::Ack(_) | Event::Gc => 0,
+        }
+    }
+
+    /// How many bytes the next step of the thread prints. 0 where it has ended or was never started.
+    fn thread_print_length(&self, number: u8) -> usize
+        requires ready { CanGoOn self.now }
+        ensures { result ≡ length (next_print (content_of self.now) (StepOf number)) }
+    {
+        let Some(thread) = self.thread(number) else {
+            return 0;
+        };
+        match &thread.standing {
+            Standing::Live(frames) => print_length_in(&self.program, frames),
+            Standing::Ended(_) => 0,
         }
     }
 

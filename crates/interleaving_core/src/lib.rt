@@ -17,6 +17,7 @@ mod machine;
 mod monitors;
 mod openings;
 mod positions;
+mod prints;
 mod steps;
 mod waits;
 

@@ -15,6 +15,7 @@ ghost use Rattle.interleaving_core.specs.Histories.{DoesMore, HasDone};
 ghost use Rattle.interleaving_core.specs.Monitors.{next_monitor};
 ghost use Rattle.interleaving_core.specs.Views.{end_at, phase_at};
 ghost use Rattle.interleaving_core.specs.Positions.{position_at};
+ghost use Rattle.interleaving_core.specs.Prints.{next_print};
 ghost use Rattle.interleaving_core.specs.Waits.{wait_at};
 ghost use Rattle.interleaving_core.specs.Alike.{AreAlike};
 ghost use Rattle.simulation.specs.StandsFor.{Represents};
@@ -26,7 +27,9 @@ ghost use Rattle.cil_model.specs.declared.events.Event.TheVariants.{Step as Step
 ghost use Rattle.cil_model.specs.declared.phases.Phase.TheVariants.{Copy as CopyOf};
 ghost use Rattle.cil_model.specs.declared.reports.Report.TheVariants.{Ran as RanOf};
 ghost use Rattle.interleaving_core.specs.Refusals.{number_of};
+ghost use Rattle.simulation.specs.MachineContents.{Content};
 ghost use Rattle.simulation.specs.Runs.{AreTurns, FollowsReference};
+ghost use Rattle.cil_model.specs.declared.reports.Report.{Report as AnyReport};
 ghost use Rattle.interleaving_core.specs.declared.machine.Refused.TheVariants.{Limits as BadLimits, OutOfMemory};
 
 use crate::alike::{are_alike, digest_of};
@@ -207,12 +210,13 @@ impl Machine {
     }
 
     /// Ends a loan whose thread stands as it did when the loan began, and gives its memory back: the instructions that were done on the lent
-    /// frame are as many steps of the thread, each of which reports that it ran. It takes no memory.
+    /// frame are as many steps of the thread, each of which reports that it ran, and none of them printed. It takes no memory.
     pub fn take_back(&mut self, loan: Loan) -> LoanRoom
         requires tree { loan.tree ≡ self.old.tree }
         requires origin { IsAtOrigin self.old loan }
         ensures turns { AreTurns self.old (replicate loan.done (StepOf loan.thread)) self.new (replicate loan.done RanOf) }
         ensures room { result ≡ self.old.tree }
+        ensures printed { self.new.printed ≡ self.old.printed }
         ensures same { (self.new.tree ≡ self.old.tree) × (self.new.limits ≡ self.old.limits) }
     {
         loan.laws();
@@ -225,6 +229,16 @@ impl Machine {
         ensures { result.now ≡ self.now.printed }
     {
         self.engine.store.console.as_slice()
+    }
+
+    /// How many bytes an event would print: those of a line, if the next instruction of its thread is a call of `Console.WriteLine`, else 0. The
+    /// event itself prints no more. It takes no memory.
+    pub fn print_length(&self, event: Event) -> usize
+        ensures length { result ≡ length (next_print self.now event) }
+        ensures printed { (after : Content × AnyReport) → IsTurn self.now event after → length after.0.printed ≤ length self.now.printed + result }
+    {
+        let _engine = &self.engine;
+        self.engine.print_length(event)
     }
 
     /// How a thread ended. None where it is live or was never started.

@@ -34,3 +34,8 @@ returns-clause-turns c =
 
 pub returns-clause-same : goal.returns-clause-same
 returns-clause-same c = turns_program _ _ _ _ (returns-clause-turns c)
+
+pub returns-clause-printed : goal.returns-clause-printed
+returns-clause-printed c =
+    let at : IsAtOrigin (content_of c.self.inside.engine) c.args.loan = subst (λ (x : Content). IsAtOrigin x c.args.loan) (sym c.self.view_is) c.requires.origin in
+    ap (λ (x : Content). x.printed) (c.take_back.ensures at) ∙ ap (λ (x : Content). x.printed) c.self.view_is
