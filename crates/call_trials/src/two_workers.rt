@@ -1,6 +1,6 @@
 //! Two workers of a shared machine, in threads of their own.
 
-ghost use Rattle.std.specs.Prelude.{◌≡◌, IfOk, IfSome};
+ghost use Rattle.std.specs.Prelude.{◌≡◌, IfOk, IfSome, None};
 ghost use Rattle.shared_machine.specs.Codes.{add};
 ghost use Rattle.shared_machine.specs.Histories.{count_of, events_of, reports_of};
 ghost use Rattle.shared_machine.specs.Worlds.{AgreesWith, HasRun, IfDid, added, fresh};
@@ -30,10 +30,11 @@ fn open_both<M: Opening>(
 ) -> Result<Option<(Shared<M>, Ticket<M>, Ticket<M>)>, NoMemory>
     requires book { blank ≡ M.table }
     requires core { core ≡ M.opening }
+    requires printed { M.most_printed ≡ None }
     requires workers { M.workers ≡ 2 }
     ensures { IfOk result (λ made. IfSome made (λ m. (m.1 ≡ record { worker = 0; count = 0 }) × (m.2 ≡ record { worker = 1; count = 0 }))) }
 {
-    let (shared, tickets) = Shared::<M>::new(alloc, blank, core, 2)?;
+    let (shared, tickets) = Shared::<M>::new(alloc, blank, core, 2, None)?;
     match two(tickets) {
         None => Ok(None),
         Some((one, other)) => Ok(Some((shared, one, other))),
@@ -104,6 +105,7 @@ pub fn run_both<M: Opening + Send + Sync, R: Threads + Wait + Sync>(
 ) -> Result<Option<(Answer, Answer, Outcome)>, NoMemory>
     requires book { blank ≡ M.table }
     requires core { core ≡ M.opening }
+    requires printed { M.most_printed ≡ None }
     requires workers { M.workers ≡ 2 }
     ensures ran { IfOk result (λ end. IfSome end (λ x. HasRun M.opening (events_of x.2.history.entries) (reports_of x.2.history.entries) x.2.machine)) }
     ensures one { IfOk result (λ end. IfSome end (λ x. IfDid x.0 (λ report. count_of 0 x.2.history.entries ≡ add 0 first report))) }
@@ -126,6 +128,7 @@ pub fn act_many<M: Opening + Send + Sync, R: Threads + Wait + Sync>(
 ) -> Result<Option<Outcome>, NoMemory>
     requires book { blank ≡ M.table }
     requires core { core ≡ M.opening }
+    requires printed { M.most_printed ≡ None }
     requires workers { M.workers ≡ 2 }
 {
     let Some((shared, one, other)) = open_both::<M>(alloc, blank, core)? else {
@@ -152,6 +155,7 @@ pub fn act_in_turn<M: Opening, R: Wait>(
 ) -> Result<Option<Outcome>, NoMemory>
     requires book { blank ≡ M.table }
     requires core { core ≡ M.opening }
+    requires printed { M.most_printed ≡ None }
     requires workers { M.workers ≡ 2 }
 {
     let Some((shared, one, other)) = open_both::<M>(alloc, blank, core)? else {
@@ -175,6 +179,7 @@ pub fn finish_twice<M: Opening>(
 ) -> Result<Option<Outcome>, NoMemory>
     requires book { blank ≡ M.table }
     requires core { core ≡ M.opening }
+    requires printed { M.most_printed ≡ None }
     requires workers { M.workers ≡ 2 }
 {
     let Some((shared, one, other)) = open_both::<M>(alloc, blank, core)? else {
@@ -216,6 +221,7 @@ pub fn keeps_the_mark<M: Opening, R: Wait>(
 ) -> Result<bool, NoMemory>
     requires book { blank ≡ M.table }
     requires core { core ≡ M.opening }
+    requires printed { M.most_printed ≡ None }
     requires workers { M.workers ≡ 2 }
 {
     let Some((shared, one, other)) = open_both::<M>(alloc, blank, core)? else {

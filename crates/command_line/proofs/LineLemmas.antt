@@ -99,7 +99,7 @@ answers_wanted faults wanted w (Err (Version text)) found free value none = absu
 
 -- the definitions at words that are written out
 run_example : wanted_by (codes "cilvm" ∷ codes "run" ∷ codes "p.il" ∷ codes "--schedule" ∷ codes "s0*5" ∷ codes "--budget=3" ∷ [])
-    ≡ Some (run (codes "p.il") (codes "s0*5") (record { words = 65536; max_words = 65536; budget = 3; depth = 64 }) false false)
+    ≡ Some (run (codes "p.il") (codes "s0*5") None (record { words = 65536; max_words = 65536; budget = 3; depth = 64 }) false false)
 unfolding clap_on_literals
 run_example = refl
 

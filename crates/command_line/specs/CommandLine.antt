@@ -23,6 +23,7 @@ use Rattle.cil_model.specs.declared.limits.TheConstants.{LEAST_WORDS, MOST_WORDS
 use Rattle.cil_model.specs.declared.limits.TheConstants.{MOST_BUDGET, MOST_DEPTH}
 use Rattle.orders.specs.declared.order.Order.{Order}
 use Rattle.orders.specs.declared.order.Order.TheVariants.{Check, Run, Replay, Trace, Picture, Threads, Explore, Flip}
+use Rattle.orders.specs.declared.order.TheConstants.{LEAST_OUTPUT, MOST_OUTPUT}
 use Rattle.orders.specs.declared.part.Part.{Part}
 use Rattle.orders.specs.declared.part.TheConstants.{LAST_NUMBER}
 use Rattle.cil_model.specs.declared.stops.StopAt.{StopAt}
@@ -84,6 +85,10 @@ with_stats a = with_rule a (flag_rule (codes "stats"))
 abbrev pub with_run_options : App → App
 with_run_options a = with_limits (with_explain a)
 
+-- perhaps the most bytes that the program prints
+abbrev pub with_output : App → App
+with_output a = with_rule a (number_rule (codes "output") LEAST_OUTPUT MOST_OUTPUT)
+
 -- a command that takes a source
 abbrev pub with_source : Text → App
 with_source name = with_rule (new_app name) (file_rule (codes "file"))
@@ -96,10 +101,10 @@ abbrev pub check_app : App
 check_app = with_explain (with_source (codes "check"))
 
 abbrev pub run_app : App
-run_app = with_run_options (with_stats (with_rule (with_source (codes "run")) (needed (text_rule (codes "schedule")))))
+run_app = with_run_options (with_stats (with_output (with_rule (with_source (codes "run")) (needed (text_rule (codes "schedule"))))))
 
 abbrev pub replay_app : App
-replay_app = with_run_options (with_stats (with_files (codes "replay")))
+replay_app = with_run_options (with_stats (with_output (with_files (codes "replay"))))
 
 abbrev pub trace_app : App
 trace_app = with_run_options (with_files (codes "trace"))
@@ -114,9 +119,9 @@ picture_app = with_run_options (with_part (with_files (codes "picture")))
 
 -- 1 to 16 workers, 1 where none is said, perhaps the file of a record, and whether a deadlock ends the run
 abbrev pub threads_app : App
-threads_app = with_run_options (with_stats (with_rule (with_rule (with_rule (with_source (codes "threads"))
+threads_app = with_run_options (with_stats (with_output (with_rule (with_rule (with_rule (with_source (codes "threads"))
     (with_default (codes "1") (number_rule (codes "workers") 1 16))) (text_rule (codes "record")))
-    (flag_rule (codes "stop-at-deadlock"))))
+    (flag_rule (codes "stop-at-deadlock")))))
 
 -- the maximum number of states, 100,000 by default; perhaps that of preemptions, the outcome at which it stops, and the file of a schedule
 abbrev pub explore_app : App
@@ -148,21 +153,21 @@ cilvm_app = with_subcommand (with_subcommand (with_subcommand (with_subcommand (
 -- the command with its files and options
 pub data Wanted : Type 0 where
   check : Text → Bool → Wanted
-  run : Text → Text → Limits → Bool → Bool → Wanted
-  replay : Text → Text → Limits → Bool → Bool → Wanted
+  run : Text → Text → Option ℕ → Limits → Bool → Bool → Wanted
+  replay : Text → Text → Option ℕ → Limits → Bool → Bool → Wanted
   trace : Text → Text → Limits → Bool → Wanted
   picture : Text → Text → ℕ → Option ℕ → Limits → Bool → Wanted
-  threads : Text → ℕ → Option Text → StopAt → Limits → Bool → Bool → Wanted
+  threads : Text → ℕ → Option Text → StopAt → Option ℕ → Limits → Bool → Bool → Wanted
   explore : Text → Extent → Option Text → Limits → Bool → Wanted
   flip : ℕ → ℕ → ℕ → ℕ → Wanted
 
 abbrev pub wanted_of : Order → Wanted
 wanted_of (Check file explain) = check file.now explain
-wanted_of (Run file schedule limits explain stats) = run file.now schedule.now limits explain stats
-wanted_of (Replay file schedule limits explain stats) = replay file.now schedule.now limits explain stats
+wanted_of (Run file schedule most_printed limits explain stats) = run file.now schedule.now most_printed limits explain stats
+wanted_of (Replay file schedule most_printed limits explain stats) = replay file.now schedule.now most_printed limits explain stats
 wanted_of (Trace file schedule limits explain) = trace file.now schedule.now limits explain
 wanted_of (Picture file schedule part limits explain) = picture file.now schedule.now part.first part.last limits explain
-wanted_of (Threads file workers kept stop_at limits explain stats) = threads file.now workers.count (option_map (λ name. name.now) kept) stop_at limits explain stats
+wanted_of (Threads file workers kept stop_at most_printed limits explain stats) = threads file.now workers.count (option_map (λ name. name.now) kept) stop_at most_printed limits explain stats
 wanted_of (Explore file extent kept limits explain) = explore file.now extent (option_map (λ name. name.now) kept) limits explain
 wanted_of (Flip sizes) = flip sizes.seats sizes.objects sizes.slots sizes.rounds
 
@@ -204,11 +209,15 @@ abbrev pub scheduled_in : List Row → Option (Text × Text × Limits)
 scheduled_in rows = option_and_then (λ file. option_and_then (λ schedule. option_map (λ limits. (file, schedule, limits))
     (limits_in rows)) (first_of (codes "schedule") rows)) (first_of (codes "file") rows)
 
+-- the most bytes that the program prints, if that is said
+abbrev pub output_in : List Row → Option (Option ℕ)
+output_in rows = option_map_or (λ text. option_map Some (number_in LEAST_OUTPUT MOST_OUTPUT text)) (first_of (codes "output") rows) (Some None)
+
 abbrev pub run_in : List Row → Option Wanted
-run_in rows = option_map (λ (s : Text × Text × Limits). run s.0 s.1 s.2 (flag_at (codes "explain") rows) (flag_at (codes "stats") rows)) (scheduled_in rows)
+run_in rows = option_and_then (λ most. option_map (λ (s : Text × Text × Limits). run s.0 s.1 most s.2 (flag_at (codes "explain") rows) (flag_at (codes "stats") rows)) (scheduled_in rows)) (output_in rows)
 
 abbrev pub replay_in : List Row → Option Wanted
-replay_in rows = option_map (λ (s : Text × Text × Limits). replay s.0 s.1 s.2 (flag_at (codes "explain") rows) (flag_at (codes "stats") rows)) (scheduled_in rows)
+replay_in rows = option_and_then (λ most. option_map (λ (s : Text × Text × Limits). replay s.0 s.1 most s.2 (flag_at (codes "explain") rows) (flag_at (codes "stats") rows)) (scheduled_in rows)) (output_in rows)
 
 abbrev pub trace_in : List Row → Option Wanted
 trace_in rows = option_map (λ (s : Text × Text × Limits). trace s.0 s.1 s.2 (flag_at (codes "explain") rows)) (scheduled_in rows)
@@ -239,8 +248,8 @@ abbrev pub is_explained_in : List Row → Bool
 is_explained_in rows = if flag_at (codes "explain") rows then true else flag_at (codes "stop-at-deadlock") rows
 
 abbrev pub threads_in : List Row → Option Wanted
-threads_in rows = option_map (λ (s : Text × ℕ × Limits). threads s.0 s.1 (first_of (codes "record") rows) (stop_at_in rows) s.2 (is_explained_in rows) (flag_at (codes "stats") rows))
-    (worked_in rows)
+threads_in rows = option_and_then (λ most. option_map (λ (s : Text × ℕ × Limits). threads s.0 s.1 (first_of (codes "record") rows) (stop_at_in rows) most s.2 (is_explained_in rows) (flag_at (codes "stats") rows))
+    (worked_in rows)) (output_in rows)
 
 -- the outcome at which an exploration stops, by its word
 abbrev pub goal_in : Text → Option Goal
@@ -347,13 +356,17 @@ Answers words answer = AnswersBy (faults_of words) (wanted_by words) answer
 abbrev pub IsPartInRange : Part → Type 0
 IsPartInRange part = (1 ≤ part.first) × (part.first ≤ LAST_NUMBER) × IfSome part.last (λ last. (part.first ≤ last) × (last ≤ LAST_NUMBER))
 
+-- the most bytes that a program prints, if there is a bound
+abbrev pub IsOutputInRange : Option ℕ → Type 0
+IsOutputInRange most = IfSome most (λ bytes. (LEAST_OUTPUT ≤ bytes) × (bytes ≤ MOST_OUTPUT))
+
 -- each number of the order lies in its range
 abbrev pub IsInRange : Order → Type 0
 IsInRange (Check file explain) = ⊤
-IsInRange (Run file schedule limits explain stats) = are_numbers_in_range limits ≡ true
-IsInRange (Replay file schedule limits explain stats) = are_numbers_in_range limits ≡ true
+IsInRange (Run file schedule most_printed limits explain stats) = (are_numbers_in_range limits ≡ true) × IsOutputInRange most_printed
+IsInRange (Replay file schedule most_printed limits explain stats) = (are_numbers_in_range limits ≡ true) × IsOutputInRange most_printed
 IsInRange (Trace file schedule limits explain) = are_numbers_in_range limits ≡ true
 IsInRange (Picture file schedule part limits explain) = (are_numbers_in_range limits ≡ true) × IsPartInRange part
-IsInRange (Threads file workers kept stop_at limits explain stats) = are_numbers_in_range limits ≡ true
+IsInRange (Threads file workers kept stop_at most_printed limits explain stats) = (are_numbers_in_range limits ≡ true) × IsOutputInRange most_printed
 IsInRange (Explore file extent kept limits explain) = are_numbers_in_range limits ≡ true
 IsInRange (Flip sizes) = ⊤

@@ -4,13 +4,13 @@ ghost use Rattle.clap.specs.Words.{App, Rule, app_of, new_app, with_rule, with_s
 ghost use Rattle.clap.specs.declared.builder.value_parser.ValueParser.TheVariants as vp;
 ghost use Rattle.command_line.specs.CommandLine.{IsArgument, IsCommand, check_app, cilvm_app, explore_app, file_rule, flag_rule};
 ghost use Rattle.command_line.specs.CommandLine.{flip_app, needed, number_rule, picture_app, replay_app, run_app, text_rule, threads_app, trace_app, with_default};
-ghost use Rattle.command_line.specs.CommandLine.{with_explain, with_files, with_limits, with_part, with_required_subcommand, with_run_options, with_source, with_stats, with_version};
+ghost use Rattle.command_line.specs.CommandLine.{with_explain, with_files, with_limits, with_output, with_part, with_required_subcommand, with_run_options, with_source, with_stats, with_version};
 
 use crate::version::VERSION;
 use cil_model::limits::{LEAST_WORDS, MOST_BUDGET, MOST_DEPTH, MOST_WORDS};
 use clap::builder::ValueParser;
 use clap::{Arg, ArgAction, Command, value_parser};
-use orders::LAST_NUMBER;
+use orders::{LAST_NUMBER, LEAST_OUTPUT, MOST_OUTPUT};
 use std::alloc::{AllocError, Global};
 
 /// What the explanation of a check is.
@@ -219,6 +219,25 @@ fn with_limits<'a>(
     with_argument(command, depth)
 }
 
+/// The option of the most bytes that a program prints.
+fn with_output<'a>(
+    alloc: Global,
+    command: Result<Command<'a>, AllocError>,
+) -> Result<Command<'a>, AllocError>
+    ensures { (app : App) → IfOk command.entry (IsCommand app) → IfOk result (IsCommand (with_output app)) }
+{
+    let most = text_option(
+        alloc,
+        "output",
+        "BYTES",
+        "The most bytes that the program may print, 64 to 4294967295; no limit if none is given",
+    );
+    with_argument(
+        command,
+        most.value_parser(number_parser(LEAST_OUTPUT, MOST_OUTPUT)),
+    )
+}
+
 /// The options of a run: what is explained of it, and its limits.
 fn with_run_options<'a>(
     alloc: Global,
@@ -266,7 +285,8 @@ pub fn threads_command<'a>(alloc: Global) -> Result<Command<'a>, AllocError>
         "stop-at-deadlock",
         "Stops also once all live threads wait for one another, and explains that",
     );
-    let command = with_stats(alloc, with_argument(command, stop));
+    let command = with_output(alloc, with_argument(command, stop));
+    let command = with_stats(alloc, command);
     with_run_options(alloc, command, EXPLAIN_RUN)
 }
 
@@ -285,7 +305,8 @@ fn run_command<'a>(alloc: Global) -> Result<Command<'a>, AllocError>
         "EVENTS",
         "The events in their order, as 's0*5 g a0'",
     );
-    let command = with_stats(alloc, with_argument(command, schedule));
+    let command = with_output(alloc, with_argument(command, schedule));
+    let command = with_stats(alloc, command);
     with_run_options(alloc, command, EXPLAIN_RUN)
 }
 
@@ -298,6 +319,7 @@ fn replay_command<'a>(alloc: Global) -> Result<Command<'a>, AllocError>
         "Runs a source by a schedule that a file holds",
         "The file has the events in the form that 'cilvm run --help' tells, on as many lines as you like.\n\nExample, which prints 5:\n  cilvm replay examples/add.il examples/add.schedule",
     );
+    let command = with_output(alloc, command);
     with_run_options(alloc, with_stats(alloc, command), EXPLAIN_RUN)
 }
 

@@ -2,7 +2,7 @@
 ghost use Rattle.std.specs.Prelude.{◌≡◌, ◌≤◌, IfErr, IfOk, IfSome, Some, codes, map, option_map, true};
 ghost use Rattle.clap.specs.Words.{fault_of, found_of, first_of, kind_of, matches_of, rows_of, subcommand_of, subcommand_rows_of};
 ghost use Rattle.command_line.specs.CommandLine.{Answers, AnswersBy, begins_with_source, cilvm_app, is_source_name, threads_app};
-ghost use Rattle.command_line.specs.CommandLine.{FaultIs, IsInRange, IsOfNone, IsPartInRange, check_in, limits_in, most_in};
+ghost use Rattle.command_line.specs.CommandLine.{FaultIs, IsInRange, IsOfNone, IsOutputInRange, IsPartInRange, check_in, limits_in, most_in, output_in};
 ghost use Rattle.command_line.specs.CommandLine.{flag_at, number_at, number_in, flip_in, part_in, is_explained_in, picture_in, replay_in, run_in, scheduled_in, stop_at_in, threads_in, trace_in, wanted_in};
 ghost use Rattle.command_line.specs.CommandLine.{explore_in, explored_in, extent_in, goal_in, said, wanted_of, worked_in};
 ghost use Rattle.cil_model.specs.Ranges.{are_numbers_in_range};
@@ -14,7 +14,7 @@ use cil_model::stops::StopAt;
 use clap::error::ErrorKind;
 use clap::{ArgMatches, Error};
 use flip_trial::Sizes;
-use orders::{Extent, Goal, LAST_NUMBER, Order, Part, Workers};
+use orders::{Extent, Goal, LAST_NUMBER, LEAST_OUTPUT, MOST_OUTPUT, Order, Part, Workers};
 use std::alloc::{AllocError, Global};
 
 /// Why the words of a command line hold no order.
@@ -195,12 +195,14 @@ fn wanted_run<'a>(found: &ArgMatches<'a>) -> Option<Order<'a>>
     ensures value { option_map wanted_of result ≡ run_in (rows_of (found_of found.now)) }
     ensures range { IfSome result IsInRange }
 {
+    let most_printed = most_printed(found)?;
     let (file, schedule, limits) = scheduled(found)?;
     let explain = flag(found, "explain");
     let stats = flag(found, "stats");
     Some(Order::Run {
         file,
         schedule,
+        most_printed,
         limits,
         explain,
         stats,
@@ -211,12 +213,14 @@ fn wanted_replay<'a>(found: &ArgMatches<'a>) -> Option<Order<'a>>
     ensures value { option_map wanted_of result ≡ replay_in (rows_of (found_of found.now)) }
     ensures range { IfSome result IsInRange }
 {
+    let most_printed = most_printed(found)?;
     let (file, schedule, limits) = scheduled(found)?;
     let explain = flag(found, "explain");
     let stats = flag(found, "stats");
     Some(Order::Replay {
         file,
         schedule,
+        most_printed,
         limits,
         explain,
         stats,
@@ -270,6 +274,7 @@ fn wanted_threads<'a>(found: &ArgMatches<'a>) -> Option<Order<'a>>
     ensures value { option_map wanted_of result ≡ threads_in (rows_of (found_of found.now)) }
     ensures range { IfSome result IsInRange }
 {
+    let most_printed = most_printed(found)?;
     let (file, workers, limits) = worked(found)?;
     let record = text(found, "record");
     let stop_at = stop_at(found);
@@ -280,6 +285,7 @@ fn wanted_threads<'a>(found: &ArgMatches<'a>) -> Option<Order<'a>>
         workers,
         record,
         stop_at,
+        most_printed,
         limits,
         explain,
         stats,
@@ -291,6 +297,17 @@ fn is_explained(found: &ArgMatches<'_>) -> bool
     ensures { result ≡ is_explained_in (rows_of (found_of found.now)) }
 {
     flag(found, "explain") || flag(found, "stop-at-deadlock")
+}
+
+/// The most bytes that the program prints; none where the command line gives no bound.
+fn most_printed(found: &ArgMatches<'_>) -> Option<Option<u32>>
+    ensures value { result ≡ output_in (rows_of (found_of found.now)) }
+    ensures range { IfSome result IsOutputInRange }
+{
+    match text(found, "output") {
+        None => Some(None),
+        Some(text) => Some(Some(number_in(text, LEAST_OUTPUT, MOST_OUTPUT)?)),
+    }
 }
 
 /// When a run by workers stops.

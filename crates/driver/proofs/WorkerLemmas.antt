@@ -15,6 +15,7 @@ use Rattle.outputs.specs.Taken.{Fails, Taken, Takes}
 use Rattle.outputs.proofs.TakenLaws.{takes_both}
 use Rattle.source_runs.proofs.simulation.StandsLaws.{ends_stand, printed_stands}
 use Rattle.acceptance.specs.Sources.{HasRunTo}
+use Rattle.source_runs.specs.Runs.{IsPrintedUpTo}
 use Rattle.source_runs.proofs.RunLemmas.{comes_to}
 use Rattle.source_runs.specs.shared_machine.Histories.{events_of, reports_of}
 use Rattle.source_runs.specs.shared_machine.declared.history.Entry.{Entry}
@@ -75,8 +76,8 @@ have_ended AtDeadlock c s marked represents (inr (stop, deadlocked)) = inr deadl
 abbrev pub reported_of : Content → List ℕ → List ℕ → List ℕ
 reported_of c text last = lines_from 0 (map end_of c.threads) ++ text ++ last
 
-module _ (source : List ℕ) (limits : Limits) (workers : ℕ) (stop_at : StopAt) (asked explain stats stopped : Bool) (h : List Entry) (c : Content) (made : Record)
-    (ran : HasRunTo source limits (events_of h) (reports_of h) c) (own : All (IsOwnOf workers) h)
+module _ (source : List ℕ) (limits : Limits) (workers : ℕ) (stop_at : StopAt) (most : Option ℕ) (asked explain stats stopped : Bool) (h : List Entry) (c : Content) (made : Record)
+    (ran : HasRunTo source limits (events_of h) (reports_of h) c) (own : All (IsOwnOf workers) h) (within : IsPrintedUpTo most c.printed)
     (marked : Bool) (ended : stopped ≡ false → HasEnded stop_at c marked) (is_record : IsRecordOf asked (events_of h) made) where
   abbrev after : StandsAfter ran.0 limits (events_of h) (reports_of h) c
   after = ran.2.stands
@@ -86,13 +87,14 @@ module _ (source : List ℕ) (limits : Limits) (workers : ℕ) (stop_at : StopAt
   last = too_long_text made ++ stop_text (is_short stopped made) ++ stats_text stats (events_of h) (reports_of h) c
 
   -- a machine that workers ran shows a run by workers
-  run_by_workers : (text : List ℕ) → IsRunText explain explain source limits (zip (events_of h) (reports_of h)) c text → IsRunByWorkers source limits workers stop_at asked explain stats stopped after.state made (reported_of c text last)
+  run_by_workers : (text : List ℕ) → IsRunText explain explain source limits (zip (events_of h) (reports_of h)) c text → IsRunByWorkers source limits workers stop_at most asked explain stats stopped after.state made (reported_of c text last)
   run_by_workers text explains =
       let ends = ends_stand c after.state after.represents in
       record {
         entries = h;
         own = own;
         comes_to = comes_to source ran.0 limits (events_of h) (reports_of h) c ran.1 ran.2;
+        within = subst (IsPrintedUpTo most) (printed_stands c after.state after.represents) within;
         ended = λ whole. have_ended stop_at c after.state marked after.represents (ended whole);
         is_record = is_record;
         after = c;
@@ -106,7 +108,7 @@ module _ (source : List ℕ) (limits : Limits) (workers : ℕ) (stop_at : StopAt
   pub has_run_threads : (out out' err between err' : Taken) (kept kept' : List ℕ) (before status : ℕ)
       → IsRunShown explain source limits (events_of h) (reports_of h) c out out' err between before → kept' ≡ kept ++ text_of made
       → (status ≡ status_after (is_short stopped made) (status_with made before)) × Takes between err' last
-      → HasRunThreads source limits workers stop_at asked explain stats out out' err err' kept kept' status
+      → HasRunThreads source limits workers stop_at most asked explain stats out out' err err' kept kept' status
   has_run_threads out out' err between err' kept kept' before status (text, explains, shown) behind (is, more) =
       record {
         stopped = stopped;
@@ -121,7 +123,7 @@ module _ (source : List ℕ) (limits : Limits) (workers : ℕ) (stop_at : StopAt
       }
 
   -- a write of what it shows failed
-  pub threads_in_part : (out out' err err' : Taken) → IsRunShownInPart explain source limits (events_of h) (reports_of h) c out out' err err' → IsRunByWorkersInPart source limits workers stop_at asked explain stats out out' err err'
+  pub threads_in_part : (out out' err err' : Taken) → IsRunShownInPart explain source limits (events_of h) (reports_of h) c out out' err err' → IsRunByWorkersInPart source limits workers stop_at most asked explain stats out out' err err'
   threads_in_part out out' err err' (text, explains, cut) =
       let lines = lines_from 0 (map end_of c.threads) ++ text in
       record {
@@ -136,7 +138,7 @@ module _ (source : List ℕ) (limits : Limits) (workers : ℕ) (stop_at : StopAt
   -- a write of what comes last failed
   pub threads_then_in_part : (out out' err between err' : Taken) (before : ℕ)
       → IsRunShown explain source limits (events_of h) (reports_of h) c out out' err between before → Fails between err' last
-      → IsRunByWorkersInPart source limits workers stop_at asked explain stats out out' err err'
+      → IsRunByWorkersInPart source limits workers stop_at most asked explain stats out out' err err'
   threads_then_in_part out out' err between err' before (text, explains, shown) failed =
       let lines = lines_from 0 (map end_of c.threads) ++ text in
       record {
@@ -165,13 +167,13 @@ pub nothing_kept : (order : Order) (source schedule : List ℕ) (out out' err er
     → IsOutcome order source schedule out out' err err' kept kept' status → record_file_of order ≡ None → kept' ≡ kept
 nothing_kept order source schedule out out' err err' kept kept' status (inr told) none = told.1
 nothing_kept (Check file explain) source schedule out out' err err' kept kept' status (inl done) none = done.1
-nothing_kept (Run file text limits explain stats) source schedule out out' err err' kept kept' status (inl done) none = done.1
-nothing_kept (Replay file name limits explain stats) source schedule out out' err err' kept kept' status (inl done) none = done.1
+nothing_kept (Run file text most limits explain stats) source schedule out out' err err' kept kept' status (inl done) none = done.1
+nothing_kept (Replay file name most limits explain stats) source schedule out out' err err' kept kept' status (inl done) none = done.1
 nothing_kept (Trace file name limits explain) source schedule out out' err err' kept kept' status (inl done) none = done.1
 nothing_kept (Picture file name part limits explain) source schedule out out' err err' kept kept' status (inl done) none = done.1
-nothing_kept (Threads file workers None stop_at limits explain stats) source schedule out out' err err' kept kept' status (inl done) none =
+nothing_kept (Threads file workers None stop_at most limits explain stats) source schedule out out' err err' kept kept' status (inl done) none =
     done.behind ∙ ap (λ text. kept ++ text) (no_text (events_of done.is_run.entries) done.made done.is_run.is_record) ∙ append-nil kept
-nothing_kept (Threads file workers (Some name) stop_at limits explain stats) source schedule out out' err err' kept kept' status (inl done) none = absurd (cc none)
+nothing_kept (Threads file workers (Some name) stop_at most limits explain stats) source schedule out out' err err' kept kept' status (inl done) none = absurd (cc none)
 nothing_kept (Explore file extent None limits explain) source schedule out out' err err' kept kept' status (inl done) none =
     done.0.after ∙ ap (λ text. kept ++ text) done.0.is_saved ∙ append-nil kept
 nothing_kept (Explore file extent (Some name) limits explain) source schedule out out' err err' kept kept' status (inl done) none = absurd (cc none)

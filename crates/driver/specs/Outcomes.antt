@@ -1,6 +1,6 @@
 -- What comes of an order: what is printed, and the status that the program ends with (this profile).
 use Rattle.std.specs.Fmt.{decimal}
-use Rattle.std.specs.Prelude.{◌≡◌, ◌⊎◌, ◌*◌, ◌++◌, ◌∷◌, ◌<◌, ◌≤◌, [], ℕ, Bool, true, false, All, List, Option, codes, is_some, length, map, if◌then◌else◌}
+use Rattle.std.specs.Prelude.{◌≡◌, ◌⊎◌, ◌*◌, ◌++◌, ◌∷◌, ◌<◌, ◌≤◌, [], ℕ, Bool, true, false, All, List, None, Option, codes, is_some, length, map, if◌then◌else◌}
 use Rattle.std.specs.List.{list_any, zip}
 use Rattle.flip_trial.specs.Trial.{place_count}
 use Rattle.flip_trial.specs.declared.sizes.Sizes.{Sizes}
@@ -42,7 +42,7 @@ use Rattle.acceptance.specs.declared.failure.Failure.TheVariants.{Memory, Device
 use Rattle.orders.specs.declared.order.Order.{Order}
 use Rattle.orders.specs.declared.order.Order.TheVariants.{Check, Run, Replay, Trace, Picture, Threads, Explore, Flip}
 use Rattle.acceptance.specs.Sources.{IsLetIn, IsMade, IsNotAccepted, IsNotRun, IsOpened}
-use Rattle.source_runs.specs.Runs.{IsNotRunBy, ComesTo, ComesToBy, IsReady}
+use Rattle.source_runs.specs.Runs.{IsNotRunBy, IsPrintedUpTo, ComesTo, ComesToBy, IsReady}
 use Rattle.source_runs.specs.shared_machine.Worlds.{AreDoneOf}
 use Rattle.schedule_text.specs.Items.{words}
 use Rattle.schedule_text.specs.Readings.{AreRead}
@@ -161,16 +161,17 @@ stop_text stopped = if stopped then message_of Memory else []
 abbrev pub status_after : Bool → ℕ → ℕ
 status_after stopped status = if stopped then status_of_failure Memory else status
 
--- A run by a text comes to a state: the events done are the first of those that the text writes, and all of them unless memory ran out. This
--- is reported: how the threads stand, what explains that of a machine that represents the state and, where asked, of the threads that ended, whether memory
--- ran out, and the numbers of the run.
-pub record IsRun (source : List ℕ) (limits : Limits) (text : List ℕ) (explain stats ended stopped : Bool) (state : State) (reported : List ℕ) : Type 0 where
+-- A run by a text comes to a state: the events done are the first of those that the text writes, and all of them unless memory ran out or the next
+-- one would have printed beyond the bound. This is reported: how the threads stand, what explains that of a machine that represents the state and,
+-- where asked, of the threads that ended, whether memory ran out, and the numbers of the run.
+pub record IsRun (source : List ℕ) (limits : Limits) (text : List ℕ) (most : Option ℕ) (explain stats ended stopped : Bool) (state : State) (reported : List ℕ) : Type 0 where
   pub events : List Event
   pub are_read : AreRead (words text) events
   pub done : List Event
   pub are_done : AreDoneOf events done stopped
   pub reports : List Report
   pub comes_to : ComesToBy source limits done reports state
+  pub within : IsPrintedUpTo most state.printed
   pub after : Content
   pub represents : Represents after state
   pub explanation : List ℕ
@@ -178,11 +179,11 @@ pub record IsRun (source : List ℕ) (limits : Limits) (text : List ℕ) (explai
   pub reports_all : reported ≡ lines_from 0 (ends_of state) ++ explanation ++ (stop_text stopped ++ stats_text stats done reports after)
 
 -- a run is done: what its state has printed and what is reported is shown
-pub record HasRun (source : List ℕ) (limits : Limits) (text : List ℕ) (explain stats : Bool) (out out' err err' : Taken) (status : ℕ) : Type 0 where
+pub record HasRun (source : List ℕ) (limits : Limits) (text : List ℕ) (most : Option ℕ) (explain stats : Bool) (out out' err err' : Taken) (status : ℕ) : Type 0 where
   pub stopped : Bool
   pub state : State
   pub reported : List ℕ
-  pub is_run : IsRun source limits text explain stats explain stopped state reported
+  pub is_run : IsRun source limits text most explain stats explain stopped state reported
   pub output : Takes out out' state.printed
   pub errors : Takes err err' reported
   pub status_is : status ≡ status_after stopped (status_of (ends_of state))
@@ -258,10 +259,11 @@ HaveEnded AtDeadlock after state = (list_any is_live (ends_of state) ≡ false) 
 -- Workers have run a source. There is a list of entries, each an event of its worker's own. The reference machine's run over the steps
 -- among the events comes to this state, in which the threads have ended unless memory ran out. The record is that of these events, and this is
 -- what is reported: how the threads stand, what explains that, why there is no record, whether memory ran out, for an event, a thread or the record, and the numbers of the run.
-pub record IsRunByWorkers (source : List ℕ) (limits : Limits) (workers : ℕ) (stop_at : StopAt) (asked explain stats stopped : Bool) (state : State) (made : Record) (reported : List ℕ) : Type 0 where
+pub record IsRunByWorkers (source : List ℕ) (limits : Limits) (workers : ℕ) (stop_at : StopAt) (most : Option ℕ) (asked explain stats stopped : Bool) (state : State) (made : Record) (reported : List ℕ) : Type 0 where
   pub entries : List Entry
   pub own : All (IsOwnOf workers) entries
   pub comes_to : ComesToBy source limits (events_of entries) (reports_of entries) state
+  pub within : IsPrintedUpTo most state.printed
   pub is_record : IsRecordOf asked (events_of entries) made
   pub after : Content
   pub ended : stopped ≡ false → HaveEnded stop_at after state
@@ -271,12 +273,12 @@ pub record IsRunByWorkers (source : List ℕ) (limits : Limits) (workers : ℕ) 
   pub reports_all : reported ≡ lines_from 0 (ends_of state) ++ explanation ++ (too_long_text made ++ stop_text (is_short stopped made) ++ stats_text stats (events_of entries) (reports_of entries) after)
 
 -- a run by workers is done: what its state has printed and what is reported is shown, and the record is put after the bytes that are kept
-pub record HasRunThreads (source : List ℕ) (limits : Limits) (workers : ℕ) (stop_at : StopAt) (asked explain stats : Bool) (out out' err err' : Taken) (kept kept' : List ℕ) (status : ℕ) : Type 0 where
+pub record HasRunThreads (source : List ℕ) (limits : Limits) (workers : ℕ) (stop_at : StopAt) (most : Option ℕ) (asked explain stats : Bool) (out out' err err' : Taken) (kept kept' : List ℕ) (status : ℕ) : Type 0 where
   pub stopped : Bool
   pub state : State
   pub made : Record
   pub reported : List ℕ
-  pub is_run : IsRunByWorkers source limits workers stop_at asked explain stats stopped state made reported
+  pub is_run : IsRunByWorkers source limits workers stop_at most asked explain stats stopped state made reported
   pub output : Takes out out' state.printed
   pub errors : Takes err err' reported
   pub behind : kept' ≡ kept ++ text_of made
@@ -294,16 +296,16 @@ HasNotExplored source limits failure = IsNotRun source limits failure ⊎ (IsLet
 abbrev pub IsDone : Order → List ℕ → List ℕ → Taken → Taken → Taken → Taken → List ℕ → List ℕ → ℕ → Type 0
 IsDone (Check file explain) source schedule out out' err err' kept kept' status =
     IsChecked source explain out out' err err' status × (kept' ≡ kept)
-IsDone (Run file text limits explain stats) source schedule out out' err err' kept kept' status =
-    HasRun source limits text.now explain stats out out' err err' status × (kept' ≡ kept)
-IsDone (Replay file name limits explain stats) source schedule out out' err err' kept kept' status =
-    HasRun source limits schedule explain stats out out' err err' status × (kept' ≡ kept)
+IsDone (Run file text most limits explain stats) source schedule out out' err err' kept kept' status =
+    HasRun source limits text.now most explain stats out out' err err' status × (kept' ≡ kept)
+IsDone (Replay file name most limits explain stats) source schedule out out' err err' kept kept' status =
+    HasRun source limits schedule most explain stats out out' err err' status × (kept' ≡ kept)
 IsDone (Trace file name limits explain) source schedule out out' err err' kept kept' status =
     HasTraced source limits schedule explain out out' err err' status × (kept' ≡ kept)
 IsDone (Picture file name part limits explain) source schedule out out' err err' kept kept' status =
     (HasDrawn source limits schedule part explain out out' err err' status ⊎ HasTooMany source limits schedule part out out' err err' status) × (kept' ≡ kept)
-IsDone (Threads file workers name stop_at limits explain stats) source schedule out out' err err' kept kept' status =
-    HasRunThreads source limits workers.count stop_at (is_some name) explain stats out out' err err' kept kept' status
+IsDone (Threads file workers name stop_at most limits explain stats) source schedule out out' err err' kept kept' status =
+    HasRunThreads source limits workers.count stop_at most (is_some name) explain stats out out' err err' kept kept' status
 IsDone (Explore file extent name limits explain) source schedule out out' err err' kept kept' status =
     HasExplored source limits extent (is_some name) explain out out' kept kept' status × (err' ≡ err)
 IsDone (Flip sizes) source schedule out out' err err' kept kept' status =
@@ -312,15 +314,15 @@ IsDone (Flip sizes) source schedule out out' err err' kept kept' status =
 -- why an order is not carried out
 abbrev pub IsNotDone : Order → List ℕ → List ℕ → Failure → Type 0
 IsNotDone (Check file explain) source schedule failure = IsNotChecked source failure
-IsNotDone (Run file text limits explain stats) source schedule failure =
+IsNotDone (Run file text most limits explain stats) source schedule failure =
     HasNotRun source limits text.now failure
-IsNotDone (Replay file name limits explain stats) source schedule failure =
+IsNotDone (Replay file name most limits explain stats) source schedule failure =
     HasNotRun source limits schedule failure
 IsNotDone (Trace file name limits explain) source schedule failure =
     HasNotTraced source limits schedule failure
 IsNotDone (Picture file name part limits explain) source schedule failure =
     HasNotTraced source limits schedule failure
-IsNotDone (Threads file workers name stop_at limits explain stats) source schedule failure =
+IsNotDone (Threads file workers name stop_at most limits explain stats) source schedule failure =
     HasNotRunThreads source limits failure
 IsNotDone (Explore file extent name limits explain) source schedule failure =
     HasNotExplored source limits failure
@@ -329,11 +331,11 @@ IsNotDone (Flip sizes) source schedule failure = IsOfWriting failure
 -- ---- an order that is not carried out
 
 -- a write failed of what a run shows
-pub record IsRunInPart (source : List ℕ) (limits : Limits) (text : List ℕ) (explain stats ended : Bool) (out out' err err' : Taken) : Type 0 where
+pub record IsRunInPart (source : List ℕ) (limits : Limits) (text : List ℕ) (most : Option ℕ) (explain stats ended : Bool) (out out' err err' : Taken) : Type 0 where
   pub stopped : Bool
   pub state : State
   pub reported : List ℕ
-  pub is_run : IsRun source limits text explain stats ended stopped state reported
+  pub is_run : IsRun source limits text most explain stats ended stopped state reported
   pub cut : AreCut state.printed reported out out' err err'
 
 -- a run is traced in part: a prefix of the lines of its first events is shown
@@ -353,7 +355,7 @@ pub record IsTracedThenInPart (source : List ℕ) (limits : Limits) (text : List
   pub reports : List Report
   pub between : Taken
   pub traced : IsTraced begins events after reports out.contents between.contents
-  pub shown : IsRunInPart source limits text explain false false between out' err err'
+  pub shown : IsRunInPart source limits text None explain false false between out' err err'
 
 -- a run is drawn in part: its first events are done, and nothing or a prefix of the picture is shown
 pub record IsPictureCut (source : List ℕ) (limits : Limits) (text : List ℕ) (part : Part) (out out' : Taken) : Type 0 where
@@ -395,28 +397,28 @@ IsDrawnInPart source limits text part explain out out' err err' =
     ⊎ (IsPicturedThenInPart source limits text part explain out out' err err' ⊎ (IsTooManyInPart source limits text part err err' × (out' ≡ out)))
 
 -- a write failed of what a run by workers shows
-pub record IsRunByWorkersInPart (source : List ℕ) (limits : Limits) (workers : ℕ) (stop_at : StopAt) (asked explain stats : Bool) (out out' err err' : Taken) : Type 0 where
+pub record IsRunByWorkersInPart (source : List ℕ) (limits : Limits) (workers : ℕ) (stop_at : StopAt) (most : Option ℕ) (asked explain stats : Bool) (out out' err err' : Taken) : Type 0 where
   pub stopped : Bool
   pub state : State
   pub made : Record
   pub reported : List ℕ
-  pub is_run : IsRunByWorkers source limits workers stop_at asked explain stats stopped state made reported
+  pub is_run : IsRunByWorkers source limits workers stop_at most asked explain stats stopped state made reported
   pub cut : AreCut state.printed reported out out' err err'
 
 -- a part of what the order shows where it is carried out
 abbrev pub IsDoneInPart : Order → List ℕ → List ℕ → Taken → Taken → Taken → Taken → Type 0
 IsDoneInPart (Check file explain) source schedule out out' err err' =
     IsCheckedInPart source explain out out' err err'
-IsDoneInPart (Run file text limits explain stats) source schedule out out' err err' =
-    IsRunInPart source limits text.now explain stats explain out out' err err'
-IsDoneInPart (Replay file name limits explain stats) source schedule out out' err err' =
-    IsRunInPart source limits schedule explain stats explain out out' err err'
+IsDoneInPart (Run file text most limits explain stats) source schedule out out' err err' =
+    IsRunInPart source limits text.now most explain stats explain out out' err err'
+IsDoneInPart (Replay file name most limits explain stats) source schedule out out' err err' =
+    IsRunInPart source limits schedule most explain stats explain out out' err err'
 IsDoneInPart (Trace file name limits explain) source schedule out out' err err' =
     (IsTraceInPart source limits schedule out out' × (err' ≡ err)) ⊎ IsTracedThenInPart source limits schedule explain out out' err err'
 IsDoneInPart (Picture file name part limits explain) source schedule out out' err err' =
     IsDrawnInPart source limits schedule part explain out out' err err'
-IsDoneInPart (Threads file workers name stop_at limits explain stats) source schedule out out' err err' =
-    IsRunByWorkersInPart source limits workers.count stop_at (is_some name) explain stats out out' err err'
+IsDoneInPart (Threads file workers name stop_at most limits explain stats) source schedule out out' err err' =
+    IsRunByWorkersInPart source limits workers.count stop_at most (is_some name) explain stats out out' err err'
 IsDoneInPart (Explore file extent name limits explain) source schedule out out' err err' =
     IsExploredInPart source limits extent explain out out' × (err' ≡ err)
 IsDoneInPart (Flip sizes) source schedule out out' err err' =

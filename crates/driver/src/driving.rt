@@ -47,7 +47,8 @@ use std::thread::Threads;
 /// written either, the status is 5, and a prefix of it is written.
 ///
 /// Where memory runs out before an event of `run`, `replay` or `threads`, or a worker's thread can't be started, the run is stopped: what it has
-/// printed until then and how its threads stand is printed all the same, then `memory`, and the status is 5.
+/// printed until then and how its threads stand is printed all the same, then `memory`, and the status is 5. So it is before an event by which the
+/// program would print more bytes than the command allows.
 ///
 /// Where workers run the program and a record is asked for, the text of the run's events is put after the bytes of `record`, once all is
 /// printed: a replay of it with the same limits prints the same. Of more than 1,000,000 events there is no record; that is reported by
@@ -122,6 +123,7 @@ fn perform<W: Out, E: Out>(
         Order::Check { file, explain } => check(alloc, file, source, explain, out, err),
         Order::Run {
             schedule: text,
+            most_printed,
             limits,
             explain,
             stats,
@@ -132,18 +134,29 @@ fn perform<W: Out, E: Out>(
             source,
             limits,
             text.as_bytes(),
+            most_printed,
             explain,
             stats,
             out,
             err,
         ),
         Order::Replay {
+            most_printed,
             limits,
             explain,
             stats,
             ..
         } => show_run(
-            rt, alloc, source, limits, schedule, explain, stats, out, err,
+            rt,
+            alloc,
+            source,
+            limits,
+            schedule,
+            most_printed,
+            explain,
+            stats,
+            out,
+            err,
         ),
         Order::Trace {
             limits,
@@ -160,6 +173,7 @@ fn perform<W: Out, E: Out>(
             workers,
             record: file,
             stop_at,
+            most_printed,
             limits,
             explain,
             stats,
@@ -171,6 +185,7 @@ fn perform<W: Out, E: Out>(
             limits,
             workers,
             stop_at,
+            most_printed,
             file.is_some(),
             explain,
             stats,
@@ -240,20 +255,21 @@ fn check<W: Out, E: Out>(
     Ok(0)
 }
 
-/// Runs a source by the events of a text, prints what the run leaves, and returns its status. Where memory runs out before an event, the run
-/// is stopped there, and that is reported after this. The numbers of the run come last, where they are asked for.
+/// Runs a source by the events of a text, prints what the run leaves, and returns its status. Where memory runs out before an event, or the event
+/// would print beyond the bound, the run is stopped there, and that is reported after this. The numbers of the run come last, where they are asked for.
 fn show_run<W: Out, E: Out>(
     rt: &impl Wait,
     alloc: Global,
     source: &[u8],
     limits: Limits,
     text: &[u8],
+    most_printed: Option<u32>,
     explain: bool,
     stats: bool,
     out: &mut W,
     err: &mut E,
 ) -> Result<u8, Failure>
-    ensures done { IfOk result (HasRun source.now limits text.now explain stats (W.taken out.old)
+    ensures done { IfOk result (HasRun source.now limits text.now most_printed explain stats (W.taken out.old)
         (W.taken out.new) (E.taken err.old) (E.taken err.new)) }
     ensures failed { IfErr result (HasNotRun source.now limits text.now) }
     ensures untouched { IfErr result (λ failure. is_refusal failure ≡ true
@@ -261,9 +277,9 @@ fn show_run<W: Out, E: Out>(
     ensures device { IfErr result (λ failure. failure ≡ DeviceFailure
         → HasBroken (W.taken out.old) (W.taken out.new) (E.taken err.old) (E.taken err.new)) }
     ensures in_part { OnErr result (((W.taken out.new ≡ W.taken out.old) × (E.taken err.new ≡ E.taken err.old))
-        ⊎ IsRunInPart source.now limits text.now explain stats explain (W.taken out.old) (W.taken out.new) (E.taken err.old) (E.taken err.new)) }
+        ⊎ IsRunInPart source.now limits text.now most_printed explain stats explain (W.taken out.old) (W.taken out.new) (E.taken err.old) (E.taken err.new)) }
 {
-    let outcome = run_source(rt, alloc, source, limits, text)?;
+    let outcome = run_source(rt, alloc, source, limits, text, most_printed)?;
     let status = show_outcome(alloc, explain, source, limits, &outcome, out, err)?;
     Ok(show_last(stats, &outcome, status, err)?)
 }

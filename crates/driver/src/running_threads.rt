@@ -18,8 +18,8 @@ use std::sync::Wait;
 use std::thread::Threads;
 
 /// Runs a source by workers, prints what the run leaves, puts its record after what is kept where one is asked for, and returns the status.
-/// Where memory runs out for the run or its record, that is reported after this. The numbers of the run come last, where they are asked
-/// for. A failed write leaves what is kept as it was.
+/// Where memory runs out for the run or its record, or the run was stopped at the bound, that is reported after this. The numbers of the run come
+/// last, where they are asked for. A failed write leaves what is kept as it was.
 pub(crate) fn show_threads<W: Out, E: Out>(
     rt: &(impl Threads + Wait + Sync),
     alloc: Global,
@@ -27,6 +27,7 @@ pub(crate) fn show_threads<W: Out, E: Out>(
     limits: Limits,
     workers: Workers,
     stop_at: StopAt,
+    most_printed: Option<u32>,
     is_recorded: bool,
     explain: bool,
     stats: bool,
@@ -34,7 +35,7 @@ pub(crate) fn show_threads<W: Out, E: Out>(
     err: &mut E,
     kept: &mut Vec<u8>,
 ) -> Result<u8, Failure>
-    ensures done { IfOk result (HasRunThreads source.now limits workers.count stop_at is_recorded explain stats (W.taken out.old)
+    ensures done { IfOk result (HasRunThreads source.now limits workers.count stop_at most_printed is_recorded explain stats (W.taken out.old)
         (W.taken out.new) (E.taken err.old) (E.taken err.new) kept.old.items kept.new.items) }
     ensures failed { IfErr result (HasNotRunThreads source.now limits) }
     ensures same { OnErr result (kept.new.items ≡ kept.old.items) }
@@ -43,9 +44,18 @@ pub(crate) fn show_threads<W: Out, E: Out>(
     ensures device { IfErr result (λ failure. failure ≡ DeviceFailure
         → HasBroken (W.taken out.old) (W.taken out.new) (E.taken err.old) (E.taken err.new)) }
     ensures in_part { OnErr result (((W.taken out.new ≡ W.taken out.old) × (E.taken err.new ≡ E.taken err.old))
-        ⊎ IsRunByWorkersInPart source.now limits workers.count stop_at is_recorded explain stats (W.taken out.old) (W.taken out.new) (E.taken err.old) (E.taken err.new)) }
+        ⊎ IsRunByWorkersInPart source.now limits workers.count stop_at most_printed is_recorded explain stats (W.taken out.old) (W.taken out.new) (E.taken err.old) (E.taken err.new)) }
 {
-    let outcome = run_threads(rt, alloc, source, limits, workers.count, stop_at, &OpenGate)?;
+    let outcome = run_threads(
+        rt,
+        alloc,
+        source,
+        limits,
+        workers.count,
+        stop_at,
+        most_printed,
+        &OpenGate,
+    )?;
     let status = show_outcome(alloc, explain, source, limits, &outcome, out, err)?;
     let before = kept.len();
     let record = keep(record_of(alloc, is_recorded, &outcome.history), kept);

@@ -1,6 +1,6 @@
 //! Two machines of one source that do the same events: one by `step`, and one, which is shared, by `perform`.
 
-ghost use Rattle.std.specs.Prelude.{◌≡◌};
+ghost use Rattle.std.specs.Prelude.{◌≡◌, None};
 
 use crate::calls::open_machine;
 use crate::machines::{Seen, perform_again, step_again};
@@ -40,9 +40,10 @@ fn run_shared<M: Opening, R: Wait>(
 ) -> Result<Outcome, Stop>
     requires book { blank ≡ M.table }
     requires core { core ≡ M.opening }
+    requires printed { M.most_printed ≡ None }
     requires alone { M.workers ≡ 1 }
 {
-    let Ok((shared, mut tickets)) = Shared::<M>::new(rt.alloc(), blank, core, 1) else {
+    let Ok((shared, mut tickets)) = Shared::<M>::new(rt.alloc(), blank, core, 1, None) else {
         return Err(Stop::Beside);
     };
     let Some(mut ticket) = tickets.pop() else {

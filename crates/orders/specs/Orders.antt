@@ -9,35 +9,35 @@ use Rattle.orders.specs.Parts.{count_in, last_in}
 -- the name of the file that holds the source, where one does
 abbrev pub file_of : Order → Option (List ℕ)
 file_of (Check file explain) = Some file.now
-file_of (Run file schedule limits explain stats) = Some file.now
-file_of (Replay file schedule limits explain stats) = Some file.now
+file_of (Run file schedule most_printed limits explain stats) = Some file.now
+file_of (Replay file schedule most_printed limits explain stats) = Some file.now
 file_of (Trace file schedule limits explain) = Some file.now
 file_of (Picture file schedule part limits explain) = Some file.now
-file_of (Threads file workers kept stop_at limits explain stats) = Some file.now
+file_of (Threads file workers kept stop_at most_printed limits explain stats) = Some file.now
 file_of (Explore file extent kept limits explain) = Some file.now
 file_of (Flip sizes) = None
 
 -- the name of the file that holds the schedule's text, where one does
 abbrev pub schedule_file_of : Order → Option (List ℕ)
-schedule_file_of (Replay file schedule limits explain stats) = Some schedule.now
+schedule_file_of (Replay file schedule most_printed limits explain stats) = Some schedule.now
 schedule_file_of (Trace file schedule limits explain) = Some schedule.now
 schedule_file_of (Picture file schedule part limits explain) = Some schedule.now
 schedule_file_of _ = None
 
 -- the name of the file that the record of a run or the schedule of an outcome is to be written to, where one is asked for
 abbrev pub record_file_of : Order → Option (List ℕ)
-record_file_of (Threads file workers kept stop_at limits explain stats) = option_map (λ name. name.now) kept
+record_file_of (Threads file workers kept stop_at most_printed limits explain stats) = option_map (λ name. name.now) kept
 record_file_of (Explore file extent kept limits explain) = option_map (λ name. name.now) kept
 record_file_of _ = None
 
 -- a refusal is to be explained, and what threads wait for when a run has ended
 abbrev pub is_explained : Order → Bool
 is_explained (Check file explain) = explain
-is_explained (Run file schedule limits explain stats) = explain
-is_explained (Replay file schedule limits explain stats) = explain
+is_explained (Run file schedule most_printed limits explain stats) = explain
+is_explained (Replay file schedule most_printed limits explain stats) = explain
 is_explained (Trace file schedule limits explain) = explain
 is_explained (Picture file schedule part limits explain) = explain
-is_explained (Threads file workers kept stop_at limits explain stats) = explain
+is_explained (Threads file workers kept stop_at most_printed limits explain stats) = explain
 is_explained (Explore file extent kept limits explain) = explain
 is_explained (Flip sizes) = false
 

@@ -10,6 +10,6 @@ mod workers;
 
 pub use extents::{Extent, Goal};
 pub use files::{read_source, read_text};
-pub use order::Order;
+pub use order::{LEAST_OUTPUT, MOST_OUTPUT, Order};
 pub use part::{LAST_NUMBER, Part};
 pub use workers::Workers;

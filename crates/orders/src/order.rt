@@ -9,8 +9,14 @@ use cil_model::limits::Limits;
 use cil_model::stops::StopAt;
 use flip_trial::Sizes;
 
+/// The least bound on the bytes that a program prints.
+pub const LEAST_OUTPUT: u32 = 64;
+
+/// The largest bound on the bytes that a program prints.
+pub const MOST_OUTPUT: u32 = u32::MAX;
+
 /// A command with its files and options, each default filled in. With `explain`, a refusal is told with its place and its rule, and a run
-/// that ends with live threads with where they are and what they wait for.
+/// that ends with live threads with where they are and what they wait for. With `most_printed` the program prints no more bytes.
 #[derive(Clone, Copy)]
 pub enum Order<'a> {
     /// Says whether the source of this file is accepted.
@@ -22,6 +28,7 @@ pub enum Order<'a> {
     Run {
         file: &'a str,
         schedule: &'a str,
+        most_printed: Option<u32>,
         limits: Limits,
         explain: bool,
         stats: bool,
@@ -30,6 +37,7 @@ pub enum Order<'a> {
     Replay {
         file: &'a str,
         schedule: &'a str,
+        most_printed: Option<u32>,
         limits: Limits,
         explain: bool,
         stats: bool,
@@ -56,6 +64,7 @@ pub enum Order<'a> {
         workers: Workers,
         record: Option<&'a str>,
         stop_at: StopAt,
+        most_printed: Option<u32>,
         limits: Limits,
         explain: bool,
         stats: bool,

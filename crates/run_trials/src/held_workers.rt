@@ -135,6 +135,7 @@ pub(crate) fn goes_on_without_the_first(
         LOOPING,
         2,
         StopAt::End,
+        None,
         &gate,
     )?;
     Ok(gate.late.load(SeqCst) == 0 && has_steps_between(outcome.history.runs(), 0))
@@ -247,6 +248,7 @@ fn phase_of_held(
         LOOPING,
         2,
         StopAt::End,
+        None,
         &gate,
     )?;
     let runs = outcome.history.runs();

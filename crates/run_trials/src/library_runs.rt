@@ -175,7 +175,7 @@ fn has_one_run(waits: &impl Wait, alloc: Global) -> Result<bool, Failure> {
         event: Event::Step(255),
         count: 1_000_000,
     };
-    let outcome = run_events(waits, alloc, SUM.as_bytes(), LIMITS, &[steps])?;
+    let outcome = run_events(waits, alloc, SUM.as_bytes(), LIMITS, &[steps], None)?;
     let runs = outcome.history.runs();
     Ok(runs.len() == 1 && times(&outcome) == 1_000_000)
 }

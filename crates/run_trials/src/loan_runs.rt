@@ -1,6 +1,6 @@
 //! Frames that are lent, local instructions on them, and their return.
 
-ghost use Rattle.std.specs.Prelude.{◌≡◌};
+ghost use Rattle.std.specs.Prelude.{◌≡◌, None};
 
 use crate::library_runs::machine_of;
 use call_trials::{LIMITS, SUM};
@@ -36,9 +36,10 @@ fn open_alone<M: Opening>(
 ) -> Result<Option<(Shared<M>, Ticket<M>)>, NoMemory>
     requires book { blank ≡ M.table }
     requires core { core ≡ M.opening }
+    requires printed { M.most_printed ≡ None }
     requires workers { M.workers ≡ 1 }
 {
-    let (shared, mut tickets) = Shared::<M>::new(alloc, blank, core, 1)?;
+    let (shared, mut tickets) = Shared::<M>::new(alloc, blank, core, 1, None)?;
     match tickets.pop() {
         Some(ticket) => Ok(Some((shared, ticket))),
         None => Ok(None),
@@ -56,6 +57,7 @@ fn run_on_loan<M: Opening, R: Wait>(
 ) -> Result<Option<(u32, Answer)>, NoMemory>
     requires book { blank ≡ M.table }
     requires core { core ≡ M.opening }
+    requires printed { M.most_printed ≡ None }
     requires workers { M.workers ≡ 1 }
 {
     let Some((shared, mut ticket)) = open_alone::<M>(alloc, blank, core)? else {
@@ -153,6 +155,7 @@ fn is_so<M: Opening, R: Wait>(
 ) -> Result<bool, NoMemory>
     requires book { blank ≡ M.table }
     requires core { core ≡ M.opening }
+    requires printed { M.most_printed ≡ None }
     requires workers { M.workers ≡ 1 }
 {
     let Some((shared, mut ticket)) = open_alone::<M>(alloc, blank, core)? else {

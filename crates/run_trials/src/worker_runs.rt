@@ -72,6 +72,7 @@ pub(crate) fn records_one_worker(
         LIMITS,
         1,
         StopAt::End,
+        None,
         &OpenGate,
     )?;
     let is_recorded = has_record(alloc, &outcome, "s0*3 g s0 g a0 s0 g*2")?;
@@ -102,7 +103,16 @@ pub(crate) fn has_record_of_one(
     requires { (1 ≤ workers) × (workers ≤ 16) }
 {
     let source = GARBAGE.as_bytes();
-    let one = run_threads(threads, alloc, source, TIGHT, 1, StopAt::End, &OpenGate)?;
+    let one = run_threads(
+        threads,
+        alloc,
+        source,
+        TIGHT,
+        1,
+        StopAt::End,
+        None,
+        &OpenGate,
+    )?;
     let outcome = run_threads(
         threads,
         alloc,
@@ -110,6 +120,7 @@ pub(crate) fn has_record_of_one(
         TIGHT,
         workers,
         StopAt::End,
+        None,
         &OpenGate,
     )?;
     let record = write_record(alloc, &one.history)?;
@@ -134,6 +145,7 @@ pub(crate) fn stops_at_a_deadlock(
         PATIENT,
         workers,
         StopAt::Deadlock,
+        None,
         &OpenGate,
     )?;
     Ok(
@@ -159,8 +171,26 @@ pub(crate) fn ends_without_a_deadlock(
     alloc: Global,
 ) -> Result<bool, Failure> {
     let source = COUNTING.as_bytes();
-    let one = run_threads(threads, alloc, source, ROOM, 1, StopAt::End, &OpenGate)?;
-    let outcome = run_threads(threads, alloc, source, ROOM, 1, StopAt::Deadlock, &OpenGate)?;
+    let one = run_threads(
+        threads,
+        alloc,
+        source,
+        ROOM,
+        1,
+        StopAt::End,
+        None,
+        &OpenGate,
+    )?;
+    let outcome = run_threads(
+        threads,
+        alloc,
+        source,
+        ROOM,
+        1,
+        StopAt::Deadlock,
+        None,
+        &OpenGate,
+    )?;
     let record = write_record(alloc, &one.history)?;
     Ok(is_counted(&outcome) && has_record(alloc, &outcome, record.as_str())?)
 }
@@ -187,6 +217,7 @@ pub(crate) fn replays_workers(
         ROOM,
         workers,
         StopAt::End,
+        None,
         &OpenGate,
     )?;
     Ok(is_counted(&outcome) && is_repeated(threads, alloc, &outcome)?)
@@ -195,7 +226,14 @@ pub(crate) fn replays_workers(
 /// Whether whoever replays the record of a run of the three threads gets the same bytes, the same ends and the same record.
 fn is_repeated(waits: &impl Wait, alloc: Global, outcome: &Outcome) -> Result<bool, Failure> {
     let record = write_record(alloc, &outcome.history)?;
-    let again = run_source(waits, alloc, COUNTING.as_bytes(), ROOM, record.as_bytes())?;
+    let again = run_source(
+        waits,
+        alloc,
+        COUNTING.as_bytes(),
+        ROOM,
+        record.as_bytes(),
+        None,
+    )?;
     Ok(
         again.console() == outcome.console()
             && has_record(alloc, &again, record.as_str())?

@@ -17,7 +17,7 @@ use Rattle.interleaving_core.specs.simulation.Runs.{AreTurns}
 use Rattle.shared_machine.specs.Codes.{add, add_times}
 use Rattle.shared_machine.specs.Counts.{Count}
 use Rattle.shared_machine.specs.Histories.{IsSmall, entry, events_of, reports_of}
-use Rattle.shared_machine.specs.Worlds.{HasRooms, IsCheckedIn, IsLentOut, IsSound, IsWorld, Shown, added_times, book_times, is_lent_in, lent_of, with_entries}
+use Rattle.shared_machine.specs.Worlds.{HasRooms, IsCheckedIn, IsLentOut, IsPrintedWithin, IsSound, IsWorld, Shown, added_times, book_times, is_lent_in, lent_of, with_entries}
 use Rattle.shared_machine.specs.declared.history.Entry.{Entry}
 use Rattle.shared_machine.proofs.Histories.{sound_at, sound_more}
 use Rattle.shared_machine.proofs.Moves.{get_same}
@@ -52,11 +52,13 @@ module _ (o : Content) (workers w : ℕ) (e : Event) (r : Report) (small : IsSma
   sound_times (suc n) core h book count s there turns = sound_some (suc n) core h book count s (there (omega arith)) turns
 
 -- a world under equations
-pub world_at : (o : Content) (workers : ℕ) (core core' : Content) (h h' : List Entry) (book book' : List ℕ) (rooms rooms' : List (Option Tree)) → IsSound o workers core h book → core' ≡ core → h' ≡ h → book' ≡ book → rooms' ≡ rooms → HasRooms o rooms
-    → IsWorld o workers core' h' book' rooms'
-world_at o workers core core' h h' book book' rooms rooms' s a b c d homes = record {
+pub world_at : (o : Content) (workers : ℕ) (most kept : Option ℕ) (core core' : Content) (h h' : List Entry) (book book' : List ℕ) (rooms rooms' : List (Option Tree)) → IsSound o workers core h book → core' ≡ core → h' ≡ h → book' ≡ book → rooms' ≡ rooms → HasRooms o rooms
+    → kept ≡ most → IsPrintedWithin most o core' → IsWorld o workers most kept core' h' book' rooms'
+world_at o workers most kept core core' h h' book book' rooms rooms' s a b c d homes same within = record {
   sound = sound_at o workers core core' h h' book book' s a b c;
   homes = subst (HasRooms o) (sym d) homes;
+  bound = same;
+  printed = within;
 }
 
 -- ---- memory for loans

@@ -3,6 +3,7 @@ pub use Rattle.interleaving_core.proofs as interleaving_core
 pub mod Answering
 pub mod Histories
 pub mod Lendings
+pub mod Bounds
 pub mod Codes
 pub mod OneWorker
 pub mod TicketCounts

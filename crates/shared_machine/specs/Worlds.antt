@@ -1,5 +1,5 @@
 -- What lies under the lock, and what an event does to it.
-use Rattle.std.specs.Prelude.{◌≡◌, ◌⊎◌, ℕ, zero, suc, Bool, true, false, List, [], ◌∷◌, ◌++◌, Option, None, Some, length, map, is_none, replicate, slice_get, slice_set, ◌<◌, Any}
+use Rattle.std.specs.Prelude.{◌≡◌, ◌⊎◌, ℕ, zero, suc, Bool, true, false, List, [], ◌∷◌, ◌++◌, Option, None, Some, length, map, is_none, replicate, slice_get, slice_set, ◌<◌, ◌≤◌, Any, IfSome}
 use Rattle.std.specs.List.{zip}
 use Rattle.std.specs.Option.{option_map_or}
 use Rattle.cil_model.specs.declared.events.Event.{Event}
@@ -62,10 +62,16 @@ pub record HasRooms (opening : Content) (rooms : List (Option Tree)) : Type 0 wh
 abbrev pub lent_of : List (Option Tree) → List Bool
 lent_of rooms = map is_none rooms
 
--- both
-pub record IsWorld (opening : Content) (workers : ℕ) (core : Content) (history : List Entry) (book : List ℕ) (rooms : List (Option Tree)) : Type 0 where
+-- if there is a bound, no more bytes are printed, or no more than were there at the beginning
+abbrev pub IsPrintedWithin : Option ℕ → Content → Content → Type 0
+IsPrintedWithin most opening core = IfSome most (λ bytes. (length core.printed ≤ bytes) ⊎ (length core.printed ≤ length opening.printed))
+
+-- all of these, with the bound that is kept
+pub record IsWorld (opening : Content) (workers : ℕ) (most kept : Option ℕ) (core : Content) (history : List Entry) (book : List ℕ) (rooms : List (Option Tree)) : Type 0 where
   pub sound : IsSound opening workers core history book
   pub homes : HasRooms opening rooms
+  pub bound : kept ≡ most
+  pub printed : IsPrintedWithin most opening core
 
 -- a machine has made these turns, one report an event; the reference machine follows them; whatever the machine had done before, it has then done these
 -- events too; program and limits are the same

@@ -4,7 +4,7 @@ ghost use Rattle.std.specs.Prelude.{◌≡◌, ◌<◌, ◌++◌, [], List, ℕ,
 ghost use Rattle.cil_model.specs.declared.events.Event.{Event};
 ghost use Rattle.schedule_text.specs.Items.{events_of as events_in};
 ghost use Rattle.shared_machine.specs.Histories.{events_of, reports_of};
-ghost use Rattle.shared_machine.specs.Worlds.{AreDoneOf, HasCounted, HasCountedFirst, HasRun};
+ghost use Rattle.shared_machine.specs.Worlds.{AreDoneOf, HasCounted, HasCountedFirst, HasRun, IsPrintedWithin};
 
 use crate::answer::Answer;
 use crate::book::{Blank, Ticket};
@@ -78,24 +78,28 @@ fn act_while_memory_lasts<M: Opening, R: Wait>(
 /// One worker does the events that these items stand for, in order, each by `act` of its ticket, and the run ends. The history has these
 /// events, each with its report, and the machine is at what its turns over them make of the initial state.
 ///
-/// Where memory runs out for an event or its entry, the run is stopped before that event: the history has those before it.
+/// Where memory runs out for an event or its entry, the run is stopped before that event: the history has those before it. So it is before an
+/// event that would leave more than `most_printed` bytes on the console.
 ///
-/// `blank` is the book of counts that `M` names, the machine holds what `M` names, and `M` names one worker. Out of memory is the only
-/// error, for the lock; the machine is dropped then.
+/// `blank` is the book of counts that `M` names, the machine holds what `M` names, and `M` names one worker and this bound. Out of memory is the
+/// only error, for the lock; the machine is dropped then.
 pub fn run_alone<M: Opening, R: Wait>(
     rt: &R,
     alloc: Global,
     blank: Blank,
     core: Machine,
     items: &[Item],
+    most_printed: Option<u32>,
 ) -> Result<Outcome, NoMemory>
     requires book { blank ≡ M.table }
     requires core { core ≡ M.opening }
+    requires printed { most_printed ≡ M.most_printed }
     requires alone { M.workers ≡ 1 }
     ensures events { IfOk result (λ outcome. AreDoneOf (events_in items.now) (events_of outcome.history.entries) outcome.is_out_of_memory) }
     ensures ran { IfOk result (λ outcome. HasRun M.opening (events_of outcome.history.entries) (reports_of outcome.history.entries) outcome.machine) }
+    ensures printed { IfOk result (λ outcome. IsPrintedWithin most_printed M.opening outcome.machine) }
 {
-    let (shared, mut tickets) = Shared::<M>::new(alloc, blank, core, 1)?;
+    let (shared, mut tickets) = Shared::<M>::new(alloc, blank, core, 1, most_printed)?;
     let Some(ticket) = tickets.pop() else {
         unreachable!()
     };

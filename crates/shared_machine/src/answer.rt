@@ -7,7 +7,7 @@ use cil_model::reports::Report;
 pub enum Answer {
     /// The machine did the event, and reported this.
     Did(Report),
-    /// No memory was left for the event or for its entry, and nothing changed.
+    /// No memory was left for the event or for its entry, or the event would have printed beyond the bound, and nothing changed.
     NoMemory,
     /// The top frame of the event's thread is lent, and nothing changed.
     Away,

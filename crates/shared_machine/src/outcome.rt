@@ -17,7 +17,7 @@ pub struct Outcome {
     pub history: History,
     /// Whether the stop mark was set.
     pub stopped: bool,
-    /// Whether the run was stopped before its end since memory ran out.
+    /// Whether the run was stopped before its end because memory ran out, or because an event would have printed beyond the bound.
     pub is_out_of_memory: bool,
 }
 

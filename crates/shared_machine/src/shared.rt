@@ -2,7 +2,7 @@
 
 ghost use Rattle.std.specs.Prelude.{◌≡◌, ℕ, ◌≤◌, ◌↔◌, [], Some, length, slice_get, IfErr, IfOk, IsTrue, MatchResult, All};
 ghost use Rattle.shared_machine.specs.Histories.{AreOf, IsSmall, events_of, reports_of};
-ghost use Rattle.shared_machine.specs.Worlds.{AgreesWith, HasRun, HasTicket, IfDid, IfNoMemory, IsComplete, IsMissing, added, fresh};
+ghost use Rattle.shared_machine.specs.Worlds.{AgreesWith, HasRun, HasTicket, IfDid, IfNoMemory, IsComplete, IsMissing, IsPrintedWithin, added, fresh};
 ghost use Rattle.shared_machine.specs.declared.shared.TheConstants.{MOST_WORKERS};
 
 use crate::answer::Answer;
@@ -57,23 +57,27 @@ impl<M: Opening> Unfinished<M> {
 impl<M: Opening> Shared<M> {
     /// Puts a machine under a lock, for so many workers, from 1 to 16, and gives a ticket for each, in order, with count 0.
     ///
-    /// `blank` is the book of counts that `M` names, the machine holds what `M` names, and `M` names this number of workers. Only want of memory is an error; the
-    /// machine is dropped then.
+    /// With `most_printed` no event leaves more than that many bytes on the console: one that would is answered `NoMemory`, and nothing changes.
+    ///
+    /// `blank` is the book of counts that `M` names, the machine holds what `M` names, and `M` names this number of workers and this bound. Out
+    /// of memory is the only error; the machine is dropped then.
     pub fn new(
         alloc: Global,
         blank: Blank,
         core: Machine,
         workers: u8,
+        most_printed: Option<u32>,
     ) -> Result<(Shared<M>, Vec<Ticket<M>>), NoMemory>
         requires book { blank ≡ M.table }
         requires core { core ≡ M.opening }
+        requires printed { most_printed ≡ M.most_printed }
         requires workers { (1 ≤ workers) × (workers ≤ MOST_WORKERS) × (workers ≡ M.workers) }
         ensures { IfOk result (λ made. (made.0 ≡ workers) × (made.1.items ≡ fresh workers)) }
     {
         let mut book = blank.open::<M>();
         let tickets = deal_all(alloc, &mut book, workers)?;
         let rooms = rooms_for(alloc, &core)?;
-        let world = Mutex::new(World::new(alloc, core, book, rooms));
+        let world = Mutex::new(World::new(alloc, core, book, rooms, most_printed));
         Ok((Shared { world, workers }, tickets))
     }
 
@@ -111,6 +115,7 @@ impl<M: Opening> Shared<M> {
         ensures exact { MatchResult result (λ _. IsComplete self tickets.items) (λ _. IsMissing self tickets.items) }
         ensures back { IfErr result (λ unfinished. (unfinished.shared ≡ self) × (unfinished.tickets ≡ tickets)) }
         ensures ran { IfOk result (λ outcome. HasRun M.opening (events_of outcome.history.entries) (reports_of outcome.history.entries) outcome.machine) }
+        ensures printed { IfOk result (λ outcome. IsPrintedWithin M.most_printed M.opening outcome.machine) }
         ensures theirs { IfOk result (λ outcome. AreOf M.workers outcome.history.entries) }
         ensures counts { IfOk result (λ outcome. All (AgreesWith outcome.history.entries) tickets.items) }
     {

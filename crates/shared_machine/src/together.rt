@@ -2,7 +2,7 @@
 
 ghost use Rattle.std.specs.Prelude.{◌≡◌, ◌≤◌, ◌↔◌, All, false, IfOk, IsTrue, true};
 ghost use Rattle.shared_machine.specs.Histories.{events_of, reports_of};
-ghost use Rattle.shared_machine.specs.Worlds.{HasRun};
+ghost use Rattle.shared_machine.specs.Worlds.{HasRun, IsPrintedWithin};
 ghost use Rattle.shared_machine.specs.declared.shared.TheConstants.{MOST_WORKERS};
 ghost use Rattle.shared_machine.specs.Work.{HasEnded, IsDeadlocked, IsOwnOf};
 
@@ -29,10 +29,11 @@ use std::thread::Threads;
 /// event of its worker's own, of a thread that a machine can have. With `StopAt::End` no thread is live. With `StopAt::Deadlock` threads may
 /// be: then each of them waits for a monitor that another thread holds or for the end of a live thread, and the run has the stop mark. Where
 /// memory ran out, for an event or for a worker's thread, and had the workers stop before such an end, the outcome says so. A run that was
-/// short of memory, and came to its end all the same, has the stop mark.
+/// short of memory, and came to its end all the same, has the stop mark. An event that would leave more than `most_printed` bytes on the console is
+/// not done, and stops the run as running out of memory does.
 ///
-/// `blank` is the book of counts that `M` names, the machine holds what `M` names, and `M` names this number of workers. Out of memory is
-/// the only error, before the first event. The machine is dropped then.
+/// `blank` is the book of counts that `M` names, the machine holds what `M` names, and `M` names this number of workers and this bound. Out of
+/// memory is the only error, before the first event. The machine is dropped then.
 pub fn run_together<M: Opening + Send + Sync, R: Threads + Wait + Sync, G: Gate + Sync>(
     rt: &R,
     alloc: Global,
@@ -40,17 +41,20 @@ pub fn run_together<M: Opening + Send + Sync, R: Threads + Wait + Sync, G: Gate 
     core: Machine,
     workers: u8,
     stop_at: StopAt,
+    most_printed: Option<u32>,
     gate: &G,
 ) -> Result<Outcome, NoMemory>
     requires book { blank ≡ M.table }
     requires core { core ≡ M.opening }
+    requires printed { most_printed ≡ M.most_printed }
     requires workers { (1 ≤ workers) × (workers ≤ MOST_WORKERS) × (workers ≡ M.workers) }
     ensures ran { IfOk result (λ outcome. HasRun M.opening (events_of outcome.history.entries) (reports_of outcome.history.entries) outcome.machine) }
+    ensures printed { IfOk result (λ outcome. IsPrintedWithin most_printed M.opening outcome.machine) }
     ensures own { IfOk result (λ outcome. All (IsOwnOf workers) outcome.history.entries) }
     ensures ended { IfOk result (λ outcome. outcome.is_out_of_memory ≡ false → HasEnded stop_at outcome.machine outcome.stopped) }
 {
     let (epochs, herald, seats) = Epochs::new(alloc, usize::from(workers))?;
-    let (shared, tickets) = Shared::<M>::new(alloc, blank, core, workers)?;
+    let (shared, tickets) = Shared::<M>::new(alloc, blank, core, workers, most_printed)?;
     let tickets = run_workers(
         rt, alloc, &shared, tickets, &epochs, herald, seats, stop_at, gate,
     );

@@ -2,13 +2,16 @@
 
 ghost use Rattle.std.specs.Prelude.{◌≡◌, ◌++◌, ◌↔◌, ◌<◌, ◌⊎◌, IfErr, IfOk, IfSome, None, ℕ, replicate, [], ◌∷◌, Some, length, slice_get, slice_set, true, false, All};
 ghost use Rattle.interleaving_core.specs.Histories.{DoesMore};
+ghost use Rattle.interleaving_core.specs.simulation.MachineContents.{Content};
 ghost use Rattle.interleaving_core.specs.simulation.Runs.{FollowsReference};
+ghost use Rattle.interleaving_core.specs.simulation.Turns.{IsTurn};
 ghost use Rattle.interleaving_core.specs.Loans.{IsAtOrigin, IsLent, RanLocally};
 ghost use Rattle.shared_machine.specs.Codes.{add, add_times};
 ghost use Rattle.shared_machine.specs.Histories.{AreOf, IsSmall, entry, events_of, reports_of};
 ghost use Rattle.cil_model.specs.declared.events.Event.TheVariants.{Step as StepOf};
+ghost use Rattle.cil_model.specs.declared.reports.Report.{Report as AnyReport};
 ghost use Rattle.cil_model.specs.declared.reports.Report.TheVariants.{Ran as RanOf};
-ghost use Rattle.shared_machine.specs.Worlds.{AgreesWith, CannotLend, HasRooms, HasRun, IfDid, IfNoMemory, IsCheckedIn, IsDid, IsIn, IsKept, IsLentOut, IsSound, added, added_times, book_times, is_away, is_lent_in, lent_of};
+ghost use Rattle.shared_machine.specs.Worlds.{AgreesWith, CannotLend, HasRooms, HasRun, IfDid, IfNoMemory, IsCheckedIn, IsDid, IsIn, IsKept, IsLentOut, IsPrintedWithin, IsSound, added, added_times, book_times, is_away, is_lent_in, lent_of};
 ghost use Rattle.shared_machine.specs.declared.answer.Answer.TheVariants.{Away};
 
 use crate::answer::Answer;
@@ -24,36 +27,42 @@ use interleaving_core::{Loan, LoanRoom, Machine};
 use std::alloc::Global;
 use std::marker::{Brand, Model, PhantomData};
 
-/// Names a shared machine: what it held when it was opened, how many workers it has, and its book of counts. Who opens it picks all
-/// three, at `Brand`.
+/// Names a shared machine: what it held when it was opened, how many workers it has, how many bytes it may print, if there is a bound, and its book
+/// of counts. Who opens it picks all four, at `Brand`.
 pub trait Opening: Naming {
-    ghost use Rattle.std.specs.Prelude.{ℕ};
+    ghost use Rattle.std.specs.Prelude.{ℕ, Option};
     ghost use Rattle.interleaving_core.specs.simulation.MachineContents.{Content};
 
     ghost opening: { Content };
 
     ghost workers: { ℕ };
+
+    ghost most_printed: { Option ℕ };
 }
 
 impl Opening for Brand {
+    ghost use Rattle.std.specs.Prelude.{None};
     ghost use Rattle.shared_machine.specs.Worlds.{no_content};
 
     ghost opening = { no_content };
 
     ghost workers = { 0 };
+
+    ghost most_printed = { None };
 }
 
 /// The machine, its history, the count of each worker, which threads are lent, and a stop mark. To contracts it is these five.
 ///
 /// Whenever the lock is free, the machine is at what its turns over the history's events make of the opening content, with the history's
-/// reports, each entry is of one of the workers, and each worker's count is that of its entries. Nothing outside this crate can change a
-/// part of it alone.
+/// reports, each entry is of one of the workers, and each worker's count is that of its entries. If there is a bound on what is printed, no more
+/// bytes are printed. Nothing outside this crate can change a part of it alone.
 pub struct World<M: Opening> {
     core: Machine,
     history: History,
     book: Book<M>,
     rooms: Vec<Option<LoanRoom>>,
     stopped: bool,
+    most_printed: Option<u32>,
 }
 
 /// Each part gives back its own.
@@ -65,6 +74,7 @@ impl<M: Opening> Drop for World<M> {
             book: _book,
             rooms: _rooms,
             stopped: _stopped,
+            most_printed: _most_printed,
         } = self;
     }
 }
@@ -76,7 +86,7 @@ impl<M: Opening> Model for World<M> {
 
     ghost view = { λ w. record { core = w.core; history = w.history.entries; book = w.book; lent = lent_of w.rooms.items; stopped = w.stopped } };
 
-    ghost invariant = { λ w. IsWorld M.opening M.workers w.core w.history.entries w.book w.rooms.items };
+    ghost invariant = { λ w. IsWorld M.opening M.workers M.most_printed w.most_printed w.core w.history.entries w.book w.rooms.items };
 }
 
 /// Gives the ticket and its worker's place in the book the count after this entry.
@@ -119,14 +129,25 @@ fn is_away(rooms: &[Option<LoanRoom>], event: Event) -> bool
     }
 }
 
+/// Whether a machine may do an event. It may not if there is a bound on what is printed and the event would print beyond it.
+fn is_print_within(core: &Machine, most_printed: Option<u32>, event: Event) -> bool
+    ensures { result ≡ true → (opening : Content) (after : Content × AnyReport) → IsTurn core.now event after
+        → IsPrintedWithin most_printed opening core.now → IsPrintedWithin most_printed opening after.0 }
+{
+    let Some(most) = most_printed else {
+        return true;
+    };
+    core.print_length(event) <= (most as usize).saturating_sub(core.console().len())
+}
+
 /// Does an event for the ticket's worker, and answers the machine's report. It waits for nobody.
 ///
 /// The reference machine does the same, with a birth refused exactly where it exceeds the room. Whatever the machine has done since it was made, it has then done
 /// this event too: no cycle of the collector had more working events than its bound, and where this event ends a cycle, no more words are in use than are owed.
 ///
 /// The history has one entry more, the worker's count in the book and the ticket has that entry, and the stop mark stays as it was.
-/// Want of memory, for the entry or for what the event prints or starts, changes nothing. Neither does a step or an acknowledgement of a thread
-/// that is lent, which is told first.
+/// Running out of memory, for the entry or for what the event prints or starts, changes nothing. Neither does an event that would print beyond the
+/// bound, which is answered `NoMemory` too, nor a step or an acknowledgement of a thread that is lent, which is answered first.
 // A call on the way of an event is dear: what it saves on the stack has to be written before the lock is given back.
 #[inline(always)]
 pub fn perform<M: Opening>(
@@ -150,9 +171,13 @@ pub fn perform<M: Opening>(
         book,
         rooms,
         stopped: _,
+        most_printed,
     } = world;
     if is_away(rooms, event) {
         return Answer::Away;
+    }
+    if !is_print_within(core, *most_printed, event) {
+        return Answer::NoMemory;
     }
     if history.make_room().is_err() {
         return Answer::NoMemory;
@@ -307,6 +332,7 @@ pub fn check_in<M: Opening>(
         book,
         rooms,
         stopped: _,
+        most_printed: _,
     } = world;
     let thread = lent.loan.thread();
     let times = lent.loan.done();
@@ -329,14 +355,17 @@ pub fn stop<M: Opening>(world: &mut World<M>)
 }
 
 impl<M: Opening> World<M> {
-    /// A world before its first event: no entries, each count 0, no thread lent, and no stop mark. It takes no memory.
+    /// A world before its first event: no entries, each count 0, no thread lent, and no stop mark. With a bound, no event prints beyond it. It takes
+    /// no memory.
     pub(crate) fn new(
         alloc: Global,
         core: Machine,
         book: Book<M>,
         rooms: Vec<Option<LoanRoom>>,
+        most_printed: Option<u32>,
     ) -> World<M>
         requires core { core ≡ M.opening }
+        requires printed { most_printed ≡ M.most_printed }
         requires each { length book ≡ M.workers }
         requires book { (worker count : ℕ) → slice_get book worker ≡ Some count → count ≡ 0 }
         requires rooms { HasRooms M.opening rooms.items }
@@ -348,6 +377,7 @@ impl<M: Opening> World<M> {
             book,
             rooms,
             stopped: false,
+            most_printed,
         }
     }
 
@@ -355,6 +385,7 @@ impl<M: Opening> World<M> {
     pub fn laws(&self)
         ensures sound { IsSound M.opening M.workers self.now.core self.now.history self.now.book }
         ensures ran { HasRun M.opening (events_of self.now.history) (reports_of self.now.history) self.now.core }
+        ensures printed { IsPrintedWithin M.most_printed M.opening self.now.core }
     {
         let _stopped = &self.stopped;
     }
@@ -378,6 +409,7 @@ impl<M: Opening> World<M> {
     pub fn into_outcome(self, tickets: Vec<Ticket<M>>) -> Outcome
         ensures world { (result.history.entries ≡ self.history) × (result.machine ≡ self.core) × (result.stopped ≡ self.stopped) }
         ensures ran { HasRun M.opening (events_of result.history.entries) (reports_of result.history.entries) result.machine }
+        ensures printed { IsPrintedWithin M.most_printed M.opening result.machine }
         ensures theirs { AreOf M.workers result.history.entries }
         ensures counts { All (AgreesWith result.history.entries) tickets.items }
     {
@@ -387,6 +419,7 @@ impl<M: Opening> World<M> {
             mut book,
             rooms: _rooms,
             stopped,
+            most_printed: _,
         } = self;
         compare_all(&mut book, tickets);
         Outcome {

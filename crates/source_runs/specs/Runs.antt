@@ -1,5 +1,5 @@
 -- What comes of a source by a list of events (this profile).
-use Rattle.std.specs.Prelude.{◌≡◌, ◌⊎◌, ℕ, Bool, true, List}
+use Rattle.std.specs.Prelude.{◌≡◌, ◌⊎◌, ℕ, ◌≤◌, Bool, true, List, length, Option, IfSome}
 use Rattle.std.specs.List.{zip}
 use Rattle.shared_machine.specs.Worlds.{AreDoneOf}
 use Rattle.shared_machine.specs.simulation.Budgets.{AreWithinBudget}
@@ -50,6 +50,10 @@ pub record ComesToBy (source : List ℕ) (limits : Limits) (events : List Event)
 pub record ComesTo (source : List ℕ) (limits : Limits) (text : List ℕ) (events : List Event) (reports : List Report) (state : State) : Type 0 where
   pub are_read : AreRead (words text) events
   pub by_events : ComesToBy source limits events reports state
+
+-- if there is a bound, no more bytes were printed
+abbrev pub IsPrintedUpTo : Option ℕ → List ℕ → Type 0
+IsPrintedUpTo most printed = IfSome most (λ bytes. length printed ≤ bytes)
 
 -- the bytes have a tree that is an accepted program, whose machine has its limits in range and has run nothing, and the text writes events
 pub record IsReady (source : List ℕ) (limits : Limits) (text : List ℕ) (events : List Event) (machine : Content) : Type 0 where

@@ -6,7 +6,7 @@ ghost use Rattle.shared_machine.specs.Histories.{events_of, reports_of};
 ghost use Rattle.shared_machine.specs.Worlds.{AreDoneOf};
 ghost use Rattle.shared_machine.specs.interleaving_core.Histories.{HasDone};
 ghost use Rattle.acceptance.specs.Sources.{HasRunTo, IsNotRun, IsNotRunWithin};
-ghost use Rattle.source_runs.specs.Runs.{IsNotRunBy, IsReady, IsRunBy};
+ghost use Rattle.source_runs.specs.Runs.{IsNotRunBy, IsPrintedUpTo, IsReady, IsRunBy};
 
 use acceptance::{Failure, accept, machine_of};
 use cil_model::limits::Limits;
@@ -17,7 +17,7 @@ use std::marker::Brand;
 use std::sync::Wait;
 use verifier::Verified;
 
-/// Runs a source by the events that a schedule's text writes, as `run_events` runs those of its items.
+/// Runs a source by the events that a schedule's text writes, as `run_events` runs those of its items. With `most_printed` it prints no more bytes.
 ///
 /// Faults are looked for in this order: the source, the limits, the schedule, memory before the first event.
 pub fn run_source(
@@ -26,15 +26,17 @@ pub fn run_source(
     source: &[u8],
     limits: Limits,
     text: &[u8],
+    most_printed: Option<u32>,
 ) -> Result<Outcome, Failure>
+    ensures printed { IfOk result (λ outcome. IsPrintedUpTo most_printed outcome.machine.printed) }
     ensures ran { IfOk result (λ outcome. IsRunBy source.now limits text.now (events_of outcome.history.entries) (reports_of outcome.history.entries) outcome.is_out_of_memory outcome.machine) }
     ensures refused { IfErr result (IsNotRunBy source.now limits text.now) }
 {
     match read_schedule(alloc, text) {
-        Ok(items) => run_events(rt, alloc, source, limits, items.as_slice()),
+        Ok(items) => run_events(rt, alloc, source, limits, items.as_slice(), most_printed),
         Err(error) => {
             // What is wrong with the source or the limits is told first.
-            run_events(rt, alloc, source, limits, &[])?;
+            run_events(rt, alloc, source, limits, &[], most_printed)?;
             Err(Failure::from(error))
         }
     }
@@ -43,7 +45,8 @@ pub fn run_source(
 /// Runs a source by the events that these items stand for, as many as they are and of any threads, and answers the machine after them with
 /// the history: each event with its report, in order. One worker performs them, each under the lock of a shared machine, and counts them
 /// with its ticket. Where memory runs out for an event, or for its entry in the history, the run is stopped before that event, and the
-/// outcome says so: the history has the events before it.
+/// outcome says so: the history has the events before it. With `most_printed` it is stopped in the same way before an event by which the program
+/// would have printed more bytes than that.
 ///
 /// The reference machine's run over the steps among the events is never stuck. It gives the steps these reports, and the machine stands
 /// for the state that it comes to: the bytes printed are the same, and each thread stands alike. No thread makes more steps than its
@@ -59,13 +62,15 @@ pub fn run_events(
     source: &[u8],
     limits: Limits,
     items: &[Item],
+    most_printed: Option<u32>,
 ) -> Result<Outcome, Failure>
+    ensures printed { IfOk result (λ outcome. IsPrintedUpTo most_printed outcome.machine.printed) }
     ensures events { IfOk result (λ outcome. AreDoneOf (events_in items.now) (events_of outcome.history.entries) outcome.is_out_of_memory) }
     ensures ran { IfOk result (λ outcome. HasRunTo source.now limits (events_of outcome.history.entries) (reports_of outcome.history.entries) outcome.machine) }
     ensures refused { IfErr result (IsNotRun source.now limits) }
 {
     let verified = accept(alloc, source)?;
-    run(rt, alloc, verified, limits, items)
+    run(rt, alloc, verified, limits, items, most_printed)
 }
 
 /// The machine of a program after the events of these items, which one worker performs.
@@ -75,14 +80,16 @@ fn run(
     program: Verified,
     limits: Limits,
     items: &[Item],
+    most_printed: Option<u32>,
 ) -> Result<Outcome, Failure>
+    ensures printed { IfOk result (λ outcome. IsPrintedUpTo most_printed outcome.machine.printed) }
     ensures events { IfOk result (λ outcome. AreDoneOf (events_in items.now) (events_of outcome.history.entries) outcome.is_out_of_memory) }
     ensures ran { IfOk result (λ outcome. HasDone program limits (events_of outcome.history.entries) (reports_of outcome.history.entries) outcome.machine) }
     ensures refused { IfErr result (IsNotRunWithin limits) }
 {
     let machine = Machine::new(alloc, program, limits)?;
     let blank = Blank::new(alloc)?;
-    Ok(run_alone::<Brand, _>(rt, alloc, blank, machine, items)?)
+    Ok(run_alone::<Brand, _>(rt, alloc, blank, machine, items, most_printed)?)
 }
 
 /// The machine of a source before its first event, and the items that a schedule's text writes.

@@ -136,6 +136,7 @@ fn ends_at_a_cut_console(threads: &(impl Threads + Wait + Sync), alloc: Global) 
     let run = Order::Run {
         file: "",
         schedule: "s0*5",
+        most_printed: None,
         limits: LIMITS,
         explain: false,
         stats: false,

@@ -21,7 +21,7 @@ use std::sync::Wait;
 use std::thread::Threads;
 
 /// The groups of cases. Those of `NAME` stand in the file `NAME.txt`.
-const GROUPS: [&str; 19] = [
+const GROUPS: [&str; 20] = [
     "command_line",
     "commands",
     "schedules",
@@ -41,6 +41,7 @@ const GROUPS: [&str; 19] = [
     "examples",
     "threads",
     "statistics",
+    "output",
 ];
 
 /// The status is 0 where all is as expected, 1 where something differs, and 5 where a file is not read or memory is wanted.

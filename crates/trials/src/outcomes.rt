@@ -61,12 +61,14 @@ fn limited<'a>(order: Order<'a>, limits: Option<&str>) -> Order<'a> {
         Order::Run {
             file,
             schedule,
+            most_printed,
             explain,
             stats,
             ..
         } => Order::Run {
             file,
             schedule,
+            most_printed,
             limits,
             explain,
             stats,
@@ -76,6 +78,7 @@ fn limited<'a>(order: Order<'a>, limits: Option<&str>) -> Order<'a> {
             workers,
             record,
             stop_at,
+            most_printed,
             explain,
             stats,
             ..
@@ -84,6 +87,7 @@ fn limited<'a>(order: Order<'a>, limits: Option<&str>) -> Order<'a> {
             workers,
             record,
             stop_at,
+            most_printed,
             limits,
             explain,
             stats,

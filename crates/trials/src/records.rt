@@ -39,6 +39,7 @@ fn add_replay(
 ) -> io::Result<()> {
     let Order::Threads {
         file,
+        most_printed,
         limits,
         explain,
         stats,
@@ -50,6 +51,7 @@ fn add_replay(
     let replay = Order::Replay {
         file,
         schedule: "",
+        most_printed,
         limits,
         explain,
         stats,

@@ -28,6 +28,16 @@ pub fn add_run(
     Ok(())
 }
 
+/// The most bytes that an order's program prints, if there is a bound.
+fn most_printed_of(order: &Order<'_>) -> Option<u32> {
+    match *order {
+        Order::Run { most_printed, .. }
+        | Order::Replay { most_printed, .. }
+        | Order::Threads { most_printed, .. } => most_printed,
+        _ => None,
+    }
+}
+
 /// The limits and the text of the schedule of an order; none where it has no schedule.
 fn run_of<'a>(order: &Order<'a>, files: &'a Files) -> Option<(Limits, &'a [u8])> {
     match *order {
@@ -110,6 +120,7 @@ fn add_events(
         files.source.as_slice(),
         limits,
         items.as_slice(),
+        most_printed_of(order),
     )?;
     add_reports(outcome.history.runs(), out)?;
     add_words("used", outcome.machine.used(), out)?;

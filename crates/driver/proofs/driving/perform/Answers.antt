@@ -23,7 +23,7 @@ returns-in-Check-clause-in_part g c = rw c.in-Check.is c.check.ensures.in_part
 
 pub returns-in-Run-clause-done : goal.returns-in-Run-clause-done
 returns-in-Run-clause-done g c =
-    let done = subst (λ text. IfOk c.show_run.result (HasRun c.args.source.now c.in-Run.limits text c.in-Run.explain c.in-Run.stats (g.W.Out.taken c.args.out.now) (g.W.Out.taken c.show_run.new.out)
+    let done = subst (λ text. IfOk c.show_run.result (HasRun c.args.source.now c.in-Run.limits text c.in-Run.most_printed c.in-Run.explain c.in-Run.stats (g.W.Out.taken c.args.out.now) (g.W.Out.taken c.show_run.new.out)
     (g.E.Out.taken c.args.err.now) (g.E.Out.taken c.show_run.new.err))) c.as_bytes.ensures.value c.show_run.ensures.done in
     rw c.in-Run.is (if_ok c.show_run.result done (λ _ done. (done, refl)))
 
@@ -44,7 +44,7 @@ returns-in-Run-clause-in_part g c =
     let out' = g.W.Out.taken c.show_run.new.out in
     let err = g.E.Out.taken c.args.err.now in
     let err' = g.E.Out.taken c.show_run.new.err in
-    rw c.in-Run.is (subst (λ text. OnErr c.show_run.result (((out' ≡ out) × (err' ≡ err)) ⊎ IsRunInPart c.args.source.now c.in-Run.limits text c.in-Run.explain c.in-Run.stats c.in-Run.explain out out' err err'))
+    rw c.in-Run.is (subst (λ text. OnErr c.show_run.result (((out' ≡ out) × (err' ≡ err)) ⊎ IsRunInPart c.args.source.now c.in-Run.limits text c.in-Run.most_printed c.in-Run.explain c.in-Run.stats c.in-Run.explain out out' err err'))
     c.as_bytes.ensures.value c.show_run.ensures.in_part)
 
 pub returns-in-Replay-clause-done : goal.returns-in-Replay-clause-done
@@ -94,7 +94,7 @@ returns-in-Picture-clause-in_part g c = rw c.in-Picture.is c.show_picture.ensure
 
 pub returns-in-Threads-clause-done : goal.returns-in-Threads-clause-done
 returns-in-Threads-clause-done g c =
-    rw c.in-Threads.is (subst (λ asked. IfOk c.show_threads.result (HasRunThreads c.args.source.now c.in-Threads.limits c.in-Threads.workers.count c.in-Threads.stop_at asked c.in-Threads.explain c.in-Threads.stats
+    rw c.in-Threads.is (subst (λ asked. IfOk c.show_threads.result (HasRunThreads c.args.source.now c.in-Threads.limits c.in-Threads.workers.count c.in-Threads.stop_at c.in-Threads.most_printed asked c.in-Threads.explain c.in-Threads.stats
     (g.W.Out.taken c.args.out.now) (g.W.Out.taken c.show_threads.new.out) (g.E.Out.taken c.args.err.now) (g.E.Out.taken c.show_threads.new.err)
     c.args.record.now.items c.show_threads.new.kept.items)) c.is_some.ensures c.show_threads.ensures.done)
 
@@ -114,7 +114,7 @@ returns-in-Threads-clause-in_part g c =
     let err = g.E.Out.taken c.args.err.now in
     let err' = g.E.Out.taken c.show_threads.new.err in
     rw c.in-Threads.is (subst (λ asked. OnErr c.show_threads.result (((out' ≡ out) × (err' ≡ err))
-    ⊎ IsRunByWorkersInPart c.args.source.now c.in-Threads.limits c.in-Threads.workers.count c.in-Threads.stop_at asked c.in-Threads.explain c.in-Threads.stats out out' err err'))
+    ⊎ IsRunByWorkersInPart c.args.source.now c.in-Threads.limits c.in-Threads.workers.count c.in-Threads.stop_at c.in-Threads.most_printed asked c.in-Threads.explain c.in-Threads.stats out out' err err'))
     c.is_some.ensures c.show_threads.ensures.in_part)
 
 pub returns-in-Explore-clause-done : goal.returns-in-Explore-clause-done

@@ -32,7 +32,7 @@ returns-in_err-status-clause-in_part g c =
     let ended : outcome.is_out_of_memory ≡ false → HasEnded c.args.stop_at outcome.machine outcome.stopped = ran.ended in
     let (made, is_record) = some_record c.args.is_recorded (events_of h) in
     on_err c.from_residual-in_err-status.result
-    (inr (threads_in_part c.args.source.now c.args.limits c.args.workers.count c.args.stop_at c.args.is_recorded c.args.explain c.args.stats outcome.is_out_of_memory h outcome.machine made ran.ran ran.own outcome.stopped ended is_record
+    (inr (threads_in_part c.args.source.now c.args.limits c.args.workers.count c.args.stop_at c.args.most_printed c.args.is_recorded c.args.explain c.args.stats outcome.is_out_of_memory h outcome.machine made ran.ran ran.own ran.printed outcome.stopped ended is_record
     (g.W.Out.taken c.args.out.now) (g.W.Out.taken c.show_outcome.new.out) (g.E.Out.taken c.args.err.now) (g.E.Out.taken c.show_outcome.new.err) c.in_err-status.ensures.cut))
 
 pub returns-clause-in_part : goal.returns-clause-in_part
@@ -42,7 +42,7 @@ returns-clause-in_part g c =
     let ran = c.in_ok-outcome.ensures in
     let ended : outcome.is_out_of_memory ≡ false → HasEnded c.args.stop_at outcome.machine outcome.stopped = ran.ended in
     let is_record = c.keep-record.ensures.same c.args.is_recorded (events_of h) c.record_of.ensures in
-    inr (threads_then_in_part c.args.source.now c.args.limits c.args.workers.count c.args.stop_at c.args.is_recorded c.args.explain c.args.stats outcome.is_out_of_memory h outcome.machine c.keep-record.result ran.ran ran.own outcome.stopped ended is_record
+    inr (threads_then_in_part c.args.source.now c.args.limits c.args.workers.count c.args.stop_at c.args.most_printed c.args.is_recorded c.args.explain c.args.stats outcome.is_out_of_memory h outcome.machine c.keep-record.result ran.ran ran.own ran.printed outcome.stopped ended is_record
     (g.W.Out.taken c.args.out.now) (g.W.Out.taken c.show_outcome.new.out) (g.E.Out.taken c.args.err.now) (g.E.Out.taken c.show_outcome.new.err) (g.E.Out.taken c.show_last_of_workers.new.err) c.in_ok-status.status c.in_ok-status.ensures.whole c.in-Err.ensures.cut)
 
 -- ---- all is written
@@ -54,6 +54,6 @@ returns-in-Ok-clause-done g c =
     let ran = c.in_ok-outcome.ensures in
     let ended : outcome.is_out_of_memory ≡ false → HasEnded c.args.stop_at outcome.machine outcome.stopped = ran.ended in
     let is_record = c.keep-record.ensures.same c.args.is_recorded (events_of h) c.record_of.ensures in
-    has_run_threads c.args.source.now c.args.limits c.args.workers.count c.args.stop_at c.args.is_recorded c.args.explain c.args.stats outcome.is_out_of_memory h outcome.machine c.keep-record.result ran.ran ran.own outcome.stopped ended is_record
+    has_run_threads c.args.source.now c.args.limits c.args.workers.count c.args.stop_at c.args.most_printed c.args.is_recorded c.args.explain c.args.stats outcome.is_out_of_memory h outcome.machine c.keep-record.result ran.ran ran.own ran.printed outcome.stopped ended is_record
     (g.W.Out.taken c.args.out.now) (g.W.Out.taken c.show_outcome.new.out) (g.E.Out.taken c.args.err.now) (g.E.Out.taken c.show_outcome.new.err) (g.E.Out.taken c.show_last_of_workers.new.err)
     c.args.kept.now.items c.keep-record.new.kept.items c.in_ok-status.status c.in-Ok.status c.in_ok-status.ensures.whole c.keep-record.ensures.after c.in-Ok.ensures.whole

@@ -1,12 +1,15 @@
 use Rattle.std.proofs.Common.{sym, subst}
 use Rattle.schedule_text.specs.Items.{events_of as events_in}
 use Rattle.shared_machine.specs.Histories.{AreOf}
-use Rattle.shared_machine.specs.Worlds.{AgreesWith, AreDoneOf}
+use Rattle.shared_machine.specs.Worlds.{AgreesWith, AreDoneOf, IsPrintedWithin}
 use Rattle.shared_machine.proofs.OneWorker.{counted_all, counted_first, of_only, taken}
 use Rattle.shared_machine.proofs.alone.run_alone.Goals as goal
 
 pub act_while_memory_lasts-ticket-requires : goal.act_while_memory_lasts-ticket-requires
 act_while_memory_lasts-ticket-requires g c = counted_first _ (taken _ _ _ _ c.in-Some.ensures.items c.in_ok-shared.ensures.1).0
+
+pub returns-clause-printed : goal.returns-clause-printed
+returns-clause-printed g c = subst (λ most. IsPrintedWithin most g.M.Opening.opening c.in-Ok.outcome.machine) (sym c.requires.printed) c.in-Ok.ensures.printed
 
 pub returns-clause-events : goal.returns-clause-events
 returns-clause-events g c =

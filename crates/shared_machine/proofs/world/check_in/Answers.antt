@@ -7,6 +7,7 @@ use Rattle.interleaving_core.specs.simulation.Runs.{AreTurns}
 use Rattle.shared_machine.specs.Histories.{Log, IsSmall, entry}
 use Rattle.shared_machine.specs.Worlds.{IsCheckedIn, Shown, is_lent_in, lent_of}
 use Rattle.shared_machine.specs.declared.history.Entry.{Entry}
+use Rattle.shared_machine.proofs.Bounds.{same_within}
 use Rattle.shared_machine.proofs.Lendings.{checked_in, lent_within, room_back, same_tree, shown_as, sound_times, world_at}
 use Rattle.std.specs.Prelude.{slice_set}
 use Rattle.shared_machine.proofs.world.check_in.Goals as goal
@@ -40,13 +41,15 @@ invariant_of-world-2 g c =
     let thread = ap (λ (l : Lent). l.thread) (loan ∙ sym c.lent.view_is) ∙ sym c.thread-thread.ensures in
     let turns = turns_as c.world.inside.core c.take_back.new.self c.into_loan.result c.done-times.result c.thread-thread.result done thread c.take_back.ensures.turns in
     let t = c.args.ticket.now in
-    world_at _ _ _ _ _ _ _ _ _ _
+    world_at _ _ _ _ _ _ _ _ _ _ _ _
     (sound_times _ _ t.worker (Step c.thread-thread.result) Ran (small_step c.thread-thread.result c.thread-thread.type_inv) c.take_back.new.self c.done-times.result c.world.inside.core c.world.inside.history.entries c.world.inside.book t.count c.world.invariant.sound c.record_steps.ensures.agreed turns)
     refl
     (c.record_steps.ensures.history ∙ ap (λ (h : List Entry). h ++ replicate c.done-times.result (entry t.worker (Step c.thread-thread.result) Ran)) before)
     c.record_steps.ensures.book
     refl
     (room_back _ c.world.inside.rooms.items c.from.result c.take_back.result c.world.invariant.homes (c.take_back.ensures.room ∙ same_tree _ _ _ _ _ c.world.invariant.sound))
+    c.world.invariant.bound
+    (same_within _ g.M.Opening.opening c.world.inside.core c.take_back.new.self c.take_back.ensures.printed c.world.invariant.printed)
 
 pub returns-clause-done : goal.returns-clause-done
 returns-clause-done g c =

@@ -40,6 +40,8 @@ pub invariant_of-world-2 : goal.invariant_of-world-2
 invariant_of-world-2 g c = record {
   sound = c.world.invariant.sound;
   homes = subst (λ (x : Option Tree). HasRooms _ (slice_set c.world.inside.rooms.items c.from.result x)) (sym c.take.ensures.after) (taken_rooms _ c.world.inside.rooms.items c.from.result c.world.invariant.homes);
+  bound = c.world.invariant.bound;
+  printed = c.world.invariant.printed;
 }
 
 pub returns-clause-some : goal.returns-clause-some

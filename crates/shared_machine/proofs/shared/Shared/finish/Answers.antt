@@ -19,3 +19,6 @@ returns-clause-theirs g c = c.into_outcome.ensures.theirs
 
 pub returns-clause-counts : goal.returns-clause-counts
 returns-clause-counts g c = c.into_outcome.ensures.counts
+
+pub returns-clause-printed : goal.returns-clause-printed
+returns-clause-printed g c = c.into_outcome.ensures.printed
