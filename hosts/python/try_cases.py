@@ -23,8 +23,8 @@ VALUED = ("--schedule", "--words", "--max-words", "--budget", "--depth")
 #: An item of a schedule, and the events that one may have.
 ITEM = re.compile(rb"(g|[sa](\d|1[0-5]))(\*[1-9]\d*)?")
 MOST_EVENTS = 1_000_000
-#: Groups that are no sources, only command lines, or bounds that the library counts otherwise.
-LEFT_OUT = ("grammar.txt", "command_line.txt", "output.txt")
+#: Groups that are no sources, only command lines, bounds that the library counts otherwise, or files that the library does not read.
+LEFT_OUT = ("grammar.txt", "command_line.txt", "output.txt", "records.txt")
 #: The letters of reports.
 LETTERS = {"r": "ran", "b": "blocked", "a": "absent", "k": "acked", "n": "nothing-posted", "o": "worked", "w": "waiting"}
 

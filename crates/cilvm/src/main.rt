@@ -1,9 +1,9 @@
 //! The program `cilvm`.
 #![tactic(auto)]
 
-use command_line::{LineFault, Unread, Unwritten};
-use driver::{Failure, WriterOut};
-use orders::{Order, read_source, read_text};
+use command_line::{LineFault, Malformed, Unread, Unwritten};
+use driver::{Failure, RecordFiles, WriterOut};
+use orders::{Order, read_source, read_text, run_file_name};
 use std::alloc::AllocError;
 use std::fs::File;
 use std::process::ExitCode;
@@ -79,7 +79,42 @@ fn carry_out(rt: &HostRuntime, threads: &(impl Threads + Wait + Sync), order: &O
         Ok(schedule) => schedule,
         Err(unread) => return tell_unread(rt, &unread),
     };
-    carry_out_on(rt, threads, order, source.as_slice(), schedule.as_slice())
+    match with_run_file(rt, order) {
+        Ok(order) => carry_out_on(rt, threads, &order, source.as_slice(), schedule.as_slice()),
+        Err(status) => status,
+    }
+}
+
+/// The order with what the `.run` file beside its schedule says, where there is one. If that is not read or is not a `.run` file, it is
+/// reported, and the error is the status.
+fn with_run_file<'a>(rt: &HostRuntime, order: &Order<'a>) -> Result<Order<'a>, u8> {
+    let Some(schedule) = order.replayed_file() else {
+        return Ok(*order);
+    };
+    let name = match run_file_name(rt.alloc(), schedule) {
+        Ok(name) => name,
+        Err(_) => return Err(report_failure(rt, Failure::Memory)),
+    };
+    let file = name.as_str();
+    match text_where_found(rt, file) {
+        Ok(None) => Ok(*order),
+        Ok(Some(text)) => match run_files::read(text.as_slice()) {
+            Some(run) => Ok(order.with_run_file(run)),
+            None => Err(tell_malformed(rt, &Malformed { file })),
+        },
+        Err(error) => Err(tell_unread(rt, &Unread { file, error })),
+    }
+}
+
+/// The bytes of a file. None if there is no such file, or no file can have this name.
+fn text_where_found(rt: &HostRuntime, file: &str) -> io::Result<Option<Vec<u8>>> {
+    match File::open(rt, file) {
+        Ok(opened) => Ok(Some(read_text(rt.alloc(), opened)?)),
+        Err(error) => match error.kind() {
+            io::ErrorKind::NotFound | io::ErrorKind::InvalidFilename => Ok(None),
+            _ => Err(error),
+        },
+    }
 }
 
 /// Carries out an order on the bytes of its files, and answers the status.
@@ -94,7 +129,7 @@ fn carry_out_on(
     let errors = rt.stderr();
     let mut out = WriterOut::new(io::writer(rt));
     let mut err = WriterOut::new(io::writer(&errors));
-    let mut record = Vec::new(alloc);
+    let mut record = None;
     let status = driver::drive(
         threads,
         alloc,
@@ -105,24 +140,49 @@ fn carry_out_on(
         &mut err,
         &mut record,
     );
-    match write_record(rt, order, record.as_slice()) {
-        Ok(()) => status,
-        Err(unwritten) => tell_unwritten(rt, &unwritten),
+    match record {
+        Some(texts) => write_record(rt, order, &texts, status),
+        None => status,
     }
 }
 
-/// Writes the record of a run to the file that the order names for it. A run that has one has some events; where there is no record, no
-/// file is made.
-fn write_record<'a>(
-    rt: &HostRuntime,
-    order: &Order<'a>,
-    record: &[u8],
-) -> Result<(), Unwritten<'a>> {
-    match order.record_file() {
-        Some(file) if !record.is_empty() => {
-            fs::write(rt, file, record).map_err(|error| Unwritten { file, error })
-        }
-        _ => Ok(()),
+/// Writes the record of a run to the file that the order names, and its `.run` file beside it, and returns the status, which is this one if
+/// they are written. A run that has a record has some events; where there are none, no file is made.
+fn write_record(rt: &HostRuntime, order: &Order<'_>, texts: &RecordFiles, status: u8) -> u8 {
+    let Some(file) = order.record_file() else {
+        return status;
+    };
+    if texts.schedule.is_empty() {
+        return status;
+    }
+    match fs::write(rt, file, texts.schedule.as_bytes()) {
+        Ok(()) => write_run_file(rt, file, texts, status),
+        Err(error) => tell_unwritten(rt, &Unwritten { file, error }),
+    }
+}
+
+/// Writes the `.run` file of a record, and returns the status, which is this one if it is written. A record that is no regular file, as a
+/// pipe or a terminal, has none.
+fn write_run_file(rt: &HostRuntime, record: &str, texts: &RecordFiles, status: u8) -> u8 {
+    if !is_regular(rt, record) {
+        return status;
+    }
+    let name = match run_file_name(rt.alloc(), record) {
+        Ok(name) => name,
+        Err(_) => return report_failure(rt, Failure::Memory),
+    };
+    let file = name.as_str();
+    match fs::write(rt, file, texts.run.as_bytes()) {
+        Ok(()) => status,
+        Err(error) => tell_unwritten(rt, &Unwritten { file, error }),
+    }
+}
+
+/// Whether a file is a regular one.
+fn is_regular(rt: &HostRuntime, file: &str) -> bool {
+    match fs::metadata(rt, file) {
+        Ok(found) => found.is_file(),
+        Err(_) => false,
     }
 }
 
@@ -150,6 +210,21 @@ fn schedule_of<'a>(rt: &HostRuntime, order: &Order<'a>) -> Result<Vec<u8>, Unrea
     }
 }
 
+/// Reports that a file is not a `.run` file, and returns the status.
+fn tell_malformed(rt: &HostRuntime, malformed: &Malformed<'_>) -> u8 {
+    let status = report_failure(rt, Failure::Refused(run_files::MALFORMED));
+    if let Ok(text) = malformed.told(rt.alloc()) {
+        let _written = eprint!(rt; "{text}");
+    }
+    status
+}
+
+/// Reports a failure, and returns its status.
+fn report_failure(rt: &HostRuntime, failure: Failure) -> u8 {
+    let errors = rt.stderr();
+    driver::report(failure, &mut WriterOut::new(io::writer(&errors)))
+}
+
 /// Tells that a file is not read, and why, and answers the status.
 fn tell_unread(rt: &HostRuntime, unread: &Unread<'_>) -> u8 {
     tell_file(rt, unread.error, unread.told(rt.alloc()))
@@ -162,11 +237,7 @@ fn tell_unwritten(rt: &HostRuntime, unwritten: &Unwritten<'_>) -> u8 {
 
 /// Tells an error of a file, and behind it what is told of the file. Where that is not to be had or not written, the first line stands alone.
 fn tell_file(rt: &HostRuntime, error: io::Error, told: Result<String, AllocError>) -> u8 {
-    let errors = rt.stderr();
-    let status = driver::report(
-        Failure::from(error),
-        &mut WriterOut::new(io::writer(&errors)),
-    );
+    let status = report_failure(rt, Failure::from(error));
     if let Ok(text) = told {
         let _written = eprint!(rt; "{text}");
     }

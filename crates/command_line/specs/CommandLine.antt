@@ -21,6 +21,7 @@ use Rattle.cil_model.specs.Ranges.{are_numbers_in_range}
 use Rattle.cil_model.specs.declared.limits.Limits.{Limits}
 use Rattle.cil_model.specs.declared.limits.TheConstants.{LEAST_WORDS, MOST_WORDS}
 use Rattle.cil_model.specs.declared.limits.TheConstants.{MOST_BUDGET, MOST_DEPTH}
+use Rattle.orders.specs.declared.given_limits.GivenLimits.{GivenLimits}
 use Rattle.orders.specs.declared.order.Order.{Order}
 use Rattle.orders.specs.declared.order.Order.TheVariants.{Check, Run, Replay, Trace, Picture, Threads, Explore, Flip}
 use Rattle.orders.specs.declared.order.TheConstants.{LEAST_OUTPUT, MOST_OUTPUT}
@@ -74,6 +75,12 @@ with_limits a = with_rule (with_rule (with_rule (with_rule a
     (with_default (codes "100000") (number_rule (codes "budget") 1 MOST_BUDGET)))
     (with_default (codes "64") (number_rule (codes "depth") 1 MOST_DEPTH))
 
+-- the same without defaults
+abbrev pub with_given_limits : App → App
+with_given_limits a = with_rule (with_rule (with_rule (with_rule a
+    (number_rule (codes "words") LEAST_WORDS MOST_WORDS)) (number_rule (codes "max-words") LEAST_WORDS MOST_WORDS))
+    (number_rule (codes "budget") 1 MOST_BUDGET)) (number_rule (codes "depth") 1 MOST_DEPTH)
+
 abbrev pub with_explain : App → App
 with_explain a = with_rule a (flag_rule (codes "explain"))
 
@@ -104,7 +111,7 @@ abbrev pub run_app : App
 run_app = with_run_options (with_stats (with_output (with_rule (with_source (codes "run")) (needed (text_rule (codes "schedule"))))))
 
 abbrev pub replay_app : App
-replay_app = with_run_options (with_stats (with_output (with_files (codes "replay"))))
+replay_app = with_given_limits (with_explain (with_stats (with_output (with_files (codes "replay")))))
 
 abbrev pub trace_app : App
 trace_app = with_run_options (with_files (codes "trace"))
@@ -154,7 +161,7 @@ cilvm_app = with_subcommand (with_subcommand (with_subcommand (with_subcommand (
 pub data Wanted : Type 0 where
   check : Text → Bool → Wanted
   run : Text → Text → Option ℕ → Limits → Bool → Bool → Wanted
-  replay : Text → Text → Option ℕ → Limits → Bool → Bool → Wanted
+  replay : Text → Text → Option ℕ → GivenLimits → Bool → Bool → Wanted
   trace : Text → Text → Limits → Bool → Wanted
   picture : Text → Text → ℕ → Option ℕ → Limits → Bool → Wanted
   threads : Text → ℕ → Option Text → StopAt → Option ℕ → Limits → Bool → Bool → Wanted
@@ -164,7 +171,7 @@ pub data Wanted : Type 0 where
 abbrev pub wanted_of : Order → Wanted
 wanted_of (Check file explain) = check file.now explain
 wanted_of (Run file schedule most_printed limits explain stats) = run file.now schedule.now most_printed limits explain stats
-wanted_of (Replay file schedule most_printed limits explain stats) = replay file.now schedule.now most_printed limits explain stats
+wanted_of (Replay file schedule most_printed limits expected explain stats) = replay file.now schedule.now most_printed limits explain stats
 wanted_of (Trace file schedule limits explain) = trace file.now schedule.now limits explain
 wanted_of (Picture file schedule part limits explain) = picture file.now schedule.now part.first part.last limits explain
 wanted_of (Threads file workers kept stop_at most_printed limits explain stats) = threads file.now workers.count (option_map (λ name. name.now) kept) stop_at most_printed limits explain stats
@@ -209,15 +216,30 @@ abbrev pub scheduled_in : List Row → Option (Text × Text × Limits)
 scheduled_in rows = option_and_then (λ file. option_and_then (λ schedule. option_map (λ limits. (file, schedule, limits))
     (limits_in rows)) (first_of (codes "schedule") rows)) (first_of (codes "file") rows)
 
--- the most bytes that the program prints, if that is said
+-- a number, where one is given
+abbrev pub given_at : ℕ → ℕ → Text → List Row → Option (Option ℕ)
+given_at least most id rows = option_map_or (λ text. option_map Some (number_in least most text)) (first_of id rows) (Some None)
+
+-- the most bytes that the program prints, where that is given
 abbrev pub output_in : List Row → Option (Option ℕ)
-output_in rows = option_map_or (λ text. option_map Some (number_in LEAST_OUTPUT MOST_OUTPUT text)) (first_of (codes "output") rows) (Some None)
+output_in rows = given_at LEAST_OUTPUT MOST_OUTPUT (codes "output") rows
 
 abbrev pub run_in : List Row → Option Wanted
 run_in rows = option_and_then (λ most. option_map (λ (s : Text × Text × Limits). run s.0 s.1 most s.2 (flag_at (codes "explain") rows) (flag_at (codes "stats") rows)) (scheduled_in rows)) (output_in rows)
 
+-- the limits that are given
+abbrev pub given_in : List Row → Option GivenLimits
+given_in rows = option_and_then (λ words. option_and_then (λ most. option_and_then (λ budget. option_map (λ depth. record {
+  words = words;
+  max_words = most;
+  budget = budget;
+  depth = depth;
+}) (given_at 1 MOST_DEPTH (codes "depth") rows)) (given_at 1 MOST_BUDGET (codes "budget") rows)) (given_at LEAST_WORDS MOST_WORDS (codes "max-words") rows))
+    (given_at LEAST_WORDS MOST_WORDS (codes "words") rows)
+
 abbrev pub replay_in : List Row → Option Wanted
-replay_in rows = option_and_then (λ most. option_map (λ (s : Text × Text × Limits). replay s.0 s.1 most s.2 (flag_at (codes "explain") rows) (flag_at (codes "stats") rows)) (scheduled_in rows)) (output_in rows)
+replay_in rows = option_and_then (λ most. option_and_then (λ file. option_and_then (λ schedule. option_map (λ given. replay file schedule most given (flag_at (codes "explain") rows) (flag_at (codes "stats") rows))
+    (given_in rows)) (first_of (codes "schedule") rows)) (first_of (codes "file") rows)) (output_in rows)
 
 abbrev pub trace_in : List Row → Option Wanted
 trace_in rows = option_map (λ (s : Text × Text × Limits). trace s.0 s.1 s.2 (flag_at (codes "explain") rows)) (scheduled_in rows)
@@ -360,11 +382,16 @@ IsPartInRange part = (1 ≤ part.first) × (part.first ≤ LAST_NUMBER) × IfSom
 abbrev pub IsOutputInRange : Option ℕ → Type 0
 IsOutputInRange most = IfSome most (λ bytes. (LEAST_OUTPUT ≤ bytes) × (bytes ≤ MOST_OUTPUT))
 
--- each number of the order lies in its range
+-- each limit that is given lies in its range
+abbrev pub AreGivenInRange : GivenLimits → Type 0
+AreGivenInRange given = IfSome given.words (λ n. (LEAST_WORDS ≤ n) × (n ≤ MOST_WORDS)) × IfSome given.max_words (λ n. (LEAST_WORDS ≤ n) × (n ≤ MOST_WORDS))
+    × IfSome given.budget (λ n. (1 ≤ n) × (n ≤ MOST_BUDGET)) × IfSome given.depth (λ n. (1 ≤ n) × (n ≤ MOST_DEPTH))
+
+-- each number of the order lies in its range, and nothing is known of a recorded run
 abbrev pub IsInRange : Order → Type 0
 IsInRange (Check file explain) = ⊤
 IsInRange (Run file schedule most_printed limits explain stats) = (are_numbers_in_range limits ≡ true) × IsOutputInRange most_printed
-IsInRange (Replay file schedule most_printed limits explain stats) = (are_numbers_in_range limits ≡ true) × IsOutputInRange most_printed
+IsInRange (Replay file schedule most_printed limits expected explain stats) = AreGivenInRange limits × (expected ≡ None) × IsOutputInRange most_printed
 IsInRange (Trace file schedule limits explain) = are_numbers_in_range limits ≡ true
 IsInRange (Picture file schedule part limits explain) = (are_numbers_in_range limits ≡ true) × IsPartInRange part
 IsInRange (Threads file workers kept stop_at most_printed limits explain stats) = (are_numbers_in_range limits ≡ true) × IsOutputInRange most_printed

@@ -20,3 +20,7 @@ IsLineOf what file line = (why : List ℕ) × (line ≡ codes "cilvm: cannot " +
 -- what stands behind `device`: that line, and nothing where memory was wanted
 abbrev pub IsToldOf : List ℕ → List ℕ → Error → List ℕ → Type 0
 IsToldOf what file error text = (error_kind error ≡ OutOfMemory → text ≡ []) × (error_kind error ≢ OutOfMemory → IsLineOf what file text)
+
+-- the line that names a file that is not a `.run` file
+abbrev pub malformed_line : List ℕ → List ℕ
+malformed_line file = codes "cilvm: " ++ (shown_name file ++ (codes " is not a .run file of this version; without it the record is replayed as any other schedule" ++ 10 ∷ []))

@@ -4,7 +4,7 @@ ghost use Rattle.clap.specs.Words.{App, Rule, app_of, new_app, with_rule, with_s
 ghost use Rattle.clap.specs.declared.builder.value_parser.ValueParser.TheVariants as vp;
 ghost use Rattle.command_line.specs.CommandLine.{IsArgument, IsCommand, check_app, cilvm_app, explore_app, file_rule, flag_rule};
 ghost use Rattle.command_line.specs.CommandLine.{flip_app, needed, number_rule, picture_app, replay_app, run_app, text_rule, threads_app, trace_app, with_default};
-ghost use Rattle.command_line.specs.CommandLine.{with_explain, with_files, with_limits, with_output, with_part, with_required_subcommand, with_run_options, with_source, with_stats, with_version};
+ghost use Rattle.command_line.specs.CommandLine.{with_explain, with_files, with_given_limits, with_limits, with_output, with_part, with_required_subcommand, with_run_options, with_source, with_stats, with_version};
 
 use crate::version::VERSION;
 use cil_model::limits::{LEAST_WORDS, MOST_BUDGET, MOST_DEPTH, MOST_WORDS};
@@ -238,6 +238,47 @@ fn with_output<'a>(
     )
 }
 
+/// The limits of a replay, whose defaults are those of the recorded run where that is known.
+fn with_given_limits<'a>(
+    alloc: Global,
+    command: Result<Command<'a>, AllocError>,
+) -> Result<Command<'a>, AllocError>
+    ensures { (app : App) → IfOk command.entry (IsCommand app) → IfOk result (IsCommand (with_given_limits app)) }
+{
+    let words = number_option(
+        alloc,
+        "words",
+        LEAST_WORDS,
+        MOST_WORDS,
+        "Words of 64 bits in the first space, 64 to 1048576; those of SCHEDULE.run, or 65536, where none is given",
+    );
+    let command = with_argument(command, words);
+    let most = number_option(
+        alloc,
+        "max-words",
+        LEAST_WORDS,
+        MOST_WORDS,
+        "The most words that a space may grow to, 64 to 1048576; those of --words, or of SCHEDULE.run, where none is given",
+    );
+    let command = with_argument(command, most);
+    let budget = number_option(
+        alloc,
+        "budget",
+        1,
+        MOST_BUDGET,
+        "Steps that each thread may take, 1 to 1000000; those of SCHEDULE.run, or 100000, where none is given",
+    );
+    let command = with_argument(command, budget);
+    let depth = number_option(
+        alloc,
+        "depth",
+        1,
+        MOST_DEPTH,
+        "Calls that a thread may have open, 1 to 256; those of SCHEDULE.run, or 64, where none is given",
+    );
+    with_argument(command, depth)
+}
+
 /// The options of a run: what is explained of it, and its limits.
 fn with_run_options<'a>(
     alloc: Global,
@@ -269,7 +310,7 @@ pub fn threads_command<'a>(alloc: Global) -> Result<Command<'a>, AllocError>
         alloc,
         "threads",
         "Runs a source by workers, each in a thread of its own",
-        "Of N workers, number K runs the threads whose numbers leave K when they are divided by N. The record is a schedule: 'cilvm replay FILE RECORD' with the same limits does the run again, to the same output. A record has at most 1000000 events.\n\nExample, which prints 5:\n  cilvm threads examples/add.il",
+        "Of N workers, number K runs the threads whose numbers leave K when they are divided by N. The record is a schedule: 'cilvm replay FILE RECORD' does the run again, to the same output, with the limits that the file RECORD.run has, which is written beside it. A record has at most 1000000 events.\n\nExample, which prints 5:\n  cilvm threads examples/add.il",
     );
     let workers = limit_option(alloc, "workers", 1, 16, "1", "Workers, 1 to 16");
     let command = with_argument(command, workers);
@@ -317,10 +358,11 @@ fn replay_command<'a>(alloc: Global) -> Result<Command<'a>, AllocError>
         alloc,
         "replay",
         "Runs a source by a schedule that a file holds",
-        "The file has the events in the form that 'cilvm run --help' tells, on as many lines as you like.\n\nExample, which prints 5:\n  cilvm replay examples/add.il examples/add.schedule",
+        "The file has the events in the form that 'cilvm run --help' tells, on as many lines as you like. Where a file SCHEDULE.run is beside it, as 'cilvm threads --record' writes one, it has the limits of the recorded run, and another source, other limits or another output are reported, with status 6.\n\nExample, which prints 5:\n  cilvm replay examples/add.il examples/add.schedule",
     );
     let command = with_output(alloc, command);
-    with_run_options(alloc, with_stats(alloc, command), EXPLAIN_RUN)
+    let command = with_explain(alloc, with_stats(alloc, command), EXPLAIN_RUN);
+    with_given_limits(alloc, command)
 }
 
 fn trace_command<'a>(alloc: Global) -> Result<Command<'a>, AllocError>

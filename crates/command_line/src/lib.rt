@@ -9,4 +9,4 @@ mod unread;
 mod version;
 
 pub use line::{LineFault, order};
-pub use unread::{Unread, Unwritten};
+pub use unread::{Malformed, Unread, Unwritten};

@@ -2,9 +2,9 @@
 ghost use Rattle.std.specs.Prelude.{◌≡◌, ◌≤◌, IfErr, IfOk, IfSome, Some, codes, map, option_map, true};
 ghost use Rattle.clap.specs.Words.{fault_of, found_of, first_of, kind_of, matches_of, rows_of, subcommand_of, subcommand_rows_of};
 ghost use Rattle.command_line.specs.CommandLine.{Answers, AnswersBy, begins_with_source, cilvm_app, is_source_name, threads_app};
-ghost use Rattle.command_line.specs.CommandLine.{FaultIs, IsInRange, IsOfNone, IsOutputInRange, IsPartInRange, check_in, limits_in, most_in, output_in};
+ghost use Rattle.command_line.specs.CommandLine.{AreGivenInRange, FaultIs, IsInRange, IsOfNone, IsOutputInRange, IsPartInRange, check_in, limits_in, most_in, output_in};
 ghost use Rattle.command_line.specs.CommandLine.{flag_at, number_at, number_in, flip_in, part_in, is_explained_in, picture_in, replay_in, run_in, scheduled_in, stop_at_in, threads_in, trace_in, wanted_in};
-ghost use Rattle.command_line.specs.CommandLine.{explore_in, explored_in, extent_in, goal_in, said, wanted_of, worked_in};
+ghost use Rattle.command_line.specs.CommandLine.{explore_in, explored_in, extent_in, given_at, given_in, goal_in, said, wanted_of, worked_in};
 ghost use Rattle.cil_model.specs.Ranges.{are_numbers_in_range};
 ghost use Rattle.command_line.specs.declared.line.LineFault.TheVariants.{Memory};
 
@@ -14,7 +14,9 @@ use cil_model::stops::StopAt;
 use clap::error::ErrorKind;
 use clap::{ArgMatches, Error};
 use flip_trial::Sizes;
-use orders::{Extent, Goal, LAST_NUMBER, LEAST_OUTPUT, MOST_OUTPUT, Order, Part, Workers};
+use orders::{
+    Extent, GivenLimits, Goal, LAST_NUMBER, LEAST_OUTPUT, MOST_OUTPUT, Order, Part, Workers,
+};
 use std::alloc::{AllocError, Global};
 
 /// Why the words of a command line hold no order.
@@ -214,7 +216,9 @@ fn wanted_replay<'a>(found: &ArgMatches<'a>) -> Option<Order<'a>>
     ensures range { IfSome result IsInRange }
 {
     let most_printed = most_printed(found)?;
-    let (file, schedule, limits) = scheduled(found)?;
+    let file = text(found, "file")?;
+    let schedule = text(found, "schedule")?;
+    let limits = given_limits(found)?;
     let explain = flag(found, "explain");
     let stats = flag(found, "stats");
     Some(Order::Replay {
@@ -222,9 +226,38 @@ fn wanted_replay<'a>(found: &ArgMatches<'a>) -> Option<Order<'a>>
         schedule,
         most_printed,
         limits,
+        expected: None,
         explain,
         stats,
     })
+}
+
+/// The limits that are given.
+fn given_limits(found: &ArgMatches<'_>) -> Option<GivenLimits>
+    ensures value { result ≡ given_in (rows_of (found_of found.now)) }
+    ensures range { IfSome result AreGivenInRange }
+{
+    let words = given_number(found, "words", LEAST_WORDS, MOST_WORDS)?;
+    let max_words = given_number(found, "max-words", LEAST_WORDS, MOST_WORDS)?;
+    let budget = given_number(found, "budget", 1, MOST_BUDGET)?;
+    let depth = given_number(found, "depth", 1, MOST_DEPTH)?;
+    Some(GivenLimits {
+        words,
+        max_words,
+        budget,
+        depth,
+    })
+}
+
+/// The number that is given for `id`: none if none is given. Fails if it is out of its range.
+fn given_number(found: &ArgMatches<'_>, id: &str, least: u32, most: u32) -> Option<Option<u32>>
+    ensures value { result ≡ given_at least most id.now (rows_of (found_of found.now)) }
+    ensures range { IfSome result (λ given. IfSome given (λ n. (least ≤ n) × (n ≤ most))) }
+{
+    match text(found, id) {
+        None => Some(None),
+        Some(text) => Some(Some(number_in(text, least, most)?)),
+    }
 }
 
 fn wanted_trace<'a>(found: &ArgMatches<'a>) -> Option<Order<'a>>
@@ -304,10 +337,7 @@ fn most_printed(found: &ArgMatches<'_>) -> Option<Option<u32>>
     ensures value { result ≡ output_in (rows_of (found_of found.now)) }
     ensures range { IfSome result IsOutputInRange }
 {
-    match text(found, "output") {
-        None => Some(None),
-        Some(text) => Some(Some(number_in(text, LEAST_OUTPUT, MOST_OUTPUT)?)),
-    }
+    given_number(found, "output", LEAST_OUTPUT, MOST_OUTPUT)
 }
 
 /// When a run by workers stops.

@@ -1,6 +1,6 @@
 //! What is told of a file that is not read or not written.
 ghost use Rattle.std.specs.Prelude.{◌≡◌, IfOk, codes, string_bytes};
-ghost use Rattle.command_line.specs.UnreadFiles.{IsLineOf, IsToldOf, shown_character, shown_name};
+ghost use Rattle.command_line.specs.UnreadFiles.{IsLineOf, IsToldOf, malformed_line, shown_character, shown_name};
 
 use std::alloc::{AllocError, Global};
 use std::io;
@@ -22,6 +22,26 @@ pub struct Unwritten<'a> {
     pub file: &'a str,
     /// Why it is not made, or not written.
     pub error: io::Error,
+}
+
+/// A file that is not a `.run` file of this version.
+#[derive(Clone, Copy)]
+pub struct Malformed<'a> {
+    /// The file's name.
+    pub file: &'a str,
+}
+
+impl Malformed<'_> {
+    /// What follows the line `error 505` on the standard error: a line that names the file, with `?` in the place of each control character of
+    /// its name. Fails only if memory runs out.
+    pub fn told(&self, alloc: Global) -> Result<String, AllocError>
+        ensures { IfOk result (λ text. string_bytes text ≡ malformed_line self.now.file.now) }
+    {
+        let name = shown_name(alloc, self.file)?;
+        format!(in alloc;
+            "cilvm: {name} is not a .run file of this version; without it the record is replayed as any other schedule\n"
+        )
+    }
 }
 
 impl Unread<'_> {

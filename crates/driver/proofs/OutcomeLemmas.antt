@@ -1,5 +1,5 @@
 -- What a run that is shown, whole or in part, shows of its source.
-use Rattle.std.proofs.Common.{◌≡◌, ◌⊎◌, ◌++◌, ◌<◌, ◌≤◌, ℕ, Bool, true, false, List, [], map, None, Option, Result, Ok, Err, refl, ap, sym, ◌∙◌, subst, inl, inr, append-nil}
+use Rattle.std.proofs.Common.{◌≡◌, ◌⊎◌, ◌++◌, ℕ, Bool, true, false, List, [], map, None, Option, Result, Ok, Err, refl, ap, ap₂, sym, ◌∙◌, subst, inl, inr, append-nil}
 use Rattle.std.specs.List.{zip}
 use Rattle.std.specs.Prelude.{IfErr}
 use Rattle.source_runs.proofs.simulation.StandsLaws.{ends_stand, printed_stands}
@@ -13,12 +13,14 @@ use Rattle.cil_model.specs.declared.limits.Limits.{Limits}
 use Rattle.cil_model.specs.declared.reports.Report.{Report}
 use Rattle.acceptance.specs.Failures.{IsOfWriting, is_refusal}
 use Rattle.acceptance.specs.declared.failure.Failure.{Failure}
-use Rattle.acceptance.specs.declared.failure.Failure.TheVariants.{Refused, OutOfRange, Memory, Device}
+use Rattle.acceptance.specs.declared.failure.Failure.TheVariants.{Memory, Device}
 use Rattle.event_trace.specs.Traces.{IsTraced}
 use Rattle.source_runs.specs.Runs.{IsNotRunBy, IsPrintedUpTo, IsReady, IsRunBy}
-use Rattle.source_runs.specs.shared_machine.Worlds.{AreDoneOf}
 use Rattle.driver.specs.Outcomes.{AreCut, AreEndsExplainedFor, AreNotesShownInPart, AreThreadsExplained, HasBroken, HasRun, HasTraced, IsEndText, IsExplanation, IsMachineShown, IsMachineShownInPart, IsRun, IsRunInPart, IsRunShown, IsRunShownInPart, IsRunText, IsShown, IsThreadText, IsTracedThenInPart, status_after, stop_text}
+use Rattle.driver.specs.Replays.{differences_from, differences_text, status_if_same}
 use Rattle.driver.specs.Statistics.{stats_text}
+use Rattle.run_files.specs.declared.differences.Differences.{Differences}
+use Rattle.run_files.specs.declared.file.RunFile.{RunFile}
 use Rattle.driver.specs.Threads.{ends_of, lines_from, status_of}
 use Rattle.outputs.specs.Taken.{Fails, HasGrown, Taken, Takes}
 use Rattle.outputs.proofs.TakenLaws.{fails_first, fails_second, takes_both}
@@ -102,12 +104,19 @@ notes_break false err err' none = absurd none
 
 -- ---- what a run shows
 
+-- a run of which nothing is expected differs in nothing
+abbrev no_differences : Differences
+no_differences = record { source = false; limits = false; output = false }
+
 -- a machine that was run shows a run
-run_of : (source : List ℕ) (limits : Limits) (text : List ℕ) (most : Option ℕ) (explain stats ended stopped : Bool) (done : List Event) (reports : List Report) (c : Content) (more : List ℕ)
+run_of : (source : List ℕ) (limits : Limits) (text : List ℕ) (most : Option ℕ) (expected : Option RunFile) (explain stats ended stopped : Bool) (done : List Event) (reports : List Report) (c : Content) (more : List ℕ)
+    (d : Differences) → d ≡ differences_from expected source limits c.printed
     → (by : IsRunBy source limits text done reports stopped c) → IsPrintedUpTo most c.printed → IsRunText explain ended source limits (zip done reports) c more
-    → IsRun source limits text most explain stats ended stopped by.ran.2.stands.state ((lines_from 0 (map end_of c.threads) ++ more) ++ (stop_text stopped ++ stats_text stats done reports c))
-run_of source limits text most explain stats ended stopped done reports c more by within explains =
+    → IsRun source limits text most expected explain stats ended stopped by.ran.2.stands.state
+    ((lines_from 0 (map end_of c.threads) ++ more) ++ (stop_text stopped ++ differences_text d ++ stats_text stats done reports c))
+run_of source limits text most expected explain stats ended stopped done reports c more d differs by within explains =
     let after : StandsAfter by.ran.0 limits done reports c = by.ran.2.stands in
+    let found = differs ∙ ap (differences_from expected source limits) (printed_stands c after.state after.represents) in
     record {
       events = by.events;
       are_read = by.are_read;
@@ -120,63 +129,66 @@ run_of source limits text most explain stats ended stopped done reports c more b
       represents = after.represents;
       explanation = more;
       explains = explains;
-      reports_all = ap (λ es. lines_from 0 es ++ more ++ (stop_text stopped ++ stats_text stats done reports c)) (ends_stand c after.state after.represents);
+      reports_all = ap₂ (λ es d. lines_from 0 es ++ more ++ (stop_text stopped ++ differences_text d ++ stats_text stats done reports c))
+          (ends_stand c after.state after.represents) found;
     }
 
-module _ (source : List ℕ) (limits : Limits) (text : List ℕ) (most : Option ℕ) (explain stats stopped : Bool) (done : List Event) (reports : List Report) (c : Content) (by : IsRunBy source limits text done reports stopped c)
-    (within : IsPrintedUpTo most c.printed) where
+module _ (source : List ℕ) (limits : Limits) (text : List ℕ) (most : Option ℕ) (expected : Option RunFile) (explain stats stopped : Bool) (done : List Event) (reports : List Report) (c : Content) (by : IsRunBy source limits text done reports stopped c)
+    (within : IsPrintedUpTo most c.printed)
+    (d : Differences) (differs : d ≡ differences_from expected source limits c.printed) where
   abbrev state : State
   state = by.ran.2.stands.state
 
   printed : c.printed ≡ state.printed
   printed = printed_stands c state by.ran.2.stands.represents
 
-  -- what comes last: that it was stopped, and its numbers
+  -- what comes last: that it was stopped, in what it differs, and its numbers
   abbrev last : List ℕ
-  last = stop_text stopped ++ stats_text stats done reports c
+  last = stop_text stopped ++ differences_text d ++ stats_text stats done reports c
 
   -- all that it shows is written
   pub has_run : (out out' err between err' : Taken) (before status : ℕ) → IsRunShown explain source limits done reports c out out' err between before
-      → (status ≡ status_after stopped before) × Takes between err' last → HasRun source limits text most explain stats out out' err err' status
+      → (status ≡ status_after stopped (status_if_same d before)) × Takes between err' last → HasRun source limits text most expected explain stats out out' err err' status
   has_run out out' err between err' before status (more, explains, shown) (after, stop) =
       let lines = lines_from 0 (map end_of c.threads) ++ more in
       record {
         stopped = stopped;
         state = state;
         reported = lines ++ last;
-        is_run = run_of source limits text most explain stats explain stopped done reports c more by within explains;
+        is_run = run_of source limits text most expected explain stats explain stopped done reports c more d differs by within explains;
         output = subst (Takes out out') printed shown.output;
         errors = takes_both err between err' lines last shown.errors stop;
-        status_is = after ∙ ap (status_after stopped) (shown.status_is ∙ ap status_of (ends_stand c state by.ran.2.stands.represents));
+        status_is = after ∙ ap₂ (λ d s. status_after stopped (status_if_same d s)) (differs ∙ ap (differences_from expected source limits) printed)
+            (shown.status_is ∙ ap status_of (ends_stand c state by.ran.2.stands.represents));
       }
 
   -- a write of its lines failed
   pub lines_in_part : (ended : Bool) (more : List ℕ) (out out' err err' : Taken) → IsRunText explain ended source limits (zip done reports) c more
-      → AreCut c.printed (lines_from 0 (map end_of c.threads) ++ more) out out' err err' → IsRunInPart source limits text most explain stats ended out out' err err'
+      → AreCut c.printed (lines_from 0 (map end_of c.threads) ++ more) out out' err err' → IsRunInPart source limits text most expected explain stats ended out out' err err'
   lines_in_part ended more out out' err err' explains cut =
       let lines = lines_from 0 (map end_of c.threads) ++ more in
       record {
         stopped = stopped;
         state = state;
         reported = lines ++ last;
-        is_run = run_of source limits text most explain stats ended stopped done reports c more by within explains;
+        is_run = run_of source limits text most expected explain stats ended stopped done reports c more d differs by within explains;
         cut = subst (λ p. AreCut p (lines ++ last) out out' err err') printed (cut_more c.printed lines last out out' err err' cut);
       }
 
   -- a write of what it shows failed
-  pub run_in_part : (out out' err err' : Taken) → IsRunShownInPart explain source limits done reports c out out' err err' → IsRunInPart source limits text most explain stats explain out out' err err'
+  pub run_in_part : (out out' err err' : Taken) → IsRunShownInPart explain source limits done reports c out out' err err' → IsRunInPart source limits text most expected explain stats explain out out' err err'
   run_in_part out out' err err' (more, explains, cut) = lines_in_part explain more out out' err err' explains cut
 
   -- a write failed of what comes last
   pub run_then_in_part : (out out' err between err' : Taken) (before : ℕ) → IsRunShown explain source limits done reports c out out' err between before → Fails between err' last
-      → IsRunInPart source limits text most explain stats explain out out' err err'
+      → IsRunInPart source limits text most expected explain stats explain out out' err err'
   run_then_in_part out out' err between err' before (more, explains, shown) stop =
       let lines = lines_from 0 (map end_of c.threads) ++ more in
       record {
         stopped = stopped;
         state = state;
         reported = lines ++ last;
-        is_run = run_of source limits text most explain stats explain stopped done reports c more by within explains;
+        is_run = run_of source limits text most expected explain stats explain stopped done reports c more d differs by within explains;
         cut = subst (λ p. AreCut p (lines ++ last) out out' err err') printed (cut_after c.printed lines last out out' err between err' shown.output shown.errors stop);
       }
 
@@ -201,7 +213,7 @@ module _ (source : List ℕ) (limits : Limits) (text : List ℕ) (explain : Bool
     reports = reports;
     between = between;
     traced = traced;
-    shown = lines_in_part source limits text None explain false false events reports after by tt false left.0 between out' err err' (live_text explain false source limits (zip events reports) after left.0 left.1) left.2;
+    shown = lines_in_part source limits text None None explain false false events reports after by tt no_differences refl false left.0 between out' err err' (live_text explain false source limits (zip events reports) after left.0 left.1) left.2;
   }
 
   -- all that it shows is written

@@ -1,7 +1,6 @@
 -- What a run by workers that is shown, whole or in part, shows of its source.
 use Rattle.std.proofs.Common.{◌≡◌, ◌++◌, ◌+◌, ℕ, Bool, true, false, cond, List, [], ◌∷◌, map, Option, Some, None, refl, ap, sym, ◌∙◌, subst, arith, All, is_none, inl, inr}
 use Rattle.std.proofs.lemmas.Bool.{lt-ltb}
-use Rattle.std.proofs.lemmas.List.{append-nil}
 use Rattle.std.proofs.lemmas.List.Elements.{All-head, All-tail}
 use Rattle.std.proofs.lemmas.List.Sums.{sum_by-cons}
 use Rattle.std.specs.List.{count_by, list_all, list_any, zip}
@@ -32,12 +31,14 @@ use Rattle.orders.specs.Orders.{record_file_of}
 use Rattle.orders.specs.declared.order.Order.{Order}
 use Rattle.orders.specs.declared.order.Order.TheVariants.{Check, Run, Replay, Trace, Picture, Threads, Explore, Flip}
 use Rattle.driver.specs.Outcomes.{AreCut, HasRunThreads, HaveEnded, IsOutcome, IsRunByWorkers, IsRunByWorkersInPart, IsRunShown, IsRunShownInPart, IsRunText, status_after, stop_text}
-use Rattle.driver.specs.Records.{IsRecordOf, is_short, status_with, text_of, too_long_text}
+use Rattle.driver.specs.Records.{IsRecordOf, is_short, status_with, texts_in, texts_over, too_long_text}
 use Rattle.driver.specs.Statistics.{stats_text}
-use Rattle.driver.specs.Threads.{ends_of, is_live, lines_from, status_of}
+use Rattle.driver.specs.Threads.{is_live, lines_from, status_of}
 use Rattle.driver.proofs.OutcomeLemmas.{cut_after, cut_more}
 use Rattle.driver.specs.declared.recording.Record.{Record}
-use Rattle.driver.specs.declared.recording.Record.TheVariants.{Unasked, Text, TooLong, NoMemory}
+use Rattle.driver.specs.declared.recording.Record.TheVariants.{Unasked, Texts, TooLong, NoMemory}
+use Rattle.run_files.specs.RunFiles.{run_file}
+use Rattle.run_files.specs.declared.file.RunFile.{RunFile}
 
 -- a worker's own event names a thread that a machine can have
 own_numbered : (workers worker : ℕ) (e : Event) → IsOwn workers worker e → is_numbered e ≡ true
@@ -78,7 +79,7 @@ reported_of c text last = lines_from 0 (map end_of c.threads) ++ text ++ last
 
 module _ (source : List ℕ) (limits : Limits) (workers : ℕ) (stop_at : StopAt) (most : Option ℕ) (asked explain stats stopped : Bool) (h : List Entry) (c : Content) (made : Record)
     (ran : HasRunTo source limits (events_of h) (reports_of h) c) (own : All (IsOwnOf workers) h) (within : IsPrintedUpTo most c.printed)
-    (marked : Bool) (ended : stopped ≡ false → HasEnded stop_at c marked) (is_record : IsRecordOf asked (events_of h) made) where
+    (marked : Bool) (ended : stopped ≡ false → HasEnded stop_at c marked) (is_record : IsRecordOf asked (events_of h) (run_file source limits workers c.printed) made) where
   abbrev after : StandsAfter ran.0 limits (events_of h) (reports_of h) c
   after = ran.2.stands
 
@@ -96,7 +97,7 @@ module _ (source : List ℕ) (limits : Limits) (workers : ℕ) (stop_at : StopAt
         comes_to = comes_to source ran.0 limits (events_of h) (reports_of h) c ran.1 ran.2;
         within = subst (IsPrintedUpTo most) (printed_stands c after.state after.represents) within;
         ended = λ whole. have_ended stop_at c after.state marked after.represents (ended whole);
-        is_record = is_record;
+        is_record = subst (λ p. IsRecordOf asked (events_of h) (run_file source limits workers p) made) (printed_stands c after.state after.represents) is_record;
         after = c;
         represents = after.represents;
         explanation = text;
@@ -104,12 +105,12 @@ module _ (source : List ℕ) (limits : Limits) (workers : ℕ) (stop_at : StopAt
         reports_all = ap (λ es. lines_from 0 es ++ text ++ last) ends;
       }
 
-  -- all that it shows is written, and the record is put after the bytes that are kept
-  pub has_run_threads : (out out' err between err' : Taken) (kept kept' : List ℕ) (before status : ℕ)
-      → IsRunShown explain source limits (events_of h) (reports_of h) c out out' err between before → kept' ≡ kept ++ text_of made
+  -- all that it shows is written, and the texts of the record are left
+  pub has_run_threads : (out out' err between err' : Taken) (kept kept' : Option (List ℕ × List ℕ)) (before status : ℕ)
+      → IsRunShown explain source limits (events_of h) (reports_of h) c out out' err between before → kept' ≡ texts_over (texts_in made) kept
       → (status ≡ status_after (is_short stopped made) (status_with made before)) × Takes between err' last
       → HasRunThreads source limits workers stop_at most asked explain stats out out' err err' kept kept' status
-  has_run_threads out out' err between err' kept kept' before status (text, explains, shown) behind (is, more) =
+  has_run_threads out out' err between err' kept kept' before status (text, explains, shown) left (is, more) =
       record {
         stopped = stopped;
         state = after.state;
@@ -118,7 +119,7 @@ module _ (source : List ℕ) (limits : Limits) (workers : ℕ) (stop_at : StopAt
         is_run = run_by_workers text explains;
         output = subst (Takes out out') (printed_stands c after.state after.represents) shown.output;
         errors = takes_both err between err' (lines_from 0 (map end_of c.threads) ++ text) last shown.errors more;
-        behind = behind;
+        left = left;
         status_is = is ∙ ap (λ n. status_after (is_short stopped made) (status_with made n)) (shown.status_is ∙ ap status_of (ends_stand c after.state after.represents));
       }
 
@@ -151,30 +152,31 @@ module _ (source : List ℕ) (limits : Limits) (workers : ℕ) (stop_at : StopAt
       }
 
 -- some record is of events, whether one is asked for or not
-pub some_record : (asked : Bool) (events : List Event) → (made : Record) × IsRecordOf asked events made
-some_record true events = (NoMemory, refl)
-some_record false events = (Unasked, refl)
+pub some_record : (asked : Bool) (events : List Event) (file : RunFile) → (made : Record) × IsRecordOf asked events file made
+some_record true events file = (NoMemory, refl)
+some_record false events file = (Unasked, refl)
 
--- a record that is not asked for has no text
-no_text : (events : List Event) (made : Record) → IsRecordOf false events made → text_of made ≡ []
-no_text events Unasked is = refl
-no_text events (Text text) is = absurd (cc is.0)
-no_text events TooLong is = absurd (cc is.0)
-no_text events NoMemory is = absurd (cc is)
+-- a record that is not asked for has no texts
+no_texts : (events : List Event) (file : RunFile) (made : Record) → IsRecordOf false events file made → texts_in made ≡ None
+no_texts events file Unasked is = refl
+no_texts events file (Texts texts) is = absurd (cc is.0)
+no_texts events file TooLong is = absurd (cc is.0)
+no_texts events file NoMemory is = absurd (cc is)
 
--- an order that names no file for a record leaves the bytes that are kept as they were
-pub nothing_kept : (order : Order) (source schedule : List ℕ) (out out' err err' : Taken) (kept kept' : List ℕ) (status : ℕ)
+-- an order that names no file for a record leaves the texts of the record as they were
+pub nothing_kept : (order : Order) (source schedule : List ℕ) (out out' err err' : Taken) (kept kept' : Option (List ℕ × List ℕ)) (status : ℕ)
     → IsOutcome order source schedule out out' err err' kept kept' status → record_file_of order ≡ None → kept' ≡ kept
 nothing_kept order source schedule out out' err err' kept kept' status (inr told) none = told.1
 nothing_kept (Check file explain) source schedule out out' err err' kept kept' status (inl done) none = done.1
 nothing_kept (Run file text most limits explain stats) source schedule out out' err err' kept kept' status (inl done) none = done.1
-nothing_kept (Replay file name most limits explain stats) source schedule out out' err err' kept kept' status (inl done) none = done.1
+nothing_kept (Replay file name most limits expected explain stats) source schedule out out' err err' kept kept' status (inl done) none = done.1
 nothing_kept (Trace file name limits explain) source schedule out out' err err' kept kept' status (inl done) none = done.1
 nothing_kept (Picture file name part limits explain) source schedule out out' err err' kept kept' status (inl done) none = done.1
 nothing_kept (Threads file workers None stop_at most limits explain stats) source schedule out out' err err' kept kept' status (inl done) none =
-    done.behind ∙ ap (λ text. kept ++ text) (no_text (events_of done.is_run.entries) done.made done.is_run.is_record) ∙ append-nil kept
+    done.left ∙ ap (λ (texts : Option (List ℕ × List ℕ)). texts_over texts kept)
+    (no_texts (events_of done.is_run.entries) (run_file source limits workers.count done.state.printed) done.made done.is_run.is_record)
 nothing_kept (Threads file workers (Some name) stop_at most limits explain stats) source schedule out out' err err' kept kept' status (inl done) none = absurd (cc none)
 nothing_kept (Explore file extent None limits explain) source schedule out out' err err' kept kept' status (inl done) none =
-    done.0.after ∙ ap (λ text. kept ++ text) done.0.is_saved ∙ append-nil kept
+    done.0.left ∙ ap (λ (texts : Option (List ℕ × List ℕ)). texts_over texts kept) done.0.are_saved
 nothing_kept (Explore file extent (Some name) limits explain) source schedule out out' err err' kept kept' status (inl done) none = absurd (cc none)
 nothing_kept (Flip sizes) source schedule out out' err err' kept kept' status (inl done) none = done.2

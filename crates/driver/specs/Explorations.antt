@@ -1,4 +1,4 @@
--- What is printed of an exploration, the schedule that is saved, and the status (this profile).
+-- What is printed of an exploration, the outcome that is saved, and the status (this profile).
 use Rattle.std.specs.Prelude.{◌≡◌, ◌⊎◌, ◌++◌, ◌||◌, [], ◌∷◌, ℕ, zero, suc, Bool, not, true, false, List, Option, Some, None, is_some, length, map, slice_get, if◌then◌else◌}
 use Rattle.std.specs.List.{list_all, list_any}
 use Rattle.std.specs.Option.{unwrap_or}
@@ -24,6 +24,8 @@ use Rattle.outcome_text.specs.declared.summaries.Coverage.TheVariants.{AllSchedu
 use Rattle.outcome_text.specs.declared.summaries.Summary.{Summary}
 use Rattle.orders.specs.declared.extents.Extent.{Extent}
 use Rattle.outputs.specs.Taken.{Fails, Taken, Takes}
+use Rattle.run_files.specs.RunFiles.{run_file, text_of}
+use Rattle.driver.specs.Records.{texts_over}
 use Rattle.driver.specs.Threads.{is_done, is_live}
 
 -- ---- the text
@@ -75,7 +77,7 @@ abbrev pub IsExplorationText : Extent → Bool → Exploration → List ℕ → 
 IsExplorationText extent explain e text =
     (outcomes : List ℕ) × IsShownBelow explain e.found.items (length e.found.items) outcomes × (text ≡ outcomes ++ summary_line (summary_of extent e))
 
--- ---- the schedule that is saved, and the status
+-- ---- the outcome that is saved, and the status
 
 -- a thread is blocked
 abbrev pub has_deadlock : Found → Bool
@@ -95,15 +97,16 @@ abbrev pub first_other : List Found → Option Found
 first_other [] = None
 first_other (first ∷ found) = first_other_in first.printed.items (first ∷ found)
 
--- the schedule of an outcome, where there is one
-abbrev pub IsScheduleOf : Option Found → List ℕ → Type 0
-IsScheduleOf None text = text ≡ []
-IsScheduleOf (Some found) text = IsSchedule found.events.items text
+-- the texts of an outcome, if there is one: its schedule, and what a `.run` file says of its run by one worker
+abbrev pub AreTextsOf : List ℕ → Limits → Option Found → Option (List ℕ × List ℕ) → Type 0
+AreTextsOf source limits None texts = texts ≡ None
+AreTextsOf source limits (Some found) texts = (schedule : List ℕ) × IsSchedule found.events.items schedule
+    × (texts ≡ Some (schedule, text_of (run_file source limits 1 found.printed.items)))
 
--- the text that is saved, where that is asked for
-abbrev pub IsSaved : Bool → List Found → List ℕ → Type 0
-IsSaved false found text = text ≡ []
-IsSaved true found text = IsScheduleOf (first_other found) text
+-- the texts that are saved, where that is asked for
+abbrev pub AreSaved : Bool → List ℕ → Limits → List Found → Option (List ℕ × List ℕ) → Type 0
+AreSaved false source limits found texts = texts ≡ None
+AreSaved true source limits found texts = AreTextsOf source limits (first_other found) texts
 
 -- 4 if a thread is blocked in some outcome; else 3 if one ended early in some, or the printed bytes differ; else 0 if there are no other outcomes; else 6
 abbrev pub status_of_exploration : Bool → List Found → ℕ
@@ -119,16 +122,16 @@ pub record IsExplorationOf (source : List ℕ) (limits : Limits) (e : Exploratio
   pub real : (n : ℕ) (found : Found) → slice_get e.found.items n ≡ Some found → IsFoundIn source limits found
   pub complete : e.is_complete ≡ true → HasAllOutcomes source limits (map outcome_found e.found.items)
 
--- a source is explored: what was found is printed, and the schedule that is saved is put after the bytes that are kept
-pub record HasExplored (source : List ℕ) (limits : Limits) (extent : Extent) (saved explain : Bool) (out out' : Taken) (kept kept' : List ℕ) (status : ℕ) : Type 0 where
+-- a source is explored: what was found is printed, and the texts that are saved are left
+pub record HasExplored (source : List ℕ) (limits : Limits) (extent : Extent) (saved explain : Bool) (out out' : Taken) (kept kept' : Option (List ℕ × List ℕ)) (status : ℕ) : Type 0 where
   pub exploration : Exploration
   pub explored : IsExplorationOf source limits exploration
   pub text : List ℕ
   pub is_text : IsExplorationText extent explain exploration text
   pub shown : Takes out out' text
-  pub schedule : List ℕ
-  pub is_saved : IsSaved saved exploration.found.items schedule
-  pub after : kept' ≡ kept ++ schedule
+  pub texts : Option (List ℕ × List ℕ)
+  pub are_saved : AreSaved saved source limits exploration.found.items texts
+  pub left : kept' ≡ texts_over texts kept
   pub status_is : status ≡ status_of_exploration exploration.is_complete exploration.found.items
 
 -- a write failed of what is printed of an exploration

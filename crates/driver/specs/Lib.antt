@@ -2,5 +2,6 @@ pub mod Explorations
 pub mod Outcomes
 pub mod Pictures
 pub mod Records
+pub mod Replays
 pub mod Statistics
 pub mod Threads

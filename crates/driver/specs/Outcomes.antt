@@ -22,15 +22,19 @@ use Rattle.source_runs.specs.simulation.MachineContents.{Content}
 use Rattle.acceptance.specs.Failures.{is_refusal, message_of}
 use Rattle.acceptance.specs.Failures.{IsOfWriting, status_of_failure}
 use Rattle.outputs.specs.Taken.{Fails, HasGrown, Taken, Takes}
+use Rattle.orders.specs.GivenLimits.{limits_for}
 use Rattle.orders.specs.Orders.{event_count, is_explained}
 use Rattle.orders.specs.declared.part.Part.{Part}
 use Rattle.cil_model.specs.declared.stops.StopAt.{StopAt}
 use Rattle.cil_model.specs.declared.stops.StopAt.TheVariants.{End as AtEnd, Deadlock as AtDeadlock}
+use Rattle.run_files.specs.RunFiles.{run_file}
+use Rattle.run_files.specs.declared.file.RunFile.{RunFile}
 use Rattle.run_picture.specs.Pictures.{IsPicture, IsPictureInPart}
 use Rattle.run_picture.specs.declared.windows.TheConstants.{MOST_EVENTS}
 use Rattle.driver.specs.Explorations.{HasExplored, IsExploredInPart}
 use Rattle.driver.specs.Pictures.{too_many_text, window_of}
-use Rattle.driver.specs.Records.{IsRecordOf, is_short, status_with, text_of, too_long_text}
+use Rattle.driver.specs.Records.{IsRecordOf, is_short, status_with, texts_in, texts_over, too_long_text}
+use Rattle.driver.specs.Replays.{differences_from, differences_text, status_if_same}
 use Rattle.driver.specs.Statistics.{stats_text}
 use Rattle.driver.specs.Threads.{ends_of, is_live, lines_from, status_of}
 use Rattle.driver.specs.declared.recording.Record.{Record}
@@ -163,8 +167,8 @@ status_after stopped status = if stopped then status_of_failure Memory else stat
 
 -- A run by a text comes to a state: the events done are the first of those that the text writes, and all of them unless memory ran out or the next
 -- one would have printed beyond the bound. This is reported: how the threads stand, what explains that of a machine that represents the state and,
--- where asked, of the threads that ended, whether memory ran out, and the numbers of the run.
-pub record IsRun (source : List ℕ) (limits : Limits) (text : List ℕ) (most : Option ℕ) (explain stats ended stopped : Bool) (state : State) (reported : List ℕ) : Type 0 where
+-- where asked, of the threads that ended, whether memory ran out, in what the run differs from what is expected, and the numbers of the run.
+pub record IsRun (source : List ℕ) (limits : Limits) (text : List ℕ) (most : Option ℕ) (expected : Option RunFile) (explain stats ended stopped : Bool) (state : State) (reported : List ℕ) : Type 0 where
   pub events : List Event
   pub are_read : AreRead (words text) events
   pub done : List Event
@@ -176,17 +180,17 @@ pub record IsRun (source : List ℕ) (limits : Limits) (text : List ℕ) (most :
   pub represents : Represents after state
   pub explanation : List ℕ
   pub explains : IsRunText explain ended source limits (zip done reports) after explanation
-  pub reports_all : reported ≡ lines_from 0 (ends_of state) ++ explanation ++ (stop_text stopped ++ stats_text stats done reports after)
+  pub reports_all : reported ≡ lines_from 0 (ends_of state) ++ explanation ++ (stop_text stopped ++ differences_text (differences_from expected source limits state.printed) ++ stats_text stats done reports after)
 
 -- a run is done: what its state has printed and what is reported is shown
-pub record HasRun (source : List ℕ) (limits : Limits) (text : List ℕ) (most : Option ℕ) (explain stats : Bool) (out out' err err' : Taken) (status : ℕ) : Type 0 where
+pub record HasRun (source : List ℕ) (limits : Limits) (text : List ℕ) (most : Option ℕ) (expected : Option RunFile) (explain stats : Bool) (out out' err err' : Taken) (status : ℕ) : Type 0 where
   pub stopped : Bool
   pub state : State
   pub reported : List ℕ
-  pub is_run : IsRun source limits text most explain stats explain stopped state reported
+  pub is_run : IsRun source limits text most expected explain stats explain stopped state reported
   pub output : Takes out out' state.printed
   pub errors : Takes err err' reported
-  pub status_is : status ≡ status_after stopped (status_of (ends_of state))
+  pub status_is : status ≡ status_after stopped (status_if_same (differences_from expected source limits state.printed) (status_of (ends_of state)))
 
 -- why a run is not done: it has not begun, or a write failed
 abbrev pub HasNotRun : List ℕ → Limits → List ℕ → Failure → Type 0
@@ -264,7 +268,7 @@ pub record IsRunByWorkers (source : List ℕ) (limits : Limits) (workers : ℕ) 
   pub own : All (IsOwnOf workers) entries
   pub comes_to : ComesToBy source limits (events_of entries) (reports_of entries) state
   pub within : IsPrintedUpTo most state.printed
-  pub is_record : IsRecordOf asked (events_of entries) made
+  pub is_record : IsRecordOf asked (events_of entries) (run_file source limits workers state.printed) made
   pub after : Content
   pub ended : stopped ≡ false → HaveEnded stop_at after state
   pub represents : Represents after state
@@ -272,8 +276,8 @@ pub record IsRunByWorkers (source : List ℕ) (limits : Limits) (workers : ℕ) 
   pub explains : IsRunText explain explain source limits (zip (events_of entries) (reports_of entries)) after explanation
   pub reports_all : reported ≡ lines_from 0 (ends_of state) ++ explanation ++ (too_long_text made ++ stop_text (is_short stopped made) ++ stats_text stats (events_of entries) (reports_of entries) after)
 
--- a run by workers is done: what its state has printed and what is reported is shown, and the record is put after the bytes that are kept
-pub record HasRunThreads (source : List ℕ) (limits : Limits) (workers : ℕ) (stop_at : StopAt) (most : Option ℕ) (asked explain stats : Bool) (out out' err err' : Taken) (kept kept' : List ℕ) (status : ℕ) : Type 0 where
+-- a run by workers is done: what its state has printed and what is reported is shown, and the texts of the record are left
+pub record HasRunThreads (source : List ℕ) (limits : Limits) (workers : ℕ) (stop_at : StopAt) (most : Option ℕ) (asked explain stats : Bool) (out out' err err' : Taken) (kept kept' : Option (List ℕ × List ℕ)) (status : ℕ) : Type 0 where
   pub stopped : Bool
   pub state : State
   pub made : Record
@@ -281,7 +285,7 @@ pub record HasRunThreads (source : List ℕ) (limits : Limits) (workers : ℕ) (
   pub is_run : IsRunByWorkers source limits workers stop_at most asked explain stats stopped state made reported
   pub output : Takes out out' state.printed
   pub errors : Takes err err' reported
-  pub behind : kept' ≡ kept ++ text_of made
+  pub left : kept' ≡ texts_over (texts_in made) kept
   pub status_is : status ≡ status_after (is_short stopped made) (status_with made (status_of (ends_of state)))
 
 -- why a run by workers is not done: it has not begun, or a write failed
@@ -293,13 +297,13 @@ abbrev pub HasNotExplored : List ℕ → Limits → Failure → Type 0
 HasNotExplored source limits failure = IsNotRun source limits failure ⊎ (IsLetIn source × IsOfWriting failure)
 
 -- an order is carried out: a run takes its schedule from the command line, a replay from the file; only workers and explorations leave a record
-abbrev pub IsDone : Order → List ℕ → List ℕ → Taken → Taken → Taken → Taken → List ℕ → List ℕ → ℕ → Type 0
+abbrev pub IsDone : Order → List ℕ → List ℕ → Taken → Taken → Taken → Taken → Option (List ℕ × List ℕ) → Option (List ℕ × List ℕ) → ℕ → Type 0
 IsDone (Check file explain) source schedule out out' err err' kept kept' status =
     IsChecked source explain out out' err err' status × (kept' ≡ kept)
 IsDone (Run file text most limits explain stats) source schedule out out' err err' kept kept' status =
-    HasRun source limits text.now most explain stats out out' err err' status × (kept' ≡ kept)
-IsDone (Replay file name most limits explain stats) source schedule out out' err err' kept kept' status =
-    HasRun source limits schedule most explain stats out out' err err' status × (kept' ≡ kept)
+    HasRun source limits text.now most None explain stats out out' err err' status × (kept' ≡ kept)
+IsDone (Replay file name most limits expected explain stats) source schedule out out' err err' kept kept' status =
+    HasRun source (limits_for limits expected) schedule most expected explain stats out out' err err' status × (kept' ≡ kept)
 IsDone (Trace file name limits explain) source schedule out out' err err' kept kept' status =
     HasTraced source limits schedule explain out out' err err' status × (kept' ≡ kept)
 IsDone (Picture file name part limits explain) source schedule out out' err err' kept kept' status =
@@ -316,8 +320,8 @@ abbrev pub IsNotDone : Order → List ℕ → List ℕ → Failure → Type 0
 IsNotDone (Check file explain) source schedule failure = IsNotChecked source failure
 IsNotDone (Run file text most limits explain stats) source schedule failure =
     HasNotRun source limits text.now failure
-IsNotDone (Replay file name most limits explain stats) source schedule failure =
-    HasNotRun source limits schedule failure
+IsNotDone (Replay file name most limits expected explain stats) source schedule failure =
+    HasNotRun source (limits_for limits expected) schedule failure
 IsNotDone (Trace file name limits explain) source schedule failure =
     HasNotTraced source limits schedule failure
 IsNotDone (Picture file name part limits explain) source schedule failure =
@@ -331,11 +335,11 @@ IsNotDone (Flip sizes) source schedule failure = IsOfWriting failure
 -- ---- an order that is not carried out
 
 -- a write failed of what a run shows
-pub record IsRunInPart (source : List ℕ) (limits : Limits) (text : List ℕ) (most : Option ℕ) (explain stats ended : Bool) (out out' err err' : Taken) : Type 0 where
+pub record IsRunInPart (source : List ℕ) (limits : Limits) (text : List ℕ) (most : Option ℕ) (expected : Option RunFile) (explain stats ended : Bool) (out out' err err' : Taken) : Type 0 where
   pub stopped : Bool
   pub state : State
   pub reported : List ℕ
-  pub is_run : IsRun source limits text most explain stats ended stopped state reported
+  pub is_run : IsRun source limits text most expected explain stats ended stopped state reported
   pub cut : AreCut state.printed reported out out' err err'
 
 -- a run is traced in part: a prefix of the lines of its first events is shown
@@ -355,7 +359,7 @@ pub record IsTracedThenInPart (source : List ℕ) (limits : Limits) (text : List
   pub reports : List Report
   pub between : Taken
   pub traced : IsTraced begins events after reports out.contents between.contents
-  pub shown : IsRunInPart source limits text None explain false false between out' err err'
+  pub shown : IsRunInPart source limits text None None explain false false between out' err err'
 
 -- a run is drawn in part: its first events are done, and nothing or a prefix of the picture is shown
 pub record IsPictureCut (source : List ℕ) (limits : Limits) (text : List ℕ) (part : Part) (out out' : Taken) : Type 0 where
@@ -410,9 +414,9 @@ abbrev pub IsDoneInPart : Order → List ℕ → List ℕ → Taken → Taken �
 IsDoneInPart (Check file explain) source schedule out out' err err' =
     IsCheckedInPart source explain out out' err err'
 IsDoneInPart (Run file text most limits explain stats) source schedule out out' err err' =
-    IsRunInPart source limits text.now most explain stats explain out out' err err'
-IsDoneInPart (Replay file name most limits explain stats) source schedule out out' err err' =
-    IsRunInPart source limits schedule most explain stats explain out out' err err'
+    IsRunInPart source limits text.now most None explain stats explain out out' err err'
+IsDoneInPart (Replay file name most limits expected explain stats) source schedule out out' err err' =
+    IsRunInPart source (limits_for limits expected) schedule most expected explain stats explain out out' err err'
 IsDoneInPart (Trace file name limits explain) source schedule out out' err err' =
     (IsTraceInPart source limits schedule out out' × (err' ≡ err)) ⊎ IsTracedThenInPart source limits schedule explain out out' err err'
 IsDoneInPart (Picture file name part limits explain) source schedule out out' err err' =
@@ -465,12 +469,12 @@ pub record IsTellingCut (order : Order) (source schedule : List ℕ) (out out' e
   pub cut : Fails before err' (message_of failure ++ text)
 
 -- the order is carried out, or it is reported why it is not, and no record is left
-abbrev pub IsOutcome : Order → List ℕ → List ℕ → Taken → Taken → Taken → Taken → List ℕ → List ℕ → ℕ → Type 0
+abbrev pub IsOutcome : Order → List ℕ → List ℕ → Taken → Taken → Taken → Taken → Option (List ℕ × List ℕ) → Option (List ℕ × List ℕ) → ℕ → Type 0
 IsOutcome order source schedule out out' err err' kept kept' status =
     IsDone order source schedule out out' err err' kept kept' status ⊎ (IsTold order source schedule out out' err err' status × (kept' ≡ kept))
 
 -- that, or a write failed that was to tell it: the status is 5
-abbrev pub IsOutcomeOrCut : Order → List ℕ → List ℕ → Taken → Taken → Taken → Taken → List ℕ → List ℕ → ℕ → Type 0
+abbrev pub IsOutcomeOrCut : Order → List ℕ → List ℕ → Taken → Taken → Taken → Taken → Option (List ℕ × List ℕ) → Option (List ℕ × List ℕ) → ℕ → Type 0
 IsOutcomeOrCut order source schedule out out' err err' kept kept' status =
     IsOutcome order source schedule out out' err err' kept kept' status
     ⊎ ((status ≡ 5) × IsTellingCut order source schedule out out' err err' × (kept' ≡ kept))

@@ -1,26 +1,37 @@
 -- The record of a run: what it is, and what is told where there is none (this profile).
-use Rattle.std.specs.Prelude.{◌≡◌, ◌++◌, ◌<◌, [], ℕ, Bool, true, false, List, length, string_bytes}
+use Rattle.std.specs.Prelude.{◌≡◌, ◌<◌, [], ℕ, Bool, true, false, List, Option, Some, None, length, option_map, string_bytes}
 use Rattle.cil_model.specs.declared.events.Event.{Event}
 use Rattle.schedule_text.specs.Writings.{IsWritten}
 use Rattle.schedule_text.specs.declared.errors.ScheduleError.TheVariants.{TooLong as IsTooLong}
 use Rattle.schedule_text.specs.declared.errors.TheConstants.{MOST_EVENTS}
 use Rattle.acceptance.specs.Failures.{failure_of_schedule, message_of, status_of_failure}
 use Rattle.driver.specs.declared.recording.Record.{Record}
-use Rattle.driver.specs.declared.recording.Record.TheVariants.{Unasked, Text, TooLong, NoMemory}
+use Rattle.driver.specs.declared.recording.Record.TheVariants.{Unasked, Texts, TooLong, NoMemory}
+use Rattle.driver.specs.declared.recording.RecordFiles.{RecordFiles}
+use Rattle.run_files.specs.RunFiles.{text_of}
+use Rattle.run_files.specs.declared.file.RunFile.{RunFile}
 
--- what comes of the record of a run with these events: where it is asked for, it is the text that they are written as, unless they are too many
-abbrev pub IsRecordOf : Bool → List Event → Record → Type 0
-IsRecordOf asked events Unasked = asked ≡ false
-IsRecordOf asked events (Text text) = (asked ≡ true) × IsWritten events (string_bytes text)
-IsRecordOf asked events TooLong = (asked ≡ true) × (MOST_EVENTS < length events)
-IsRecordOf asked events NoMemory = asked ≡ true
+-- What comes of the record of a run with these events, whose `.run` file says this: where it is asked for, it is the text that the events are
+-- written as, and the text of that file, unless the events are too many.
+abbrev pub IsRecordOf : Bool → List Event → RunFile → Record → Type 0
+IsRecordOf asked events file Unasked = asked ≡ false
+IsRecordOf asked events file (Texts texts) = (asked ≡ true) × IsWritten events (string_bytes texts.schedule) × (string_bytes texts.run ≡ text_of file)
+IsRecordOf asked events file TooLong = (asked ≡ true) × (MOST_EVENTS < length events)
+IsRecordOf asked events file NoMemory = asked ≡ true
 
--- what is put behind the bytes that are kept
-abbrev pub text_of : Record → List ℕ
-text_of Unasked = []
-text_of (Text text) = string_bytes text
-text_of TooLong = []
-text_of NoMemory = []
+-- the texts of the two files of a record, the schedule first
+abbrev pub texts_of : Option RecordFiles → Option (List ℕ × List ℕ)
+texts_of files = option_map (λ (texts : RecordFiles). (string_bytes texts.schedule, string_bytes texts.run)) files
+
+-- the texts of a record, if it has some
+abbrev pub texts_in : Record → Option (List ℕ × List ℕ)
+texts_in (Texts texts) = texts_of (Some texts)
+texts_in _ = None
+
+-- the texts that are left: these, or those that were there before
+abbrev pub texts_over : Option (List ℕ × List ℕ) → Option (List ℕ × List ℕ) → Option (List ℕ × List ℕ)
+texts_over None before = before
+texts_over (Some texts) before = Some texts
 
 -- what is reported of a run that has too many events for a record
 abbrev pub too_long_text : Record → List ℕ

@@ -12,12 +12,15 @@ ghost use Rattle.acceptance.specs.declared.failure.Failure.TheVariants.{Device a
 ghost use Rattle.orders.specs.Orders.{record_file_of};
 ghost use Rattle.driver.specs.Outcomes.{HasBroken, HasNotRun, HasNotTraced, HasRun, HasTraced, IsChecked, IsCheckedInPart, IsDone, IsNotChecked, failure_of_tracing};
 ghost use Rattle.driver.specs.Outcomes.{IsNotDone, IsDoneInPart, IsOutcome, IsOutcomeOrCut};
+ghost use Rattle.driver.specs.Records.{texts_of};
 ghost use Rattle.driver.specs.Outcomes.{IsRunInPart, IsTellingCut, IsTraceInPart, IsTracedThenInPart, IsTried, flip_text};
 
 use crate::drawing::show_picture;
 use crate::explaining::{show_notes, tell_failure};
 use crate::exploring::show_exploration;
 use crate::outcomes::show_outcome;
+use crate::recording::RecordFiles;
+use crate::replays::differences_from;
 use crate::running_threads::show_threads;
 use crate::showing::{say_accepted, show, show_flip};
 use crate::statistics::show_last;
@@ -26,6 +29,7 @@ use event_trace::{TraceError, trace};
 use flip_trial::Sizes;
 use orders::Order;
 use outputs::{Device, Out};
+use run_files::RunFile;
 use schedule_text::Item;
 use source_runs::{Failure, Machine, accept, open, run_source};
 use std::alloc::Global;
@@ -50,11 +54,14 @@ use std::thread::Threads;
 /// printed until then and how its threads stand is printed all the same, then `memory`, and the status is 5. So it is before an event by which the
 /// program would print more bytes than the command allows.
 ///
-/// Where workers run the program and a record is asked for, the text of the run's events is put after the bytes of `record`, once all is
-/// printed: a replay of it with the same limits prints the same. Of more than 1,000,000 events there is no record; that is reported by
+/// A replay of which it is known what the `.run` file says has the limits of that file where no others are given. It reports on `err`, before the
+/// numbers of the run, if its source, its limits or what it printed is not what the file says; then the status is 6, unless memory ran out.
+///
+/// Where workers run the program and a record is asked for, the text of the run's events and that of its `.run` file are left in `record`, once
+/// all is printed: a replay of it with the same limits prints the same. Of more than 1,000,000 events there is no record; that is reported by
 /// `error 503` after the lines of the threads, and the status is 1. Where memory runs out for the record, `memory` is, and the status is 5. Where a source is
-/// explored and a schedule is to be saved, that of the first fault, deadlock or other output is put there. In every other case `record` has the
-/// bytes that it had.
+/// explored and a schedule is to be saved, that of the first fault, deadlock or other output is left there, with its `.run` file. In every other
+/// case `record` stays as it was.
 pub fn drive<W: Out, E: Out>(
     rt: &(impl Threads + Wait + Sync),
     alloc: Global,
@@ -63,11 +70,11 @@ pub fn drive<W: Out, E: Out>(
     schedule: &[u8],
     out: &mut W,
     err: &mut E,
-    record: &mut Vec<u8>,
+    record: &mut Option<RecordFiles>,
 ) -> u8
     ensures outcome { IsOutcomeOrCut order.now source.now schedule.now (W.taken out.old) (W.taken out.new)
-        (E.taken err.old) (E.taken err.new) «record».old.items «record».new.items result }
-    ensures kept { record_file_of order.now ≡ None → «record».new.items ≡ «record».old.items }
+        (E.taken err.old) (E.taken err.new) (texts_of «record».old) (texts_of «record».new) result }
+    ensures kept { record_file_of order.now ≡ None → texts_of «record».new ≡ texts_of «record».old }
 {
     match carry_out(rt, alloc, order, source, schedule, out, err, record) {
         Ok(status) => status,
@@ -84,13 +91,13 @@ pub fn carry_out<W: Out, E: Out>(
     schedule: &[u8],
     out: &mut W,
     err: &mut E,
-    record: &mut Vec<u8>,
+    record: &mut Option<RecordFiles>,
 ) -> Result<u8, Device>
     ensures told { IfOk result (IsOutcome order.now source.now schedule.now (W.taken out.old)
-        (W.taken out.new) (E.taken err.old) (E.taken err.new) «record».old.items «record».new.items) }
+        (W.taken out.new) (E.taken err.old) (E.taken err.new) (texts_of «record».old) (texts_of «record».new)) }
     ensures cut { IfErr result (λ _. IsTellingCut order.now source.now schedule.now (W.taken out.old)
         (W.taken out.new) (E.taken err.old) (E.taken err.new)) }
-    ensures same { OnErr result («record».new.items ≡ «record».old.items) }
+    ensures same { OnErr result (texts_of «record».new ≡ texts_of «record».old) }
 {
     match perform(rt, alloc, order, source, schedule, out, err, record) {
         Ok(status) => Ok(status),
@@ -106,12 +113,12 @@ fn perform<W: Out, E: Out>(
     schedule: &[u8],
     out: &mut W,
     err: &mut E,
-    record: &mut Vec<u8>,
+    record: &mut Option<RecordFiles>,
 ) -> Result<u8, Failure>
     ensures done { IfOk result (IsDone order.now source.now schedule.now (W.taken out.old)
-        (W.taken out.new) (E.taken err.old) (E.taken err.new) «record».old.items «record».new.items) }
+        (W.taken out.new) (E.taken err.old) (E.taken err.new) (texts_of «record».old) (texts_of «record».new)) }
     ensures failed { IfErr result (IsNotDone order.now source.now schedule.now) }
-    ensures same { OnErr result («record».new.items ≡ «record».old.items) }
+    ensures same { OnErr result (texts_of «record».new ≡ texts_of «record».old) }
     ensures untouched { IfErr result (λ failure. is_refusal failure ≡ true
         → (W.taken out.new ≡ W.taken out.old) × (E.taken err.new ≡ E.taken err.old)) }
     ensures device { IfErr result (λ failure. failure ≡ DeviceFailure
@@ -135,6 +142,7 @@ fn perform<W: Out, E: Out>(
             limits,
             text.as_bytes(),
             most_printed,
+            None,
             explain,
             stats,
             out,
@@ -143,21 +151,26 @@ fn perform<W: Out, E: Out>(
         Order::Replay {
             most_printed,
             limits,
+            expected,
             explain,
             stats,
             ..
-        } => show_run(
-            rt,
-            alloc,
-            source,
-            limits,
-            schedule,
-            most_printed,
-            explain,
-            stats,
-            out,
-            err,
-        ),
+        } => {
+            let limits = limits.limits_for(expected);
+            show_run(
+                rt,
+                alloc,
+                source,
+                limits,
+                schedule,
+                most_printed,
+                expected,
+                explain,
+                stats,
+                out,
+                err,
+            )
+        }
         Order::Trace {
             limits,
             explain,
@@ -256,7 +269,8 @@ fn check<W: Out, E: Out>(
 }
 
 /// Runs a source by the events of a text, prints what the run leaves, and returns its status. Where memory runs out before an event, or the event
-/// would print beyond the bound, the run is stopped there, and that is reported after this. The numbers of the run come last, where they are asked for.
+/// would print beyond the bound, the run is stopped there, and that is reported after this; then in what it differs from what is expected. The numbers of the run come last, where
+/// they are asked for.
 fn show_run<W: Out, E: Out>(
     rt: &impl Wait,
     alloc: Global,
@@ -264,12 +278,13 @@ fn show_run<W: Out, E: Out>(
     limits: Limits,
     text: &[u8],
     most_printed: Option<u32>,
+    expected: Option<RunFile>,
     explain: bool,
     stats: bool,
     out: &mut W,
     err: &mut E,
 ) -> Result<u8, Failure>
-    ensures done { IfOk result (HasRun source.now limits text.now most_printed explain stats (W.taken out.old)
+    ensures done { IfOk result (HasRun source.now limits text.now most_printed expected explain stats (W.taken out.old)
         (W.taken out.new) (E.taken err.old) (E.taken err.new)) }
     ensures failed { IfErr result (HasNotRun source.now limits text.now) }
     ensures untouched { IfErr result (λ failure. is_refusal failure ≡ true
@@ -277,11 +292,12 @@ fn show_run<W: Out, E: Out>(
     ensures device { IfErr result (λ failure. failure ≡ DeviceFailure
         → HasBroken (W.taken out.old) (W.taken out.new) (E.taken err.old) (E.taken err.new)) }
     ensures in_part { OnErr result (((W.taken out.new ≡ W.taken out.old) × (E.taken err.new ≡ E.taken err.old))
-        ⊎ IsRunInPart source.now limits text.now most_printed explain stats explain (W.taken out.old) (W.taken out.new) (E.taken err.old) (E.taken err.new)) }
+        ⊎ IsRunInPart source.now limits text.now most_printed expected explain stats explain (W.taken out.old) (W.taken out.new) (E.taken err.old) (E.taken err.new)) }
 {
     let outcome = run_source(rt, alloc, source, limits, text, most_printed)?;
     let status = show_outcome(alloc, explain, source, limits, &outcome, out, err)?;
-    Ok(show_last(stats, &outcome, status, err)?)
+    let differences = differences_from(expected, source, limits, &outcome);
+    Ok(show_last(stats, differences, &outcome, status, err)?)
 }
 
 /// Runs a source by the events of a text, prints a line of each and an empty line, then what the run leaves, and answers its status.

@@ -123,9 +123,10 @@ fn explanation(
         Order::Replay {
             schedule: name,
             limits,
+            expected,
             ..
-        }
-        | Order::Trace {
+        } => explain_run(alloc, limits.limits_for(expected), name, schedule)?,
+        Order::Trace {
             schedule: name,
             limits,
             ..

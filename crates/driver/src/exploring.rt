@@ -1,16 +1,18 @@
 //! Explores all schedules of a source, and prints what it finds.
 
-ghost use Rattle.std.specs.Prelude.{◌≡◌, ◌⊎◌, [], IfErr, IfOk, OnErr, option_map, string_bytes, true};
+ghost use Rattle.std.specs.Prelude.{◌≡◌, ◌⊎◌, IfErr, IfOk, OnErr, option_map, true};
 ghost use Rattle.std.specs.List.{list_all, list_any};
 ghost use Rattle.std.specs.Str.{bytes_eq};
 ghost use Rattle.acceptance.specs.Failures.{is_refusal};
 ghost use Rattle.acceptance.specs.Sources.{IsNotRun};
 ghost use Rattle.acceptance.specs.declared.failure.Failure.TheVariants.{Device as DeviceFailure};
 ghost use Rattle.outputs.specs.Taken.{HasGrown};
-ghost use Rattle.driver.specs.Explorations.{HasExplored, IsExploredInPart, IsSaved, first_other, has_deadlock, is_other, status_of_exploration};
+ghost use Rattle.driver.specs.Explorations.{AreSaved, HasExplored, IsExploredInPart, first_other, has_deadlock, is_other, status_of_exploration};
 ghost use Rattle.driver.specs.Outcomes.{HasNotExplored};
+ghost use Rattle.driver.specs.Records.{texts_of};
 
 use crate::outcome_texts::text_of;
+use crate::recording::{RecordFiles, leave};
 use crate::showing::{are_all_done, is_some_live};
 use acceptance::Failure;
 use cil_model::limits::Limits;
@@ -19,10 +21,11 @@ use orders::{Extent, Goal};
 use outcome_search::{Bounds, Exploration, Found, explore};
 use outcome_text::schedule_text;
 use outputs::Out;
+use run_files::RunFile;
 use std::alloc::Global;
 
-/// Explores all schedules of a source, prints its outcomes, puts the schedule of the first fault, deadlock or other output after the bytes that are kept
-/// if that is asked for, and returns the status. A failed write leaves the bytes that are kept as they were.
+/// Explores all schedules of a source, prints its outcomes, leaves the files of the first fault, deadlock or other output if that is asked for,
+/// and returns the status. A failed write leaves what is kept as it was.
 pub(crate) fn show_exploration<W: Out>(
     alloc: Global,
     source: &[u8],
@@ -31,11 +34,11 @@ pub(crate) fn show_exploration<W: Out>(
     is_saved: bool,
     explain: bool,
     out: &mut W,
-    kept: &mut Vec<u8>,
+    kept: &mut Option<RecordFiles>,
 ) -> Result<u8, Failure>
-    ensures done { IfOk result (HasExplored source.now limits extent is_saved explain (W.taken out.old) (W.taken out.new) kept.old.items kept.new.items) }
+    ensures done { IfOk result (HasExplored source.now limits extent is_saved explain (W.taken out.old) (W.taken out.new) (texts_of kept.old) (texts_of kept.new)) }
     ensures failed { IfErr result (HasNotExplored source.now limits) }
-    ensures same { OnErr result (kept.new.items ≡ kept.old.items) }
+    ensures same { OnErr result (texts_of kept.new ≡ texts_of kept.old) }
     ensures untouched { IfErr result (λ failure. is_refusal failure ≡ true → W.taken out.new ≡ W.taken out.old) }
     ensures device { IfErr result (λ failure. failure ≡ DeviceFailure → HasGrown (W.taken out.old).failures (W.taken out.new).failures) }
     ensures in_part { OnErr result ((W.taken out.new ≡ W.taken out.old)
@@ -43,29 +46,33 @@ pub(crate) fn show_exploration<W: Out>(
 {
     let exploration = explore(alloc, source, limits, bounds_of(extent))?;
     let text = text_of(alloc, source, limits, extent, explain, &exploration)?;
-    let schedule = saved_schedule(alloc, is_saved, &exploration.found)?;
-    let before = kept.len();
-    kept.extend_from_slice(schedule.as_bytes())?;
-    match out.write_whole(text.as_bytes()) {
-        Ok(()) => Ok(status_of(exploration.is_complete, &exploration.found)),
-        Err(device) => {
-            kept.truncate(before);
-            Err(Failure::from(device))
-        }
-    }
+    let saved = saved_files(alloc, is_saved, source, limits, &exploration.found)?;
+    out.write_whole(text.as_bytes())?;
+    leave(saved, kept);
+    Ok(status_of(exploration.is_complete, &exploration.found))
 }
 
-/// The schedule that is to be saved; empty if that is not asked for, or all outcomes are alike.
-fn saved_schedule(alloc: Global, is_saved: bool, found: &[Found]) -> Result<String, NoMemory>
-    ensures { IfOk result (λ text. IsSaved is_saved found.now (string_bytes text)) }
+/// The files of the outcome that is to be saved: its schedule, and the `.run` file of its run, as of one worker. None if that is not asked
+/// for, or all outcomes are alike.
+fn saved_files(
+    alloc: Global,
+    is_saved: bool,
+    source: &[u8],
+    limits: Limits,
+    found: &[Found],
+) -> Result<Option<RecordFiles>, NoMemory>
+    ensures { IfOk result (λ files. AreSaved is_saved source.now limits found.now (texts_of files)) }
 {
     if !is_saved {
-        return Ok(String::new(alloc));
+        return Ok(None);
     }
-    match first_other(found) {
-        Some(other) => schedule_text(alloc, &other.events),
-        None => Ok(String::new(alloc)),
-    }
+    let Some(other) = first_other(found) else {
+        return Ok(None);
+    };
+    let schedule = schedule_text(alloc, &other.events)?;
+    let file = RunFile::of(source, limits, 1, &other.printed);
+    let run = run_files::write(alloc, &file)?;
+    Ok(Some(RecordFiles { schedule, run }))
 }
 
 /// The first outcome in which a thread is blocked or ended early, or whose printed bytes are not those of the first outcome. None if there is none.

@@ -10,11 +10,13 @@ mod outcome_pictures;
 mod outcome_texts;
 mod outcomes;
 mod recording;
+mod replays;
 mod running_threads;
 mod showing;
 mod statistics;
 
 pub use driving::drive;
 pub use outputs::{Device, Out, WriterOut};
+pub use recording::RecordFiles;
 pub use showing::emit;
 pub use source_runs::{Failure, Run, report, run_events};

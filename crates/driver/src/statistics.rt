@@ -1,33 +1,40 @@
-//! The numbers of a run, after all else that it prints.
+//! What comes last of a run: that memory ran out, in what it differs from a recorded run, and its numbers.
 
 ghost use Rattle.std.specs.Prelude.{◌≡◌, ◌++◌, IfOk, OnErr, OnOk};
 ghost use Rattle.outputs.specs.Taken.{Fails, Takes};
 ghost use Rattle.source_runs.specs.shared_machine.Histories.{events_of, reports_of};
 ghost use Rattle.driver.specs.Outcomes.{status_after, stop_text};
 ghost use Rattle.driver.specs.Records.{is_short, status_with, too_long_text};
+ghost use Rattle.driver.specs.Replays.{differences_text, status_if_same};
 ghost use Rattle.driver.specs.Statistics.{stats_text};
 
 use crate::recording::{Record, report_record};
+use crate::replays::{show_differences, status_if_same};
 use crate::showing::show_stop;
 use outputs::{Device, Out};
+use run_files::Differences;
 use run_statistics::write_statistics;
 use source_runs::Outcome;
 
-/// Prints what comes last of a run by a schedule, and returns its status, which is this one where the run was not stopped: that memory ran
-/// out, where it did, and the numbers of the run, where they are asked for. It takes no memory.
+/// Prints what comes last of a run by a schedule, and returns its status, which is this one where the run was not stopped and does not
+/// differ from the recorded one: that memory ran out, where it did, in what the run differs, and its numbers, where they are asked for. It
+/// takes no memory.
 pub(crate) fn show_last<E: Out>(
     stats: bool,
+    differences: Differences,
     outcome: &Outcome,
     status: u8,
     err: &mut E,
 ) -> Result<u8, Device>
-    ensures whole { IfOk result (λ after. (after ≡ status_after outcome.now.is_out_of_memory status)
-        × Takes (E.taken err.old) (E.taken err.new) (stop_text outcome.now.is_out_of_memory
+    ensures whole { IfOk result (λ after. (after ≡ status_after outcome.now.is_out_of_memory (status_if_same differences status))
+        × Takes (E.taken err.old) (E.taken err.new) (stop_text outcome.now.is_out_of_memory ++ differences_text differences
         ++ stats_text stats (events_of outcome.now.history.entries) (reports_of outcome.now.history.entries) outcome.now.machine)) }
-    ensures cut { OnErr result (Fails (E.taken err.old) (E.taken err.new) (stop_text outcome.now.is_out_of_memory
+    ensures cut { OnErr result (Fails (E.taken err.old) (E.taken err.new) (stop_text outcome.now.is_out_of_memory ++ differences_text differences
         ++ stats_text stats (events_of outcome.now.history.entries) (reports_of outcome.now.history.entries) outcome.now.machine)) }
 {
+    let status = status_if_same(differences, status);
     let status = show_stop(outcome.is_out_of_memory, status, err)?;
+    show_differences(differences, err)?;
     show_statistics(stats, outcome, err)?;
     Ok(status)
 }

@@ -1,2 +1,3 @@
+pub mod GivenLimits
 pub mod Orders
 pub mod Parts

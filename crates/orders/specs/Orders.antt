@@ -5,12 +5,13 @@ use Rattle.orders.specs.declared.order.Order.{Order}
 use Rattle.orders.specs.declared.order.Order.TheVariants.{Check, Run, Replay, Trace, Picture, Threads, Explore, Flip}
 use Rattle.orders.specs.declared.part.Part.{Part}
 use Rattle.orders.specs.Parts.{count_in, last_in}
+use Rattle.run_files.specs.declared.file.RunFile.{RunFile}
 
 -- the name of the file that holds the source, where one does
 abbrev pub file_of : Order → Option (List ℕ)
 file_of (Check file explain) = Some file.now
 file_of (Run file schedule most_printed limits explain stats) = Some file.now
-file_of (Replay file schedule most_printed limits explain stats) = Some file.now
+file_of (Replay file schedule most_printed limits expected explain stats) = Some file.now
 file_of (Trace file schedule limits explain) = Some file.now
 file_of (Picture file schedule part limits explain) = Some file.now
 file_of (Threads file workers kept stop_at most_printed limits explain stats) = Some file.now
@@ -19,10 +20,20 @@ file_of (Flip sizes) = None
 
 -- the name of the file that holds the schedule's text, where one does
 abbrev pub schedule_file_of : Order → Option (List ℕ)
-schedule_file_of (Replay file schedule most_printed limits explain stats) = Some schedule.now
+schedule_file_of (Replay file schedule most_printed limits expected explain stats) = Some schedule.now
 schedule_file_of (Trace file schedule limits explain) = Some schedule.now
 schedule_file_of (Picture file schedule part limits explain) = Some schedule.now
 schedule_file_of _ = None
+
+-- the name of the file with the schedule of a replay
+abbrev pub replayed_file_of : Order → Option (List ℕ)
+replayed_file_of (Replay file schedule most_printed limits expected explain stats) = Some schedule.now
+replayed_file_of _ = None
+
+-- a replay of which it is known what the `.run` file says; another order stays
+abbrev pub with_run_file : Order → RunFile → Order
+with_run_file (Replay file schedule most_printed limits expected explain stats) run = Replay file schedule most_printed limits (Some run) explain stats
+with_run_file order run = order
 
 -- the name of the file that the record of a run or the schedule of an outcome is to be written to, where one is asked for
 abbrev pub record_file_of : Order → Option (List ℕ)
@@ -34,7 +45,7 @@ record_file_of _ = None
 abbrev pub is_explained : Order → Bool
 is_explained (Check file explain) = explain
 is_explained (Run file schedule most_printed limits explain stats) = explain
-is_explained (Replay file schedule most_printed limits explain stats) = explain
+is_explained (Replay file schedule most_printed limits expected explain stats) = explain
 is_explained (Trace file schedule limits explain) = explain
 is_explained (Picture file schedule part limits explain) = explain
 is_explained (Threads file workers kept stop_at most_printed limits explain stats) = explain

@@ -1,9 +1,9 @@
 //! Reads the files that an order names.
-ghost use Rattle.std.specs.Prelude.{◌≡◌, IfOk, IfSome};
+ghost use Rattle.std.specs.Prelude.{◌≡◌, ◌++◌, IfOk, IfSome, codes, string_bytes};
 ghost use Rattle.orders.specs.Orders.{StandsFor};
 
 use cil_model::limits::MOST_SOURCE_BYTES;
-use std::alloc::Global;
+use std::alloc::{AllocError, Global};
 use std::io;
 use std::io::Read;
 
@@ -22,4 +22,11 @@ pub fn read_text<R: Read + Drop>(alloc: Global, mut reader: R) -> io::Result<Vec
     let mut bytes = Vec::new(alloc);
     reader.read_to_end(&mut bytes)?;
     Ok(bytes)
+}
+
+/// The name of the `.run` file of a record. Fails only if memory runs out.
+pub fn run_file_name(alloc: Global, record: &str) -> Result<String, AllocError>
+    ensures { IfOk result (λ name. string_bytes name ≡ record.now ++ codes ".run") }
+{
+    format!(in alloc; "{record}.run")
 }

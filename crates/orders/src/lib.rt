@@ -4,12 +4,14 @@
 
 mod extents;
 mod files;
+mod given_limits;
 mod order;
 mod part;
 mod workers;
 
 pub use extents::{Extent, Goal};
-pub use files::{read_source, read_text};
+pub use files::{read_source, read_text, run_file_name};
+pub use given_limits::GivenLimits;
 pub use order::{LEAST_OUTPUT, MOST_OUTPUT, Order};
 pub use part::{LAST_NUMBER, Part};
 pub use workers::Workers;

@@ -1,13 +1,15 @@
 //! What a command line asks for.
 ghost use Rattle.std.specs.Prelude.{◌≡◌, option_map};
-ghost use Rattle.orders.specs.Orders.{file_of, is_explained, record_file_of, schedule_file_of};
+ghost use Rattle.orders.specs.Orders.{file_of, is_explained, record_file_of, replayed_file_of, schedule_file_of, with_run_file};
 
 use crate::extents::Extent;
+use crate::given_limits::GivenLimits;
 use crate::part::Part;
 use crate::workers::Workers;
 use cil_model::limits::Limits;
 use cil_model::stops::StopAt;
 use flip_trial::Sizes;
+use run_files::RunFile;
 
 /// The least bound on the bytes that a program prints.
 pub const LEAST_OUTPUT: u32 = 64;
@@ -33,12 +35,14 @@ pub enum Order<'a> {
         explain: bool,
         stats: bool,
     },
-    /// Runs the source of this file by the events of the schedule text that another file holds. With `stats`, as of `Run`.
+    /// Runs the source of this file by the events of the schedule text that another file holds. Where it is known what the `.run` file of a
+    /// record says, limits that are not given are those of that file, and the run is compared with it. With `stats`, as of `Run`.
     Replay {
         file: &'a str,
         schedule: &'a str,
         most_printed: Option<u32>,
-        limits: Limits,
+        limits: GivenLimits,
+        expected: Option<RunFile>,
         explain: bool,
         stats: bool,
     },
@@ -128,6 +132,42 @@ impl<'a> Order<'a> {
             | Order::Threads { .. }
             | Order::Explore { .. }
             | Order::Flip(_) => None,
+        }
+    }
+
+    /// The file with the schedule of a replay, whose `.run` file is to be read where there is one.
+    pub fn replayed_file(&self) -> Option<&'a str>
+        ensures { option_map (λ file. file.now) result ≡ replayed_file_of self.now }
+    {
+        match *self {
+            Order::Replay { schedule, .. } => Some(schedule),
+            _ => None,
+        }
+    }
+
+    /// A replay of which it is known what the `.run` file says. Another command stays as it is.
+    pub fn with_run_file(self, run: RunFile) -> Order<'a>
+        ensures { result ≡ with_run_file self.entry run }
+    {
+        match self {
+            Order::Replay {
+                file,
+                schedule,
+                most_printed,
+                limits,
+                explain,
+                stats,
+                ..
+            } => Order::Replay {
+                file,
+                schedule,
+                most_printed,
+                limits,
+                expected: Some(run),
+                explain,
+                stats,
+            },
+            other => other,
         }
     }
 

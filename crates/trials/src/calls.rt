@@ -55,7 +55,7 @@ fn tells_of_outputs(threads: &(impl Threads + Wait + Sync), alloc: Global) -> bo
     let mut page = WriterOut::new(Cursor::new([0; 52]));
     let mut none = WriterOut::new(Cursor::new([0; 0]));
     let mut err = WriterOut::new(Vec::new(alloc));
-    let mut record = Vec::new(alloc);
+    let mut record = None;
     let (source, schedule) = (SUM.as_bytes(), b"s0*3");
     let traced = drive(
         threads,
@@ -99,7 +99,7 @@ fn leaves_a_beginning(threads: &(impl Threads + Wait + Sync), alloc: Global) -> 
     let mut whole = WriterOut::new(Vec::new(alloc));
     let mut none = WriterOut::new(Cursor::new([0; 0]));
     let mut err = WriterOut::new(Vec::new(alloc));
-    let mut record = Vec::new(alloc);
+    let mut record = None;
     let (source, schedule) = (SUM.as_bytes(), b"s0*3");
     let cut = drive(
         threads,
@@ -143,7 +143,7 @@ fn ends_at_a_cut_console(threads: &(impl Threads + Wait + Sync), alloc: Global) 
     };
     let mut page = WriterOut::new(Cursor::new([0; 1]));
     let mut err = WriterOut::new(Vec::new(alloc));
-    let mut record = Vec::new(alloc);
+    let mut record = None;
     let status = drive(
         threads,
         alloc,

@@ -12,6 +12,8 @@ pub struct Case<'a> {
     pub source: Option<&'a str>,
     /// The schedule in the place of the file that the command names.
     pub schedule: Option<&'a str>,
+    /// The `.run` file of the schedule that the command names; none where there is no such file.
+    pub run: Option<&'a str>,
     /// The standard output, and then in marked parts the standard error, the status, and perhaps more of the run.
     pub wanted: &'a str,
 }
@@ -19,6 +21,7 @@ pub struct Case<'a> {
 /// The case of a block; none where it has no name, no command or nothing that is wanted.
 pub fn case_of(block: &str) -> Option<Case<'_>> {
     let (given, wanted) = block.split_once("\n--- out\n")?;
+    let (given, run) = part_of(given, "\n--- run\n");
     let (given, schedule) = part_of(given, "\n--- schedule\n");
     let (given, source) = part_of(given, "\n--- source\n");
     let (given, limits) = part_of(given, "\n--- limits ");
@@ -29,6 +32,7 @@ pub fn case_of(block: &str) -> Option<Case<'_>> {
         limits,
         source,
         schedule,
+        run,
         wanted,
     })
 }

@@ -21,7 +21,7 @@ use std::sync::Wait;
 use std::thread::Threads;
 
 /// The groups of cases. Those of `NAME` stand in the file `NAME.txt`.
-const GROUPS: [&str; 20] = [
+const GROUPS: [&str; 21] = [
     "command_line",
     "commands",
     "schedules",
@@ -42,6 +42,7 @@ const GROUPS: [&str; 20] = [
     "threads",
     "statistics",
     "output",
+    "records",
 ];
 
 /// The status is 0 where all is as expected, 1 where something differs, and 5 where a file is not read or memory is wanted.

@@ -5,9 +5,10 @@ use crate::cases::Case;
 use crate::records::add_record;
 use crate::reports::{add_differences, add_run};
 use crate::texts::{expanded, limits_of, words_of};
-use command_line::{LineFault, Unread, order};
-use driver::{Failure, WriterOut, drive, report};
-use orders::{Order, read_source, read_text};
+use command_line::{LineFault, Malformed, Unread, order};
+use driver::{Failure, RecordFiles, WriterOut, drive, report};
+use orders::{Order, read_source, read_text, run_file_name};
+use std::alloc::Global;
 use std::fs::File;
 use std::io;
 use std::io::Write;
@@ -125,17 +126,48 @@ fn carry_out(
         Ok(files) => files,
         Err(unread) => return add_unread(rt, &unread, out),
     };
-    let record = add_driven(rt, threads, order, &files, out)?;
-    add_record(rt, threads, case, order, &files, record, out)?;
+    let order = match with_run_file(rt.alloc(), case, order)? {
+        Some(order) => order,
+        None => return add_malformed(rt, order, out),
+    };
+    let record = add_driven(rt, threads, &order, &files, out)?;
+    add_record(rt, threads, case, &order, &files, record, out)?;
     if case.wanted.contains("\n--- answer ") {
-        let answer = answer(rt.alloc(), order, &files)?;
+        let answer = answer(rt.alloc(), &order, &files)?;
         writeln!(out, "--- answer {answer}")?;
     }
     if case.wanted.contains("\n--- reports") {
         let with_sizes = case.wanted.contains("\n--- sizes ");
-        add_run(threads, rt.alloc(), order, &files, with_sizes, out)?;
+        add_run(threads, rt.alloc(), &order, &files, with_sizes, out)?;
     }
-    add_differences(rt.alloc(), order, &files, out)
+    add_differences(rt.alloc(), &order, &files, out)
+}
+
+/// The order with what the `.run` file of the case says, where it has one. None where it is not the text of one.
+fn with_run_file<'a>(
+    alloc: Global,
+    case: &Case<'_>,
+    order: &Order<'a>,
+) -> io::Result<Option<Order<'a>>> {
+    let Some(text) = case.run else {
+        return Ok(Some(*order));
+    };
+    let text = expanded(alloc, text)?;
+    Ok(run_files::read(text.as_slice()).map(|run| order.with_run_file(run)))
+}
+
+/// Adds what is reported of a file that is not a `.run` file.
+fn add_malformed(rt: &HostRuntime, order: &Order<'_>, out: &mut Vec<u8>) -> io::Result<()> {
+    let name = run_file_name(rt.alloc(), order.replayed_file().unwrap_or(""))?;
+    let malformed = Malformed {
+        file: name.as_str(),
+    };
+    let mut err = WriterOut::new(Vec::new(rt.alloc()));
+    let status = report(Failure::Refused(run_files::MALFORMED), &mut err);
+    let text = malformed.told(rt.alloc())?;
+    let mut err = err.into_inner();
+    err.extend_from_slice(text.as_bytes())?;
+    add_end(out, err.as_slice(), status)
 }
 
 /// The files of an order: the texts of the case, and else the files that the order names.
@@ -180,9 +212,9 @@ pub fn add_driven(
     order: &Order<'_>,
     files: &Files,
     out: &mut Vec<u8>,
-) -> io::Result<Vec<u8>> {
+) -> io::Result<Option<RecordFiles>> {
     let mut err = WriterOut::new(Vec::new(rt.alloc()));
-    let mut record = Vec::new(rt.alloc());
+    let mut record = None;
     let status = drive(
         threads,
         rt.alloc(),

@@ -46,9 +46,15 @@ fn run_of<'a>(order: &Order<'a>, files: &'a Files) -> Option<(Limits, &'a [u8])>
             schedule,
             ..
         } => Some((limits, schedule.as_bytes())),
-        Order::Replay { limits, .. }
-        | Order::Trace { limits, .. }
-        | Order::Picture { limits, .. } => Some((limits, files.schedule.as_slice())),
+        Order::Replay {
+            limits,
+            expected,
+            ..
+        } => Some((limits.limits_for(expected), files.schedule.as_slice())),
+        Order::Trace { limits, .. } | Order::Picture { limits, .. } => Some((
+            limits,
+            files.schedule.as_slice(),
+        )),
         _ => None,
     }
 }

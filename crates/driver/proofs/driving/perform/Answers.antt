@@ -1,7 +1,8 @@
 use Rattle.std.proofs.Common.{inl, refl, subst}
-use Rattle.std.specs.Prelude.{◌≡◌, ◌⊎◌, IfErr, IfOk, OnErr}
+use Rattle.std.specs.Prelude.{◌≡◌, ◌⊎◌, IfErr, IfOk, None, OnErr}
 use Rattle.acceptance.proofs.SourceLemmas.{if_err, if_ok, on_err, on_err_of}
 use Rattle.driver.specs.Explorations.{HasExplored}
+use Rattle.driver.specs.Records.{texts_of}
 use Rattle.driver.specs.Outcomes.{HasNotRun, HasRun, HasRunThreads, IsRunByWorkersInPart, IsRunInPart}
 use Rattle.driver.proofs.OutcomeLemmas.{by_either, no_refusal}
 use Rattle.driver.proofs.driving.perform.Goals as goal
@@ -23,7 +24,7 @@ returns-in-Check-clause-in_part g c = rw c.in-Check.is c.check.ensures.in_part
 
 pub returns-in-Run-clause-done : goal.returns-in-Run-clause-done
 returns-in-Run-clause-done g c =
-    let done = subst (λ text. IfOk c.show_run.result (HasRun c.args.source.now c.in-Run.limits text c.in-Run.most_printed c.in-Run.explain c.in-Run.stats (g.W.Out.taken c.args.out.now) (g.W.Out.taken c.show_run.new.out)
+    let done = subst (λ text. IfOk c.show_run.result (HasRun c.args.source.now c.in-Run.limits text c.in-Run.most_printed None c.in-Run.explain c.in-Run.stats (g.W.Out.taken c.args.out.now) (g.W.Out.taken c.show_run.new.out)
     (g.E.Out.taken c.args.err.now) (g.E.Out.taken c.show_run.new.err))) c.as_bytes.ensures.value c.show_run.ensures.done in
     rw c.in-Run.is (if_ok c.show_run.result done (λ _ done. (done, refl)))
 
@@ -44,14 +45,18 @@ returns-in-Run-clause-in_part g c =
     let out' = g.W.Out.taken c.show_run.new.out in
     let err = g.E.Out.taken c.args.err.now in
     let err' = g.E.Out.taken c.show_run.new.err in
-    rw c.in-Run.is (subst (λ text. OnErr c.show_run.result (((out' ≡ out) × (err' ≡ err)) ⊎ IsRunInPart c.args.source.now c.in-Run.limits text c.in-Run.most_printed c.in-Run.explain c.in-Run.stats c.in-Run.explain out out' err err'))
+    rw c.in-Run.is (subst (λ text. OnErr c.show_run.result (((out' ≡ out) × (err' ≡ err)) ⊎ IsRunInPart c.args.source.now c.in-Run.limits text c.in-Run.most_printed None c.in-Run.explain c.in-Run.stats c.in-Run.explain out out' err err'))
     c.as_bytes.ensures.value c.show_run.ensures.in_part)
 
 pub returns-in-Replay-clause-done : goal.returns-in-Replay-clause-done
-returns-in-Replay-clause-done g c = rw c.in-Replay.is (if_ok c.show_run-in-Replay.result c.show_run-in-Replay.ensures.done (λ _ done. (done, refl)))
+returns-in-Replay-clause-done g c =
+    let done = subst (λ limits. IfOk c.show_run-in-Replay.result (HasRun c.args.source.now limits c.args.schedule.now c.in-Replay.most_printed c.in-Replay.expected c.in-Replay.explain c.in-Replay.stats
+    (g.W.Out.taken c.args.out.now) (g.W.Out.taken c.show_run-in-Replay.new.out) (g.E.Out.taken c.args.err.now) (g.E.Out.taken c.show_run-in-Replay.new.err))) c.limits_for-limits.ensures c.show_run-in-Replay.ensures.done in
+    rw c.in-Replay.is (if_ok c.show_run-in-Replay.result done (λ _ done. (done, refl)))
 
 pub returns-in-Replay-clause-failed : goal.returns-in-Replay-clause-failed
-returns-in-Replay-clause-failed g c = rw c.in-Replay.is c.show_run-in-Replay.ensures.failed
+returns-in-Replay-clause-failed g c =
+    rw c.in-Replay.is (subst (λ limits. IfErr c.show_run-in-Replay.result (HasNotRun c.args.source.now limits c.args.schedule.now)) c.limits_for-limits.ensures c.show_run-in-Replay.ensures.failed)
 
 pub returns-in-Replay-clause-same : goal.returns-in-Replay-clause-same
 returns-in-Replay-clause-same g c = on_err c.show_run-in-Replay.result refl
@@ -60,7 +65,13 @@ pub returns-in-Replay-clause-untouched : goal.returns-in-Replay-clause-untouched
 returns-in-Replay-clause-untouched g c = c.show_run-in-Replay.ensures.untouched
 
 pub returns-in-Replay-clause-in_part : goal.returns-in-Replay-clause-in_part
-returns-in-Replay-clause-in_part g c = rw c.in-Replay.is c.show_run-in-Replay.ensures.in_part
+returns-in-Replay-clause-in_part g c =
+    let out = g.W.Out.taken c.args.out.now in
+    let out' = g.W.Out.taken c.show_run-in-Replay.new.out in
+    let err = g.E.Out.taken c.args.err.now in
+    let err' = g.E.Out.taken c.show_run-in-Replay.new.err in
+    rw c.in-Replay.is (subst (λ limits. OnErr c.show_run-in-Replay.result (((out' ≡ out) × (err' ≡ err))
+    ⊎ IsRunInPart c.args.source.now limits c.args.schedule.now c.in-Replay.most_printed c.in-Replay.expected c.in-Replay.explain c.in-Replay.stats c.in-Replay.explain out out' err err')) c.limits_for-limits.ensures c.show_run-in-Replay.ensures.in_part)
 
 pub returns-in-Trace-clause-done : goal.returns-in-Trace-clause-done
 returns-in-Trace-clause-done g c = rw c.in-Trace.is (if_ok c.show_trace.result c.show_trace.ensures.done (λ _ done. (done, refl)))
@@ -96,7 +107,7 @@ pub returns-in-Threads-clause-done : goal.returns-in-Threads-clause-done
 returns-in-Threads-clause-done g c =
     rw c.in-Threads.is (subst (λ asked. IfOk c.show_threads.result (HasRunThreads c.args.source.now c.in-Threads.limits c.in-Threads.workers.count c.in-Threads.stop_at c.in-Threads.most_printed asked c.in-Threads.explain c.in-Threads.stats
     (g.W.Out.taken c.args.out.now) (g.W.Out.taken c.show_threads.new.out) (g.E.Out.taken c.args.err.now) (g.E.Out.taken c.show_threads.new.err)
-    c.args.record.now.items c.show_threads.new.kept.items)) c.is_some.ensures c.show_threads.ensures.done)
+    (texts_of c.args.record.now) (texts_of c.show_threads.new.kept))) c.is_some.ensures c.show_threads.ensures.done)
 
 pub returns-in-Threads-clause-failed : goal.returns-in-Threads-clause-failed
 returns-in-Threads-clause-failed g c = rw c.in-Threads.is c.show_threads.ensures.failed
@@ -120,7 +131,7 @@ returns-in-Threads-clause-in_part g c =
 pub returns-in-Explore-clause-done : goal.returns-in-Explore-clause-done
 returns-in-Explore-clause-done g c =
     rw c.in-Explore.is (subst (λ asked. IfOk c.show_exploration.result (λ status. HasExplored c.args.source.now c.in-Explore.limits c.in-Explore.extent asked c.in-Explore.explain
-    (g.W.Out.taken c.args.out.now) (g.W.Out.taken c.show_exploration.new.out) c.args.record.now.items c.show_exploration.new.kept.items status
+    (g.W.Out.taken c.args.out.now) (g.W.Out.taken c.show_exploration.new.out) (texts_of c.args.record.now) (texts_of c.show_exploration.new.kept) status
     × (g.E.Out.taken c.args.err.now ≡ g.E.Out.taken c.args.err.now))) c.is_some-in-Explore.ensures
     (if_ok c.show_exploration.result c.show_exploration.ensures.done (λ _ done. (done, refl))))
 

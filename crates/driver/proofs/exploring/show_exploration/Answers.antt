@@ -1,11 +1,12 @@
-use Rattle.std.proofs.Common.{◌++◌, ap, inl, inr, refl, subst, sym, ◌∙◌}
+use Rattle.std.proofs.Common.{ap, inl, inr, subst, sym, ◌∙◌}
 use Rattle.std.specs.Prelude.{string_bytes}
-use Rattle.acceptance.proofs.SourceLemmas.{handed_on}
-use Rattle.acceptance.specs.declared.failure.Failure.TheVariants.{Device}
+use Rattle.acceptance.proofs.SourceLemmas.{handed_on, on_err}
 use Rattle.outputs.specs.Taken.{Fails, Takes}
-use Rattle.driver.specs.Explorations.{IsSaved, status_of_exploration}
+use Rattle.driver.specs.Explorations.{AreSaved, status_of_exploration}
 use Rattle.driver.specs.Outcomes.{HasNotExplored}
+use Rattle.driver.specs.Records.{texts_of}
 use Rattle.driver.proofs.ExplorationLemmas.{not_explored, not_pictured}
+use Rattle.driver.proofs.OutcomeLemmas.{no_refusal}
 use Rattle.driver.proofs.Refusals.{not_run}
 use Rattle.driver.proofs.exploring.show_exploration.Goals as goal
 
@@ -33,26 +34,39 @@ returns-in_err-text-clause-device g c =
 
 -- ---- a write failed, or all is written
 
-pub returns-clause-in_part : goal.returns-clause-in_part
-returns-clause-in_part g c =
-    inr record {
+pub returns-in_err-write_whole-clause-failed : goal.returns-in_err-write_whole-clause-failed
+returns-in_err-write_whole-clause-failed g c =
+    handed_on c.from_residual-in_err-write_whole.result c.from_residual-in_err-write_whole.ensures.1 (λ failure is. inr (c.in_ok-exploration.ensures.accepted, inr is))
+
+pub returns-in_err-write_whole-clause-untouched : goal.returns-in_err-write_whole-clause-untouched
+returns-in_err-write_whole-clause-untouched g c =
+    handed_on c.from_residual-in_err-write_whole.result c.from_residual-in_err-write_whole.ensures.1 (λ failure is refused. absurd (no_refusal failure (inr is) refused))
+
+pub returns-in_err-write_whole-clause-device : goal.returns-in_err-write_whole-clause-device
+returns-in_err-write_whole-clause-device g c =
+    handed_on c.from_residual-in_err-write_whole.result c.from_residual-in_err-write_whole.ensures.1 (λ failure is device. c.in_err-write_whole.ensures.cut.1)
+
+pub returns-in_err-write_whole-clause-in_part : goal.returns-in_err-write_whole-clause-in_part
+returns-in_err-write_whole-clause-in_part g c =
+    on_err c.from_residual-in_err-write_whole.result
+    (inr record {
       exploration = c.in_ok-exploration.exploration;
       explored = record { real = c.in_ok-exploration.ensures.real; complete = c.in_ok-exploration.ensures.complete };
       text = string_bytes c.in_ok-text.text;
       is_text = c.in_ok-text.ensures.text;
-      cut = subst (Fails (g.W.Out.taken c.args.out.now) (g.W.Out.taken c.write_whole.new.self)) c.as_bytes-2.ensures.value c.in-Err.ensures.cut;
-    }
+      cut = subst (Fails (g.W.Out.taken c.args.out.now) (g.W.Out.taken c.write_whole.new.self)) c.as_bytes.ensures.value c.in_err-write_whole.ensures.cut;
+    })
 
-pub returns-in-Ok-clause-done : goal.returns-in-Ok-clause-done
-returns-in-Ok-clause-done g c =
+pub returns-clause-done : goal.returns-clause-done
+returns-clause-done g c =
     record {
       exploration = c.in_ok-exploration.exploration;
       explored = record { real = c.in_ok-exploration.ensures.real; complete = c.in_ok-exploration.ensures.complete };
       text = string_bytes c.in_ok-text.text;
       is_text = c.in_ok-text.ensures.text;
-      shown = subst (Takes (g.W.Out.taken c.args.out.now) (g.W.Out.taken c.write_whole.new.self)) c.as_bytes-2.ensures.value c.in-Ok.ensures.whole;
-      schedule = string_bytes c.in_ok-schedule.schedule;
-      is_saved = subst (λ found. IsSaved c.args.is_saved found (string_bytes c.in_ok-schedule.schedule)) c.deref.ensures.value c.in_ok-schedule.ensures;
-      after = c.in_ok-extend_from_slice.ensures.items ∙ ap (λ bytes. c.args.kept.now.items ++ bytes) c.as_bytes.ensures.value;
-      status_is = c.status_of.ensures ∙ ap (status_of_exploration c.in_ok-exploration.exploration.is_complete) c.deref-in-Ok.ensures.value;
+      shown = subst (Takes (g.W.Out.taken c.args.out.now) (g.W.Out.taken c.write_whole.new.self)) c.as_bytes.ensures.value c.in_ok-write_whole.ensures.whole;
+      texts = texts_of c.in_ok-saved.saved;
+      are_saved = subst (λ found. AreSaved c.args.is_saved c.args.source.now c.args.limits found (texts_of c.in_ok-saved.saved)) c.deref.ensures.value c.in_ok-saved.ensures;
+      left = c.leave.ensures;
+      status_is = c.status_of.ensures ∙ ap (status_of_exploration c.in_ok-exploration.exploration.is_complete) c.deref-2.ensures.value;
     }

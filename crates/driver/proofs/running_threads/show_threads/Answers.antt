@@ -1,14 +1,16 @@
-use Rattle.std.proofs.Common.{◌≡◌, false, inl, inr, subst, sym, ◌∙◌}
+use Rattle.std.proofs.Common.{◌≡◌, false, ap, inl, inr, subst, sym, ◌∙◌, List, ℕ, Option}
 use Rattle.acceptance.proofs.SourceLemmas.{handed_on, on_err}
 use Rattle.source_runs.specs.shared_machine.Histories.{events_of}
 use Rattle.source_runs.specs.shared_machine.Work.{HasEnded}
 use Rattle.driver.specs.Outcomes.{HasNotRunThreads}
+use Rattle.driver.specs.Records.{texts_of, texts_over}
 use Rattle.driver.proofs.Refusals.{not_run}
 use Rattle.driver.proofs.WorkerLemmas.{all_numbered, has_run_threads, some_record, threads_in_part, threads_then_in_part}
+use Rattle.run_files.specs.RunFiles.{run_file}
 use Rattle.driver.proofs.running_threads.show_threads.Goals as goal
 
-pub record_of-requires : goal.record_of-requires
-record_of-requires g c = all_numbered c.args.workers.count c.in_ok-outcome.outcome.history.entries c.in_ok-outcome.ensures.own
+pub record_of-record-requires : goal.record_of-record-requires
+record_of-record-requires g c = all_numbered c.args.workers.count c.in_ok-outcome.outcome.history.entries c.in_ok-outcome.ensures.own
 
 -- ---- no run
 
@@ -30,30 +32,30 @@ returns-in_err-status-clause-in_part g c =
     let h = outcome.history.entries in
     let ran = c.in_ok-outcome.ensures in
     let ended : outcome.is_out_of_memory ≡ false → HasEnded c.args.stop_at outcome.machine outcome.stopped = ran.ended in
-    let (made, is_record) = some_record c.args.is_recorded (events_of h) in
+    let (made, is_record) = some_record c.args.is_recorded (events_of h) (run_file c.args.source.now c.args.limits c.args.workers.count outcome.machine.printed) in
     on_err c.from_residual-in_err-status.result
     (inr (threads_in_part c.args.source.now c.args.limits c.args.workers.count c.args.stop_at c.args.most_printed c.args.is_recorded c.args.explain c.args.stats outcome.is_out_of_memory h outcome.machine made ran.ran ran.own ran.printed outcome.stopped ended is_record
     (g.W.Out.taken c.args.out.now) (g.W.Out.taken c.show_outcome.new.out) (g.E.Out.taken c.args.err.now) (g.E.Out.taken c.show_outcome.new.err) c.in_err-status.ensures.cut))
 
-pub returns-clause-in_part : goal.returns-clause-in_part
-returns-clause-in_part g c =
+pub returns-in_err-status-2-clause-in_part : goal.returns-in_err-status-2-clause-in_part
+returns-in_err-status-2-clause-in_part g c =
     let outcome = c.in_ok-outcome.outcome in
     let h = outcome.history.entries in
     let ran = c.in_ok-outcome.ensures in
     let ended : outcome.is_out_of_memory ≡ false → HasEnded c.args.stop_at outcome.machine outcome.stopped = ran.ended in
-    let is_record = c.keep-record.ensures.same c.args.is_recorded (events_of h) c.record_of.ensures in
-    inr (threads_then_in_part c.args.source.now c.args.limits c.args.workers.count c.args.stop_at c.args.most_printed c.args.is_recorded c.args.explain c.args.stats outcome.is_out_of_memory h outcome.machine c.keep-record.result ran.ran ran.own ran.printed outcome.stopped ended is_record
-    (g.W.Out.taken c.args.out.now) (g.W.Out.taken c.show_outcome.new.out) (g.E.Out.taken c.args.err.now) (g.E.Out.taken c.show_outcome.new.err) (g.E.Out.taken c.show_last_of_workers.new.err) c.in_ok-status.status c.in_ok-status.ensures.whole c.in-Err.ensures.cut)
+    on_err c.from_residual-in_err-status-2.result
+    (inr (threads_then_in_part c.args.source.now c.args.limits c.args.workers.count c.args.stop_at c.args.most_printed c.args.is_recorded c.args.explain c.args.stats outcome.is_out_of_memory h outcome.machine c.record_of-record.result ran.ran ran.own ran.printed outcome.stopped ended c.record_of-record.ensures
+    (g.W.Out.taken c.args.out.now) (g.W.Out.taken c.show_outcome.new.out) (g.E.Out.taken c.args.err.now) (g.E.Out.taken c.show_outcome.new.err) (g.E.Out.taken c.show_last_of_workers.new.err) c.in_ok-status.status c.in_ok-status.ensures.whole c.in_err-status-2.ensures.cut))
 
 -- ---- all is written
 
-pub returns-in-Ok-clause-done : goal.returns-in-Ok-clause-done
-returns-in-Ok-clause-done g c =
+pub returns-clause-done : goal.returns-clause-done
+returns-clause-done g c =
     let outcome = c.in_ok-outcome.outcome in
     let h = outcome.history.entries in
     let ran = c.in_ok-outcome.ensures in
     let ended : outcome.is_out_of_memory ≡ false → HasEnded c.args.stop_at outcome.machine outcome.stopped = ran.ended in
-    let is_record = c.keep-record.ensures.same c.args.is_recorded (events_of h) c.record_of.ensures in
-    has_run_threads c.args.source.now c.args.limits c.args.workers.count c.args.stop_at c.args.most_printed c.args.is_recorded c.args.explain c.args.stats outcome.is_out_of_memory h outcome.machine c.keep-record.result ran.ran ran.own ran.printed outcome.stopped ended is_record
+    has_run_threads c.args.source.now c.args.limits c.args.workers.count c.args.stop_at c.args.most_printed c.args.is_recorded c.args.explain c.args.stats outcome.is_out_of_memory h outcome.machine c.record_of-record.result ran.ran ran.own ran.printed outcome.stopped ended c.record_of-record.ensures
     (g.W.Out.taken c.args.out.now) (g.W.Out.taken c.show_outcome.new.out) (g.E.Out.taken c.args.err.now) (g.E.Out.taken c.show_outcome.new.err) (g.E.Out.taken c.show_last_of_workers.new.err)
-    c.args.kept.now.items c.keep-record.new.kept.items c.in_ok-status.status c.in-Ok.status c.in_ok-status.ensures.whole c.keep-record.ensures.after c.in-Ok.ensures.whole
+    (texts_of c.args.kept.now) (texts_of c.leave.new.kept) c.in_ok-status.status c.in_ok-status-2.status c.in_ok-status.ensures.whole (c.leave.ensures ∙ ap (λ (texts : Option (List ℕ × List ℕ)). texts_over texts (texts_of c.args.kept.now)) c.into_files.ensures)
+    c.in_ok-status-2.ensures.whole
