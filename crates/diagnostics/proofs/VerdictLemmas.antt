@@ -1,12 +1,12 @@
 -- What verdicts tell of trees and of sources.
 use Rattle.std.proofs.Common.{◌≡◌, ◌≢◌, ℕ, List, Result, Ok, Err, refl, subst}
 use Rattle.std.specs.Prelude.{IfOk}
-use Rattle.cil_model.specs.Sources.{SourceAnswer, HasTree, IsAnswer, TooLong as IsTooLong, Foreign, NoToken as HasNoToken, NoTree as HasNoTree}
-use Rattle.cil_model.specs.Typings.{IsAccepted, IsFirstUntyped}
-use Rattle.cil_model.specs.declared.trees.Tree.{Tree}
-use Rattle.ilasm_reader.specs.Answers.{IsReadAnswer}
-use Rattle.ilasm_reader.specs.declared.reading.ReadError.{ReadError}
-use Rattle.ilasm_reader.specs.declared.reading.ReadError.TheVariants.{TooLong, NotAscii, NoToken, NoTree, OutOfMemory}
+use Rattle.reading_explanations.specs.cil_model.Sources.{SourceAnswer, HasTree, IsAnswer, TooLong as IsTooLong, Foreign, NoToken as HasNoToken, NoTree as HasNoTree}
+use Rattle.reading_explanations.specs.cil_model.Typings.{IsAccepted, IsFirstUntyped}
+use Rattle.reading_explanations.specs.cil_model.declared.trees.Tree.{Tree}
+use Rattle.reading_explanations.specs.ilasm_reader.Answers.{IsReadAnswer}
+use Rattle.reading_explanations.specs.ilasm_reader.declared.reading.ReadError.{ReadError}
+use Rattle.reading_explanations.specs.ilasm_reader.declared.reading.ReadError.TheVariants.{TooLong, NotAscii, NoToken, NoTree, OutOfMemory}
 use Rattle.diagnostics.specs.Verdicts.{IsAcceptedSource, Tells}
 use Rattle.diagnostics.specs.declared.verdicts.Verdict.{Verdict}
 use Rattle.diagnostics.specs.declared.verdicts.Verdict.TheVariants.{Accepted, Unread, Illegal, Untyped}

@@ -1,8 +1,8 @@
 -- What is answered of a source: that it is accepted, or why it is not.
 use Rattle.std.specs.Prelude.{ℕ, Bool, true, false, List}
-use Rattle.cil_model.specs.Sources.{HasTree, IsAnswer}
-use Rattle.cil_model.specs.Typings.{IsAccepted}
-use Rattle.cil_model.specs.declared.trees.Tree.{Tree}
+use Rattle.reading_explanations.specs.cil_model.Sources.{HasTree, IsAnswer}
+use Rattle.reading_explanations.specs.cil_model.Typings.{IsAccepted}
+use Rattle.reading_explanations.specs.cil_model.declared.trees.Tree.{Tree}
 use Rattle.diagnostics.specs.declared.verdicts.Verdict.{Verdict}
 use Rattle.diagnostics.specs.declared.verdicts.Verdict.TheVariants.{Accepted, Unread, Illegal, Untyped}
 

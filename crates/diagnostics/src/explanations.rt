@@ -1,22 +1,21 @@
 //! Why a source is not accepted.
 
 ghost use Rattle.std.specs.Prelude.{◌≡◌, None, IfOk, IfSome, IsSome, is_none};
-ghost use Rattle.cil_model.specs.Sources.{HasTree, IsAnswer};
-ghost use Rattle.cil_model.specs.declared.trees.Tree.{Tree};
+ghost use Rattle.reading_explanations.specs.cil_model.Sources.{HasTree, IsAnswer};
+ghost use Rattle.reading_explanations.specs.cil_model.declared.trees.Tree.{Tree};
 ghost use Rattle.diagnostics.specs.Verdicts.{IsAcceptedSource, is_acceptance};
 
-use crate::legality::{broken, explain_rule, notes_on_runs};
-use crate::reading::explain_reading;
-use crate::source_map::Named;
-use crate::typing::{explain_typing, needed_height, with_largest_stack};
 use crate::verdicts::{Verdict, verdict_of};
-use cil_model::memory::NoMemory;
-use cil_model::trees::Tree;
-use ilasm_reader::{ReadError, read};
-use metadata::violations::Violation;
-use metadata::{MetaError, Program, resolve};
+use legality_explanations::metadata::violations::Violation;
+use legality_explanations::metadata::{MetaError, Program, resolve};
+use legality_explanations::{broken, explain_rule, notes_on_runs};
+use reading_explanations::cil_model::memory::NoMemory;
+use reading_explanations::cil_model::trees::Tree;
+use reading_explanations::ilasm_reader::{ReadError, read};
+use reading_explanations::{Named, explain_reading};
 use std::alloc::Global;
-use verifier::failures::{FailurePoint, Reason, TypingError};
+use typing_explanations::verifier::failures::{FailurePoint, Reason, TypingError};
+use typing_explanations::{explain_typing, needed_height, with_largest_stack};
 
 /// The tree of a source that was read before; None where it has none.
 fn tree_of(alloc: Global, source: &[u8]) -> Result<Option<Tree>, NoMemory>

@@ -4,14 +4,9 @@
 #![tactic(auto)]
 
 mod explanations;
-mod legality;
-mod letters;
 mod limits;
-mod reading;
-mod source_map;
-mod typing;
 mod verdicts;
 
 pub use explanations::{explain, note};
 pub use limits::explain_limits;
-pub use reading::explain_schedule;
+pub use reading_explanations::explain_schedule;

@@ -1,10 +1,12 @@
 //! Why limits are refused (number 401).
 
 ghost use Rattle.std.specs.Prelude.{◌≡◌, IfOk, is_none};
-ghost use Rattle.cil_model.specs.Ranges.{are_in_range};
+ghost use Rattle.reading_explanations.specs.cil_model.Ranges.{are_in_range};
 
-use cil_model::limits::{LEAST_WORDS, Limits, MOST_BUDGET, MOST_DEPTH, MOST_WORDS};
-use cil_model::memory::NoMemory;
+use reading_explanations::cil_model::limits::{
+    LEAST_WORDS, Limits, MOST_BUDGET, MOST_DEPTH, MOST_WORDS,
+};
+use reading_explanations::cil_model::memory::NoMemory;
 use std::alloc::Global;
 
 /// Whether all limits are in their ranges.

@@ -1,20 +1,20 @@
 //! What is answered of a source: that it is accepted, or why it is not.
 
 ghost use Rattle.std.specs.Prelude.{◌≡◌, ◌≢◌, false, IfOk};
-ghost use Rattle.cil_model.specs.Typings.{IsAccepted};
+ghost use Rattle.reading_explanations.specs.cil_model.Typings.{IsAccepted};
 ghost use Rattle.diagnostics.specs.Verdicts.{IsAcceptedSource, Tells};
-ghost use Rattle.ilasm_reader.specs.declared.reading.ReadError.TheVariants.{OutOfMemory};
+ghost use Rattle.reading_explanations.specs.ilasm_reader.declared.reading.ReadError.TheVariants.{OutOfMemory};
 
-use cil_model::memory::NoMemory;
-use cil_model::trees::Tree;
 use class_layout::lay_out;
-use ilasm_reader::laws::answers_are_unique;
-use ilasm_reader::{ReadError, read};
-use metadata::violations::Violation;
-use metadata::{MetaError, Program, resolve};
+use legality_explanations::metadata::violations::Violation;
+use legality_explanations::metadata::{MetaError, Program, resolve};
+use reading_explanations::cil_model::memory::NoMemory;
+use reading_explanations::cil_model::trees::Tree;
+use reading_explanations::ilasm_reader::laws::answers_are_unique;
+use reading_explanations::ilasm_reader::{ReadError, read};
 use std::alloc::Global;
-use verifier::failures::FailurePoint;
-use verifier::{VerifyError, verify};
+use typing_explanations::verifier::failures::FailurePoint;
+use typing_explanations::verifier::{VerifyError, verify};
 
 /// What is answered of a source.
 #[derive(Drop)]

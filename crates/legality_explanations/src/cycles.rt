@@ -1,0 +1,74 @@
+//! Classes that stand in the chain of their own base (number 203).
+
+use crate::breaches::{Breach, Found};
+use crate::sentences::{tell_one, tell_two};
+use crate::sites::{Sites, class_key};
+use source_positions::name_tables::keys::ClassKey;
+use source_positions::name_tables::lookups::NameTables;
+use source_positions::{ClassPart, ClassText, Place};
+use std::fmt;
+
+/// The most bases that are named.
+const MOST_NAMED: usize = 8;
+
+/// A class that is met again among its bases, by its name and its number among all classes.
+#[derive(Clone, Copy)]
+pub struct OwnBase<'a> {
+    pub class: ClassKey<'a>,
+    pub number: usize,
+    pub names: &'a NameTables<'a>,
+}
+
+/// Its bases are named in their order, until it is met again; no more than the first eight of them.
+impl fmt::Display for OwnBase<'_> {
+    fn fmt<W: fmt::Write>(&self, f: &mut fmt::Formatter<W>) -> fmt::Result {
+        let class = ClassText(self.class);
+        tell_two(
+            f,
+            "the class `",
+            &class,
+            "` inherits from itself: `",
+            &class,
+            "`",
+        )?;
+        tell_bases(f, self)
+    }
+}
+
+impl Breach for OwnBase<'_> {}
+
+/// The base of a class, with its number.
+fn base_of<'a>(names: &NameTables<'a>, class: usize) -> Option<(usize, ClassKey<'a>)> {
+    let base = names.base(class)?;
+    Some((base, class_key(names, base)?))
+}
+
+fn tell_bases<W: fmt::Write>(f: &mut fmt::Formatter<W>, own_base: &OwnBase) -> fmt::Result {
+    let mut class = own_base.number;
+    for _ in 0..MOST_NAMED {
+        let Some((base, key)) = base_of(own_base.names, class) else {
+            break;
+        };
+        class = base;
+        let text = ClassText(key);
+        tell_one(f, " extends `", &text, "`")?;
+        if key == own_base.class {
+            return Ok(());
+        }
+    }
+    f.write_str(" and so on")
+}
+
+/// A class that is its own base. None where the tree has no such class.
+pub(crate) fn own_base<'a>(names: &'a NameTables<'a>, class: usize) -> Option<Found<OwnBase<'a>>> {
+    let declared = names.classes.tree.classes.as_slice().get(class)?;
+    let key = ClassKey::of_source(declared);
+    let own_base = OwnBase {
+        class: key,
+        number: names.classes.number(key)?,
+        names,
+    };
+    let part = ClassPart::Base;
+    let place = Place::InClass { class, part };
+    Some((own_base, Sites::at(place)))
+}

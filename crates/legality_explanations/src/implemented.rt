@@ -1,0 +1,80 @@
+//! Methods of listed interfaces that are absent (number 204).
+
+use crate::breaches::{Breach, Found};
+use crate::sites::{Sites, class_key, listed_interface, method_key, method_place};
+use metadata::violations;
+use source_positions::cil_model::texts::Text;
+use source_positions::cil_model::trees::Class;
+use source_positions::name_tables::keys::{ClassKey, MethodKey};
+use source_positions::name_tables::lookups::{MemberNumber, NameTables};
+use source_positions::{ClassPart, ClassText, MethodText, Place};
+use std::fmt;
+
+/// A method of an interface that a class lists, for which no class of the chain has a virtual method.
+#[derive(Clone, Copy)]
+pub struct NotImplemented<'a> {
+    pub class: &'a Text,
+    pub interface: ClassKey<'a>,
+    pub method: MethodKey<'a>,
+    /// The nearest class that has such a method, which is not virtual.
+    pub plain_in: Option<ClassKey<'a>>,
+}
+
+impl fmt::Display for NotImplemented<'_> {
+    fn fmt<W: fmt::Write>(&self, f: &mut fmt::Formatter<W>) -> fmt::Result {
+        let class = self.class.as_str();
+        let interface = ClassText(self.interface);
+        let method = MethodText(self.method);
+        write!(
+            f,
+            "the class `{class}` implements `{interface}`, but has no virtual method `{method}`, declared or inherited"
+        )?;
+        match self.plain_in {
+            None => Ok(()),
+            Some(plain) => {
+                let plain = ClassText(plain);
+                write!(f, ": that of `{plain}` is not virtual")
+            }
+        }
+    }
+}
+
+impl Breach for NotImplemented<'_> {}
+
+/// The nearest class from one on along its bases with a method of this name and signature.
+fn owner_along<'a>(names: &NameTables<'a>, first: &Class, key: MethodKey) -> Option<ClassKey<'a>> {
+    let mut next = names.classes.number(ClassKey::of_source(first));
+    for _ in 0..names.classes.longest_chain() {
+        let class = next?;
+        if names.classes.method(class, key).is_some() {
+            return class_key(names, class);
+        }
+        next = names.base(class);
+    }
+    None
+}
+
+/// A method of a listed interface that a class neither has nor inherits as a virtual one. None where the tree has no such place.
+pub(crate) fn not_implemented<'a>(
+    names: &NameTables<'a>,
+    absent: violations::NotImplemented,
+) -> Option<Found<NotImplemented<'a>>> {
+    let violations::NotImplemented { class, listed } = absent;
+    let declared = names.classes.tree.classes.as_slice().get(class)?;
+    let interface = listed_interface(declared, listed.interface)?;
+    let owner = MemberNumber {
+        class: names.classes.number(interface)?,
+        place: listed.method,
+    };
+    let method = method_key(names, owner)?;
+    let absent = NotImplemented {
+        class: &declared.name,
+        interface,
+        method,
+        plain_in: owner_along(names, declared, method),
+    };
+    let part = ClassPart::Interface(listed.interface);
+    let place = Place::InClass { class, part };
+    let sites = Sites::beside(place, method_place(names, owner.class, method));
+    Some((absent, sites))
+}

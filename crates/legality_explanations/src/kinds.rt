@@ -1,0 +1,258 @@
+//! Methods whose kinds do not fit (number 205).
+
+use crate::breaches::{Breach, Found};
+use crate::sentences::{tell_one, tell_two};
+use crate::sites::{
+    MemberSpot, Sites, class_key, class_name, key_of, method_key, method_place, source_number,
+};
+use metadata::violations;
+use metadata::violations::KindFault;
+use source_positions::cil_model::texts::Text;
+use source_positions::cil_model::trees::Class;
+use source_positions::name_tables::keys::{ClassKey, MethodKey};
+use source_positions::name_tables::lookups::{MemberNumber, NameTables};
+use source_positions::{ClassText, MethodText, Place, nth_method};
+use std::fmt;
+
+/// A method whose kind does not fit its class or what it inherits.
+#[derive(Clone, Copy)]
+pub enum Misfit<'a> {
+    /// A method of an interface that is not `newslot abstract virtual instance`.
+    InInterface {
+        interface: &'a Text,
+        method: MethodKey<'a>,
+    },
+    /// An abstract method of a class that is not abstract.
+    Abstract {
+        class: &'a Text,
+        method: MethodKey<'a>,
+    },
+    /// An abstract method that a class inherits, which is not abstract, and that is not overridden; and the class whose method hides it.
+    LeftOpen {
+        class: &'a Text,
+        owner: ClassKey<'a>,
+        method: MethodKey<'a>,
+        hidden_by: Option<ClassKey<'a>>,
+    },
+    /// A virtual method without newslot over one that is not virtual.
+    OverPlain {
+        class: &'a Text,
+        method: MethodKey<'a>,
+        owner: ClassKey<'a>,
+    },
+}
+
+impl fmt::Display for Misfit<'_> {
+    fn fmt<W: fmt::Write>(&self, f: &mut fmt::Formatter<W>) -> fmt::Result {
+        match self {
+            Misfit::InInterface { interface, method } => {
+                let interface = interface.as_str();
+                let method = MethodText(*method);
+                tell_two(
+                    f,
+                    "the method `",
+                    &method,
+                    "` of the interface `",
+                    &interface,
+                    "` is not `newslot abstract virtual instance`",
+                )
+            }
+            Misfit::Abstract { class, method } => {
+                let class = class.as_str();
+                let method = MethodText(*method);
+                tell_two(
+                    f,
+                    "the class `",
+                    &class,
+                    "` is not abstract, but its method `",
+                    &method,
+                    "` is",
+                )
+            }
+            Misfit::LeftOpen {
+                class,
+                owner,
+                method,
+                hidden_by,
+            } => tell_left_open(f, *class, *owner, *method, *hidden_by),
+            Misfit::OverPlain {
+                class,
+                method,
+                owner,
+            } => {
+                let class = class.as_str();
+                let method = MethodText(*method);
+                tell_two(
+                    f,
+                    "the method `",
+                    &method,
+                    "` of `",
+                    &class,
+                    "` is virtual without newslot, but that of `",
+                )?;
+                let owner = ClassText(*owner);
+                tell_one(f, "", &owner, "`, which it would override, is not virtual")
+            }
+        }
+    }
+}
+
+fn tell_left_open<W: fmt::Write>(
+    f: &mut fmt::Formatter<W>,
+    class: &Text,
+    owner: ClassKey,
+    method: MethodKey,
+    hidden_by: Option<ClassKey>,
+) -> fmt::Result {
+    let class = class.as_str();
+    let method = MethodText(method);
+    tell_two(
+        f,
+        "the class `",
+        &class,
+        "` is not abstract, but the abstract method `",
+        &method,
+        "` of `",
+    )?;
+    let owner = ClassText(owner);
+    tell_one(f, "", &owner, "` is not overridden in it")?;
+    match hidden_by {
+        None => Ok(()),
+        Some(hiding) => {
+            let hiding = ClassText(hiding);
+            let behind = "` is another, since it has newslot or is not virtual";
+            tell_one(f, ": that of `", &hiding, behind)
+        }
+    }
+}
+
+impl Breach for Misfit<'_> {}
+
+fn found(misfit: Misfit<'_>, sites: Sites) -> Option<Found<Misfit<'_>>> {
+    Some((misfit, sites))
+}
+
+/// What stands between a class and one of its bases: the last class that is not abstract, since there first a method of that base is left
+/// open; and the last class that has a method of a name and signature.
+#[derive(Clone, Copy)]
+struct Nearer {
+    open: Option<usize>,
+    hiding: Option<usize>,
+}
+
+fn is_abstract_class(names: &NameTables, class: usize) -> bool {
+    match names.classes.class(class) {
+        None => false,
+        Some(declared) => declared.is_abstract,
+    }
+}
+
+/// What stands between a class and one of its bases, by their numbers. None where it is no base of the class.
+fn nearer_than(names: &NameTables, first: usize, owner: usize, key: MethodKey) -> Option<Nearer> {
+    let mut open = None;
+    let mut hiding = None;
+    let mut next = Some(first);
+    for _ in 0..names.classes.longest_chain() {
+        let class = next?;
+        if class == owner {
+            return Some(Nearer { open, hiding });
+        }
+        if names.classes.method(class, key).is_some() {
+            hiding = Some(class);
+        }
+        if !is_abstract_class(names, class) {
+            open = Some(class);
+        }
+        next = names.base(class);
+    }
+    None
+}
+
+/// A method that is left open, with what stands between its class, which is the owner, and the class that leaves it open.
+fn told_left_open<'a>(
+    names: &NameTables<'a>,
+    owner: usize,
+    method: MethodKey<'a>,
+    nearer: Nearer,
+) -> Option<Found<Misfit<'a>>> {
+    let number = source_number(names, nearer.open?)?;
+    let misfit = Misfit::LeftOpen {
+        class: &names.classes.tree.classes.as_slice().get(number)?.name,
+        owner: class_key(names, owner)?,
+        method,
+        hidden_by: match nearer.hiding {
+            None => None,
+            Some(hiding) => class_key(names, hiding),
+        },
+    };
+    let declared = method_place(names, owner, method);
+    found(misfit, Sites::beside(class_name(number), declared))
+}
+
+fn left_open<'a>(
+    names: &NameTables<'a>,
+    class: &Class,
+    open: MemberNumber,
+) -> Option<Found<Misfit<'a>>> {
+    let first = names.classes.number(ClassKey::of_source(class))?;
+    let method = method_key(names, open)?;
+    let nearer = nearer_than(names, first, open.class, method)?;
+    told_left_open(names, open.class, method, nearer)
+}
+
+/// The name of a method of a class that has a number in the source, and the place of that name.
+fn named_method(class: usize, declared: &Class, method: usize) -> Option<(MethodKey<'_>, Place)> {
+    let (member, method) = nth_method(declared, method)?;
+    Some((key_of(method), MemberSpot { class, member }.name()))
+}
+
+fn in_interface(class: usize, declared: &Class, method: usize) -> Option<Found<Misfit<'_>>> {
+    let (method, place) = named_method(class, declared, method)?;
+    let interface = &declared.name;
+    found(Misfit::InInterface { interface, method }, Sites::at(place))
+}
+
+fn is_abstract(class: usize, declared: &Class, method: usize) -> Option<Found<Misfit<'_>>> {
+    let (method, place) = named_method(class, declared, method)?;
+    let class = &declared.name;
+    found(Misfit::Abstract { class, method }, Sites::at(place))
+}
+
+/// A method that would override one of a base, which has a number among all classes.
+fn over_plain<'a>(
+    names: &NameTables<'a>,
+    class: &'a Class,
+    named: (MethodKey<'a>, Place),
+    base: usize,
+) -> Option<Found<Misfit<'a>>> {
+    let (method, place) = named;
+    let misfit = Misfit::OverPlain {
+        class: &class.name,
+        method,
+        owner: class_key(names, base)?,
+    };
+    let overridden = method_place(names, base, method);
+    found(misfit, Sites::beside(place, overridden))
+}
+
+/// A method whose kind does not fit its class or what that inherits. None where the tree has no such place.
+pub(crate) fn misfit_of<'a>(
+    names: &NameTables<'a>,
+    misfit: violations::Misfit,
+) -> Option<Found<Misfit<'a>>> {
+    let violations::Misfit { class, fault } = misfit;
+    let declared = names.classes.tree.classes.as_slice().get(class)?;
+    match fault {
+        KindFault::InInterface { method } => in_interface(class, declared, method),
+        KindFault::Abstract { method } => is_abstract(class, declared, method),
+        KindFault::LeftOpen { open } => left_open(names, declared, open),
+        KindFault::OverPlain { method, base } => {
+            over_plain(
+                names,
+                declared,
+                named_method(class, declared, method)?,
+                base,
+            )
+        }
+    }
+}

@@ -1,0 +1,150 @@
+//! Where rules are broken.
+
+use metadata::violations::SourceMember;
+use source_positions::cil_model::trees::{Class, ClassKind, Field, Member, Method, Tree};
+use source_positions::name_tables::keys::{ClassKey, MethodKey};
+use source_positions::name_tables::lookups::{MemberNumber, NameTables};
+use source_positions::{ClassPart, LinePart, MemberPart, Place, nth_field, nth_method};
+
+/// Where a rule is broken.
+#[derive(Clone, Copy)]
+pub struct Sites {
+    /// The place itself; none where there is none, as of an entry point that is absent.
+    pub place: Option<Place>,
+    /// Where that stands with which it does not agree, as the first of two names; none where there is no such thing, or it is built in.
+    pub other: Option<Place>,
+}
+
+impl Sites {
+    /// Nowhere.
+    pub const NONE: Sites = Sites {
+        place: None,
+        other: None,
+    };
+
+    /// One place.
+    pub fn at(place: Place) -> Self {
+        Sites {
+            place: Some(place),
+            other: None,
+        }
+    }
+
+    /// A place that does not agree with another.
+    pub fn beside(place: Place, other: Option<Place>) -> Self {
+        Sites {
+            place: Some(place),
+            other,
+        }
+    }
+}
+
+/// A member by the number of its class in the source, and its own number among the members of that class.
+#[derive(Clone, Copy)]
+pub struct MemberSpot {
+    pub class: usize,
+    pub member: usize,
+}
+
+impl MemberSpot {
+    /// A part of the member before its first instruction.
+    pub fn part(self, part: MemberPart) -> Place {
+        Place::InMember {
+            class: self.class,
+            member: self.member,
+            part,
+        }
+    }
+
+    /// The member's name.
+    pub fn name(self) -> Place {
+        self.part(MemberPart::Name)
+    }
+
+    /// A part of an instruction of the member.
+    pub fn line(self, line: usize, part: LinePart) -> Place {
+        Place::InLine {
+            class: self.class,
+            member: self.member,
+            line,
+            part,
+        }
+    }
+}
+
+/// The name of the class of a number in the source.
+pub fn class_name(class: usize) -> Place {
+    Place::InClass {
+        class,
+        part: ClassPart::Name,
+    }
+}
+
+/// The name and signature of a method.
+pub fn key_of(method: &Method) -> MethodKey<'_> {
+    MethodKey::new(&method.name, &method.signature)
+}
+
+/// A method of the source, and its number among the members of its class.
+pub fn located_method(tree: &Tree, number: SourceMember) -> Option<(MemberSpot, &Method)> {
+    let SourceMember { class, place } = number;
+    let (member, method) = nth_method(tree.classes.as_slice().get(class)?, place)?;
+    Some((MemberSpot { class, member }, method))
+}
+
+/// A field of the source, and its number among the members of its class.
+pub fn located_field(tree: &Tree, number: SourceMember) -> Option<(MemberSpot, &Field)> {
+    let SourceMember { class, place } = number;
+    let (member, field) = nth_field(tree.classes.as_slice().get(class)?, place)?;
+    Some((MemberSpot { class, member }, field))
+}
+
+/// An interface that a class lists, by its place in the list. None where it lists no such.
+pub(crate) fn listed_interface(class: &Class, entry: usize) -> Option<ClassKey<'_>> {
+    let ClassKind::Class { interfaces, .. } = &class.kind else {
+        return None;
+    };
+    Some(ClassKey::of(interfaces.as_slice().get(entry)?))
+}
+
+/// The name of a class by its number among all classes.
+pub(crate) fn class_key<'a>(names: &NameTables<'a>, class: usize) -> Option<ClassKey<'a>> {
+    names.classes.names().get(class).copied()
+}
+
+/// The name and signature of a method by its number among those of all classes.
+pub(crate) fn method_key<'a>(
+    names: &NameTables<'a>,
+    number: MemberNumber,
+) -> Option<MethodKey<'a>> {
+    let methods = names.classes.class(number.class)?.methods.as_slice();
+    Some(key_of(*methods.get(number.place)?))
+}
+
+/// The number in the source of a class that has a number among all classes, the built-in ones first. None for a built-in class.
+pub(crate) fn source_number(names: &NameTables, class: usize) -> Option<usize> {
+    let sources = names.classes.tree.classes.as_slice().len();
+    let built_in = names.classes.names().len().checked_sub(sources)?;
+    class.checked_sub(built_in)
+}
+
+/// The number of a method among the members of its class.
+fn member_number(class: &Class, key: MethodKey) -> Option<usize> {
+    for (number, member) in class.members.as_slice().iter().enumerate() {
+        if let Member::Method(method) = member {
+            if key_of(method) == key {
+                return Some(number);
+            }
+        }
+    }
+    None
+}
+
+/// The place of the name of a method in a class, which has its number among all classes. None where the class is built in or has no such
+/// method.
+pub fn method_place(names: &NameTables, class: usize, key: MethodKey) -> Option<Place> {
+    let class = source_number(names, class)?;
+    let declared = names.classes.tree.classes.as_slice().get(class)?;
+    let member = member_number(declared, key)?;
+    Some(MemberSpot { class, member }.name())
+}

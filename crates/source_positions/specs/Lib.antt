@@ -1,0 +1,1 @@
+pub use Rattle.cil_model.specs as cil_model
