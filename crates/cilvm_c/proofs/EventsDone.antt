@@ -10,8 +10,8 @@ use Rattle.cil_model.specs.declared.reports.Report.TheVariants as reports
 use Rattle.interleaving_core.specs.simulation.MachineContents.{Content}
 use Rattle.interleaving_core.specs.simulation.Runs.{AreTurns}
 use Rattle.interleaving_core.specs.simulation.Turns.{IsTurn}
-use Rattle.interleaving_core.proofs.Doing.{does_more}
-use Rattle.interleaving_core.proofs.Following.{turns_more}
+use Rattle.interleaving_core.proofs.Runs.LongerRuns.{does_more}
+use Rattle.interleaving_core.proofs.Runs.FollowedRuns.{turns_more}
 use Rattle.schedule_text.specs.Items.{events_of}
 use Rattle.schedule_text.specs.declared.items.Item.{Item}
 use Rattle.schedule_text.proofs.SoFar.{events_of-append, so_far_all}

@@ -18,7 +18,7 @@ use Rattle.class_layout.specs.ByClass.{by_class, interface_numbers, assignable_r
 use Rattle.resolved_code.specs.Numbered.{class_name}
 use Rattle.name_tables.proofs.Lists.{option_map_of_map}
 use Rattle.class_layout.proofs.Places.{same_elements}
-use Rattle.resolved_code.proofs.ClassNumbers.{found_at, not_declared, known_apart, number_equal, among_numbers, number_of_place}
+use Rattle.resolved_code.proofs.Numbers.Classes.{found_at, not_declared, known_apart, number_equal, among_numbers, number_of_place}
 
 module _ (tree : Tree) where
   abbrev listed : List (List ℕ)

@@ -16,8 +16,8 @@ use Rattle.name_tables.specs.Numbers.{declarations}
 use Rattle.resolved_code.specs.Resolved.{AreResolved}
 use Rattle.resolved_code.specs.declared.classes.ResolvedClass.{ResolvedClass}
 use Rattle.resolved_code.specs.declared.classes.ResolvedField.{ResolvedField}
-use Rattle.resolved_code.proofs.AlikeLaws.{AlikeTo, alike_to}
-use Rattle.resolved_code.proofs.Limits.{static_fields_few}
+use Rattle.resolved_code.proofs.ListLaws.RelatedLists.{AlikeTo, alike_to}
+use Rattle.resolved_code.proofs.LegalPrograms.Limits.{static_fields_few}
 use Rattle.class_layout.specs.declared.kinds.SlotKind.{SlotKind}
 use Rattle.class_layout.specs.ByClass.{by_class}
 use Rattle.class_layout.specs.Kinds.{own_kinds}

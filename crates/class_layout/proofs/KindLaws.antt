@@ -24,7 +24,7 @@ use Rattle.class_layout.specs.declared.kinds.SlotKind.TheVariants as Kind
 use Rattle.class_layout.specs.ByClass.{by_class}
 use Rattle.class_layout.specs.Kinds.{kind_at, kind_of, instance_kind, own_kinds, slot_kinds, chain_kinds, is_reference_kind}
 use Rattle.resolved_code.specs.Numbered.{class_name}
-use Rattle.resolved_code.proofs.ClassNumbers.{not_declared, among_numbers}
+use Rattle.resolved_code.proofs.Numbers.Classes.{not_declared, among_numbers}
 use Rattle.class_layout.proofs.AncestorLaws.{answer_at, row_numbered}
 
 -- the kinds of keyed fields

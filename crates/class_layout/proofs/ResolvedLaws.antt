@@ -18,7 +18,7 @@ use Rattle.name_tables.specs.Numbers.{class_number, declarations}
 use Rattle.name_tables.proofs.NumberLaws.{numbers_within, numbers_of_unknown}
 use Rattle.resolved_code.specs.Numbered.{class_name, element_at, type_at}
 use Rattle.resolved_code.specs.Resolved.{AllAlike, AreResolved, IsResolvedField, IsResolvedClass}
-use Rattle.resolved_code.proofs.AlikeLaws.{AlikeTo, alike_to}
+use Rattle.resolved_code.proofs.ListLaws.RelatedLists.{AlikeTo, alike_to}
 use Rattle.resolved_code.specs.declared.types.NumberedElement.{NumberedElement}
 use Rattle.resolved_code.specs.declared.types.NumberedElement.TheVariants.{Int32, Int64, Object, String, Class}
 use Rattle.resolved_code.specs.declared.types.NumberedType.{NumberedType}
@@ -30,7 +30,7 @@ use Rattle.class_layout.specs.declared.kinds.SlotKind.{SlotKind}
 use Rattle.class_layout.specs.Kinds.{kind_at, kind_of, instance_kind, own_kinds, slot_kinds}
 use Rattle.class_layout.specs.NumberedKinds.{numbered_kind_at, kind_of_numbered, numbered_kind}
 use Rattle.class_layout.proofs.AncestorLaws.{answer_at}
-use Rattle.resolved_code.proofs.ClassNumbers.{FoundAt, found_at, number_of_place}
+use Rattle.resolved_code.proofs.Numbers.Classes.{FoundAt, found_at, number_of_place}
 use Rattle.class_layout.proofs.Places.{push_takes}
 
 -- ---- numbered fields, by whether each is static

@@ -25,13 +25,13 @@ use Rattle.resolved_code.specs.declared.classes.ResolvedClass.{ResolvedClass}
 use Rattle.resolved_code.specs.declared.classes.ResolvedMethod.{ResolvedMethod}
 use Rattle.resolved_code.specs.declared.classes.ResolvedKind.{ResolvedKind}
 use Rattle.resolved_code.specs.declared.classes.ResolvedKind.TheVariants as KindOf
-use Rattle.resolved_code.proofs.MemberLaws.{alike_at}
+use Rattle.resolved_code.proofs.ListLaws.RelatedItems.{alike_at}
 use Rattle.class_layout.specs.declared.roles.Role.{Role}
 use Rattle.class_layout.specs.ByClass.{by_class, interface_numbers}
 use Rattle.class_layout.specs.Roles as by_role
 use Rattle.class_layout.specs.Roles.{role_by_flag, role_of_named, role_of_numbered, is_static_numbered, role_in, own_place, role_at, own_at, is_virtual_role, is_virtual_at, slot_by_role, slot_from, filler_from, filled_along, listed_filler}
 use Rattle.class_layout.specs.Targets.{chain_at, filler_over, filler_numbered, own_method, class_filler, is_lister, interface_filler, target_number}
-use Rattle.resolved_code.proofs.ClassNumbers.{number_of_place}
+use Rattle.resolved_code.proofs.Numbers.Classes.{number_of_place}
 use Rattle.class_layout.proofs.ResolvedLaws.{IsClass, answer_given, interfaces_alike, listed_alike}
 
 -- ---- kinds

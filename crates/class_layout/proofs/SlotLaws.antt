@@ -22,14 +22,14 @@ use Rattle.cil_model.specs.Fields.{FieldKey, same_key, keyed_fields, instance_fi
 use Rattle.cil_model.specs.Legality.{IsLegal, has_repeat, doubles_name, class_doubles, is_own_base}
 use Rattle.cil_model.proofs.Legal.{no_cycle}
 use Rattle.cil_model.proofs.SameLaws.{same_text_itself, same_class_itself, class_equivalence}
-use Rattle.resolved_code.proofs.Repeats.{has_repeat-map}
+use Rattle.resolved_code.proofs.ListLaws.Repeats.{has_repeat-map}
 use Rattle.name_tables.specs.Numbers.{class_number, declarations, field_at, source_entry}
 use Rattle.name_tables.proofs.NumberLaws.{none_is_some}
 use Rattle.class_layout.specs.Kinds.{own_kinds, slot_kinds, kind_of}
 use Rattle.class_layout.specs.FieldSlots.{number_after, numbered_fields, statics_after, first_slot, field_rows, class_names}
 use Rattle.cil_model.proofs.Legal.{unbroken}
 use Rattle.cil_model.proofs.Lists.{passes_not}
-use Rattle.resolved_code.proofs.ClassNumbers.{FoundAt, found_at, not_declared, number_of_place, entries_stand_once}
+use Rattle.resolved_code.proofs.Numbers.Classes.{FoundAt, found_at, not_declared, number_of_place, entries_stand_once}
 use Rattle.class_layout.proofs.KindLaws.{filtered, slots_counted}
 
 -- ---- places in lists

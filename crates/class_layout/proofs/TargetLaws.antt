@@ -21,13 +21,13 @@ use Rattle.name_tables.specs.declared.lookups.MemberNumber.{MemberNumber}
 use Rattle.name_tables.proofs.NumberLaws.{none_is_some, in_present}
 use Rattle.name_tables.proofs.Lists.{option_map_of_map}
 use Rattle.resolved_code.specs.Found.{is_virtual_found, slot_numbered}
-use Rattle.resolved_code.proofs.NumberedMethods.{found_by_number, nothing_found}
-use Rattle.resolved_code.proofs.SlotLaws.{IsTied, tied, same_slot}
+use Rattle.resolved_code.proofs.Numbers.Methods.{found_by_number, nothing_found}
+use Rattle.resolved_code.proofs.Numbers.Slots.{IsTied, tied, same_slot}
 use Rattle.resolved_code.specs.Numbered.{class_name}
 use Rattle.class_layout.specs.ByClass.{by_class, interface_numbers}
 use Rattle.class_layout.specs.declared.targets.Targets.{Targets}
 use Rattle.class_layout.specs.Targets.{chain_at, filler_over, filler_numbered, own_method, class_filler, is_lister, interface_filler, target_number, target_row, target_rows, targets_of, target_in}
-use Rattle.resolved_code.proofs.ClassNumbers.{FoundAt, found_at, not_declared, among_numbers, number_of_place}
+use Rattle.resolved_code.proofs.Numbers.Classes.{FoundAt, found_at, not_declared, among_numbers, number_of_place}
 use Rattle.class_layout.proofs.AncestorLaws.{answer_at, answer_of}
 
 false_is_true : {A : Type 0} → false ≡ true → A

@@ -2,7 +2,7 @@
 use Rattle.std.proofs.Common.{◌≡◌, ◌⊎◌, ◌++◌, ℕ, Bool, true, false, List, [], map, None, Option, Result, Ok, Err, refl, ap, ap₂, sym, ◌∙◌, subst, inl, inr, append-nil}
 use Rattle.std.specs.List.{zip}
 use Rattle.std.specs.Prelude.{IfErr}
-use Rattle.source_runs.proofs.simulation.StandsLaws.{ends_stand, printed_stands}
+use Rattle.source_runs.proofs.simulation.Representation.VisibleState.{ends_stand, printed_stands}
 use Rattle.source_runs.specs.simulation.MachineContents.{Content}
 use Rattle.source_runs.specs.simulation.Runs.{StandsAfter}
 use Rattle.source_runs.specs.simulation.StandsFor.{Represents}
@@ -25,7 +25,7 @@ use Rattle.driver.specs.Threads.{ends_of, lines_from, status_of}
 use Rattle.outputs.specs.Taken.{Fails, HasGrown, Taken, Takes}
 use Rattle.outputs.proofs.TakenLaws.{fails_first, fails_second, takes_both}
 use Rattle.source_runs.proofs.RunLemmas.{comes_to}
-use Rattle.source_runs.proofs.interleaving_core.Doing.{has_done}
+use Rattle.source_runs.proofs.interleaving_core.Runs.LongerRuns.{has_done}
 use Rattle.source_runs.specs.shared_machine.interleaving_core.Histories.{HasDone}
 
 pub for_err : {T E : Type 0} {P : Type 0} (r : Result T E) → P → IfErr r (λ _. P)

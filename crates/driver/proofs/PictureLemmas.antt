@@ -1,9 +1,9 @@
 -- What a run that is drawn, whole or in part, shows of its source.
 use Rattle.std.proofs.Common.{◌++◌, ◌≤◌, ℕ, Bool, List, length, subst, ◌∙◌, ap}
-use Rattle.source_runs.proofs.simulation.StandsLaws.{ends_stand}
+use Rattle.source_runs.proofs.simulation.Representation.VisibleState.{ends_stand}
 use Rattle.source_runs.specs.simulation.MachineContents.{Content}
 use Rattle.source_runs.specs.Runs.{IsReady}
-use Rattle.source_runs.proofs.interleaving_core.Doing.{has_done}
+use Rattle.source_runs.proofs.interleaving_core.Runs.LongerRuns.{has_done}
 use Rattle.source_runs.specs.shared_machine.interleaving_core.Histories.{HasDone}
 use Rattle.cil_model.specs.declared.events.Event.{Event}
 use Rattle.cil_model.specs.declared.limits.Limits.{Limits}

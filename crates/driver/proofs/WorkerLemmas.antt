@@ -12,7 +12,7 @@ use Rattle.cil_model.specs.declared.reports.End.{End}
 use Rattle.schedule_text.specs.Items.{is_numbered}
 use Rattle.outputs.specs.Taken.{Fails, Taken, Takes}
 use Rattle.outputs.proofs.TakenLaws.{takes_both}
-use Rattle.source_runs.proofs.simulation.StandsLaws.{ends_stand, printed_stands}
+use Rattle.source_runs.proofs.simulation.Representation.VisibleState.{ends_stand, printed_stands}
 use Rattle.acceptance.specs.Sources.{HasRunTo}
 use Rattle.source_runs.specs.Runs.{IsPrintedUpTo}
 use Rattle.source_runs.proofs.RunLemmas.{comes_to}

@@ -12,10 +12,10 @@ use Rattle.interleaving_core.specs.simulation.reference_machine.States.{Monitor 
 use Rattle.interleaving_core.specs.simulation.reference_machine.Steps.{instruction_at}
 use Rattle.interleaving_core.specs.simulation.reference_machine.Values.{ObjectName, Value as StateValue, Null, Reference}
 use Rattle.interleaving_core.specs.simulation.reference_machine.TypedStates.{AreTypedFrames}
-use Rattle.interleaving_core.proofs.simulation.reference_machine.Running.{IsTypedEffect}
+use Rattle.interleaving_core.proofs.simulation.reference_machine.TypedStates.RunningFrames.{IsTypedEffect}
 use Rattle.interleaving_core.specs.simulation.reference_machine.Waits.{ForMonitor, ForEnd, called_action, top_object, wait_of, wait_of_thread}
 use Rattle.interleaving_core.specs.simulation.reference_machine.Waits.{Wait as StateWait, wait_by as state_wait_by, wait_in as state_wait_in, held_by_another as state_held, end_awaited as state_awaited}
-use Rattle.interleaving_core.proofs.simulation.reference_machine.Waiting.{calling_acts}
+use Rattle.interleaving_core.proofs.simulation.reference_machine.Deadlocks.WaitingThreads.{calling_acts}
 use Rattle.interleaving_core.specs.simulation.object_memory.declared.addresses.Addr.{Addr}
 use Rattle.interleaving_core.specs.simulation.object_memory.declared.monitors.Monitor.{Monitor as AnyMonitor}
 use Rattle.interleaving_core.specs.simulation.object_memory.declared.monitors.Monitor.TheVariants.{Free, Held}
@@ -36,13 +36,13 @@ use Rattle.interleaving_core.specs.simulation.StandsFor.{Names, AreFrames, IsFra
 use Rattle.interleaving_core.specs.Waits.{class_of_object, end_awaited, held_by_another, join_wait, monitor_wait, standing_wait, wait_at, wait_by, wait_in}
 use Rattle.interleaving_core.specs.declared.waits.Wait.{Wait}
 use Rattle.interleaving_core.specs.declared.waits.Wait.TheVariants.{Monitor, Join}
-use Rattle.interleaving_core.proofs.simulation.AgreeLaws.{agree_beyond, agree_get}
-use Rattle.interleaving_core.proofs.simulation.Memories.{named_is_not_null}
-use Rattle.interleaving_core.proofs.simulation.MemoryModels.{IsReadable}
+use Rattle.interleaving_core.proofs.simulation.ListLaws.AgreeingLists.{agree_beyond, agree_get}
+use Rattle.interleaving_core.proofs.simulation.Memory.NamedAddresses.{named_is_not_null}
+use Rattle.interleaving_core.proofs.simulation.Memory.MemoryModels.{IsReadable}
 use Rattle.interleaving_core.proofs.simulation.object_memory.Spaces.{slots_few}
-use Rattle.interleaving_core.proofs.simulation.Monitors.{AreMonitors, monitors_there}
-use Rattle.interleaving_core.proofs.simulation.Joins.{lives_alike}
-use Rattle.interleaving_core.proofs.simulation.ThreadObjects.{IsThreadObject, thread_object_is, thread_on_is}
+use Rattle.interleaving_core.proofs.simulation.Memory.Monitors.{AreMonitors, monitors_there}
+use Rattle.interleaving_core.proofs.simulation.Threads.Joins.{lives_alike}
+use Rattle.interleaving_core.proofs.simulation.Memory.ThreadObjects.{IsThreadObject, thread_object_is, thread_on_is}
 
 -- a machine's wait is for the same thread
 abbrev pub IsWaitAlike : Wait → StateWait → Type 0

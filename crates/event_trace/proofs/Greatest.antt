@@ -9,17 +9,17 @@ use Rattle.interleaving_core.specs.simulation.reference_machine.States.{Held, He
 use Rattle.interleaving_core.specs.simulation.reference_machine.Values.{Born, Literal}
 use Rattle.interleaving_core.specs.simulation.reference_machine.Waits.{Wait as StateWait, ForMonitor, ForEnd, wait_of}
 use Rattle.interleaving_core.specs.simulation.reference_machine.Blocking.{HasEnded, HoldersWereStarted, IsBlockedSet, IsHeldUp, IsIn}
-use Rattle.interleaving_core.proofs.simulation.reference_machine.Going.{IsTrueWait, waits_truly}
-use Rattle.interleaving_core.proofs.simulation.reference_machine.Lasting.{waiting_lives}
+use Rattle.interleaving_core.proofs.simulation.reference_machine.Deadlocks.ReadyThreads.{IsTrueWait, waits_truly}
+use Rattle.interleaving_core.proofs.simulation.reference_machine.Deadlocks.LastingDeadlocks.{waiting_lives}
 use Rattle.interleaving_core.specs.simulation.threads_monitors.Threads.{is_live_at}
 use Rattle.interleaving_core.specs.simulation.MachineContents.{Content}
 use Rattle.interleaving_core.specs.simulation.StandsFor.{IsThread, Represents}
 use Rattle.interleaving_core.specs.Waits.{wait_at}
 use Rattle.interleaving_core.specs.declared.waits.Wait.{Wait}
 use Rattle.interleaving_core.specs.declared.waits.Wait.TheVariants.{Monitor, Join}
-use Rattle.interleaving_core.proofs.simulation.AgreeLaws.{agree_length}
+use Rattle.interleaving_core.proofs.simulation.ListLaws.AgreeingLists.{agree_length}
 use Rattle.interleaving_core.specs.simulation.Counts.{IsCountedMonitor}
-use Rattle.interleaving_core.proofs.simulation.Joins.{lives_alike}
+use Rattle.interleaving_core.proofs.simulation.Threads.Joins.{lives_alike}
 use Rattle.event_trace.specs.Deadlocks.{IsDeadlockOf}
 use Rattle.event_trace.specs.Rounds.{after_round, is_held_up, is_in, stays}
 use Rattle.event_trace.proofs.Agreeing.{AreWaitsAlike, IsWaitAlike, waits_alike}

@@ -12,7 +12,7 @@ use Rattle.schedule_text.proofs.SoFar.{so_far, so_far_all, so_far_before, so_far
 use Rattle.interleaving_core.specs.simulation.MachineContents.{Content}
 use Rattle.interleaving_core.specs.simulation.Runs.{AreTurns}
 use Rattle.interleaving_core.specs.simulation.Turns.{IsTurn}
-use Rattle.interleaving_core.proofs.Following.{SameProgram, turns_follow, turns_length, turns_program}
+use Rattle.interleaving_core.proofs.Runs.FollowedRuns.{SameProgram, turns_follow, turns_length, turns_program}
 use Rattle.event_trace.specs.Columns.{line_of}
 use Rattle.event_trace.specs.Pieces.{TakesAllBut}
 use Rattle.event_trace.specs.Traces.{AreTraced, IsEventCut, IsTraced, IsTracedInPart}

@@ -12,7 +12,7 @@ use Rattle.simulation.specs.Lending.{RunsFrame, with_live}
 use Rattle.simulation.specs.MachineContents.{Content, frame_room}
 use Rattle.simulation.specs.Runs.{AreTurns}
 use Rattle.simulation.specs.Turns.{live_thread}
-use Rattle.simulation.proofs.LocalTurns.{local_turns}
+use Rattle.simulation.proofs.Threads.LocalInstructions.{local_turns}
 use Rattle.interleaving_core.specs.Loans.{Begins, IsAtOrigin, IsLent, Lent, RanLocally}
 use Rattle.exploration.specs.Behind.{IsBehind, IsThreadBehind}
 use Rattle.exploration.proofs.Covering.{threads_itself}

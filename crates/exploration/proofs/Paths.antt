@@ -15,8 +15,8 @@ use Rattle.simulation.specs.MachineContents.{Content}
 use Rattle.simulation.specs.Runs.{AreTurns}
 use Rattle.simulation.specs.Turns.{IsTurn}
 use Rattle.simulation.specs.threads_monitors.declared.threads.Thread.{Thread}
-use Rattle.simulation.proofs.OneTurn.{one_turn}
-use Rattle.simulation.proofs.Finished.{same_program}
+use Rattle.simulation.proofs.Runs.UniqueTurns.{one_turn}
+use Rattle.simulation.proofs.Threads.StepEffects.{same_program}
 use Rattle.simulation.specs.threads_monitors.Threads.{is_live_at}
 use Rattle.exploration.specs.Paths.{IsNotTerminalAt, IsReal, IsTerminalAt, CanStepAt, CannotStepAt, AreStepsChecked, IsStepChecked, LeadsTo, ShowsOneOf, events_of, outcome_found}
 use Rattle.exploration.specs.declared.findings.Found.{Found}

@@ -26,12 +26,12 @@ use Rattle.simulation.specs.threads_monitors.Threads.{is_live_at}
 use Rattle.simulation.specs.MachineContents.{Content}
 use Rattle.simulation.specs.StandsFor.{Represents}
 use Rattle.simulation.specs.Turns.{IsTurn, content_at, opening_content}
-use Rattle.simulation.proofs.reference_machine.RunLaws.{first_of, same_state}
-use Rattle.simulation.proofs.Finished.{same_program}
-use Rattle.simulation.proofs.OneTurn.{one_turn}
-use Rattle.simulation.proofs.BornWords.{AreWithin, IsWithinBirths, acknowledgement_granted, acknowledgement_within, collection_granted, collection_within, exceeds_one_space, opened_within, step_within}
-use Rattle.simulation.proofs.StepRuns.{HasWhole, beyond_own, opened_whole, whole_stepped}
-use Rattle.simulation.proofs.Whole.{acknowledgement_keeps, collection_keeps, each_alike, step_is_refused}
+use Rattle.simulation.proofs.reference_machine.Runs.JoinedRuns.{first_of, same_state}
+use Rattle.simulation.proofs.Threads.StepEffects.{same_program}
+use Rattle.simulation.proofs.Runs.UniqueTurns.{one_turn}
+use Rattle.simulation.proofs.OwedWords.BornWords.{AreWithin, IsWithinBirths, acknowledgement_granted, acknowledgement_within, collection_granted, collection_within, exceeds_one_space, opened_within, step_within}
+use Rattle.simulation.proofs.Runs.RunsWithoutCollection.{HasWhole, beyond_own, opened_whole, whole_stepped}
+use Rattle.simulation.proofs.Runs.EventCorrespondence.{acknowledgement_keeps, collection_keeps, each_alike, step_is_refused}
 use Rattle.exploration.specs.Behind.{IsBehind}
 use Rattle.exploration.specs.Searches.{AreOrdinary, IsClosed, IsCovered, IsSeen, KeepBudgets, LeadsInto}
 use Rattle.exploration.proofs.Covering.{covered_more, one_covers}

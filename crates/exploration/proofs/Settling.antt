@@ -24,7 +24,7 @@ use Rattle.simulation.specs.interpreter.declared.outcomes.Outcome.TheVariants.{C
 use Rattle.simulation.specs.Agreement.{Agree}
 use Rattle.simulation.specs.MachineContents.{Content, mutator_of}
 use Rattle.simulation.specs.Turns.{after_request, answered, counted, finish, live_thread, seated, seats_after, thread_for}
-use Rattle.simulation.proofs.AgreeLaws.{agree_append, agree_length, agree_set}
+use Rattle.simulation.proofs.ListLaws.AgreeingLists.{agree_append, agree_length, agree_set}
 use Rattle.simulation.proofs.cil_model.Lists.{none_is_some}
 use Rattle.exploration.specs.Behind.{IsBehind, here, IsStandingBehind, IsThreadBehind}
 

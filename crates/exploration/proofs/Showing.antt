@@ -16,9 +16,9 @@ use Rattle.simulation.specs.threads_monitors.declared.threads.Thread.{Thread}
 use Rattle.simulation.specs.Agreement.{Agree}
 use Rattle.simulation.specs.MachineContents.{Content}
 use Rattle.simulation.specs.Turns.{IsTurn}
-use Rattle.simulation.proofs.Joins.{lives_alike}
-use Rattle.simulation.proofs.StandsLaws.{ends_stand, printed_stands}
-use Rattle.simulation.proofs.Whole.{step_is_followed}
+use Rattle.simulation.proofs.Threads.Joins.{lives_alike}
+use Rattle.simulation.proofs.Representation.VisibleState.{ends_stand, printed_stands}
+use Rattle.simulation.proofs.Runs.EventCorrespondence.{step_is_followed}
 use Rattle.exploration.specs.Behind.{IsBehind, IsStandingBehind, IsThreadBehind}
 use Rattle.exploration.specs.Searches.{IsClosed, IsSeen, LeadsInto}
 use Rattle.exploration.specs.Shown.{CannotStep, IsTerminal, IsOver, Outcome, ShowOnly, outcome_of, outcome_shown}

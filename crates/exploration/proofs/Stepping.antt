@@ -18,7 +18,7 @@ use Rattle.simulation.specs.interpreter.Instructions.{Answer, IsDone, answer_of}
 use Rattle.simulation.specs.Agreement.{Agree}
 use Rattle.simulation.specs.MachineContents.{Content, mutator_of}
 use Rattle.simulation.specs.Turns.{IsStandingTurn, IsThreadTurn, IsTurn, counted, left_by, live_thread, seats_after}
-use Rattle.simulation.proofs.AgreeLaws.{agree_at, agree_set}
+use Rattle.simulation.proofs.ListLaws.AgreeingLists.{agree_at, agree_set}
 use Rattle.exploration.specs.Behind.{IsBehind, IsAhead, here, onward, IsLocalMove, IsStandingBehind, IsThreadBehind}
 use Rattle.exploration.proofs.Settling.{TurnsAlike, finish_alike}
 

@@ -18,10 +18,10 @@ use Rattle.cil_model.specs.Legality.{IsLegal}
 use Rattle.cil_model.proofs.Lists.{none_is_some}
 use Rattle.name_tables.specs.Numbers.{declarations, class_number, source_entry}
 use Rattle.name_tables.proofs.NumberLaws.{IsNumbered, numbered}
-use Rattle.resolved_code.proofs.ClassNumbers.{number_of_place}
+use Rattle.resolved_code.proofs.Numbers.Classes.{number_of_place}
 use Rattle.resolved_code.specs.Numbered.{class_name}
 use Rattle.resolved_code.specs.Resolved.{AreResolved, IsResolvedClass}
-use Rattle.resolved_code.proofs.AlikeLaws.{AlikeTo, alike_to, alike_beyond, alike_length}
+use Rattle.resolved_code.proofs.ListLaws.RelatedLists.{AlikeTo, alike_to, alike_beyond, alike_length}
 use Rattle.resolved_code.specs.declared.classes.ResolvedClass.{ResolvedClass}
 use Rattle.resolved_code.specs.declared.types.NumberedElement.{NumberedElement}
 use Rattle.resolved_code.specs.declared.types.NumberedElement.TheVariants.{Int32, Int64, Object, String, Class}

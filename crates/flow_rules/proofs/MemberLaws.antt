@@ -41,7 +41,7 @@ use Rattle.resolved_code.specs.declared.classes.ResolvedKind.TheVariants as Kind
 use Rattle.resolved_code.specs.declared.classes.ResolvedMethod.{ResolvedMethod}
 use Rattle.resolved_code.specs.declared.classes.ResolvedClass.{ResolvedClass}
 use Rattle.flow_rules.specs.Members.{IsCallable, is_abstract_kind}
-use Rattle.resolved_code.proofs.AlikeLaws.{AlikeTo, alike_to, alike_beyond}
+use Rattle.resolved_code.proofs.ListLaws.RelatedLists.{AlikeTo, alike_to, alike_beyond}
 use Rattle.flow_rules.proofs.Classes.{element_at_number, own_declaration}
 
 nearest_passes : {X : Type 0} (test : X → Bool) (held : ClassName → List X) (cs : List ClassName) (c : ClassName) (x : X) → nearest (λ k. find test (held k)) cs ≡ Some (c, x) → IsTrue (test x)

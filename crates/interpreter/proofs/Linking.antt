@@ -16,7 +16,7 @@ use Rattle.object_memory.specs.declared.values.Value.TheVariants.{Ref}
 use Rattle.object_memory.specs.declared.values.ValueKind.TheVariants as Kind
 use Rattle.object_memory.specs.Cells.{literal}
 use Rattle.object_memory.specs.Objects.{Objects}
-use Rattle.resolved_code.proofs.EntryNumbers.{never_none}
+use Rattle.resolved_code.proofs.Numbers.EntryPoints.{never_none}
 use Rattle.loaded_program.specs.AllMethods.{all_methods, flat_number}
 use Rattle.loaded_program.proofs.FlatLaws.{method_of_number}
 use Rattle.loaded_program.specs.declared.instructions.LinkedInstruction.{LinkedInstruction}

@@ -16,7 +16,7 @@ use Rattle.resolved_code.specs.declared.classes.Body.{Body}
 use Rattle.resolved_code.specs.declared.classes.ResolvedMethod.{ResolvedMethod}
 use Rattle.resolved_code.specs.declared.operations.Operation.{Operation}
 use Rattle.resolved_code.specs.Contents.{IsMethodOf}
-use Rattle.resolved_code.proofs.MemberLaws.{alike_at}
+use Rattle.resolved_code.proofs.ListLaws.RelatedItems.{alike_at}
 use Rattle.loaded_program.proofs.OperandLaws.{alike_both, alike_none}
 use Rattle.threads_monitors.specs.Frames.{Frames}
 use Rattle.interpreter.specs.Instructions.{IsAt, method_of, line_at}

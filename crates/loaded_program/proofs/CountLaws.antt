@@ -12,8 +12,8 @@ use Rattle.cil_model.specs.Legality.{IsLegal}
 use Rattle.name_tables.specs.Numbers.{source_entry}
 use Rattle.resolved_code.specs.Resolved.{AllAlike, IsResolvedMethod, IsResolvedClass}
 use Rattle.resolved_code.specs.declared.classes.ResolvedClass.{ResolvedClass}
-use Rattle.resolved_code.proofs.AlikeLaws.{alike_length}
-use Rattle.resolved_code.proofs.Limits.{source_methods_few}
+use Rattle.resolved_code.proofs.ListLaws.RelatedLists.{alike_length}
+use Rattle.resolved_code.proofs.LegalPrograms.Limits.{source_methods_few}
 use Rattle.loaded_program.specs.AllMethods.{owned_methods, all_methods}
 use Rattle.loaded_program.specs.Numbered.{running_counts}
 use Rattle.loaded_program.proofs.FlatLaws.{owned_count}

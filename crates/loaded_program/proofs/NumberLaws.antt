@@ -16,7 +16,7 @@ use Rattle.cil_model.proofs.Lists.{passes_not}
 use Rattle.cil_model.proofs.SameLaws.{never, both_first, both_second, same_class_itself, same_method_name_itself, same_signature_itself}
 use Rattle.name_tables.specs.Numbers.{declarations, class_number, source_entry, method_at}
 use Rattle.name_tables.proofs.NumberLaws.{IsNumbered, numbered, none_is_some, position_from-suc}
-use Rattle.resolved_code.proofs.Repeats.{has_repeat-map}
+use Rattle.resolved_code.proofs.ListLaws.Repeats.{has_repeat-map}
 use Rattle.loaded_program.specs.AllMethods.{owned_methods, all_methods, first_numbers}
 use Rattle.loaded_program.specs.MethodNumbers.{number_of}
 use Rattle.loaded_program.proofs.FlatLaws.{numbered_at, first_is_there, number_behind}

@@ -30,7 +30,7 @@ use Rattle.resolved_code.specs.declared.classes.ResolvedClass.{ResolvedClass}
 use Rattle.loaded_program.specs.AllMethods.{first_numbers}
 use Rattle.loaded_program.specs.Numbered.{numbered_kind_at, kind_of_numbered, numbered_locals, with_object, operand_count, running_counts}
 use Rattle.loaded_program.specs.Prepared.{kind_at, kind_of_type, local_kinds}
-use Rattle.resolved_code.proofs.AlikeLaws.{alike_length}
+use Rattle.resolved_code.proofs.ListLaws.RelatedLists.{alike_length}
 
 module _ (tree : Tree) where
   -- ---- types

@@ -22,7 +22,7 @@ use Rattle.cil_model.specs.declared.limits.TheConstants.{MOST_CLASSES, MOST_METH
 use Rattle.cil_model.specs.Mentions.{methods_of_tree, types_of_tree}
 use Rattle.cil_model.specs.Legality.{is_small_class, passes_limit}
 use Rattle.std.proofs.lemmas.Bool.{le-leb}
-use Rattle.resolved_code.proofs.Tests.{third_fails, last_decides}
+use Rattle.resolved_code.proofs.ListLaws.Tests.{third_fails, last_decides}
 use Rattle.metadata.specs.Counts.{count_in, instance_count, static_count}
 
 sum_by_congr : {X : Type 0} (f g : X → ℕ) → ((x : X) → f x ≡ g x) → (xs : List X) → sum_by f xs ≡ sum_by g xs

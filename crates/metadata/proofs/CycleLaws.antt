@@ -16,7 +16,7 @@ use Rattle.cil_model.specs.Chains.{base_of, chain_within, chain_of, longest_chai
 use Rattle.cil_model.specs.Legality.{is_own_base, has_cycle}
 use Rattle.name_tables.specs.Numbers.{class_number, chain_numbers}
 use Rattle.name_tables.proofs.NumberLaws.{base_at}
-use Rattle.resolved_code.proofs.ClassNumbers.{FoundAt, found_at, not_declared, among_numbers}
+use Rattle.resolved_code.proofs.Numbers.Classes.{FoundAt, found_at, not_declared, among_numbers}
 
 -- an item that passes
 pub passes_at : {X : Type 0} (p : X → Bool) (xs : List X) (i : ℕ) (x : X) → slice_get xs i ≡ Some x → p x ≡ true → list_any p xs ≡ true

@@ -9,8 +9,8 @@ use Rattle.cil_model.specs.Legality.{implements_method}
 use Rattle.name_tables.specs.Sameness.{identity_of}
 use Rattle.name_tables.specs.Numbers.{chain_numbers}
 use Rattle.resolved_code.specs.Found.{is_virtual_found}
-use Rattle.resolved_code.proofs.NumberedMethods.{virtual_nearest}
-use Rattle.resolved_code.proofs.Tests.{list_all_congr}
+use Rattle.resolved_code.proofs.Numbers.Methods.{virtual_nearest}
+use Rattle.resolved_code.proofs.ListLaws.Tests.{list_all_congr}
 
 pub implemented : (tree : Tree) (c : ClassName) (is : List ClassName) →
     list_all (λ i. list_all (λ (m : Method). list_any (is_virtual_found tree (identity_of m)) (chain_numbers tree c)) (methods_declared tree i)) is ≡ list_all (λ i. list_all (implements_method tree c) (methods_declared tree i)) is

@@ -21,9 +21,9 @@ use Rattle.name_tables.specs.Sameness.{MethodIdentity, same_identity, identity_o
 use Rattle.name_tables.specs.SamenessLaws.{same_identity_equal}
 use Rattle.name_tables.proofs.FirstPlaces.{is_some-position_from}
 use Rattle.name_tables.proofs.NumberLaws.{found_none, found_some, found_passes, found_at_place}
-use Rattle.resolved_code.proofs.ClassNumbers.{FoundAt, found_at}
+use Rattle.resolved_code.proofs.Numbers.Classes.{FoundAt, found_at}
 use Rattle.resolved_code.specs.Found.{is_virtual_found, is_override, top_open, hidden_open, plain_numbered}
-use Rattle.resolved_code.proofs.Tests.{and_false}
+use Rattle.resolved_code.proofs.ListLaws.Tests.{and_false}
 use Rattle.metadata.specs.Open.{hides_one, AreClear}
 
 not_both : true ≡ false → ⊥

@@ -12,7 +12,7 @@ use Rattle.cil_model.specs.Chains.{is_virtual, is_new_slot_method, is_abstract_m
 use Rattle.name_tables.specs.Sameness.{MethodIdentity, identity_of}
 use Rattle.name_tables.specs.Numbers.{declarations, chain_numbers, method_found}
 use Rattle.resolved_code.specs.Found.{slot_filled_at, slot_numbered, open_numbered, is_left_open, class_leaves_open, is_override, top_open, hidden_open, stays_open, IsSettled}
-use Rattle.resolved_code.proofs.Tests.{and_false}
+use Rattle.resolved_code.proofs.ListLaws.Tests.{and_false}
 
 abbrev is_abstract : Method → Bool
 is_abstract m = is_abstract_method m.kind

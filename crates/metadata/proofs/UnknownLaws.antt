@@ -19,7 +19,7 @@ use Rattle.cil_model.specs.Legality.{labels_before, is_known_extern, is_resolved
 use Rattle.name_tables.proofs.Lists.{option_map_of_map}
 use Rattle.name_tables.proofs.FirstPlaces.{is_some-position_from}
 use Rattle.metadata.specs.Named.{knows_names}
-use Rattle.resolved_code.proofs.Tests.{first_fails, second_fails, third_fails, last_two_decide, and_false, and_turned, list_all_congr, list_any-flat_map, list_all_both}
+use Rattle.resolved_code.proofs.ListLaws.Tests.{first_fails, second_fails, third_fails, last_two_decide, and_false, and_turned, list_all_congr, list_any-flat_map, list_all_both}
 use Rattle.cil_model.proofs.Lists.{list_all-flat_map, list_all-filter_map}
 
 -- ---- classes of the source

@@ -11,7 +11,7 @@ use Rattle.schedule_text.proofs.SoFar.{so_far, so_far_all, so_far_before, so_far
 use Rattle.interleaving_core.specs.simulation.MachineContents.{Content}
 use Rattle.interleaving_core.specs.simulation.Runs.{AreTurns}
 use Rattle.interleaving_core.specs.simulation.Turns.{IsTurn}
-use Rattle.interleaving_core.proofs.Following.{SameProgram, turns_length, turns_more, turns_program}
+use Rattle.interleaving_core.proofs.Runs.FollowedRuns.{SameProgram, turns_length, turns_more, turns_program}
 use Rattle.outputs.specs.Beginnings.{AppendsBeginning}
 use Rattle.event_trace.specs.Deadlocks.{IsDeadlockOf}
 use Rattle.run_picture.specs.Pictures.{IsDrawing, IsDrawn, IsPicture, IsPictureInPart}

@@ -13,8 +13,8 @@ use Rattle.cil_model.specs.declared.reports.Report.{Report}
 use Rattle.interleaving_core.specs.simulation.MachineContents.{Content}
 use Rattle.interleaving_core.specs.simulation.Runs.{AreTurns}
 use Rattle.interleaving_core.specs.simulation.Turns.{IsTurn}
-use Rattle.interleaving_core.proofs.Doing.{does_more}
-use Rattle.interleaving_core.proofs.Following.{turns_follow, turns_length, turns_more, turns_program}
+use Rattle.interleaving_core.proofs.Runs.LongerRuns.{does_more}
+use Rattle.interleaving_core.proofs.Runs.FollowedRuns.{turns_follow, turns_length, turns_more, turns_program}
 use Rattle.shared_machine.specs.Codes.{add}
 use Rattle.shared_machine.specs.Histories.{IsSmall, plain, entry, events_of, reports_of, add_if, counted, count_of}
 use Rattle.shared_machine.specs.Worlds.{HasRun, IsSound, fresh}

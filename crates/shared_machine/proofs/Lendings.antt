@@ -11,7 +11,7 @@ use Rattle.cil_model.specs.declared.reports.Report.{Report}
 use Rattle.cil_model.specs.declared.reports.Report.TheVariants.{Ran}
 use Rattle.interleaving_core.specs.Loans.{Begins, IsAtOrigin, Lent}
 use Rattle.interleaving_core.specs.simulation.threads_monitors.Threads.{is_live_at}
-use Rattle.interleaving_core.proofs.Following.{turns_program}
+use Rattle.interleaving_core.proofs.Runs.FollowedRuns.{turns_program}
 use Rattle.interleaving_core.specs.simulation.MachineContents.{Content}
 use Rattle.interleaving_core.specs.simulation.Runs.{AreTurns}
 use Rattle.shared_machine.specs.Codes.{add, add_times}

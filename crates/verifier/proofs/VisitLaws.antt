@@ -19,7 +19,7 @@ use Rattle.flow_rules.specs.Named.{type_named, types_named, stack_types}
 use Rattle.flow_rules.specs.Flow.{flow_of}
 use Rattle.flow_rules.specs.declared.entries.StackEntry.{StackEntry}
 use Rattle.flow_rules.specs.declared.method_types.MethodTypes.{MethodTypes}
-use Rattle.resolved_code.proofs.AlikeLaws.{AlikeTo, alike_to, alike_beyond, alike_length}
+use Rattle.resolved_code.proofs.ListLaws.RelatedLists.{AlikeTo, alike_to, alike_beyond, alike_length}
 use Rattle.verifier.specs.Rises.{table_rises, most_values, natural}
 use Rattle.verifier.specs.Ways.{ways_on}
 use Rattle.verifier.specs.Tables.{IsPending, HasRisen, CannotRise, AreWays}

@@ -3,7 +3,7 @@ use Rattle.std.specs.Prelude.{flat_map}
 use Rattle.std.specs.Option.{option_map_or}
 use Rattle.cil_model.specs.declared.types.ClassName.{ClassName}
 use Rattle.cil_model.specs.Declarations.{Declaration}
-use Rattle.resolved_code.proofs.Repeats.{if_ok_then}
+use Rattle.resolved_code.proofs.ListLaws.Repeats.{if_ok_then}
 use Rattle.name_tables.specs.Numbers.{chain_numbers, declarations}
 use Rattle.class_layout.specs.ByClass.{by_class, interface_numbers, assignable_row, with_interfaces}
 use Rattle.class_layout.proofs.AncestorLaws.{row_of_marks}

@@ -4,9 +4,9 @@ use Rattle.cil_model.specs.declared.types.ClassName.{ClassName}
 use Rattle.cil_model.specs.Chains.{longest_chain}
 use Rattle.cil_model.specs.Declarations.{Declaration}
 use Rattle.name_tables.specs.Numbers.{chain_numbers, declarations}
-use Rattle.resolved_code.proofs.AlikeLaws.{alike_length}
+use Rattle.resolved_code.proofs.ListLaws.RelatedLists.{alike_length}
 use Rattle.class_layout.specs.ByClass.{chain_by}
-use Rattle.resolved_code.proofs.ClassNumbers.{number_of_place}
+use Rattle.resolved_code.proofs.Numbers.Classes.{number_of_place}
 use Rattle.class_layout.proofs.ResolvedLaws.{IsClass, class_pushed, classes_pushed, chain_alike, bases_alike}
 use Rattle.class_layout.proofs.classes.chains.Goals as goal
 

@@ -7,7 +7,7 @@ use Rattle.cil_model.specs.Chains.{fields_declared}
 use Rattle.name_tables.specs.Numbers.{declarations}
 use Rattle.resolved_code.specs.declared.classes.ResolvedClass.{ResolvedClass}
 use Rattle.resolved_code.specs.declared.classes.ResolvedField.{ResolvedField}
-use Rattle.resolved_code.proofs.AlikeLaws.{alike_length}
+use Rattle.resolved_code.proofs.ListLaws.RelatedLists.{alike_length}
 use Rattle.class_layout.specs.FieldSlots.{numbered_fields, statics_after, numbered_by_flag, first_slot, field_rows, class_names}
 use Rattle.class_layout.proofs.ResolvedLaws.{IsClass, numbered_alike, slot_alike}
 use Rattle.class_layout.proofs.CountLaws.{AreFieldsOf, drop_at, statics_of, counted_on, statics_fit, fields_of, statics_alike_at, slots_fit}

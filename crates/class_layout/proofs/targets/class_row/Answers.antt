@@ -3,7 +3,7 @@ use Rattle.cil_model.specs.declared.types.ClassName.{ClassName}
 use Rattle.cil_model.specs.declared.trees.Method.{Method}
 use Rattle.cil_model.specs.declared.trees.Tree.{Tree}
 use Rattle.cil_model.specs.Declarations.{Declaration}
-use Rattle.resolved_code.proofs.Repeats.{if_ok_then}
+use Rattle.resolved_code.proofs.ListLaws.Repeats.{if_ok_then}
 use Rattle.name_tables.specs.Numbers.{declarations}
 use Rattle.name_tables.specs.Sameness.{identity_of}
 use Rattle.resolved_code.specs.Identities.{identity_number}

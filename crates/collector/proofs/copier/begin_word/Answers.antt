@@ -2,7 +2,7 @@ use Rattle.std.proofs.Common.{◌≡◌, true, ap, sym, subst, ◌∙◌}
 use Rattle.object_memory.specs.Spaces.{is_there}
 use Rattle.collector.specs.References.{reference_in}
 use Rattle.collector.specs.declared.walks.Found.{Found}
-use Rattle.collector.proofs.Copied.{begun_loads, begun_stores, loaded_word}
+use Rattle.collector.proofs.Copying.CopiesStepByStep.{begun_loads, begun_stores, loaded_word}
 use Rattle.collector.proofs.copier.begin_word.Goals as goal
 
 pub store_word-requires-clause-slots : goal.store_word-requires-clause-slots

@@ -4,7 +4,7 @@ use Rattle.barriers.specs.Barriers.{forwarded, is_value_there}
 use Rattle.object_memory.proofs.TwoBlocks.{old_is_cell}
 use Rattle.object_memory.specs.Spaces.{forward_word}
 use Rattle.object_memory.specs.Values.{value_word}
-use Rattle.collector.proofs.Reading.{old_reference}
+use Rattle.collector.proofs.Addresses.ObjectsInHeaps.{old_reference}
 use Rattle.collector.proofs.copier.copied_word.Goals as goal
 
 pub kind-requires : goal.kind-requires

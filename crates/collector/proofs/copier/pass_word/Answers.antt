@@ -3,7 +3,7 @@ use Rattle.object_memory.specs.Cells.{size}
 use Rattle.object_memory.specs.Spaces.{cell_at}
 use Rattle.object_memory.proofs.TwoBlocks.{old_is_cell}
 use Rattle.collector.specs.declared.walks.Found.{Found}
-use Rattle.collector.proofs.Reading.{told, cell_there, ends_within}
+use Rattle.collector.proofs.Addresses.ObjectsInHeaps.{told, cell_there, ends_within}
 use Rattle.collector.proofs.copier.pass_word.Goals as goal
 
 pub overflow_add-progress-else-progress-slots : goal.overflow_add-progress-else-progress-slots

@@ -3,8 +3,8 @@ use Rattle.object_memory.specs.Cells.{size}
 use Rattle.object_memory.specs.Spaces.{cell_at, found_in, is_noted}
 use Rattle.object_memory.proofs.TwoBlocks.{new_is_cell}
 use Rattle.collector.specs.declared.walks.Found.{Found}
-use Rattle.collector.proofs.Reading.{cell_there, ends_within, told}
-use Rattle.collector.proofs.Walked.{cleared_done, found_is}
+use Rattle.collector.proofs.Addresses.ObjectsInHeaps.{cell_there, ends_within, told}
+use Rattle.collector.proofs.BlockWalks.Walks.{cleared_done, found_is}
 use Rattle.collector.proofs.flips.clear_step.Goals as goal
 
 pub overflow_add-progress : goal.overflow_add-progress

@@ -5,7 +5,7 @@ use Rattle.object_memory.proofs.TwoBlocks.{old_is_cell}
 use Rattle.object_memory.specs.declared.values.Value.TheVariants.{Ref}
 use Rattle.collector.specs.Marking.{word_of}
 use Rattle.collector.specs.References.{reference_in}
-use Rattle.collector.proofs.Reading.{old_reference, old_slots, old_word}
+use Rattle.collector.proofs.Addresses.ObjectsInHeaps.{old_reference, old_slots, old_word}
 use Rattle.collector.proofs.marker.scan_slot.Goals as goal
 
 pub kind-requires : goal.kind-requires

@@ -3,8 +3,8 @@ use Rattle.std.specs.Prelude.{is_some}
 use Rattle.object_memory.specs.Cells.{Cell}
 use Rattle.object_memory.specs.Spaces.{cell_at}
 use Rattle.object_memory.proofs.TwoBlocks.{new_is_cell}
-use Rattle.collector.proofs.Reading.{told}
-use Rattle.collector.proofs.Walked.{noted_marked, noted_unmarked}
+use Rattle.collector.proofs.Addresses.ObjectsInHeaps.{told}
+use Rattle.collector.proofs.BlockWalks.Walks.{noted_marked, noted_unmarked}
 use Rattle.collector.proofs.walks.is_noted.Goals as goal
 
 pub returns-then-is_marked : goal.returns-then-is_marked

@@ -3,8 +3,8 @@ use Rattle.std.specs.Prelude.{is_some}
 use Rattle.object_memory.specs.Cells.{Cell, size}
 use Rattle.object_memory.specs.Spaces.{cell_at, has_other}
 use Rattle.object_memory.proofs.TwoBlocks.{old_is_cell}
-use Rattle.collector.proofs.Reading.{begun, ends_below, told, walk_fits}
-use Rattle.collector.proofs.Walked.{found_none, found_now, passed}
+use Rattle.collector.proofs.Addresses.ObjectsInHeaps.{begun, ends_below, told, walk_fits}
+use Rattle.collector.proofs.BlockWalks.Walks.{found_none, found_now, passed}
 use Rattle.collector.proofs.walks.next_copied.Goals as goal
 
 pub returns-in-Some-other-clause-found : goal.returns-in-Some-other-clause-found

@@ -1,7 +1,7 @@
 use Rattle.std.proofs.Common.{◌-◌}
 use Rattle.object_memory.specs.Cells.{used_words}
 use Rattle.object_memory.specs.Spaces.{has_other}
-use Rattle.collector.proofs.Walked.{HasPassed}
+use Rattle.collector.proofs.BlockWalks.Walks.{HasPassed}
 use Rattle.collector.proofs.walks.next_copied.Given as goal
 
 abbrev pub invariant-loop-object : goal.invariant-loop-object

@@ -2,8 +2,8 @@ use Rattle.std.proofs.Common.{sym, ◌∙◌, arith}
 use Rattle.object_memory.specs.Cells.{size}
 use Rattle.object_memory.specs.Spaces.{cell_at, is_noted}
 use Rattle.object_memory.proofs.TwoBlocks.{new_is_cell}
-use Rattle.collector.proofs.Reading.{begun, ends_below, told, walk_fits}
-use Rattle.collector.proofs.Walked.{found_none, found_now, passed}
+use Rattle.collector.proofs.Addresses.ObjectsInHeaps.{begun, ends_below, told, walk_fits}
+use Rattle.collector.proofs.BlockWalks.Walks.{found_none, found_now, passed}
 use Rattle.collector.proofs.walks.next_noted.Goals as goal
 
 pub returns-then-is_noted-clause-found : goal.returns-then-is_noted-clause-found

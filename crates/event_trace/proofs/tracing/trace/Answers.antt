@@ -4,7 +4,7 @@ use Rattle.cil_model.specs.declared.events.Event.TheVariants.{Gc}
 use Rattle.cil_model.specs.declared.trees.Tree.{Tree}
 use Rattle.schedule_text.specs.Items.{events_of}
 use Rattle.schedule_text.proofs.SoFar.{so_far_whole}
-use Rattle.interleaving_core.proofs.Refusing.{on_err}
+use Rattle.interleaving_core.proofs.Threads.RefusedMemory.{on_err}
 use Rattle.outputs.specs.Beginnings.{AppendsBeginning}
 use Rattle.event_trace.specs.Places.{ArePlacesOf}
 use Rattle.event_trace.proofs.TraceLaws.{TracedSoFar, all_traced, end_cut, item_cut, nothing_traced, number_cut, number_item, number_none, number_time, same_so_far}

@@ -1,5 +1,5 @@
 use Rattle.std.proofs.Common.{◌∙◌, inr, subst}
-use Rattle.interleaving_core.proofs.Refusing.{on_err}
+use Rattle.interleaving_core.proofs.Threads.RefusedMemory.{on_err}
 use Rattle.outputs.specs.Beginnings.{AppendsBeginning}
 use Rattle.event_trace.proofs.TraceLaws.{event_cut}
 use Rattle.event_trace.proofs.tracing.trace_event.Goals as goal

@@ -2,7 +2,7 @@ use Rattle.std.proofs.Common.{inl, inr, sym, ◌∙◌, subst}
 use Rattle.simulation.specs.cil_model.declared.events.Event.TheVariants.{Step}
 use Rattle.simulation.specs.cil_model.declared.reports.Report.{Report}
 use Rattle.simulation.specs.Turns.{IsTurn}
-use Rattle.simulation.proofs.resolved_code.OneOperation.{one_operation}
+use Rattle.simulation.proofs.resolved_code.Operations.UniqueOperations.{one_operation}
 use Rattle.exploration.proofs.Paths.{goes_on_at}
 use Rattle.exploration.proofs.checking.can_step.Goals as goal
 

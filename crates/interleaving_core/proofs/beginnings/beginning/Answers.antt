@@ -10,7 +10,7 @@ use Rattle.threads_monitors.specs.declared.threads.Standing.TheVariants.{Live}
 use Rattle.threads_monitors.specs.declared.threads.Thread.{Thread}
 use Rattle.simulation.specs.MachineContents.{frame_room}
 use Rattle.simulation.proofs.interpreter.Running.{there_is}
-use Rattle.interleaving_core.proofs.Declared.{locals_fit}
+use Rattle.interleaving_core.proofs.Threads.DeclaredMethods.{locals_fit}
 use Rattle.interleaving_core.proofs.beginnings.beginning.Goals as goal
 
 pub returns-clause-fits : goal.returns-clause-fits

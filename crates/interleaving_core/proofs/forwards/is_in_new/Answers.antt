@@ -2,8 +2,8 @@ use Rattle.std.proofs.Common.{sym, ◌∙◌, arith}
 use Rattle.object_memory.specs.Cells.{size}
 use Rattle.object_memory.specs.Spaces.{cell_at}
 use Rattle.object_memory.proofs.TwoBlocks.{new_is_cell}
-use Rattle.simulation.proofs.collector.Reading.{begun, ends_below, told, walk_fits}
-use Rattle.interleaving_core.proofs.AddressWalks.{ahead_first, ahead_last, ahead_on, found_here}
+use Rattle.simulation.proofs.collector.Addresses.ObjectsInHeaps.{begun, ends_below, told, walk_fits}
+use Rattle.interleaving_core.proofs.CollectorTurns.AddressWalks.{ahead_first, ahead_last, ahead_on, found_here}
 use Rattle.interleaving_core.proofs.forwards.is_in_new.Goals as goal
 
 pub loop-object-init : goal.loop-object-init

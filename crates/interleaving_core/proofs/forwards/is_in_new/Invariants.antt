@@ -1,6 +1,6 @@
 use Rattle.std.proofs.Common.{◌-◌}
 use Rattle.object_memory.specs.Cells.{used_words}
-use Rattle.interleaving_core.proofs.AddressWalks.{IsAhead}
+use Rattle.interleaving_core.proofs.CollectorTurns.AddressWalks.{IsAhead}
 use Rattle.interleaving_core.proofs.forwards.is_in_new.Given as goal
 
 abbrev pub invariant-loop-object : goal.invariant-loop-object

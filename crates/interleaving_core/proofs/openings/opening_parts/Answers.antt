@@ -11,7 +11,7 @@ use Rattle.simulation.specs.Turns.{thread_at}
 use Rattle.interleaving_core.specs.Statics.{declared_fields, zeros_of}
 use Rattle.phase_handshake.specs.Handshakes.{first_handshakes}
 use Rattle.simulation.specs.collector.Phases.{no_progress}
-use Rattle.interleaving_core.proofs.OpeningLaws.{entry_there, opened_as}
+use Rattle.interleaving_core.proofs.InitialContents.InitialContent.{entry_there, opened_as}
 use Rattle.interleaving_core.proofs.openings.opening_parts.Goals as goal
 
 pub beginning-requires-clause-there : goal.beginning-requires-clause-there

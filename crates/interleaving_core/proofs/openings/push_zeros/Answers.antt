@@ -2,7 +2,7 @@ use Rattle.std.proofs.Common.{◌++◌, ◌∷◌, [], ◌∙◌, ap, map}
 use Rattle.std.proofs.lemmas.List.{take_all}
 use Rattle.threads_monitors.specs.Frames.{zero_value}
 use Rattle.interleaving_core.specs.Statics.{zeros_of}
-use Rattle.interleaving_core.proofs.OpeningStatics.{static_more, static_no_more}
+use Rattle.interleaving_core.proofs.InitialContents.StaticFields.{static_more, static_no_more}
 use Rattle.interleaving_core.proofs.openings.push_zeros.Goals as goal
 use Rattle.interleaving_core.proofs.openings.push_zeros.Goals.{then-field+in_ok-push, else-field}
 

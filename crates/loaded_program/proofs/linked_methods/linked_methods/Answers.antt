@@ -4,7 +4,7 @@ use Rattle.std.proofs.lemmas.Option.{slice_get_read}
 use Rattle.cil_model.specs.declared.types.ClassName.{ClassName}
 use Rattle.cil_model.specs.declared.trees.Method.{Method}
 use Rattle.resolved_code.specs.Resolved.{AllAlike}
-use Rattle.resolved_code.proofs.AlikeLaws.{AlikeTo, alike_to, alike_length}
+use Rattle.resolved_code.proofs.ListLaws.RelatedLists.{AlikeTo, alike_to, alike_length}
 use Rattle.loaded_program.specs.AllMethods.{all_methods}
 use Rattle.loaded_program.specs.Prepared.{IsTableMethod}
 use Rattle.loaded_program.proofs.FlatLaws.{alike_more}

@@ -5,7 +5,7 @@ use Rattle.cil_model.specs.Declarations.{Declaration}
 use Rattle.name_tables.specs.Numbers.{declarations}
 use Rattle.resolved_code.specs.Resolved.{AllAlike, IsResolvedClass}
 use Rattle.resolved_code.specs.declared.classes.ResolvedClass.{ResolvedClass}
-use Rattle.resolved_code.proofs.AlikeLaws.{alike_length}
+use Rattle.resolved_code.proofs.ListLaws.RelatedLists.{alike_length}
 use Rattle.loaded_program.proofs.FlatLaws.{alike_more}
 use Rattle.loaded_program.specs.Loaded.{IsTarget}
 use Rattle.loaded_program.proofs.MethodLaws.{there_at}

@@ -13,7 +13,7 @@ use Rattle.resolved_code.specs.Resolved.{AllAlike, IsResolvedMethod, IsResolvedC
 use Rattle.loaded_program.specs.declared.methods.TableMethod.{TableMethod}
 use Rattle.loaded_program.specs.AllMethods.{owned_methods}
 use Rattle.loaded_program.specs.Prepared.{IsTableMethod}
-use Rattle.resolved_code.proofs.AlikeLaws.{AlikeTo, alike_to, alike_length}
+use Rattle.resolved_code.proofs.ListLaws.RelatedLists.{AlikeTo, alike_to, alike_length}
 use Rattle.loaded_program.proofs.FlatLaws.{alike_behind, classes_more}
 use Rattle.loaded_program.proofs.table.all_methods.Goals as goal
 

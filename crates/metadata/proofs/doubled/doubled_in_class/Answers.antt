@@ -3,7 +3,7 @@ use Rattle.cil_model.specs.declared.trees.Field.{Field}
 use Rattle.cil_model.specs.Same.{same_text, same_class}
 use Rattle.cil_model.specs.Declarations.{field_members, method_members, interfaces_named}
 use Rattle.cil_model.specs.Legality.{has_repeat, same_method}
-use Rattle.resolved_code.proofs.Repeats.{first_decides, none_before, if_ok_then}
+use Rattle.resolved_code.proofs.ListLaws.Repeats.{first_decides, none_before, if_ok_then}
 use Rattle.metadata.proofs.doubled.doubled_in_class.Goals as goal
 
 pub returns-in-Some : goal.returns-in-Some

@@ -3,7 +3,7 @@ use Rattle.std.specs.List.{list_any}
 use Rattle.cil_model.specs.declared.trees.Method.{Method}
 use Rattle.cil_model.specs.Same.{same_text}
 use Rattle.cil_model.specs.Legality.{has_repeat, labels_before}
-use Rattle.resolved_code.proofs.Repeats.{if_ok_then}
+use Rattle.resolved_code.proofs.ListLaws.Repeats.{if_ok_then}
 use Rattle.metadata.proofs.doubled.doubled_in_methods.Goals as goal
 
 pub returns : goal.returns

@@ -3,7 +3,7 @@ use Rattle.std.specs.List.{list_any}
 use Rattle.cil_model.specs.declared.trees.Class.{Class}
 use Rattle.cil_model.specs.Same.{same_text}
 use Rattle.cil_model.specs.Legality.{has_repeat, class_doubles}
-use Rattle.resolved_code.proofs.Repeats.{first_decides, none_before, if_ok_then}
+use Rattle.resolved_code.proofs.ListLaws.Repeats.{first_decides, none_before, if_ok_then}
 use Rattle.metadata.proofs.doubled.doubled_name.Goals as goal
 
 pub returns-in-Some : goal.returns-in-Some

@@ -2,7 +2,7 @@ use Rattle.std.proofs.Common.{sym, ap, ◌∙◌}
 use Rattle.cil_model.specs.Same.{same_text}
 use Rattle.cil_model.specs.Legality.{has_repeat}
 use Rattle.name_tables.specs.Keys.{text_of_key}
-use Rattle.resolved_code.proofs.Repeats.{has_repeat-map, if_ok_then}
+use Rattle.resolved_code.proofs.ListLaws.Repeats.{has_repeat-map, if_ok_then}
 use Rattle.metadata.proofs.doubled.repeated_label.Goals as goal
 
 pub returns : goal.returns

@@ -3,7 +3,7 @@ use Rattle.cil_model.specs.Declarations.{method_members}
 use Rattle.cil_model.specs.Legality.{has_repeat}
 use Rattle.name_tables.specs.Keys.{method_of_key}
 use Rattle.name_tables.specs.Sameness.{same_identity, identity_of}
-use Rattle.resolved_code.proofs.Repeats.{has_repeat-map, if_ok_then}
+use Rattle.resolved_code.proofs.ListLaws.Repeats.{has_repeat-map, if_ok_then}
 use Rattle.metadata.proofs.doubled.repeated_method.Goals as goal
 
 pub returns : goal.returns

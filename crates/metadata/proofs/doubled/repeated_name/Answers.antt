@@ -3,7 +3,7 @@ use Rattle.std.proofs.lemmas.List.{take_more, take_all, map-append}
 use Rattle.cil_model.specs.Same.{same_class}
 use Rattle.cil_model.specs.Legality.{has_repeat}
 use Rattle.name_tables.specs.Keys.{class_of_key}
-use Rattle.resolved_code.proofs.Repeats.{has_repeat-map, if_ok_then}
+use Rattle.resolved_code.proofs.ListLaws.Repeats.{has_repeat-map, if_ok_then}
 use Rattle.metadata.proofs.doubled.repeated_name.Goals as goal
 
 pub loop-item-preserved : goal.loop-item-preserved

@@ -4,7 +4,7 @@ use Rattle.std.specs.List.{list_any}
 use Rattle.cil_model.specs.declared.trees.Method.{Method}
 use Rattle.cil_model.specs.Bodies.{is_entry_point, entry_points}
 use Rattle.cil_model.specs.Legality.{is_entry_method, is_one_entry}
-use Rattle.resolved_code.proofs.Tests.{not_not}
+use Rattle.resolved_code.proofs.ListLaws.Tests.{not_not}
 use Rattle.metadata.proofs.EntryLaws.{one_entry}
 use Rattle.metadata.proofs.entry.bad_entry.Goals as goal
 

@@ -5,7 +5,7 @@ use Rattle.name_tables.specs.Methods.{virtual_place, line_of, methods_at}
 use Rattle.name_tables.specs.Numbers.{nearest_number}
 use Rattle.name_tables.specs.Sameness.{identity_of}
 use Rattle.resolved_code.specs.Found.{is_virtual_found}
-use Rattle.resolved_code.proofs.Tests.{list_all_congr}
+use Rattle.resolved_code.proofs.ListLaws.Tests.{list_all_congr}
 use Rattle.metadata.proofs.MethodLaws.{virtual_on_line}
 use Rattle.metadata.proofs.implemented.absent_at.Goals as goal
 

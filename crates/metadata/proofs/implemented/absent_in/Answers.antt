@@ -6,7 +6,7 @@ use Rattle.cil_model.specs.Chains.{listed_by}
 use Rattle.name_tables.specs.Methods.{line_of}
 use Rattle.name_tables.specs.Numbers.{class_number}
 use Rattle.name_tables.specs.Sameness.{identity_of}
-use Rattle.resolved_code.proofs.ClassNumbers.{not_declared}
+use Rattle.resolved_code.proofs.Numbers.Classes.{not_declared}
 use Rattle.resolved_code.specs.Found.{is_virtual_found}
 use Rattle.metadata.proofs.MethodLaws.{methods_of_number}
 use Rattle.metadata.proofs.implemented.absent_in.Goals as goal

@@ -2,7 +2,7 @@ use Rattle.std.proofs.Common.{is_none, not, refl, sym, ap, ◌∙◌, arith}
 use Rattle.std.specs.List.{list_all}
 use Rattle.std.proofs.lemmas.List.{at_drop_all}
 use Rattle.cil_model.specs.Legality.{implements_all}
-use Rattle.resolved_code.proofs.Tests.{all_after}
+use Rattle.resolved_code.proofs.ListLaws.Tests.{all_after}
 use Rattle.metadata.proofs.WalkLaws.{all_fail}
 use Rattle.metadata.proofs.implemented.not_implemented.Goals as goal
 

@@ -8,8 +8,8 @@ use Rattle.name_tables.specs.Numbers.{chain_numbers}
 use Rattle.name_tables.proofs.NumberLaws.{numbers_of_unknown}
 use Rattle.name_tables.proofs.MemberLaws.{line_of_class}
 use Rattle.resolved_code.specs.Found.{class_leaves_open}
-use Rattle.resolved_code.proofs.Repeats.{if_ok_then}
-use Rattle.resolved_code.proofs.SlotLaws.{abstract_slot}
+use Rattle.resolved_code.proofs.ListLaws.Repeats.{if_ok_then}
+use Rattle.resolved_code.proofs.Numbers.Slots.{abstract_slot}
 use Rattle.metadata.proofs.OpenLaws.{none_left_open}
 use Rattle.metadata.proofs.kinds.abstract_slot.Goals as goal
 

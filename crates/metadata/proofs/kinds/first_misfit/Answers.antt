@@ -2,7 +2,7 @@ use Rattle.std.proofs.Common.{is_none, refl, sym, ap, ◌∙◌, arith}
 use Rattle.std.specs.List.{list_all}
 use Rattle.std.proofs.lemmas.List.{at_drop_all}
 use Rattle.cil_model.specs.Legality.{kinds_fit}
-use Rattle.resolved_code.proofs.Tests.{all_after}
+use Rattle.resolved_code.proofs.ListLaws.Tests.{all_after}
 use Rattle.metadata.proofs.WalkLaws.{all_fail}
 use Rattle.metadata.proofs.kinds.first_misfit.Goals as goal
 

@@ -5,7 +5,7 @@ use Rattle.cil_model.specs.declared.trees.Method.{Method}
 use Rattle.cil_model.specs.Declarations.{source_name, method_members, is_interface_kind, is_abstract_kind}
 use Rattle.cil_model.specs.Chains.{is_abstract_method}
 use Rattle.cil_model.specs.Legality.{is_interface_method, has_abstract_slot, overrides_no_virtual}
-use Rattle.resolved_code.proofs.Repeats.{if_ok_then}
+use Rattle.resolved_code.proofs.ListLaws.Repeats.{if_ok_then}
 use Rattle.metadata.proofs.kinds.kind_fault.Goals as goal
 
 pub returns : goal.returns

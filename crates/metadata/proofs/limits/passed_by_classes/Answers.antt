@@ -3,7 +3,7 @@ use Rattle.std.specs.List.{list_all}
 use Rattle.std.proofs.lemmas.List.{at_drop_all}
 use Rattle.cil_model.specs.declared.trees.Class.{Class}
 use Rattle.cil_model.specs.Legality.{is_small_class}
-use Rattle.resolved_code.proofs.Tests.{all_after}
+use Rattle.resolved_code.proofs.ListLaws.Tests.{all_after}
 use Rattle.metadata.proofs.WalkLaws.{all_fail}
 use Rattle.metadata.proofs.limits.passed_by_classes.Goals as goal
 

@@ -4,8 +4,8 @@ use Rattle.cil_model.specs.declared.trees.Class.{Class}
 use Rattle.cil_model.specs.declared.limits.TheConstants.{MOST_CLASSES, MOST_STATIC_FIELDS}
 use Rattle.metadata.specs.Counts.{static_count}
 use Rattle.metadata.proofs.CountLaws.{static_fail, classes_decide}
-use Rattle.resolved_code.proofs.Repeats.{if_ok_then}
-use Rattle.resolved_code.proofs.Tests.{not_not}
+use Rattle.resolved_code.proofs.ListLaws.Repeats.{if_ok_then}
+use Rattle.resolved_code.proofs.ListLaws.Tests.{not_not}
 use Rattle.metadata.proofs.limits.passed_limit.Goals as goal
 
 pub returns-in-Some : goal.returns-in-Some

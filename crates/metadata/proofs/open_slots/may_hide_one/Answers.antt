@@ -3,7 +3,7 @@ use Rattle.cil_model.specs.declared.trees.Method.{Method}
 use Rattle.name_tables.specs.Methods.{line_of}
 use Rattle.name_tables.specs.Sameness.{identity_of}
 use Rattle.resolved_code.specs.Found.{is_override, top_open}
-use Rattle.resolved_code.proofs.Tests.{and_false}
+use Rattle.resolved_code.proofs.ListLaws.Tests.{and_false}
 use Rattle.metadata.specs.Open.{hides_one}
 use Rattle.metadata.proofs.WalkLaws.{any_after_in}
 use Rattle.metadata.proofs.open_slots.may_hide_one.Goals as goal

@@ -1,7 +1,7 @@
 use Rattle.std.proofs.Common.{ℕ, Option, option_map, sym, ap, ◌∙◌}
 use Rattle.std.specs.Option.{option_or}
 use Rattle.cil_model.specs.Legality.{first_broken}
-use Rattle.resolved_code.proofs.Repeats.{if_ok_then}
+use Rattle.resolved_code.proofs.ListLaws.Repeats.{if_ok_then}
 use Rattle.metadata.specs.RuleNumbers.{violation_number, rules_of_names, rules_of_methods}
 use Rattle.metadata.proofs.RuleLaws.{broken_in_parts}
 use Rattle.metadata.proofs.rules.least_broken.Goals as goal

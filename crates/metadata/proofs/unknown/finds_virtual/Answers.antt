@@ -1,4 +1,4 @@
-use Rattle.resolved_code.proofs.Tests.{found_alike}
+use Rattle.resolved_code.proofs.ListLaws.Tests.{found_alike}
 use Rattle.std.proofs.Common.{◌∙◌, Some}
 use Rattle.metadata.proofs.unknown.finds_virtual.Goals as goal
 

@@ -2,7 +2,7 @@ use Rattle.std.proofs.Common.{Bool, List, option_map, option_to_list, sym, ap, â
 use Rattle.std.specs.List.{list_all}
 use Rattle.cil_model.specs.declared.types.ClassName.{ClassName}
 use Rattle.cil_model.specs.Legality.{is_resolved}
-use Rattle.resolved_code.proofs.Tests.{and_true}
+use Rattle.resolved_code.proofs.ListLaws.Tests.{and_true}
 use Rattle.metadata.proofs.unknown.owner_fault.Goals as goal
 
 pub returns-in-None : goal.returns-in-None

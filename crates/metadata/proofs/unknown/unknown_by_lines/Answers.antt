@@ -4,7 +4,7 @@ use Rattle.std.proofs.lemmas.List.{at_drop_all}
 use Rattle.cil_model.specs.declared.trees.Line.{Line}
 use Rattle.name_tables.specs.Keys.{text_of_key}
 use Rattle.metadata.proofs.UnknownLaws.{is_instruction, are_labels}
-use Rattle.resolved_code.proofs.Tests.{all_after}
+use Rattle.resolved_code.proofs.ListLaws.Tests.{all_after}
 use Rattle.metadata.proofs.WalkLaws.{all_fail}
 use Rattle.metadata.proofs.unknown.unknown_by_lines.Goals as goal
 

@@ -3,7 +3,7 @@ use Rattle.std.specs.List.{list_all}
 use Rattle.std.proofs.lemmas.List.{at_drop_all}
 use Rattle.cil_model.specs.declared.types.ClassName.{ClassName}
 use Rattle.cil_model.specs.Legality.{is_resolved, is_source_interface}
-use Rattle.resolved_code.proofs.Tests.{all_after}
+use Rattle.resolved_code.proofs.ListLaws.Tests.{all_after}
 use Rattle.metadata.proofs.WalkLaws.{all_fail}
 use Rattle.metadata.proofs.unknown.unknown_interface.Goals as goal
 

@@ -1,8 +1,8 @@
 use Rattle.std.proofs.Common.{is_some, is_none, sym, ap, ◌∙◌}
 use Rattle.std.specs.List.{list_all}
 use Rattle.cil_model.specs.Legality.{is_known_extern}
-use Rattle.resolved_code.proofs.Repeats.{if_ok_then}
-use Rattle.resolved_code.proofs.Tests.{not_not}
+use Rattle.resolved_code.proofs.ListLaws.Repeats.{if_ok_then}
+use Rattle.resolved_code.proofs.ListLaws.Tests.{not_not}
 use Rattle.metadata.proofs.UnknownLaws.{externs_fail, classes_fail, types_fail, code_decides}
 use Rattle.metadata.proofs.unknown.unknown_name.Goals as goal
 

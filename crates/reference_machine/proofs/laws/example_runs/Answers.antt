@@ -1,4 +1,4 @@
-use Rattle.reference_machine.proofs.Trials.{sum_shown}
+use Rattle.reference_machine.proofs.Runs.ExampleRun.{sum_shown}
 use Rattle.reference_machine.proofs.laws.example_runs.Goals as goal
 
 pub returns : goal.returns

@@ -1,4 +1,4 @@
-use Rattle.reference_machine.proofs.MethodLaws.{found_is_declared, target_is_declared}
+use Rattle.reference_machine.proofs.Programs.MethodTypings.{found_is_declared, target_is_declared}
 use Rattle.reference_machine.proofs.laws.found_methods_are_declared.Goals as goal
 
 pub returns-clause-found : goal.returns-clause-found

@@ -1,5 +1,5 @@
-use Rattle.reference_machine.proofs.StepLaws.{step_follows}
-use Rattle.reference_machine.proofs.RunLaws.{run_follows}
+use Rattle.reference_machine.proofs.Runs.InstructionEffects.{step_follows}
+use Rattle.reference_machine.proofs.Runs.JoinedRuns.{run_follows}
 use Rattle.reference_machine.proofs.laws.nothing_is_taken_back.Goals as goal
 
 pub returns-clause-step : goal.returns-clause-step

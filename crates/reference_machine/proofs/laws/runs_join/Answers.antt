@@ -1,4 +1,4 @@
-use Rattle.reference_machine.proofs.RunLaws.{runs_on, sticks_on, stays_stuck}
+use Rattle.reference_machine.proofs.Runs.JoinedRuns.{runs_on, sticks_on, stays_stuck}
 use Rattle.reference_machine.proofs.laws.runs_join.Goals as goal
 
 pub returns-clause-both : goal.returns-clause-both

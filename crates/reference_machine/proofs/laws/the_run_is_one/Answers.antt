@@ -1,4 +1,4 @@
-use Rattle.reference_machine.proofs.RoomLaws.{runs_are_one}
+use Rattle.reference_machine.proofs.Runs.RefusedRuns.{runs_are_one}
 use Rattle.reference_machine.proofs.laws.the_run_is_one.Goals as goal
 
 pub returns : goal.returns

@@ -1,4 +1,4 @@
-use Rattle.reference_machine.proofs.RunLaws.{type_stays, class_stays}
+use Rattle.reference_machine.proofs.Runs.JoinedRuns.{type_stays, class_stays}
 use Rattle.reference_machine.proofs.laws.types_stay.Goals as goal
 
 pub returns-clause-types : goal.returns-clause-types

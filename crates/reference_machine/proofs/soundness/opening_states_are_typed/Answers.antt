@@ -1,4 +1,4 @@
-use Rattle.reference_machine.proofs.Openings.{opens}
+use Rattle.reference_machine.proofs.TypedStates.InitialStates.{opens}
 use Rattle.reference_machine.proofs.soundness.opening_states_are_typed.Goals as goal
 
 pub returns : goal.returns

@@ -1,5 +1,5 @@
-use Rattle.reference_machine.proofs.ReachedObjects.{reachable_is_there}
-use Rattle.reference_machine.proofs.ReachedRuns.{reached_was_reached, run_reaches, reached_is_owed}
+use Rattle.reference_machine.proofs.ReachableObjects.TypedStates.{reachable_is_there}
+use Rattle.reference_machine.proofs.ReachableObjects.Runs.{reached_was_reached, run_reaches, reached_is_owed}
 use Rattle.reference_machine.proofs.soundness.what_is_reached_was_reached_or_is_new.Goals as goal
 
 pub returns-clause-step : goal.returns-clause-step

@@ -1,4 +1,4 @@
-use Rattle.reference_machine.proofs.Reports.{unwaiting_reports, waiting_reports}
+use Rattle.reference_machine.proofs.Deadlocks.Reports.{unwaiting_reports, waiting_reports}
 use Rattle.reference_machine.proofs.waits.a_blocked_thread_waits.Goals as goal
 
 pub returns-clause-waiting : goal.returns-clause-waiting

@@ -1,4 +1,4 @@
-use Rattle.reference_machine.proofs.Lasting.{lasts, runs_last}
+use Rattle.reference_machine.proofs.Deadlocks.LastingDeadlocks.{lasts, runs_last}
 use Rattle.reference_machine.proofs.waits.a_deadlock_lasts.Goals as goal
 
 pub returns-clause-step : goal.returns-clause-step

@@ -3,7 +3,7 @@ use Rattle.std.specs.Prelude.{IfSome}
 use Rattle.name_tables.specs.declared.lookups.MemberNumber.{MemberNumber}
 use Rattle.name_tables.specs.Numbers.{declarations}
 use Rattle.resolved_code.specs.Contents.{entry_from, IsEntryPoint}
-use Rattle.resolved_code.proofs.EntryNumbers.{never_none, entry_found}
+use Rattle.resolved_code.proofs.Numbers.EntryPoints.{never_none, entry_found}
 use Rattle.resolved_code.proofs.contents.entry_of_legal.Goals as goal
 
 pub unreachable-requires : goal.unreachable-requires

@@ -1,5 +1,5 @@
 use Rattle.std.proofs.Common.{◌++◌, map, sym, ap, ◌∙◌, arith}
-use Rattle.resolved_code.proofs.LabelLaws.{label_places_more}
+use Rattle.resolved_code.proofs.LegalPrograms.Labels.{label_places_more}
 use Rattle.std.proofs.Math.Seq.{take_all}
 use Rattle.resolved_code.specs.LabelPlaces.{label_places}
 use Rattle.resolved_code.proofs.labels.label_places.Goals as goal

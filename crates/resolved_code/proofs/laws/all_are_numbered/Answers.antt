@@ -1,4 +1,4 @@
-use Rattle.resolved_code.proofs.DeclaredNumbers.{class_has_number, field_has_number, method_has_number}
+use Rattle.resolved_code.proofs.Numbers.Declarations.{class_has_number, field_has_number, method_has_number}
 use Rattle.resolved_code.proofs.laws.all_are_numbered.Goals as goal
 
 pub returns-clause-classes : goal.returns-clause-classes

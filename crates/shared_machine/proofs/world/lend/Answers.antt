@@ -5,7 +5,7 @@ use Rattle.cil_model.specs.declared.trees.Tree.{Tree}
 use Rattle.interleaving_core.specs.simulation.MachineContents.{Content}
 use Rattle.interleaving_core.specs.simulation.threads_monitors.Threads.{is_live_at}
 use Rattle.interleaving_core.specs.simulation.threads_monitors.declared.threads.Thread.{Thread}
-use Rattle.interleaving_core.proofs.Indexed.{live_within}
+use Rattle.interleaving_core.proofs.Threads.IndexedThreads.{live_within}
 use Rattle.shared_machine.specs.Worlds.{CannotLend, HasRooms, IsLentOut, Shown, is_lent_in, lent_of}
 use Rattle.shared_machine.proofs.Lendings.{lent_out, nothing_taken, read_room, same_tree, shown_as, taken_rooms}
 use Rattle.shared_machine.proofs.world.lend.Goals as goal

@@ -1,4 +1,4 @@
-use Rattle.simulation.proofs.CountedSteps.{step_counted}
+use Rattle.simulation.proofs.MonitorCounts.Steps.{step_counted}
 use Rattle.simulation.proofs.counts.steps_keep_counts.Goals as goal
 
 pub returns : goal.returns

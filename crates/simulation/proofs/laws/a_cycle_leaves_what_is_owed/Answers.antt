@@ -1,5 +1,5 @@
-use Rattle.simulation.proofs.OwedRuns.{leaves_owed}
-use Rattle.simulation.proofs.Whole.{each_alike}
+use Rattle.simulation.proofs.OwedWords.CycleEnds.{leaves_owed}
+use Rattle.simulation.proofs.Runs.EventCorrespondence.{each_alike}
 use Rattle.simulation.proofs.laws.a_cycle_leaves_what_is_owed.Goals as goal
 
 pub returns : goal.returns

@@ -6,7 +6,7 @@ use Rattle.collector.specs.phase_handshake.Handshakes.{is_open, own_phase, seat_
 use Rattle.interpreter.specs.threads_monitors.Threads.{is_live_at}
 use Rattle.simulation.specs.MachineContents.{Content}
 use Rattle.simulation.specs.Sound.{AreSeated}
-use Rattle.simulation.proofs.CollectorTurns.{acked_where_open, acknowledges_phase, answers_once}
+use Rattle.simulation.proofs.CollectorEvents.WaitsAndOpenings.{acked_where_open, acknowledges_phase, answers_once}
 use Rattle.simulation.proofs.laws.an_acknowledgement_is_answered_once.Goals as goal
 
 has_seat : (c : Content) → AreSeated c.posts c.threads → (t : ℕ) → is_live_at c.threads t ≡ true → is_some (seat_of c.posts t) ≡ true

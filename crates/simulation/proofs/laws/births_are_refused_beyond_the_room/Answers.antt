@@ -1,4 +1,4 @@
-use Rattle.simulation.proofs.Whole.{step_is_refused}
+use Rattle.simulation.proofs.Runs.EventCorrespondence.{step_is_refused}
 use Rattle.simulation.proofs.laws.births_are_refused_beyond_the_room.Goals as goal
 
 pub returns : goal.returns

@@ -1,4 +1,4 @@
-use Rattle.simulation.proofs.ClosedMarks.{reached_is_marked}
+use Rattle.simulation.proofs.CollectorEvents.ClosedMarking.{reached_is_marked}
 use Rattle.simulation.proofs.laws.closed_marking_has_reached_all.Goals as goal
 
 pub returns : goal.returns

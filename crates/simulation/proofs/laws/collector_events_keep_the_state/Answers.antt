@@ -1,4 +1,4 @@
-use Rattle.simulation.proofs.Whole.{acknowledgement_keeps, collection_keeps}
+use Rattle.simulation.proofs.Runs.EventCorrespondence.{acknowledgement_keeps, collection_keeps}
 use Rattle.simulation.proofs.laws.collector_events_keep_the_state.Goals as goal
 
 pub returns : goal.returns

@@ -1,4 +1,4 @@
-use Rattle.simulation.proofs.CycleWork.{cycles_bounded}
+use Rattle.simulation.proofs.CycleBounds.BoundedCycles.{cycles_bounded}
 use Rattle.simulation.proofs.laws.cycles_are_bounded.Goals as goal
 
 pub returns : goal.returns

@@ -1,5 +1,5 @@
-use Rattle.simulation.proofs.OwedCycles.{cycle_owes, end_owes, owed_once}
-use Rattle.simulation.proofs.Whole.{each_alike}
+use Rattle.simulation.proofs.OwedWords.NewestCycles.{cycle_owes, end_owes, owed_once}
+use Rattle.simulation.proofs.Runs.EventCorrespondence.{each_alike}
 use Rattle.simulation.proofs.laws.cycles_have_what_they_owe.Goals as goal
 
 pub returns : goal.returns

@@ -1,4 +1,4 @@
-use Rattle.simulation.proofs.LocalTurns.{local_ready}
+use Rattle.simulation.proofs.Threads.LocalInstructions.{local_ready}
 use Rattle.simulation.proofs.laws.lent_frames_are_ready.Goals as goal
 
 pub returns : goal.returns

@@ -1,4 +1,4 @@
-use Rattle.simulation.proofs.LocalTurns.{local_turns}
+use Rattle.simulation.proofs.Threads.LocalInstructions.{local_turns}
 use Rattle.simulation.proofs.laws.local_instructions_are_steps.Goals as goal
 
 pub returns : goal.returns

@@ -1,4 +1,4 @@
-use Rattle.simulation.proofs.StandsLaws.{count_stands, ends_stand, live_stand, printed_stands, started_stand}
+use Rattle.simulation.proofs.Representation.VisibleState.{count_stands, ends_stand, live_stand, printed_stands, started_stand}
 use Rattle.simulation.proofs.laws.machines_show_their_state.Goals as goal
 
 pub returns-clause-printed : goal.returns-clause-printed

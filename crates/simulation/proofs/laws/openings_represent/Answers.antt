@@ -1,4 +1,4 @@
-use Rattle.simulation.proofs.Whole.{opening_is_represented}
+use Rattle.simulation.proofs.Runs.EventCorrespondence.{opening_is_represented}
 use Rattle.simulation.proofs.laws.openings_represent.Goals as goal
 
 pub returns : goal.returns

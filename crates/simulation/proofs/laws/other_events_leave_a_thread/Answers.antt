@@ -1,4 +1,4 @@
-use Rattle.simulation.proofs.OtherThreads.{thread_stays}
+use Rattle.simulation.proofs.Threads.OtherThreads.{thread_stays}
 use Rattle.simulation.proofs.laws.other_events_leave_a_thread.Goals as goal
 
 pub returns : goal.returns

@@ -1,5 +1,5 @@
-use Rattle.simulation.proofs.StepRuns.{steps_refuse}
-use Rattle.simulation.proofs.Whole.{each_alike}
+use Rattle.simulation.proofs.Runs.RunsWithoutCollection.{steps_refuse}
+use Rattle.simulation.proofs.Runs.EventCorrespondence.{each_alike}
 use Rattle.simulation.proofs.laws.steps_alone_refuse_beyond_all_births.Goals as goal
 
 pub returns : goal.returns

@@ -1,4 +1,4 @@
-use Rattle.simulation.proofs.Whole.{step_is_followed}
+use Rattle.simulation.proofs.Runs.EventCorrespondence.{step_is_followed}
 use Rattle.simulation.proofs.laws.steps_follow_the_reference_machine.Goals as goal
 
 pub returns : goal.returns

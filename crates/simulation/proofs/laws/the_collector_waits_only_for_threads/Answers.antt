@@ -1,6 +1,6 @@
 use Rattle.std.proofs.Common.{sym, ap, ◌∙◌}
 use Rattle.interpreter.specs.cil_model.declared.reports.Report.{Report}
-use Rattle.simulation.proofs.CollectorTurns.{waits_rightly}
+use Rattle.simulation.proofs.CollectorEvents.WaitsAndOpenings.{waits_rightly}
 use Rattle.simulation.specs.MachineContents.{Content}
 use Rattle.simulation.proofs.laws.the_collector_waits_only_for_threads.Goals as goal
 

@@ -1,6 +1,6 @@
 use Rattle.std.proofs.Common.{ap, ◌∙◌}
 use Rattle.interpreter.specs.cil_model.declared.reports.Report.{Report}
-use Rattle.simulation.proofs.CollectorTurns.{opens_next}
+use Rattle.simulation.proofs.CollectorEvents.WaitsAndOpenings.{opens_next}
 use Rattle.simulation.specs.MachineContents.{Content}
 use Rattle.simulation.proofs.laws.the_next_cycle_opens.Goals as goal
 

@@ -1,5 +1,5 @@
-use Rattle.interpreter.proofs.resolved_code.OneOperation.{one_operation}
-use Rattle.simulation.proofs.OneRun.{runs_are_one}
+use Rattle.interpreter.proofs.resolved_code.Operations.UniqueOperations.{one_operation}
+use Rattle.simulation.proofs.Runs.UniqueRuns.{runs_are_one}
 use Rattle.simulation.proofs.laws.the_run_is_one.Goals as goal
 
 pub returns : goal.returns

@@ -1,4 +1,4 @@
-use Rattle.simulation.proofs.FieldSizes.{class_number_small}
+use Rattle.simulation.proofs.ProgramSizes.ClassesAndFields.{class_number_small}
 use Rattle.simulation.proofs.sizes.classes_are_few.Goals as goal
 
 pub returns : goal.returns

@@ -1,5 +1,5 @@
-use Rattle.resolved_code.proofs.Limits.{static_fields_few}
-use Rattle.simulation.proofs.FieldSizes.{slots_few, instance_slot_small, static_slot_small}
+use Rattle.resolved_code.proofs.LegalPrograms.Limits.{static_fields_few}
+use Rattle.simulation.proofs.ProgramSizes.ClassesAndFields.{slots_few, instance_slot_small, static_slot_small}
 use Rattle.simulation.proofs.sizes.fields_are_few.Goals as goal
 
 pub returns-clause-slots : goal.returns-clause-slots

@@ -1,4 +1,4 @@
-use Rattle.simulation.proofs.MethodSizes.{literals_few}
+use Rattle.simulation.proofs.ProgramSizes.Methods.{literals_few}
 use Rattle.simulation.proofs.sizes.literals_are_few.Goals as goal
 
 pub returns : goal.returns

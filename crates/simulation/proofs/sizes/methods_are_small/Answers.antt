@@ -1,4 +1,4 @@
-use Rattle.simulation.proofs.MethodSizes.{arguments_few, instructions_few, locals_few, stack_low, arrays_shallow}
+use Rattle.simulation.proofs.ProgramSizes.Methods.{arguments_few, instructions_few, locals_few, stack_low, arrays_shallow}
 use Rattle.simulation.proofs.sizes.methods_are_small.Goals as goal
 
 pub returns-clause-arguments : goal.returns-clause-arguments

@@ -2,8 +2,8 @@ use Rattle.std.proofs.Common.{◌≡◌, subst, sym}
 use Rattle.cil_model.specs.declared.trees.Tree.{Tree}
 use Rattle.cil_model.specs.Sources.{HasTree}
 use Rattle.shared_machine.specs.simulation.Runs.{IsRunOf}
-use Rattle.shared_machine.proofs.interleaving_core.simulation.OneRun.{runs_are_one}
-use Rattle.shared_machine.proofs.simulation.resolved_code.OneOperation.{one_operation}
+use Rattle.shared_machine.proofs.interleaving_core.simulation.Runs.UniqueRuns.{runs_are_one}
+use Rattle.shared_machine.proofs.simulation.resolved_code.Operations.UniqueOperations.{one_operation}
 use Rattle.source_runs.proofs.laws.a_run_is_one.Goals as goal
 
 same_tree : (t u : Tree) → HasTree t ≡ HasTree u → t ≡ u

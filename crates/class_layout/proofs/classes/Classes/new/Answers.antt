@@ -1,7 +1,7 @@
 use Rattle.std.proofs.Common.{sym, ap, ◌∙◌}
 use Rattle.cil_model.specs.Chains.{longest_chain}
 use Rattle.name_tables.specs.Numbers.{declarations}
-use Rattle.resolved_code.proofs.AlikeLaws.{alike_length}
+use Rattle.resolved_code.proofs.ListLaws.RelatedLists.{alike_length}
 use Rattle.class_layout.proofs.ResolvedLaws.{IsClass, listed_alike}
 use Rattle.class_layout.proofs.classes.Classes.new.Goals as goal
 

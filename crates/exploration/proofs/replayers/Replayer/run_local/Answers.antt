@@ -1,7 +1,7 @@
 use Rattle.std.proofs.Common.{subst, sym}
 use Rattle.simulation.specs.cil_model.Legality.{IsLegal}
 use Rattle.simulation.specs.MachineContents.{Content}
-use Rattle.simulation.proofs.resolved_code.OneOperation.{one_operation}
+use Rattle.simulation.proofs.resolved_code.Operations.UniqueOperations.{one_operation}
 use Rattle.exploration.specs.Behind.{IsBehind}
 use Rattle.exploration.proofs.Begins.{begins_program, begins_still}
 use Rattle.exploration.proofs.Covering.{behind_itself}

@@ -2,7 +2,7 @@ use Rattle.std.proofs.Common.{sym, ap, ◌∙◌}
 use Rattle.std.specs.Prelude.{slice_set}
 use Rattle.phase_handshake.specs.Handshakes.{Handshakes}
 use Rattle.interleaving_core.specs.Views.{content_of}
-use Rattle.interleaving_core.proofs.Indexed.{answered_is, reached_live, reached_with}
+use Rattle.interleaving_core.proofs.Threads.IndexedThreads.{answered_is, reached_live, reached_with}
 use Rattle.interleaving_core.proofs.engine.Engine.answer.Goals as goal
 
 pub answer-report-requires-clause-live : goal.answer-report-requires-clause-live

@@ -3,7 +3,7 @@ use Rattle.std.proofs.lemmas.Result.{IfOk-weaker, on_err_weaker}
 use Rattle.cil_model.specs.declared.phases.Phase.TheVariants.{Idle, Mark, Allocate, Copy, PreFlip, HeapFlip, ThreadFlip, Reclaim}
 use Rattle.reference_machine.specs.Cycles.{phase_after}
 use Rattle.interleaving_core.specs.Views.{content_of}
-use Rattle.interleaving_core.proofs.Collecting.{collects, opening_takes_memory, waits}
+use Rattle.interleaving_core.proofs.CollectorTurns.CollectorEvents.{collects, opening_takes_memory, waits}
 use Rattle.interleaving_core.proofs.engine.Engine.collect.Goals as goal
 
 pub returns-then-not-all_seen-clause-turns : goal.returns-then-not-all_seen-clause-turns

@@ -1,6 +1,6 @@
 use Rattle.interleaving_core.specs.Views.{content_of}
 use Rattle.simulation.specs.interpreter.declared.outcomes.Outcome.TheVariants.{Joins}
-use Rattle.interleaving_core.proofs.Requests.{join_finished, of_live}
+use Rattle.interleaving_core.proofs.Threads.Requests.{join_finished, of_live}
 use Rattle.interleaving_core.proofs.engine.Engine.finish_join.Goals as goal
 
 pub join-effect-requires : goal.join-effect-requires

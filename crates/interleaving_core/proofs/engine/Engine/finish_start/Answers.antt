@@ -2,8 +2,8 @@ use Rattle.phase_handshake.specs.Handshakes.{own_phase}
 use Rattle.simulation.specs.Turns.{live_thread}
 use Rattle.interleaving_core.specs.Views.{content_of}
 use Rattle.simulation.specs.interpreter.declared.outcomes.Outcome.TheVariants.{Starts}
-use Rattle.interleaving_core.proofs.Stepping.{started_keeps}
-use Rattle.interleaving_core.proofs.Requests.{live_after, of_live, start_finished, started_back}
+use Rattle.interleaving_core.proofs.Threads.HalfSteps.{started_keeps}
+use Rattle.interleaving_core.proofs.Threads.Requests.{live_after, of_live, start_finished, started_back}
 use Rattle.interleaving_core.proofs.engine.Engine.finish_start.Goals as goal
 
 pub start-requires-clause-slot : goal.start-requires-clause-slot

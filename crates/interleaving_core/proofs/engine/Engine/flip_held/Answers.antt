@@ -6,9 +6,9 @@ use Rattle.threads_monitors.specs.declared.threads.Standing.{Standing}
 use Rattle.threads_monitors.specs.declared.threads.Standing.TheVariants.{Live}
 use Rattle.threads_monitors.specs.declared.threads.Thread.{Thread}
 use Rattle.interleaving_core.specs.Views.{content_of}
-use Rattle.interleaving_core.proofs.Acknowledged.{held_there}
-use Rattle.interleaving_core.proofs.Indexed.{read_there}
-use Rattle.interleaving_core.proofs.Stepping.{thread_is}
+use Rattle.interleaving_core.proofs.CollectorTurns.FrameReferences.{held_there}
+use Rattle.interleaving_core.proofs.Threads.IndexedThreads.{read_there}
+use Rattle.interleaving_core.proofs.Threads.HalfSteps.{thread_is}
 use Rattle.interleaving_core.proofs.engine.Engine.flip_held.Goals as goal
 
 -- one thread in the place of its flipped self

@@ -1,7 +1,7 @@
 use Rattle.std.proofs.Common.{sym, subst}
 use Rattle.simulation.specs.collector.Conditions.{AreThere}
 use Rattle.interleaving_core.specs.Views.{content_of}
-use Rattle.interleaving_core.proofs.Collecting.{statics_there}
+use Rattle.interleaving_core.proofs.CollectorTurns.CollectorEvents.{statics_there}
 use Rattle.interleaving_core.proofs.engine.Engine.flip_on.Goals as goal
 
 pub flip_static_step-requires-clause-there : goal.flip_static_step-requires-clause-there

@@ -5,7 +5,7 @@ use Rattle.simulation.specs.Turns.{live_thread}
 use Rattle.threads_monitors.specs.declared.mutators.Mutator.{Mutator}
 use Rattle.threads_monitors.specs.declared.threads.Thread.{Thread}
 use Rattle.interleaving_core.specs.Views.{content_of}
-use Rattle.interleaving_core.proofs.Indexed.{instructed, live_within, reached, reached_live, reached_with, ready_for, refused_is}
+use Rattle.interleaving_core.proofs.Threads.IndexedThreads.{instructed, live_within, reached, reached_live, reached_with, ready_for, refused_is}
 use Rattle.interleaving_core.proofs.engine.Engine.instruct.Goals as goal
 
 pub index_mut-requires : goal.index_mut-requires

@@ -5,7 +5,7 @@ use Rattle.simulation.specs.MachineContents.{frame_room}
 use Rattle.simulation.specs.Turns.{live_thread}
 use Rattle.simulation.specs.interpreter.Local.{frames_over}
 use Rattle.interleaving_core.specs.Views.{content_of}
-use Rattle.interleaving_core.proofs.LiveFrames.{found_there, none_there, runs_frame}
+use Rattle.interleaving_core.proofs.Threads.LiveFrames.{found_there, none_there, runs_frame}
 use Rattle.interleaving_core.proofs.engine.Engine.is_at_origin.Goals as goal
 
 pub returns-in-Some : goal.returns-in-Some

@@ -7,8 +7,8 @@ use Rattle.threads_monitors.specs.declared.threads.Thread.{Thread}
 use Rattle.threads_monitors.specs.Threads.{is_live}
 use Rattle.simulation.specs.Turns.{live_thread}
 use Rattle.simulation.specs.interpreter.Local.{IsNextLocal}
-use Rattle.interleaving_core.proofs.LiveFrames.{found_there, none_there}
-use Rattle.interleaving_core.proofs.Stepping.{same_frames, thread_is}
+use Rattle.interleaving_core.proofs.Threads.LiveFrames.{found_there, none_there}
+use Rattle.interleaving_core.proofs.Threads.HalfSteps.{same_frames, thread_is}
 use Rattle.interleaving_core.proofs.engine.Engine.is_next_local.Goals as goal
 
 pub is_next_local-requires : goal.is_next_local-requires

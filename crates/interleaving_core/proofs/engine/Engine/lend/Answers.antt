@@ -6,8 +6,8 @@ use Rattle.threads_monitors.specs.declared.threads.Standing.{Standing}
 use Rattle.threads_monitors.specs.declared.threads.Thread.{Thread}
 use Rattle.interleaving_core.specs.Loans.{Begins, CanGoOnLocally, Lent}
 use Rattle.interleaving_core.specs.Views.{content_of}
-use Rattle.interleaving_core.proofs.LiveFrames.{found_there, runs_frame}
-use Rattle.interleaving_core.proofs.Stepping.{thread_is}
+use Rattle.interleaving_core.proofs.Threads.LiveFrames.{found_there, runs_frame}
+use Rattle.interleaving_core.proofs.Threads.HalfSteps.{thread_is}
 use Rattle.interleaving_core.proofs.engine.Engine.lend.Goals as goal
 
 pub fill-requires-clause-room : goal.fill-requires-clause-room

@@ -2,9 +2,9 @@ use Rattle.std.proofs.Common.{Some, sym, ap, ◌∙◌}
 use Rattle.simulation.specs.Collecting.{with_standing_marked, with_thread_marked}
 use Rattle.object_memory.specs.Objects.{Objects}
 use Rattle.interleaving_core.specs.Views.{content_of}
-use Rattle.interleaving_core.proofs.Acknowledged.{held_there}
-use Rattle.interleaving_core.proofs.Indexed.{read_there}
-use Rattle.interleaving_core.proofs.Stepping.{thread_is}
+use Rattle.interleaving_core.proofs.CollectorTurns.FrameReferences.{held_there}
+use Rattle.interleaving_core.proofs.Threads.IndexedThreads.{read_there}
+use Rattle.interleaving_core.proofs.Threads.HalfSteps.{thread_is}
 use Rattle.interleaving_core.proofs.engine.Engine.mark_held.Goals as goal
 
 pub mark_frames-requires-clause-there : goal.mark_frames-requires-clause-there

@@ -3,7 +3,7 @@ use Rattle.object_memory.specs.Objects.{Objects}
 use Rattle.simulation.specs.collector.Conditions.{AreThere}
 use Rattle.simulation.specs.collector.declared.progress.Progress.{Progress}
 use Rattle.interleaving_core.specs.Views.{content_of}
-use Rattle.interleaving_core.proofs.Collecting.{none_marked, statics_there}
+use Rattle.interleaving_core.proofs.CollectorTurns.CollectorEvents.{none_marked, statics_there}
 use Rattle.interleaving_core.proofs.engine.Engine.mark_on.Goals as goal
 
 pub scan_statics-requires-clause-there : goal.scan_statics-requires-clause-there

@@ -2,7 +2,7 @@ use Rattle.std.proofs.Common.{◌≡◌, sym, ap, ◌∙◌, Some, option_and_th
 use Rattle.threads_monitors.specs.declared.threads.Thread.{Thread}
 use Rattle.simulation.specs.Turns.{live_thread}
 use Rattle.interleaving_core.specs.Monitors.{standing_monitor}
-use Rattle.interleaving_core.proofs.Stepping.{thread_is}
+use Rattle.interleaving_core.proofs.Threads.HalfSteps.{thread_is}
 use Rattle.interleaving_core.proofs.engine.Engine.monitor_of.Goals as goal
 
 pub monitor_in-requires : goal.monitor_in-requires

@@ -1,7 +1,7 @@
 use Rattle.std.proofs.Common.{refl, sym, ap}
 use Rattle.std.proofs.lemmas.Result.{IfOk-from_err}
 use Rattle.reference_machine.specs.Cycles.{phase_after}
-use Rattle.interleaving_core.proofs.Refusing.{on_err}
+use Rattle.interleaving_core.proofs.Threads.RefusedMemory.{on_err}
 use Rattle.interleaving_core.proofs.engine.Engine.open_cycle.Goals as goal
 
 pub returns-in_err-memory-clause-opened : goal.returns-in_err-memory-clause-opened

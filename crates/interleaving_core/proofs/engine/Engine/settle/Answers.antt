@@ -2,7 +2,7 @@ use Rattle.std.proofs.Common.{sym, ap, ◌∙◌}
 use Rattle.std.specs.Prelude.{slice_set}
 use Rattle.phase_handshake.specs.Handshakes.{Handshakes}
 use Rattle.interleaving_core.specs.Views.{content_of}
-use Rattle.interleaving_core.proofs.Indexed.{counted_is}
+use Rattle.interleaving_core.proofs.Threads.IndexedThreads.{counted_is}
 use Rattle.interleaving_core.proofs.engine.Engine.settle.Goals as goal
 
 pub returns : goal.returns

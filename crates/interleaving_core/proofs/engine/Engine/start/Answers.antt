@@ -6,8 +6,8 @@ use Rattle.threads_monitors.specs.Threads.{new_thread, start_fault}
 use Rattle.threads_monitors.specs.declared.threads.Thread.{Thread}
 use Rattle.std.specs.Prelude.{List}
 use Rattle.simulation.specs.Turns.{started}
-use Rattle.interleaving_core.proofs.Indexed.{started_is}
-use Rattle.interleaving_core.proofs.Refusing.{on_err}
+use Rattle.interleaving_core.proofs.Threads.IndexedThreads.{started_is}
+use Rattle.interleaving_core.proofs.Threads.RefusedMemory.{on_err}
 use Rattle.interleaving_core.proofs.engine.Engine.start.Goals as goal
 
 pub beginning_on-beginning-requires-clause-there : goal.beginning_on-beginning-requires-clause-there

@@ -1,8 +1,8 @@
 use Rattle.std.proofs.Common.{◌∙◌}
 use Rattle.std.proofs.lemmas.Result.{IfOk-weaker, on_err_weaker}
 use Rattle.interleaving_core.specs.Views.{content_of}
-use Rattle.interleaving_core.proofs.Stepping.{can_finish, live_left, live_there, refused_back, turn_of_halves}
-use Rattle.interleaving_core.proofs.Refusing.{on_err, print_refused, start_refused}
+use Rattle.interleaving_core.proofs.Threads.HalfSteps.{can_finish, live_left, live_there, refused_back, turn_of_halves}
+use Rattle.interleaving_core.proofs.Threads.RefusedMemory.{on_err, print_refused, start_refused}
 use Rattle.interleaving_core.proofs.engine.Engine.step_thread.Goals as goal
 
 pub finish-requires-clause-can : goal.finish-requires-clause-can

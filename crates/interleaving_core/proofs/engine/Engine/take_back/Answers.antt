@@ -5,7 +5,7 @@ use Rattle.simulation.specs.MachineContents.{Content, frame_room}
 use Rattle.simulation.specs.Turns.{live_thread}
 use Rattle.simulation.specs.interpreter.Local.{frames_over}
 use Rattle.interleaving_core.specs.Views.{content_of}
-use Rattle.interleaving_core.proofs.Indexed.{read_there}
+use Rattle.interleaving_core.proofs.Threads.IndexedThreads.{read_there}
 use Rattle.interleaving_core.proofs.engine.Engine.take_back.Goals as goal
 
 pub returns : goal.returns

@@ -3,7 +3,7 @@ use Rattle.std.specs.Option.{option_map_or}
 use Rattle.threads_monitors.specs.declared.threads.Thread.{Thread}
 use Rattle.simulation.specs.Turns.{live_thread}
 use Rattle.interleaving_core.specs.Prints.{standing_print}
-use Rattle.interleaving_core.proofs.Stepping.{thread_is}
+use Rattle.interleaving_core.proofs.Threads.HalfSteps.{thread_is}
 use Rattle.interleaving_core.proofs.engine.Engine.thread_print_length.Goals as goal
 
 pub print_length_in-requires : goal.print_length_in-requires

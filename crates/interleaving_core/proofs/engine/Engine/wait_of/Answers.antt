@@ -3,8 +3,8 @@ use Rattle.threads_monitors.specs.declared.threads.Thread.{Thread}
 use Rattle.simulation.specs.Turns.{live_thread}
 use Rattle.interleaving_core.specs.Views.{content_of}
 use Rattle.interleaving_core.specs.Waits.{standing_wait}
-use Rattle.interleaving_core.proofs.AwaitedObjects.{has_object}
-use Rattle.interleaving_core.proofs.Stepping.{thread_is}
+use Rattle.interleaving_core.proofs.Threads.AwaitedObjects.{has_object}
+use Rattle.interleaving_core.proofs.Threads.HalfSteps.{thread_is}
 use Rattle.interleaving_core.proofs.engine.Engine.wait_of.Goals as goal
 
 pub wait_in-requires-clause-object : goal.wait_in-requires-clause-object

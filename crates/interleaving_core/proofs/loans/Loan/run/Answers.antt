@@ -4,7 +4,7 @@ use Rattle.simulation.specs.interpreter.Local.{AreLocalSteps, IsReadySomewhere, 
 use Rattle.simulation.specs.MachineContents.{frame_room}
 use Rattle.interleaving_core.specs.Loans.{IsAlone, IsLent, Lent}
 use Rattle.interleaving_core.specs.declared.loans.Rooms.{Rooms}
-use Rattle.interleaving_core.proofs.LocalRuns.{goes_on, steps_behind}
+use Rattle.interleaving_core.proofs.Threads.LocalRuns.{goes_on, steps_behind}
 use Rattle.interleaving_core.proofs.loans.Loan.run.Goals as goal
 
 -- what a loan's memory is, by what the loan says of it

@@ -2,7 +2,7 @@ use Rattle.std.proofs.Common.{[], ap, arith, map, sym, take, ◌++◌, ◌<◌, 
 use Rattle.std.proofs.lemmas.List.{length-map, take_all}
 use Rattle.std.proofs.lemmas.Result.{IfOk-from_err}
 use Rattle.threads_monitors.specs.Threads.{end_of}
-use Rattle.interleaving_core.proofs.Ends.{ends_more}
+use Rattle.interleaving_core.proofs.Threads.Ends.{ends_more}
 use Rattle.interleaving_core.proofs.machine.Machine.ends.Goals as goal
 
 pub loop-thread-preserved : goal.loop-thread-preserved

@@ -1,5 +1,5 @@
 use Rattle.interleaving_core.specs.Views.{content_of}
-use Rattle.interleaving_core.proofs.LiveFrames.{live_room}
+use Rattle.interleaving_core.proofs.Threads.LiveFrames.{live_room}
 use Rattle.interleaving_core.proofs.machine.Machine.is_at_origin.Goals as goal
 
 pub is_at_origin-requires : goal.is_at_origin-requires

@@ -1,7 +1,7 @@
 use Rattle.std.proofs.Common.{refl, sym, subst}
 use Rattle.simulation.specs.interpreter.Local.{IsReadySomewhere}
 use Rattle.interleaving_core.specs.Views.{content_of}
-use Rattle.interleaving_core.proofs.LiveFrames.{live_left, live_room, top_goes_on}
+use Rattle.interleaving_core.proofs.Threads.LiveFrames.{live_left, live_room, top_goes_on}
 use Rattle.interleaving_core.proofs.machine.Machine.is_next_local.Goals as goal
 
 pub is_next_local-requires : goal.is_next_local-requires

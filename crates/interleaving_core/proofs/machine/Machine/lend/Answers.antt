@@ -1,5 +1,5 @@
 use Rattle.interleaving_core.specs.Views.{content_of}
-use Rattle.interleaving_core.proofs.LiveFrames.{live_left, live_room, top_goes_on}
+use Rattle.interleaving_core.proofs.Threads.LiveFrames.{live_left, live_room, top_goes_on}
 use Rattle.interleaving_core.proofs.machine.Machine.lend.Goals as goal
 
 pub lend-requires-clause-ready : goal.lend-requires-clause-ready

@@ -1,4 +1,4 @@
-use Rattle.interleaving_core.proofs.Sound.{can_go_on}
+use Rattle.interleaving_core.proofs.Runs.RepresentedStates.{can_go_on}
 use Rattle.interleaving_core.proofs.machine.Machine.monitor_of.Goals as goal
 
 pub monitor_of-requires : goal.monitor_of-requires

@@ -2,8 +2,8 @@ use Rattle.std.proofs.Common.{◌≡◌, ◌∙◌, [], arith, refl, sym, true}
 use Rattle.std.proofs.lemmas.Result.{IfOk-from_err}
 use Rattle.cil_model.specs.Ranges.{are_in_range}
 use Rattle.interleaving_core.specs.Views.{content_of}
-use Rattle.interleaving_core.proofs.Doing.{has_done}
-use Rattle.interleaving_core.proofs.Sound.{opened_represents}
+use Rattle.interleaving_core.proofs.Runs.LongerRuns.{has_done}
+use Rattle.interleaving_core.proofs.Runs.RepresentedStates.{opened_represents}
 use Rattle.interleaving_core.proofs.machine.Machine.new.Goals as goal
 
 pub invariant_of-result : goal.invariant_of-result

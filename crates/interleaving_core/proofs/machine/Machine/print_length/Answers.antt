@@ -1,8 +1,8 @@
 use Rattle.std.proofs.Common.{◌≡◌, length, ap, ◌∙◌, arith}
 use Rattle.simulation.specs.MachineContents.{Content}
 use Rattle.interleaving_core.specs.Prints.{next_print}
-use Rattle.interleaving_core.proofs.Printing.{prints_within}
-use Rattle.interleaving_core.proofs.Sound.{can_go_on}
+use Rattle.interleaving_core.proofs.Threads.PrintedOutput.{prints_within}
+use Rattle.interleaving_core.proofs.Runs.RepresentedStates.{can_go_on}
 use Rattle.interleaving_core.proofs.machine.Machine.print_length.Goals as goal
 
 pub print_length-requires : goal.print_length-requires

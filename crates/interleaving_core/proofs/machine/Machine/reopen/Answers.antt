@@ -1,4 +1,4 @@
-use Rattle.interleaving_core.proofs.Sound.{sound_reopened}
+use Rattle.interleaving_core.proofs.Runs.RepresentedStates.{sound_reopened}
 use Rattle.interleaving_core.proofs.machine.Machine.reopen.Goals as goal
 
 pub invariant_of-self : goal.invariant_of-self

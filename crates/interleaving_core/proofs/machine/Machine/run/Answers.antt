@@ -1,9 +1,9 @@
 use Rattle.std.proofs.Common.{◌≡◌, ◌+◌, ◌++◌, ◌∷◌, ◌∙◌, [], arith, ap, drop, length, subst, sym, take}
 use Rattle.std.proofs.lemmas.List.{append-nil, take_all}
 use Rattle.simulation.specs.Runs.{AreTurns}
-use Rattle.interleaving_core.proofs.Doing.{does_more}
-use Rattle.interleaving_core.proofs.Following.{RunSoFar, SameProgram, all_reported, run_begun, run_follows, run_kept, run_program, run_step, run_turns, turns_follow}
-use Rattle.interleaving_core.proofs.Refusing.{none_on_err, on_err}
+use Rattle.interleaving_core.proofs.Runs.LongerRuns.{does_more}
+use Rattle.interleaving_core.proofs.Runs.FollowedRuns.{RunSoFar, SameProgram, all_reported, run_begun, run_follows, run_kept, run_program, run_step, run_turns, turns_follow}
+use Rattle.interleaving_core.proofs.Threads.RefusedMemory.{none_on_err, on_err}
 use Rattle.interleaving_core.proofs.machine.Machine.run.Goals as goal
 
 pub loop-event-init : goal.loop-event-init

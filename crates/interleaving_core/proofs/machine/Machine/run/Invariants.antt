@@ -1,5 +1,5 @@
 use Rattle.std.proofs.Common.{take}
-use Rattle.interleaving_core.proofs.Following.{RunSoFar}
+use Rattle.interleaving_core.proofs.Runs.FollowedRuns.{RunSoFar}
 use Rattle.interleaving_core.proofs.machine.Machine.run.Given as goal
 
 -- the run so far

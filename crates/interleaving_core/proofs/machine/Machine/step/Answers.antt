@@ -4,9 +4,9 @@ use Rattle.std.proofs.lemmas.Result.{IfOk-weaker}
 use Rattle.simulation.specs.Runs.{FollowsReference}
 use Rattle.interleaving_core.specs.Histories.{DoesMore}
 use Rattle.interleaving_core.specs.Views.{content_of}
-use Rattle.interleaving_core.proofs.Doing.{does_one}
-use Rattle.interleaving_core.proofs.Following.{SameProgram, turn_follows}
-use Rattle.interleaving_core.proofs.Sound.{can_go_on, same_after, sound_after}
+use Rattle.interleaving_core.proofs.Runs.LongerRuns.{does_one}
+use Rattle.interleaving_core.proofs.Runs.FollowedRuns.{SameProgram, turn_follows}
+use Rattle.interleaving_core.proofs.Runs.RepresentedStates.{can_go_on, same_after, sound_after}
 use Rattle.interleaving_core.proofs.machine.Machine.step.Goals as goal
 
 pub step-requires : goal.step-requires

@@ -5,11 +5,11 @@ use Rattle.cil_model.specs.declared.trees.Tree.{Tree}
 use Rattle.simulation.specs.MachineContents.{Content, frame_room}
 use Rattle.simulation.specs.Runs.{AreTurns}
 use Rattle.simulation.specs.interpreter.Local.{AreLocalSteps}
-use Rattle.simulation.proofs.LocalTurns.{local_turns}
+use Rattle.simulation.proofs.Threads.LocalInstructions.{local_turns}
 use Rattle.interleaving_core.specs.Loans.{IsAtOrigin}
 use Rattle.interleaving_core.specs.Views.{content_of}
-use Rattle.interleaving_core.proofs.Following.{turns_program}
-use Rattle.interleaving_core.proofs.LiveFrames.{lent_sound}
+use Rattle.interleaving_core.proofs.Runs.FollowedRuns.{turns_program}
+use Rattle.interleaving_core.proofs.Threads.LiveFrames.{lent_sound}
 use Rattle.interleaving_core.proofs.machine.Machine.take_back.Goals as goal
 
 pub invariant_of-self : goal.invariant_of-self

@@ -1,4 +1,4 @@
-use Rattle.interleaving_core.proofs.Sound.{can_go_on}
+use Rattle.interleaving_core.proofs.Runs.RepresentedStates.{can_go_on}
 use Rattle.interleaving_core.proofs.machine.Machine.wait_of.Goals as goal
 
 pub wait_of-requires-clause-ready : goal.wait_of-requires-clause-ready

@@ -1,6 +1,6 @@
 use Rattle.std.proofs.Common.{Option, slice_get, sym, ap, subst, ◌∙◌}
 use Rattle.resolved_code.specs.Resolved.{BothAlike}
-use Rattle.resolved_code.proofs.MemberLaws.{alike_at}
+use Rattle.resolved_code.proofs.ListLaws.RelatedItems.{alike_at}
 use Rattle.loaded_program.specs.declared.methods.TableMethod.{TableMethod}
 use Rattle.loaded_program.specs.AllMethods.{all_methods}
 use Rattle.loaded_program.specs.Prepared.{IsTableMethod}

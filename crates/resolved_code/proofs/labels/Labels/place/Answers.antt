@@ -6,7 +6,7 @@ use Rattle.cil_model.specs.Same.{same_text}
 use Rattle.name_tables.specs.Keys.{text_of_key}
 use Rattle.name_tables.proofs.NumberLaws.{position_from-map}
 use Rattle.resolved_code.specs.LabelPlaces.{label_places}
-use Rattle.resolved_code.proofs.LabelLaws.{placed}
+use Rattle.resolved_code.proofs.LegalPrograms.Labels.{placed}
 use Rattle.resolved_code.proofs.labels.Labels.place.Goals as goal
 
 pub returns-in-None : goal.returns-in-None

@@ -1,0 +1,361 @@
+-- Births keep a heap sound, in each pair of phases that a thread and the collector may be in.
+use Rattle.std.proofs.Common.{◌≡◌, ◌≢◌, ◌⊎◌, inl, inr, ℕ, ◌+◌, ◌≤◌, Bool, true, false, refl, sym, ap, subst, ◌∙◌, arith}
+use Rattle.std.specs.Prelude.{◌&&◌, ◌||◌, if◌then◌else◌, is_some, nat_le, not, Option, Some, None}
+use Rattle.std.proofs.lemmas.Bool.{or_left, or_right}
+use Rattle.std.proofs.lemmas.Bool.Decides.{nat_tests}
+use Rattle.std.proofs.lemmas.Option.{none-some, same_Some}
+use Rattle.cil_model.specs.declared.phases.Phase.{Phase}
+use Rattle.cil_model.specs.declared.phases.Phase.TheVariants.{Idle, Mark, Allocate, Copy, PreFlip, HeapFlip, ThreadFlip, Reclaim}
+use Rattle.cil_model.specs.declared.trees.Tree.{Tree}
+use Rattle.reference_machine.specs.Cycles.{phase_after}
+use Rattle.object_memory.specs.declared.addresses.Addr.{Addr}
+use Rattle.object_memory.specs.declared.kinds.Kind.{Kind}
+use Rattle.object_memory.specs.Cells.{empty_cell, next_address}
+use Rattle.object_memory.specs.Spaces.{AreSpaces, InBoth, InNew, InOld, Listed, Place, Spaces, address_at, born, forward, is_within_cycle, place_of, room_at}
+use Rattle.object_memory.specs.Objects.{Objects}
+use Rattle.barriers.specs.Barriers.{can_bear, object_born}
+use Rattle.phase_handshake.specs.Handshakes.{Handshakes, IsClose}
+use Rattle.phase_handshake.specs.declared.posts.Seat.{Seat}
+use Rattle.collector.specs.Soundness.{IsSoundHeap}
+use Rattle.object_memory.proofs.Births.{born-new_last, born-old_last}
+use Rattle.collector.specs.Phases.{HasLooked, is_before_copies, is_live, is_marked_address, is_marked_cell, is_marked_old, is_new, is_of_cycle, no_progress}
+use Rattle.collector.specs.Holding.{AnyLive, HasNotBegun, Hold, IsOnTime, MarkedOnly, NewOnly, is_flipping, is_marking, may_hold, passes, hold_of}
+use Rattle.object_memory.specs.Spaces.{is_old}
+use Rattle.collector.specs.References.{is_permanent}
+use Rattle.collector.specs.declared.progress.Progress.{Progress}
+use Rattle.collector.proofs.Addresses.GrowingBlocks.{TestsStay, false_true, passes_stays}
+use Rattle.collector.proofs.Births.HeapsAfterBirths.{Suits, born_flags, born_forward, born_heap, born_not_begun, born_stays}
+use Rattle.collector.proofs.Births.NewCells.{IsBirth, birth_in}
+
+-- ---- what a thread may hold of what it bore
+
+-- an object of the new block where both the thread and the collector are past the flip of frames, else any live one
+abbrev pub birth_hold : (own posted : Phase) → Hold
+birth_hold own posted = if is_flipping own && is_flipping posted then NewOnly else AnyLive
+
+-- ---- what is live
+
+-- an old object, a marked one or a new one is live where these are
+seen_old : (m : Spaces) (a : Addr) → is_old m a ≡ true → (is_permanent a || is_old m a) ≡ true
+seen_old m a e = or_right (is_permanent a) (is_old m a) e
+
+seen_marked : (m : Spaces) (a : Addr) → is_marked_old m a ≡ true → (is_permanent a || is_marked_old m a) ≡ true
+seen_marked m a e = or_right (is_permanent a) (is_marked_old m a) e
+
+seen_new : (m : Spaces) (a : Addr) → is_new m a ≡ true → (is_permanent a || is_new m a) ≡ true
+seen_new m a e = or_right (is_permanent a) (is_new m a) e
+
+seen_either : (m : Spaces) (a : Addr) → is_marked_old m a ≡ true → (is_permanent a || (is_marked_old m a || is_new m a)) ≡ true
+seen_either m a e = or_right (is_permanent a) (is_marked_old m a || is_new m a) (or_left (is_marked_old m a) (is_new m a) e)
+
+module _ (m : Spaces) (h : AreSpaces m) (k : Kind) (n : ℕ) (p : Progress) where
+  -- ---- where it lies
+
+  old_there : is_old (born InOld m k n) (next_address m.old) ≡ true
+  old_there = ap is_some (born-old_last m h k n InOld (empty_cell k n false None) refl)
+
+  listed_there : is_old (born Listed m k n) (next_address m.old) ≡ true
+  listed_there = ap is_some (born-old_last m h k n Listed (empty_cell k n true None) refl)
+
+  listed_marked : is_marked_old (born Listed m k n) (next_address m.old) ≡ true
+  listed_marked = ap is_marked_cell (born-old_last m h k n Listed (empty_cell k n true None) refl)
+
+  both_marked : is_marked_old (born InBoth m k n) (next_address m.old) ≡ true
+  both_marked = ap is_marked_cell (born-old_last m h k n InBoth (empty_cell k n true (Some (next_address m.new))) refl)
+
+  new_there : is_new (born InNew m k n) (next_address m.new) ≡ true
+  new_there = ap is_some (born-new_last m h k n InNew (empty_cell k n false None) refl)
+
+  -- ---- places and phases
+
+  in_old : (hold : Hold) (posted : Phase) → passes hold posted (born InOld m k n) (next_address m.old) ≡ true → Suits hold posted p m k n InOld
+  in_old hold posted held = record {
+    early = λ e. inl refl;
+    between = λ e. refl;
+    unlooked = λ is. absurd cc;
+    room = λ e is. absurd cc;
+    clear = λ e is. absurd cc;
+    held = held;
+  }
+
+  listed : (hold : Hold) (posted : Phase) → is_of_cycle posted ≡ true → (HasLooked posted p m (next_address m.old) → ⊥) → passes hold posted (born Listed m k n) (next_address m.old) ≡ true
+      → Suits hold posted p m k n Listed
+  listed hold posted within unlooked held = record {
+    early = λ e. inr refl;
+    between = λ e. false_true (sym e ∙ within);
+    unlooked = λ is. unlooked;
+    room = λ e is. absurd cc;
+    clear = λ e is. absurd cc;
+    held = held;
+  }
+
+  in_both : (hold : Hold) (posted : Phase) → is_before_copies posted ≡ false → is_of_cycle posted ≡ true → posted ≢ Reclaim → passes hold posted (born InBoth m k n) (next_address m.old) ≡ true
+      → Suits hold posted p m k n InBoth
+  in_both hold posted late within further held = record {
+    early = λ e. false_true (sym late ∙ e);
+    between = λ e. false_true (sym e ∙ within);
+    unlooked = λ is. absurd cc;
+    room = λ e is. absurd cc;
+    clear = λ e is. further e;
+    held = held;
+  }
+
+  in_new : (hold : Hold) (posted : Phase) → is_before_copies posted ≡ false → is_of_cycle posted ≡ true → ((posted ≡ Mark) ⊎ (posted ≡ Allocate) → ⊥) → passes hold posted (born InNew m k n) (next_address m.new) ≡ true
+      → Suits hold posted p m k n InNew
+  in_new hold posted late within further held = record {
+    early = λ e. false_true (sym late ∙ e);
+    between = λ e. false_true (sym e ∙ within);
+    unlooked = λ is. absurd cc;
+    room = λ e is. further e;
+    clear = λ e is. absurd cc;
+    held = held;
+  }
+
+  -- a thread that has acknowledged the posted phase
+  pub on_time : (own : Phase) → Suits (birth_hold own own) own p m k n (place_of own (is_of_cycle own))
+  on_time Idle = in_old AnyLive Idle (seen_old (born InOld m k n) (next_address m.old) old_there)
+  on_time Mark = listed AnyLive Mark refl (λ e. e) (seen_old (born Listed m k n) (next_address m.old) listed_there)
+  on_time Allocate = in_both AnyLive Allocate refl refl (λ is. absurd cc) (seen_marked (born InBoth m k n) (next_address m.old) both_marked)
+  on_time Copy = in_both AnyLive Copy refl refl (λ is. absurd cc) (seen_marked (born InBoth m k n) (next_address m.old) both_marked)
+  on_time PreFlip = in_both AnyLive PreFlip refl refl (λ is. absurd cc) (seen_either (born InBoth m k n) (next_address m.old) both_marked)
+  on_time HeapFlip = in_both AnyLive HeapFlip refl refl (λ is. absurd cc) (seen_either (born InBoth m k n) (next_address m.old) both_marked)
+  on_time ThreadFlip = in_new NewOnly ThreadFlip refl refl (λ e. elim e [ inl is ↦ absurd cc | inr is ↦ absurd cc ]) (seen_new (born InNew m k n) (next_address m.new) new_there)
+  on_time Reclaim = in_new NewOnly Reclaim refl refl (λ e. elim e [ inl is ↦ absurd cc | inr is ↦ absurd cc ]) (seen_new (born InNew m k n) (next_address m.new) new_there)
+
+  -- nothing of the old block was looked at
+  not_looked : p ≡ no_progress → HasLooked Allocate p m (next_address m.old) → ⊥
+  not_looked none looked = absurd (omega (arith, looked, ap (λ (q : Progress). q.place) none))
+
+  -- a thread that is late
+  pub late : (own : Phase) → p ≡ no_progress → Suits (birth_hold own (phase_after own)) (phase_after own) p m k n (place_of own (is_of_cycle (phase_after own)))
+  late Idle none = in_old AnyLive Mark (seen_old (born InOld m k n) (next_address m.old) old_there)
+  late Mark none = listed AnyLive Allocate refl (not_looked none) (seen_marked (born Listed m k n) (next_address m.old) listed_marked)
+  late Allocate none = in_both AnyLive Copy refl refl (λ is. absurd cc) (seen_marked (born InBoth m k n) (next_address m.old) both_marked)
+  late Copy none = in_both AnyLive PreFlip refl refl (λ is. absurd cc) (seen_either (born InBoth m k n) (next_address m.old) both_marked)
+  late PreFlip none = in_both AnyLive HeapFlip refl refl (λ is. absurd cc) (seen_either (born InBoth m k n) (next_address m.old) both_marked)
+  late HeapFlip none = in_both AnyLive ThreadFlip refl refl (λ is. absurd cc) (seen_either (born InBoth m k n) (next_address m.old) both_marked)
+  late ThreadFlip none = in_new NewOnly Reclaim refl refl (λ e. elim e [ inl is ↦ absurd cc | inr is ↦ absurd cc ]) (seen_new (born InNew m k n) (next_address m.new) new_there)
+  late Reclaim none = in_old AnyLive Idle (seen_old (born InOld m k n) (next_address m.old) old_there)
+
+-- ---- near phases
+
+-- a thread is in the posted phase, or in the one before
+abbrev pub IsNear : (own posted : Phase) → Type 0
+IsNear own posted = (own ≡ posted) ⊎ (phase_after own ≡ posted)
+
+pub near_of_close : (h : Handshakes) (s : Seat) → IsClose h s → IsNear s.phase h.posted
+near_of_close h s (inl is) = inl is
+near_of_close h s (inr before) = inr before.0
+
+-- no phase comes after itself
+pub phase_goes_on : (own : Phase) → phase_after own ≡ own → ⊥
+phase_goes_on Idle e = absurd cc
+phase_goes_on Mark e = absurd cc
+phase_goes_on Allocate e = absurd cc
+phase_goes_on Copy e = absurd cc
+phase_goes_on PreFlip e = absurd cc
+phase_goes_on HeapFlip e = absurd cc
+phase_goes_on ThreadFlip e = absurd cc
+phase_goes_on Reclaim e = absurd cc
+
+-- ---- births
+
+module _ (own : Phase) (o : Objects) (k : Kind) (n : ℕ) where
+  abbrev place : Place
+  place = place_of own o.spaces.is_open
+
+  abbrev after : Objects
+  after = record o { spaces = born place o.spaces k n }
+
+  -- by whether there is room
+  abbrev outcome : Bool → Spaces × Option Addr
+  outcome t = if t then (born place o.spaces k n, Some (address_at place o.spaces)) else (o.spaces, None)
+
+  abbrev answer : Bool → Objects × Option Addr
+  answer t = (record o { spaces = (outcome t).0 }, (outcome t).1)
+
+  -- a birth that is granted fits its place, and makes the object there
+  pub granted : (o' : Objects) (a : Addr) → ◌≡◌ {A = Objects × Option Addr} (object_born own o k n) (o', Some a) → (3 + n ≤ room_at place o.spaces) × (after ≡ o') × (address_at place o.spaces ≡ a)
+  granted o' a e = by_room (nat_le (3 + n) (room_at place o.spaces)) refl e
+    where
+      by_room : (t : Bool) → nat_le (3 + n) (room_at place o.spaces) ≡ t → ◌≡◌ {A = Objects × Option Addr} (answer t) (o', Some a)
+          → (3 + n ≤ room_at place o.spaces) × (after ≡ o') × (address_at place o.spaces ≡ a)
+      by_room true test same = (
+        (let room : 3 + n ≤ room_at place o.spaces = grind (arith, nat_tests) in room),
+        ap (λ (x : Objects × Option Addr). x.0) same,
+        same_Some (address_at place o.spaces) a (ap (λ (x : Objects × Option Addr). x.1) same),
+      )
+      by_room false test same = elim (none-some a (ap (λ (x : Objects × Option Addr). x.1) same)) [ ]
+
+  -- a refused one changes nothing
+  pub refused : (o' : Objects) → ◌≡◌ {A = Objects × Option Addr} (object_born own o k n) (o', None) → o' ≡ o
+  refused o' e = by_room (nat_le (3 + n) (room_at place o.spaces)) e
+    where
+      by_room : (t : Bool) → ◌≡◌ {A = Objects × Option Addr} (answer t) (o', None) → o' ≡ o
+      by_room true same = elim (none-some (address_at place o.spaces) (sym (ap (λ (x : Objects × Option Addr). x.1) same))) [ ]
+      by_room false same = sym (ap (λ (x : Objects × Option Addr). x.0) same)
+
+-- a thread near the posted phase bears where it can, and what it bears suits the phase
+module _ (own posted : Phase) (near : IsNear own posted) where
+  -- a phase in which a thread bears only in a cycle is of a cycle,
+  can_on_time : (x : Phase) → (if is_within_cycle x then is_of_cycle x else true) ≡ true
+  can_on_time Idle = refl
+  can_on_time Mark = refl
+  can_on_time Allocate = refl
+  can_on_time Copy = refl
+  can_on_time PreFlip = refl
+  can_on_time HeapFlip = refl
+  can_on_time ThreadFlip = refl
+  can_on_time Reclaim = refl
+
+  -- and so is the one after it
+  can_late : (x : Phase) → (if is_within_cycle x then is_of_cycle (phase_after x) else true) ≡ true
+  can_late Idle = refl
+  can_late Mark = refl
+  can_late Allocate = refl
+  can_late Copy = refl
+  can_late PreFlip = refl
+  can_late HeapFlip = refl
+  can_late ThreadFlip = refl
+  can_late Reclaim = refl
+
+  -- so the cycle is open where it has to be
+  can_near : (if is_within_cycle own then is_of_cycle posted else true) ≡ true
+  can_near = elim near [
+    | inl is ↦ subst (λ x. (if is_within_cycle own then is_of_cycle x else true) ≡ true) is (can_on_time own)
+    | inr is ↦ subst (λ x. (if is_within_cycle own then is_of_cycle x else true) ≡ true) is (can_late own)
+  ]
+
+  -- the place of the birth suits the posted phase
+  suits_near : (m : Spaces) → AreSpaces m → (k : Kind) (n : ℕ) (p : Progress) → (own ≢ posted → p ≡ no_progress) → Suits (birth_hold own posted) posted p m k n (place_of own (is_of_cycle posted))
+  suits_near m h k n p none = elim near [
+    | inl is ↦ subst (λ x. Suits (birth_hold own x) x p m k n (place_of own (is_of_cycle x))) is (on_time m h k n p own)
+    | inr is ↦ subst (λ x. Suits (birth_hold own x) x p m k n (place_of own (is_of_cycle x))) is (late m h k n p own (none (λ same. phase_goes_on own (is ∙ sym same))))
+  ]
+
+module _ (tree : Tree) (own posted : Phase) (near : IsNear own posted) (has_round : Bool) (words : ℕ) (p : Progress) (o : Objects)
+    (time : IsOnTime own posted has_round p o.spaces) (sound : IsSoundHeap tree posted has_round words p o.spaces) where
+  -- the thread can bear
+  pub can_bear_near : can_bear own o ≡ true
+  can_bear_near = ap (λ t. if is_within_cycle own then t else true) sound.blocks.held ∙ can_near own posted near
+
+  -- with the cycle as open as the heap has it
+  suits : (k : Kind) (n : ℕ) → Suits (birth_hold own posted) posted p o.spaces k n (place_of own o.spaces.is_open)
+  suits k n =
+      subst (λ t. Suits (birth_hold own posted) posted p o.spaces k n (place_of own t)) (sym sound.blocks.held)
+      (suits_near own posted near o.spaces sound.blocks.spaces k n p (λ ne. (time ne).nothing))
+
+  module _ (k : Kind) (n : ℕ) (o' : Objects) (a : Addr) (e : ◌≡◌ {A = Objects × Option Addr} (object_born own o k n) (o', Some a)) where
+    -- the birth was granted
+    g : (3 + n ≤ room_at (place_of own o.spaces.is_open) o.spaces) × (after own o k n ≡ o') × (address_at (place_of own o.spaces.is_open) o.spaces ≡ a)
+    g = granted own o k n o' a e
+
+    -- the heap stays sound
+    pub birth_sound : IsSoundHeap tree posted has_round words p o'.spaces
+    birth_sound =
+        subst (λ (x : Objects). IsSoundHeap tree posted has_round words p x.spaces) g.1
+        (born_heap tree (birth_hold own posted) posted has_round words p o.spaces k n (place_of own o.spaces.is_open) sound g.0 (suits k n))
+
+    -- where the collector has not begun, it has not begun still
+    pub birth_not_begun : HasNotBegun posted has_round p o.spaces → HasNotBegun posted has_round p o'.spaces
+    birth_not_begun before =
+        subst (λ (x : Objects). HasNotBegun posted has_round p x.spaces) g.1
+        (born_not_begun tree (birth_hold own posted) posted has_round words p o.spaces k n (place_of own o.spaces.is_open) sound g.0 (suits k n) before)
+
+    -- so each thread is as much on time as it was
+    pub birth_on_time : (other : Phase) → IsOnTime other posted has_round p o.spaces → IsOnTime other posted has_round p o'.spaces
+    birth_on_time other on_time ne = birth_not_begun (on_time ne)
+
+    -- the object is there, and all else is as it was
+    pub birth_is : IsBirth own k n o o' a
+    birth_is =
+        subst (λ (x : Objects). IsBirth own k n o x a) g.1
+        (subst (IsBirth own k n o (after own o k n)) g.2 (birth_in own k n o sound.blocks.spaces (place_of own o.spaces.is_open) g.0 refl))
+
+    -- its address may be held
+    pub birth_held : passes (birth_hold own posted) posted o'.spaces a ≡ true
+    birth_held =
+        subst (λ (x : Objects). passes (birth_hold own posted) posted x.spaces a ≡ true) g.1
+        (subst (λ x. passes (birth_hold own posted) posted (after own o k n).spaces x ≡ true) g.2 (suits k n).held)
+
+    -- in Mark it is marked
+    pub birth_marked : own ≡ Mark → is_marked_address o'.spaces a ≡ true
+    birth_marked is =
+        let here = seen_marked (born Listed o.spaces k n) (next_address o.spaces.old) (listed_marked o.spaces sound.blocks.spaces k n p) in
+        let in_place = subst (λ x. is_marked_address (born (place_of x o.spaces.is_open) o.spaces k n) (address_at (place_of x o.spaces.is_open) o.spaces) ≡ true) (sym is) here in
+        subst (λ (x : Objects). is_marked_address x.spaces a ≡ true) g.1 (subst (λ x. is_marked_address (after own o k n).spaces x ≡ true) g.2 in_place)
+
+    -- what is old, marked or new stays so
+    pub birth_tests : TestsStay o.spaces o'.spaces
+    birth_tests =
+        subst (λ (x : Objects). TestsStay o.spaces x.spaces) g.1
+        (born_stays tree (birth_hold own posted) posted has_round words p o.spaces k n (place_of own o.spaces.is_open) sound g.0 (suits k n))
+
+    -- what may be held stays so, for each hold
+    pub birth_stays : (hold : Hold) (b : Addr) → passes hold posted o.spaces b ≡ true → passes hold posted o'.spaces b ≡ true
+    birth_stays hold b pass = passes_stays o.spaces o'.spaces birth_tests b hold posted pass
+
+    -- and each live address has the forward that it had
+    pub birth_forwards : (b : Addr) → is_live posted o.spaces b ≡ true → forward o'.spaces b ≡ forward o.spaces b
+    birth_forwards b live =
+        subst (λ (x : Objects). forward x.spaces b ≡ forward o.spaces b) g.1
+        (born_forward tree (birth_hold own posted) posted has_round words p o.spaces k n (place_of own o.spaces.is_open) sound g.0 (suits k n) b live)
+
+    -- a birth doesn't count as marking
+    pub birth_marks_nothing : o'.spaces.has_marked ≡ o.spaces.has_marked
+    birth_marks_nothing = sym (ap (λ (x : Objects). x.spaces.has_marked) g.1) ∙ (born_flags o.spaces k n (place_of own o.spaces.is_open)).1
+
+-- ---- threads
+
+-- a thread may hold what it bore, whatever it has acknowledged and answered
+module _ (tree : Tree) (h : Handshakes) (seat : Seat) (close : IsClose h seat) (words : ℕ) (p : Progress) (o : Objects)
+    (time : IsOnTime seat.phase h.posted h.has_round p o.spaces) (sound : IsSoundHeap tree h.posted h.has_round words p o.spaces)
+    (k : Kind) (n : ℕ) (o' : Objects) (a : Addr) (e : ◌≡◌ {A = Objects × Option Addr} (object_born seat.phase o k n) (o', Some a)) where
+  -- the thread is near the posted phase
+  near : IsNear seat.phase h.posted
+  near = near_of_close h seat close
+
+  -- it may hold what it bore
+  held : passes (birth_hold seat.phase h.posted) h.posted o'.spaces a ≡ true
+  held = birth_held tree seat.phase h.posted near h.has_round words p o time sound k n o' a e
+
+  -- marking is done in Mark alone
+  marking_is : (x : Phase) → is_marking x ≡ true → x ≡ Mark
+  marking_is Idle is = absurd cc
+  marking_is Mark is = refl
+  marking_is Allocate is = absurd cc
+  marking_is Copy is = absurd cc
+  marking_is PreFlip is = absurd cc
+  marking_is HeapFlip is = absurd cc
+  marking_is ThreadFlip is = absurd cc
+  marking_is Reclaim is = absurd cc
+
+  -- a thread that has answered a round has acknowledged Mark, and bears marked objects
+  in_round : is_marking h.posted ≡ true → h.has_round ≡ true → is_marked_address o'.spaces a ≡ true
+  in_round marking round = elim near [
+    | inl is ↦ birth_marked tree seat.phase h.posted near h.has_round words p o time sound k n o' a e (is ∙ marking_is h.posted marking)
+    | inr is ↦ false_true (sym ((time (λ same. phase_goes_on seat.phase (is ∙ sym same))).no_round (marking_is h.posted marking)) ∙ round)
+  ]
+
+  -- by what it has acknowledged and answered
+  pub birth_may_be_held : may_hold h o'.spaces seat a ≡ true
+  birth_may_be_held = by_flip (is_flipping seat.phase && is_flipping h.posted) held
+    where
+      by_round : (x y z : Bool) → is_marking h.posted ≡ x → h.has_round ≡ y → passes AnyLive h.posted o'.spaces a ≡ true
+          → passes (if x && (y && z) then MarkedOnly else AnyLive) h.posted o'.spaces a ≡ true
+      by_round false y z is is' live = live
+      by_round true false z is is' live = live
+      by_round true true false is is' live = live
+      by_round true true true is is' live = in_round is is'
+
+      by_flip : (t : Bool) → passes (if t then NewOnly else AnyLive) h.posted o'.spaces a ≡ true
+          → passes (if t then NewOnly else if is_marking h.posted && (h.has_round && (seat.answered && not o'.spaces.has_marked)) then MarkedOnly else AnyLive) h.posted o'.spaces a ≡ true
+      by_flip true pass = pass
+      by_flip false pass = by_round (is_marking h.posted) h.has_round (seat.answered && not o'.spaces.has_marked) refl refl pass
+
+  -- and each thread what it held
+  pub birth_keeps_held : (other : Seat) (b : Addr) → may_hold h o.spaces other b ≡ true → may_hold h o'.spaces other b ≡ true
+  birth_keeps_held other b pass =
+      let same = birth_marks_nothing tree seat.phase h.posted near h.has_round words p o time sound k n o' a e in
+      birth_stays tree seat.phase h.posted near h.has_round words p o time sound k n o' a e (hold_of h o'.spaces.has_marked other) b
+      (subst (λ t. passes (hold_of h t other) h.posted o.spaces b ≡ true) (sym same) pass)

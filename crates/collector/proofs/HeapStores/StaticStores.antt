@@ -1,0 +1,147 @@
+-- Stores to static fields keep the heap sound, and a field gets a value that it may hold.
+use Rattle.std.proofs.Common.{◌≡◌, inl, inr, ℕ, Bool, true, false, List, refl, sym, ap, subst}
+use Rattle.std.specs.Prelude.{if◌then◌else◌, nat_lt, slice_set}
+use Rattle.cil_model.specs.declared.phases.Phase.{Phase}
+use Rattle.cil_model.specs.declared.phases.Phase.TheVariants.{Idle, Mark, Allocate, Copy, PreFlip, HeapFlip, ThreadFlip, Reclaim}
+use Rattle.cil_model.specs.declared.trees.Tree.{Tree}
+use Rattle.reference_machine.specs.Cycles.{phase_after}
+use Rattle.object_memory.specs.declared.values.Value.{Value}
+use Rattle.object_memory.specs.Spaces.{Spaces}
+use Rattle.object_memory.specs.Objects.{Objects}
+use Rattle.barriers.specs.Barriers.{forwarded, stored_static, with_marked}
+use Rattle.collector.specs.References.{ValuePasses}
+use Rattle.collector.specs.Phases.{is_live, is_new_address}
+use Rattle.collector.specs.Soundness.{IsSoundHeap}
+use Rattle.collector.specs.Holding.{AnyLive, MarkedOnly, NewOnly, passes, static_may_hold}
+use Rattle.collector.specs.declared.progress.Progress.{Progress}
+use Rattle.collector.proofs.Addresses.LiveForwards.{has_copies, is_old_alone, new_is_live}
+use Rattle.collector.proofs.HeapStores.ReachedCopies.{IsBeside, not_after}
+use Rattle.collector.proofs.Marking.MarksOfStores.{live_grows, value_mark_grows, value_mark_same, value_mark_sound, value_then_marked, value_weakens}
+use Rattle.collector.proofs.ThreadReferences.LiveValues.{held_by}
+use Rattle.collector.proofs.HeapStores.StoreSoundness.{IsBesideHeap, forwarded_passes}
+
+-- what the field gets
+abbrev pub value_for_static : Phase → Objects → Value → Value
+value_for_static Idle o v = v
+value_for_static Mark o v = v
+value_for_static Allocate o v = v
+value_for_static Copy o v = v
+value_for_static PreFlip o v = forwarded o v
+value_for_static HeapFlip o v = forwarded o v
+value_for_static ThreadFlip o v = v
+value_for_static Reclaim o v = v
+
+-- the fields after a store
+pub static_gets : (own : Phase) (o : Objects) (statics : List Value) (number : ℕ) (v : Value) → (stored_static own o statics number v).1 ≡ slice_set statics number (value_for_static own o v)
+static_gets Idle o statics number v = refl
+static_gets Mark o statics number v = refl
+static_gets Allocate o statics number v = refl
+static_gets Copy o statics number v = refl
+static_gets PreFlip o statics number v = refl
+static_gets HeapFlip o statics number v = refl
+static_gets ThreadFlip o statics number v = refl
+static_gets Reclaim o statics number v = refl
+
+module _ (tree : Tree) (has_round : Bool) (words : ℕ) (p : Progress) (o : Objects) (statics : List Value) (number : ℕ) (v : Value) where
+  abbrev IsHeld : (own posted : Phase) → Type 0
+  IsHeld own posted = ValuePasses (passes (held_by own posted) posted o.spaces) v
+
+  -- ---- the heap
+
+  abbrev IsKept : (own posted : Phase) → Type 0
+  IsKept own posted = IsBesideHeap tree own posted has_round words p o → IsHeld own posted → IsSoundHeap tree posted has_round words p (stored_static own o statics number v).0.spaces
+
+  mark_keeps : IsKept Mark Mark
+  mark_keeps thread held = value_mark_sound tree has_round words p o v thread.sound
+
+  marked_keeps : IsKept Mark Allocate
+  marked_keeps thread held = subst (λ (q : Objects). IsSoundHeap tree Allocate has_round words p q.spaces) (sym (value_mark_same o v thread.sound.blocks.spaces held)) thread.sound
+
+  marks_keep : (posted : Phase) → IsBeside Mark posted → IsKept Mark posted
+  marks_keep posted (inl now) = subst (λ q. IsKept Mark q) now mark_keeps
+  marks_keep posted (inr late) = subst (λ q. IsKept Mark q) late marked_keeps
+
+  -- the heap is sound after a store to a static field
+  pub static_keeps : (own posted : Phase) → IsBesideHeap tree own posted has_round words p o → ValuePasses (passes (held_by own posted) posted o.spaces) v
+      → IsSoundHeap tree posted has_round words p (stored_static own o statics number v).0.spaces
+  static_keeps Idle posted thread held = thread.sound
+  static_keeps Mark posted thread held = marks_keep posted thread.beside thread held
+  static_keeps Allocate posted thread held = thread.sound
+  static_keeps Copy posted thread held = thread.sound
+  static_keeps PreFlip posted thread held = thread.sound
+  static_keeps HeapFlip posted thread held = thread.sound
+  static_keeps ThreadFlip posted thread held = thread.sound
+  static_keeps Reclaim posted thread held = thread.sound
+
+  -- ---- the field
+
+  abbrev IsFit : (own posted : Phase) → Type 0
+  IsFit own posted = IsBesideHeap tree own posted has_round words p o → IsHeld own posted → ValuePasses (static_may_hold posted (stored_static own o statics number v).0.spaces p number) (value_for_static own o v)
+
+  -- what is new may be in any field from PreFlip on
+  new_fits : (posted : Phase) (m : Spaces) (t : Bool) (u : Value) → is_old_alone posted ≡ false → ValuePasses (is_new_address m) u → ValuePasses (λ a. passes (if t then NewOnly else AnyLive) posted m a) u
+  new_fits posted m true u late new = new
+  new_fits posted m false u late new = value_weakens (is_new_address m) (is_live posted m) (λ a. new_is_live posted m a late) u new
+
+  -- the forward of what is live
+  forward_fits : (own posted : Phase) → has_copies posted ≡ true → IsBesideHeap tree own posted has_round words p o → ValuePasses (is_live posted o.spaces) v → ValuePasses (is_new_address o.spaces) (forwarded o v)
+  forward_fits own posted copied thread live = forwarded_passes tree own posted has_round words p o thread.sound copied v live
+
+  -- the static fields aren't scanned while a thread is late
+  idle_late : IsFit Idle Mark
+  idle_late thread held =
+      let begun = thread.on_time (not_after Idle) in
+      let unscanned : p.scanned_statics ≡ false = ap (λ (q : Progress). q.scanned_statics) begun.nothing in
+      subst (λ t. ValuePasses (λ a. passes (if t then MarkedOnly else AnyLive) Mark o.spaces a) v) (sym unscanned) held
+
+  mark_now : IsFit Mark Mark
+  mark_now thread held = by_scan p.scanned_statics
+    where
+      by_scan : (t : Bool) → ValuePasses (λ a. passes (if t then MarkedOnly else AnyLive) Mark (with_marked o v).spaces a) v
+      by_scan true = value_then_marked o v held
+      by_scan false = value_weakens (is_live Mark o.spaces) (is_live Mark (with_marked o v).spaces) (live_grows o.spaces (with_marked o v).spaces (value_mark_grows o v) Mark) v held
+
+  mark_late : IsFit Mark Allocate
+  mark_late thread held = value_weakens (is_live Allocate o.spaces) (is_live Allocate (with_marked o v).spaces) (live_grows o.spaces (with_marked o v).spaces (value_mark_grows o v) Allocate) v held
+
+  pre_flip_now : IsFit PreFlip PreFlip
+  pre_flip_now thread held = new_fits PreFlip o.spaces false (forwarded o v) refl (forward_fits PreFlip PreFlip refl thread held)
+
+  pre_flip_late : IsFit PreFlip HeapFlip
+  pre_flip_late thread held = new_fits HeapFlip o.spaces (nat_lt number p.flipped_statics) (forwarded o v) refl (forward_fits PreFlip HeapFlip refl thread held)
+
+  heap_flip_now : IsFit HeapFlip HeapFlip
+  heap_flip_now thread held = new_fits HeapFlip o.spaces (nat_lt number p.flipped_statics) (forwarded o v) refl (forward_fits HeapFlip HeapFlip refl thread held)
+
+  heap_flip_late : IsFit HeapFlip ThreadFlip
+  heap_flip_late thread held = forward_fits HeapFlip ThreadFlip refl thread held
+
+  now_fits : (own : Phase) → IsFit own own
+  now_fits Idle thread held = held
+  now_fits Mark thread held = mark_now thread held
+  now_fits Allocate thread held = held
+  now_fits Copy thread held = held
+  now_fits PreFlip thread held = pre_flip_now thread held
+  now_fits HeapFlip thread held = heap_flip_now thread held
+  now_fits ThreadFlip thread held = held
+  now_fits Reclaim thread held = held
+
+  late_fits : (own : Phase) → IsFit own (phase_after own)
+  late_fits Idle thread held = idle_late thread held
+  late_fits Mark thread held = mark_late thread held
+  late_fits Allocate thread held = held
+  late_fits Copy thread held = held
+  late_fits PreFlip thread held = pre_flip_late thread held
+  late_fits HeapFlip thread held = heap_flip_late thread held
+  late_fits ThreadFlip thread held = held
+  late_fits Reclaim thread held = held
+
+  -- a static field may hold what it gets
+  fits_beside : (own posted : Phase) → IsBeside own posted → IsFit own posted
+  fits_beside own posted (inl now) = subst (λ q. IsFit own q) now (now_fits own)
+  fits_beside own posted (inr late) = subst (λ q. IsFit own q) late (late_fits own)
+
+  -- and the field may hold what it got
+  pub static_fits : (own posted : Phase) → IsBesideHeap tree own posted has_round words p o → ValuePasses (passes (held_by own posted) posted o.spaces) v
+      → ValuePasses (static_may_hold posted (stored_static own o statics number v).0.spaces p number) (value_for_static own o v)
+  static_fits own posted thread held = fits_beside own posted thread.beside thread held

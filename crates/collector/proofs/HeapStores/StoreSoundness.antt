@@ -1,0 +1,314 @@
+-- Stores of values, words and monitors keep the heap sound, in each phase that a thread has acknowledged beside each that may be posted.
+use Rattle.std.proofs.Common.{◌≡◌, ◌≢◌, ◌⊎◌, inl, inr, ℕ, Bool, true, false, refl, sym, ap, ◌∙◌, subst}
+use Rattle.std.specs.Prelude.{if◌then◌else◌, Option, Some, None}
+use Rattle.std.specs.Option.{option_map_or}
+use Rattle.cil_model.specs.declared.phases.Phase.{Phase}
+use Rattle.cil_model.specs.declared.phases.Phase.TheVariants.{Idle, Mark, Allocate, Copy, PreFlip, HeapFlip, ThreadFlip, Reclaim}
+use Rattle.cil_model.specs.declared.trees.Tree.{Tree}
+use Rattle.object_memory.specs.declared.addresses.Addr.{Addr}
+use Rattle.object_memory.specs.declared.kinds.Kind.{Kind}
+use Rattle.object_memory.specs.declared.monitors.Monitor.{Monitor}
+use Rattle.object_memory.specs.declared.values.Value.{Value}
+use Rattle.object_memory.specs.declared.values.Value.TheVariants.{Int32, Int64, Native, Ref}
+use Rattle.object_memory.specs.Cells.{Cell, literal_number, store_monitor, store_slot}
+use Rattle.object_memory.specs.Spaces.{Spaces, AreSpaces, forward}
+use Rattle.object_memory.specs.Objects.{Objects, object_cell, with_literal_monitor, with_slot}
+use Rattle.object_memory.specs.Values.{value_word}
+use Rattle.object_memory.proofs.TwoBlocks.{no_literal}
+use Rattle.barriers.specs.Barriers.{forwarded, reaches_both, stored_int, stored_monitor, stored_value, with_marked}
+use Rattle.phase_handshake.specs.Handshakes.{Handshakes}
+use Rattle.phase_handshake.specs.declared.posts.Seat.{Seat}
+use Rattle.collector.specs.References.{ValuePasses, holds_reference, reference_in}
+use Rattle.collector.specs.Phases.{is_live, is_marked_address, is_new_address}
+use Rattle.collector.specs.Soundness.{IsSoundHeap, copied_word}
+use Rattle.collector.specs.Holding.{HasNotBegun, IsOnTime, is_flipping, is_marking, may_hold, passes}
+use Rattle.collector.specs.declared.progress.Progress.{Progress}
+use Rattle.collector.proofs.Addresses.Disjunctions.{false_is_true}
+use Rattle.collector.proofs.Addresses.TagChanges.{monitor_keeps_tags, slot_keeps_tags}
+use Rattle.collector.proofs.HeapStores.CellChanges.{AreStored}
+use Rattle.collector.proofs.Copying.AgreeingCopies.{monitor_stored, monitors_alike, slots_alike, word_stored}
+use Rattle.collector.proofs.Addresses.LiveForwards.{forward_short, has_copies, live_forward, new_forward}
+use Rattle.collector.proofs.HeapStores.ReachedCopies.{IsBeside, IsRight, Way, in_both, in_new, in_old, change_stays, changed_by, way_of}
+use Rattle.collector.proofs.Marking.MarksOfStores.{live_grows, marked_kind, value_mark_grows, value_mark_leaves, value_mark_same, value_mark_sound, value_then_marked, value_weakens}
+use Rattle.collector.proofs.ThreadReferences.LiveValues.{IsShort, held_by, held_is_live, held_is_new, is_reference, may_hold_is_held, passes_in_slot, reference_again, seat_passes}
+
+-- ---- threads and what they store
+
+-- A thread has acknowledged the posted phase or the one before it, and the heap is sound.
+pub record IsBesideHeap (tree : Tree) (own posted : Phase) (has_round : Bool) (words : ℕ) (p : Progress) (o : Objects) : Type 0 where
+  pub beside : IsBeside own posted
+  pub on_time : IsOnTime own posted has_round p o.spaces
+  pub sound : IsSoundHeap tree posted has_round words p o.spaces
+
+-- a thread may hold the address of an object
+pub record IsHeldObject (own posted : Phase) (o : Objects) (a : Addr) (c : Cell) : Type 0 where
+  pub lies : object_cell o a ≡ Some c
+  pub held : passes (held_by own posted) posted o.spaces a ≡ true
+
+-- It may hold a value too, which is a reference exactly where the slot of such an object is one.
+pub record IsHeldValue (tree : Tree) (own posted : Phase) (o : Objects) (kind : Kind) (slot : ℕ) (v : Value) : Type 0 where
+  pub short : IsShort v
+  pub reference : is_reference v ≡ holds_reference tree kind slot
+  pub held : ValuePasses (passes (held_by own posted) posted o.spaces) v
+
+-- a seat may hold them
+pub seat_holds_object : (h : Handshakes) (seat : Seat) (o : Objects) (a : Addr) (c : Cell) → object_cell o a ≡ Some c → may_hold h o.spaces seat a ≡ true → IsHeldObject seat.phase h.posted o a c
+seat_holds_object h seat o a c lies held = record { lies = lies; held = may_hold_is_held h o.spaces seat a held }
+
+pub seat_holds_value : (tree : Tree) (h : Handshakes) (seat : Seat) (o : Objects) (kind : Kind) (slot : ℕ) (v : Value) → IsShort v → is_reference v ≡ holds_reference tree kind slot → ValuePasses (may_hold h o.spaces seat) v
+    → IsHeldValue tree seat.phase h.posted o kind slot v
+seat_holds_value tree h seat o kind slot v short reference held = record { short = short; reference = reference; held = seat_passes h o.spaces seat v held }
+
+-- ---- values in both copies
+
+-- whether the new copy gets the forward of a value
+abbrev is_forwarding : Phase → Bool
+is_forwarding Idle = false
+is_forwarding Mark = false
+is_forwarding Allocate = false
+is_forwarding Copy = true
+is_forwarding PreFlip = true
+is_forwarding HeapFlip = true
+is_forwarding ThreadFlip = false
+is_forwarding Reclaim = false
+
+-- what the new copy gets
+abbrev pub value_for_new : Phase → Objects → Value → Value
+value_for_new own o v = if is_forwarding own then forwarded o v else v
+
+-- threads are flipped while one is in ThreadFlip
+pub flipping_beside : (posted : Phase) → IsBeside ThreadFlip posted → is_flipping posted ≡ true
+flipping_beside posted (inl now) = subst (λ q. is_flipping q ≡ true) now refl
+flipping_beside posted (inr late) = subst (λ q. is_flipping q ≡ true) late refl
+
+-- a store to both copies finds copies
+pub way_copies : (own posted : Phase) (p : Progress) → Way own posted p → reaches_both own ≡ true → has_copies posted ≡ true
+way_copies own posted p (in_old one alone nothing) both = false_is_true (sym one ∙ both)
+way_copies own posted p (in_new one last) both = false_is_true (sym one ∙ both)
+way_copies own posted p (in_both two copied) both = copied
+
+module _ (tree : Tree) (own posted : Phase) (has_round : Bool) (words : ℕ) (p : Progress) (o : Objects) (sound : IsSoundHeap tree posted has_round words p o.spaces) where
+  abbrev m : Spaces
+  m = o.spaces
+
+  abbrev spaces : AreSpaces m
+  spaces = sound.blocks.spaces
+
+  -- what is new is its own forward
+  pub forwarded_new : (v : Value) → ValuePasses (is_new_address m) v → forwarded o v ≡ v
+  forwarded_new (Ref a) new = ap (λ (x : Addr). Ref x) (new_forward m spaces a new)
+  forwarded_new (Int32 n) new = refl
+  forwarded_new (Int64 n) new = refl
+  forwarded_new (Native n) new = refl
+
+  -- the forward of what is live is new
+  pub forwarded_passes : has_copies posted ≡ true → (v : Value) → ValuePasses (is_live posted m) v → ValuePasses (is_new_address m) (forwarded o v)
+  forwarded_passes copied (Ref a) live = live_forward tree posted has_round words p m sound copied a live
+  forwarded_passes copied (Int32 n) live = tt
+  forwarded_passes copied (Int64 n) live = tt
+  forwarded_passes copied (Native n) live = tt
+
+  -- a forward is as short as any address
+  pub forwarded_short : (v : Value) → IsShort v → IsShort (forwarded o v)
+  forwarded_short (Ref a) short = forward_short tree posted has_round words p m sound a short
+  forwarded_short (Int32 n) short = tt
+  forwarded_short (Int64 n) short = tt
+  forwarded_short (Native n) short = tt
+
+  forwarded_reference : (v : Value) → is_reference (forwarded o v) ≡ is_reference v
+  forwarded_reference (Ref a) = refl
+  forwarded_reference (Int32 n) = refl
+  forwarded_reference (Int64 n) = refl
+  forwarded_reference (Native n) = refl
+
+  -- the forward is what the collector copies
+  forwarded_word : (c : Cell) (slot : ℕ) (v : Value) → IsShort v → is_reference v ≡ holds_reference tree c.kind slot → value_word (forwarded o v) ≡ copied_word tree m c slot (value_word v)
+  forwarded_word c slot (Ref a) short same =
+      ap (λ (x : Addr). (forward m x).number) (sym (reference_again a short))
+      ∙ ap (λ t. if t then (forward m (reference_in a.number)).number else a.number) same
+  forwarded_word c slot (Int32 n) short same = ap (λ t. if t then (forward m (reference_in (value_word (Int32 n)))).number else value_word (Int32 n)) same
+  forwarded_word c slot (Int64 n) short same = ap (λ t. if t then (forward m (reference_in (value_word (Int64 n)))).number else value_word (Int64 n)) same
+  forwarded_word c slot (Native n) short same = ap (λ t. if t then (forward m (reference_in (value_word (Native n)))).number else value_word (Native n)) same
+
+  module _ (kind : Kind) (slot : ℕ) (v : Value) (value : IsHeldValue tree own posted o kind slot v) where
+    live : ValuePasses (is_live posted m) v
+    live = value_weakens (passes (held_by own posted) posted m) (is_live posted m) (held_is_live own posted m) v value.held
+
+    -- what the new copy gets is the forward of the value in each phase
+    is_forward : (q : Phase) → q ≡ own → IsBeside own posted → reaches_both q ≡ true → value_for_new q o v ≡ forwarded o v
+    is_forward Idle is beside both = false_is_true both
+    is_forward Mark is beside both = false_is_true both
+    is_forward Allocate is beside both = false_is_true both
+    is_forward Copy is beside both = refl
+    is_forward PreFlip is beside both = refl
+    is_forward HeapFlip is beside both = refl
+    is_forward ThreadFlip is beside both =
+        let flipping : is_flipping own ≡ true = ap is_flipping (sym is) in
+        let flipping' : is_flipping posted ≡ true = flipping_beside posted (subst (λ r. IsBeside r posted) (sym is) beside) in
+        sym (forwarded_new v (value_weakens (passes (held_by own posted) posted m) (is_new_address m) (λ a. held_is_new own posted m a flipping flipping') v value.held))
+    is_forward Reclaim is beside both = false_is_true both
+
+    module _ (beside : IsBeside own posted) (way : Way own posted p) (marks : posted ≡ Mark → HasNotBegun posted has_round p m ⊎ ValuePasses (is_marked_address m) v) where
+      other_is : reaches_both own ≡ true → value_for_new own o v ≡ forwarded o v
+      other_is both = is_forward own refl beside both
+
+      told_reference : (c : Cell) → c.kind ≡ kind → is_reference v ≡ holds_reference tree c.kind slot
+      told_reference c told = value.reference ∙ ap (λ k. holds_reference tree k slot) (sym told)
+
+      new_stored : reaches_both own ≡ true → (d : Cell) → d.kind ≡ kind → AreStored tree (is_new_address m) d (store_slot slot (value_word (forwarded o v)) d)
+      new_stored both d told =
+          let copied = way_copies own posted p way both in
+          word_stored tree (is_new_address m) d slot (value_word (forwarded o v))
+          (passes_in_slot tree (is_new_address m) d.kind slot (forwarded o v) (forwarded_short v value.short) (forwarded_reference v ∙ told_reference d told) (forwarded_passes copied v live))
+
+      -- a value that is held is right for the slot, and its forward for that of the new copy
+      pub value_right : IsRight tree posted has_round p m kind (reaches_both own) (store_slot slot (value_word v)) (store_slot slot (value_word (value_for_new own o v)))
+      value_right = record {
+        keeps_old = slot_keeps_tags slot (value_word v);
+        keeps_new = slot_keeps_tags slot (value_word (value_for_new own o v));
+        old = λ c told. word_stored tree (is_live posted m) c slot (value_word v) (passes_in_slot tree (is_live posted m) c.kind slot v value.short (told_reference c told) live);
+        marks = λ mark. elim (marks mark) [
+          | inl late ↦ inl late
+          | inr marked ↦ inr (λ c told. word_stored tree (is_marked_address m) c slot (value_word v) (passes_in_slot tree (is_marked_address m) c.kind slot v value.short (told_reference c told) marked))
+        ];
+        new = λ both d told. subst (λ (u : Value). AreStored tree (is_new_address m) d (store_slot slot (value_word u) d)) (sym (other_is both)) (new_stored both d told);
+        copies = λ both x c d told were. slots_alike tree posted p m slot (value_word v) (value_word (value_for_new own o v)) x c d were (ap value_word (other_is both) ∙ forwarded_word c slot v value.short (told_reference c told));
+      }
+
+-- ---- values
+
+module _ (tree : Tree) (has_round : Bool) (words : ℕ) (p : Progress) (o : Objects) (a : Addr) (c : Cell) (slot : ℕ) (v : Value) where
+  -- a thread that hasn't acknowledged Mark, or is past it, marks nothing
+  unmarked_stays : (own posted : Phase) → own ≢ Mark → IsBesideHeap tree own posted has_round words p o → IsHeldObject own posted o a c → IsHeldValue tree own posted o c.kind slot v
+      → IsSoundHeap tree posted has_round words p (changed_by (reaches_both own) (store_slot slot (value_word v)) (store_slot slot (value_word (value_for_new own o v))) o a).spaces
+  unmarked_stays own posted unmarking thread object value =
+      let way = way_of own posted has_round p o.spaces thread.beside thread.on_time in
+      change_stays tree posted has_round words p o thread.sound (store_slot slot (value_word v)) (store_slot slot (value_word (value_for_new own o v))) own a c object.lies
+      (held_is_live own posted o.spaces a object.held)
+      (value_right tree own posted has_round words p o thread.sound c.kind slot v value thread.beside way (λ mark. inl (thread.on_time (λ same. unmarking (same ∙ mark)))))
+      way
+
+  -- while Mark is posted it marks the value first
+  marking_stays : IsBesideHeap tree Mark Mark has_round words p o → IsHeldObject Mark Mark o a c → IsHeldValue tree Mark Mark o c.kind slot v
+      → IsSoundHeap tree Mark has_round words p (with_slot (with_marked o v) a slot (value_word v)).spaces
+  marking_stays thread object value =
+      let q = with_marked o v in
+      let grows = value_mark_grows o v in
+      let sound = value_mark_sound tree has_round words p o v thread.sound in
+      let lies = value_mark_leaves o v a c object.lies in
+      let kinds = marked_kind c lies.0 lies.2 in
+      let way = way_of Mark Mark has_round p o.spaces thread.beside thread.on_time in
+      let held : IsHeldValue tree Mark Mark q lies.0.kind slot v =
+      record {
+        short = value.short;
+        reference = value.reference ∙ ap (λ k. holds_reference tree k slot) (sym kinds);
+        held = value_weakens (is_live Mark o.spaces) (is_live Mark q.spaces) (live_grows o.spaces q.spaces grows Mark) v value.held;
+      }
+      in
+      change_stays tree Mark has_round words p q sound (store_slot slot (value_word v)) (store_slot slot (value_word v)) Mark a lies.0 lies.1
+      (live_grows o.spaces q.spaces grows Mark a object.held)
+      (value_right tree Mark Mark has_round words p q sound lies.0.kind slot v held thread.beside way (λ mark. inr (value_then_marked o v value.held)))
+      way
+
+  -- once Allocate is posted what it holds is marked
+  marked_stays : IsBesideHeap tree Mark Allocate has_round words p o → IsHeldObject Mark Allocate o a c → IsHeldValue tree Mark Allocate o c.kind slot v
+      → IsSoundHeap tree Allocate has_round words p (with_slot (with_marked o v) a slot (value_word v)).spaces
+  marked_stays thread object value =
+      let way = way_of Mark Allocate has_round p o.spaces thread.beside thread.on_time in
+      subst (λ (q : Objects). IsSoundHeap tree Allocate has_round words p (with_slot q a slot (value_word v)).spaces) (sym (value_mark_same o v thread.sound.blocks.spaces value.held))
+      (change_stays tree Allocate has_round words p o thread.sound (store_slot slot (value_word v)) (store_slot slot (value_word v)) Mark a c object.lies object.held
+      (value_right tree Mark Allocate has_round words p o thread.sound c.kind slot v value thread.beside way (λ mark. false_is_true (ap is_marking mark)))
+      way)
+
+  abbrev IsKept : (own posted : Phase) → Type 0
+  IsKept own posted = IsBesideHeap tree own posted has_round words p o → IsHeldObject own posted o a c → IsHeldValue tree own posted o c.kind slot v → IsSoundHeap tree posted has_round words p (stored_value own o a slot v).spaces
+
+  marks_stay : (posted : Phase) → IsBeside Mark posted → IsKept Mark posted
+  marks_stay posted (inl now) = subst (λ q. IsKept Mark q) now marking_stays
+  marks_stay posted (inr late) = subst (λ q. IsKept Mark q) late marked_stays
+
+  -- a value in a slot
+  pub value_keeps : (own posted : Phase) → IsBesideHeap tree own posted has_round words p o → IsHeldObject own posted o a c → IsHeldValue tree own posted o c.kind slot v
+      → IsSoundHeap tree posted has_round words p (stored_value own o a slot v).spaces
+  value_keeps Idle posted thread object value = unmarked_stays Idle posted (λ e. false_is_true (ap is_marking e)) thread object value
+  value_keeps Mark posted thread object value = marks_stay posted thread.beside thread object value
+  value_keeps Allocate posted thread object value = unmarked_stays Allocate posted (λ e. false_is_true (ap is_marking e)) thread object value
+  value_keeps Copy posted thread object value = unmarked_stays Copy posted (λ e. false_is_true (ap is_marking e)) thread object value
+  value_keeps PreFlip posted thread object value = unmarked_stays PreFlip posted (λ e. false_is_true (ap is_marking e)) thread object value
+  value_keeps HeapFlip posted thread object value = unmarked_stays HeapFlip posted (λ e. false_is_true (ap is_marking e)) thread object value
+  value_keeps ThreadFlip posted thread object value = unmarked_stays ThreadFlip posted (λ e. false_is_true (ap is_marking e)) thread object value
+  value_keeps Reclaim posted thread object value = unmarked_stays Reclaim posted (λ e. false_is_true (ap is_marking e)) thread object value
+
+-- ---- whose monitor it is
+
+module _ (own : Phase) (o : Objects) (a : Addr) (monitor : Monitor) where
+  -- the objects with another monitor of the object, in both copies or in one
+  abbrev changed : Bool → Objects
+  changed both = changed_by both (store_monitor monitor) (store_monitor monitor) o a
+
+  abbrev by_number : Option ℕ → Objects → Objects
+  by_number r q = option_map_or (with_literal_monitor o monitor) r q
+
+  -- the monitor of an object is changed as any word is
+  pub object_monitor_is : literal_number a ≡ None → stored_monitor own o a monitor ≡ changed_by (reaches_both own) (store_monitor monitor) (store_monitor monitor) o a
+  object_monitor_is none = by_both (reaches_both own)
+    where
+      by_both : (t : Bool) → (if t then by_number (literal_number a) (changed true) else by_number (literal_number a) (changed false)) ≡ changed t
+      by_both true = ap (λ r. by_number r (changed true)) none
+      by_both false = ap (λ r. by_number r (changed false)) none
+
+  -- a literal lies in no block
+  pub literal_monitor_is : (n : ℕ) → literal_number a ≡ Some n → stored_monitor own o a monitor ≡ with_literal_monitor o monitor n
+  literal_monitor_is n is = by_both (reaches_both own)
+    where
+      by_both : (t : Bool) → (if t then by_number (literal_number a) (changed true) else by_number (literal_number a) (changed false)) ≡ with_literal_monitor o monitor n
+      by_both true = ap (λ r. by_number r (changed true)) is
+      by_both false = ap (λ r. by_number r (changed false)) is
+
+-- ---- words without references, and monitors
+
+module _ (tree : Tree) (own posted : Phase) (has_round : Bool) (words : ℕ) (p : Progress) (o : Objects) (a : Addr) (c : Cell) (thread : IsBesideHeap tree own posted has_round words p o) (object : IsHeldObject own posted o a c) where
+  way : Way own posted p
+  way = way_of own posted has_round p o.spaces thread.beside thread.on_time
+
+  -- a word in a slot that holds no reference
+  module _ (slot word : ℕ) (hidden : holds_reference tree c.kind slot ≡ false) where
+    hidden_in : (d : Cell) → d.kind ≡ c.kind → holds_reference tree d.kind slot ≡ false
+    hidden_in d told = ap (λ k. holds_reference tree k slot) told ∙ hidden
+
+    word_right : IsRight tree posted has_round p o.spaces c.kind (reaches_both own) (store_slot slot word) (store_slot slot word)
+    word_right = record {
+      keeps_old = slot_keeps_tags slot word;
+      keeps_new = slot_keeps_tags slot word;
+      old = λ d told. word_stored tree (is_live posted o.spaces) d slot word (λ link. false_is_true (sym (hidden_in d told) ∙ link));
+      marks = λ mark. inr (λ d told. word_stored tree (is_marked_address o.spaces) d slot word (λ link. false_is_true (sym (hidden_in d told) ∙ link)));
+      new = λ both d told. word_stored tree (is_new_address o.spaces) d slot word (λ link. false_is_true (sym (hidden_in d told) ∙ link));
+      copies = λ both x d e told were. slots_alike tree posted p o.spaces slot word word x d e were (sym (ap (λ t. if t then (forward o.spaces (reference_in word)).number else word) (hidden_in d told)));
+    }
+
+    -- the heap is sound after a store of the word
+    pub word_keeps : IsSoundHeap tree posted has_round words p (stored_int own o a slot word).spaces
+    word_keeps = change_stays tree posted has_round words p o thread.sound (store_slot slot word) (store_slot slot word) own a c object.lies (held_is_live own posted o.spaces a object.held) word_right way
+
+  -- the monitor of an object
+  module _ (monitor : Monitor) where
+    monitor_right : IsRight tree posted has_round p o.spaces c.kind (reaches_both own) (store_monitor monitor) (store_monitor monitor)
+    monitor_right = record {
+      keeps_old = monitor_keeps_tags monitor;
+      keeps_new = monitor_keeps_tags monitor;
+      old = λ d told. monitor_stored tree (is_live posted o.spaces) d monitor;
+      marks = λ mark. inr (λ d told. monitor_stored tree (is_marked_address o.spaces) d monitor);
+      new = λ both d told. monitor_stored tree (is_new_address o.spaces) d monitor;
+      copies = λ both x d e told were. monitors_alike tree posted p o.spaces monitor x d e were;
+    }
+
+    -- the heap is sound after a store of the monitor
+    pub monitor_keeps : IsSoundHeap tree posted has_round words p (stored_monitor own o a monitor).spaces
+    monitor_keeps =
+        subst (λ (q : Objects). IsSoundHeap tree posted has_round words p q.spaces) (sym (object_monitor_is own o a monitor (no_literal o.spaces thread.sound.blocks.spaces a c object.lies)))
+        (change_stays tree posted has_round words p o thread.sound (store_monitor monitor) (store_monitor monitor) own a c object.lies (held_is_live own posted o.spaces a object.held) monitor_right way)
+
+-- the monitor of a literal
+pub literal_monitor_keeps : (tree : Tree) (own posted : Phase) (has_round : Bool) (words : ℕ) (p : Progress) (o : Objects) (a : Addr) (n : ℕ) (monitor : Monitor) → literal_number a ≡ Some n → IsSoundHeap tree posted has_round words p o.spaces
+    → IsSoundHeap tree posted has_round words p (stored_monitor own o a monitor).spaces
+literal_monitor_keeps tree own posted has_round words p o a n monitor is sound = subst (λ (q : Objects). IsSoundHeap tree posted has_round words p q.spaces) (sym (literal_monitor_is own o a monitor n is)) sound

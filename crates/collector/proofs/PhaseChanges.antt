@@ -1,0 +1,6 @@
+-- A heap stays sound as the next phase is posted, from the opening of a cycle to its end.
+pub mod BetweenCycles
+pub mod Rounds
+pub mod FlipPhases
+pub mod StaticFlips
+pub mod ReclaimWork

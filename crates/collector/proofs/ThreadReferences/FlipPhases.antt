@@ -1,0 +1,57 @@
+-- What a thread that has acknowledged the posted phase may hold it may hold still when the next one is posted, from PreFlip to the end of the cycle.
+use Rattle.std.proofs.Common.{◌≡◌, Bool, true, List, sym, subst}
+use Rattle.std.specs.Prelude.{Option}
+use Rattle.cil_model.specs.declared.phases.Phase.{Phase}
+use Rattle.cil_model.specs.declared.phases.Phase.TheVariants.{Allocate, Copy, HeapFlip, Idle, Mark, PreFlip, Reclaim, ThreadFlip}
+use Rattle.object_memory.specs.declared.addresses.Addr.{Addr}
+use Rattle.object_memory.specs.Spaces.{Spaces, closed}
+use Rattle.phase_handshake.specs.Handshakes.{Handshakes, posted_next}
+use Rattle.phase_handshake.specs.declared.posts.Seat.{Seat}
+use Rattle.collector.specs.Holding.{may_hold}
+use Rattle.collector.proofs.PhaseChanges.FlipPhases.{is_flip}
+
+module _ (has_round : Bool) (seats : List (Option Seat)) (answered : Bool) (m : Spaces) (a : Addr) where
+  -- a phase is posted, and a thread has acknowledged it
+  abbrev posts : Phase → Handshakes
+  posts posted = record { posted = posted; has_round = has_round; seats = seats }
+
+  abbrev seat_in : Phase → Seat
+  seat_in posted = record { phase = posted; answered = answered }
+
+  -- with each phase by its name
+  flip_by : (posted : Phase) → is_flip posted ≡ true → may_hold (posts posted) m (seat_in posted) a ≡ true → may_hold (posted_next (posts posted)) m (seat_in posted) a ≡ true
+  flip_by Idle e held = absurd cc
+  flip_by Mark e held = absurd cc
+  flip_by Allocate e held = absurd cc
+  flip_by Copy e held = absurd cc
+  flip_by PreFlip e held = held
+  flip_by HeapFlip e held = held
+  flip_by ThreadFlip e held = held
+  flip_by Reclaim e held = absurd cc
+
+  -- after the last phase the new block is the only one
+  end_by : (posted : Phase) → posted ≡ Reclaim → may_hold (posts posted) m (seat_in posted) a ≡ true → may_hold (posted_next (posts posted)) (closed m) (seat_in posted) a ≡ true
+  end_by Idle e held = absurd cc
+  end_by Mark e held = absurd cc
+  end_by Allocate e held = absurd cc
+  end_by Copy e held = absurd cc
+  end_by PreFlip e held = absurd cc
+  end_by HeapFlip e held = absurd cc
+  end_by ThreadFlip e held = absurd cc
+  end_by Reclaim e held = held
+
+module _ (h : Handshakes) (seat : Seat) (seen : seat.phase ≡ h.posted) (m : Spaces) (a : Addr) where
+  abbrev seat_at : Phase → Seat
+  seat_at x = record { phase = x; answered = seat.answered }
+
+  -- the seat of a thread that has acknowledged the posted phase
+  now : may_hold h m seat a ≡ true → may_hold h m (seat_at h.posted) a ≡ true
+  now held = subst (λ x. may_hold h m (seat_at x) a ≡ true) seen held
+
+  -- the phases after PreFlip, HeapFlip and ThreadFlip
+  pub flip_keeps_held : is_flip h.posted ≡ true → may_hold h m seat a ≡ true → may_hold (posted_next h) m seat a ≡ true
+  flip_keeps_held e held = subst (λ x. may_hold (posted_next h) m (seat_at x) a ≡ true) (sym seen) (flip_by h.has_round h.seats seat.answered m a h.posted e (now held))
+
+  -- the end of the cycle, after Reclaim
+  pub end_keeps_held : h.posted ≡ Reclaim → may_hold h m seat a ≡ true → may_hold (posted_next h) (closed m) seat a ≡ true
+  end_keeps_held e held = subst (λ x. may_hold (posted_next h) (closed m) (seat_at x) a ≡ true) (sym seen) (end_by h.has_round h.seats seat.answered m a h.posted e (now held))

@@ -1,0 +1,3 @@
+-- Whole runs of small programs.
+pub mod FirstRuns
+pub mod ObjectsAndThreads

@@ -1,0 +1,4 @@
+-- Tokens and grammar.
+pub mod Lexemes
+pub mod Tokens
+pub mod Types

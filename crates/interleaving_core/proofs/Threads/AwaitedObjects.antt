@@ -1,0 +1,285 @@
+-- What a thread is about to enter or to join is there, and what its instruction calls is known to the table.
+use Rattle.std.proofs.Common.{◌≡◌, ◌≢◌, ◌==◌, ◌<◌, ℕ, Bool, true, false, ◌&&◌, ◌||◌, if◌then◌else◌, List, [], ◌∷◌, length, Option, Some, None, option_map, option_and_then, slice_get, refl, sym, ap, ◌∙◌, subst}
+use Rattle.std.specs.Prelude.{IsSome}
+use Rattle.std.specs.Option.{option_map_or}
+use Rattle.std.proofs.lemmas.Bool.{eqb-true}
+use Rattle.std.proofs.lemmas.Option.{option_and_then_some, same_Some}
+use Rattle.cil_model.specs.declared.instructions.Instruction.{Instruction}
+use Rattle.cil_model.specs.declared.instructions.Instruction.TheVariants as Named
+use Rattle.cil_model.specs.declared.instructions.MethodReference.{MethodReference}
+use Rattle.cil_model.specs.declared.trees.Line.{Line}
+use Rattle.cil_model.specs.declared.trees.Method.{Method}
+use Rattle.cil_model.specs.declared.trees.Tree.{Tree}
+use Rattle.cil_model.specs.declared.types.ClassName.{ClassName}
+use Rattle.cil_model.specs.declared.types.Signature.{Signature}
+use Rattle.cil_model.specs.declared.reports.Fault.TheVariants.{NullReference}
+use Rattle.cil_model.specs.Bodies.{argument_types, lines_of, virtual_reference}
+use Rattle.cil_model.specs.Chains.{find_method, is_interface, is_virtual}
+use Rattle.cil_model.specs.Slots.{class_target, interface_target, target}
+use Rattle.cil_model.proofs.Lists.{none_is_some}
+use Rattle.cil_model.proofs.SameLaws.{not_both}
+use Rattle.reference_machine.specs.BuiltIn.{Action, Enter, Join, action_of}
+use Rattle.reference_machine.proofs.Programs.MethodTypings.{IsDeclared, found_is_declared}
+use Rattle.simulation.proofs.reference_machine.Programs.BuiltInMembers.{acts_as_member}
+use Rattle.simulation.specs.reference_machine.Waits.{action_found, called_action}
+use Rattle.simulation.proofs.reference_machine.Programs.ActingMembers.{acting_is_not_virtual}
+use Rattle.name_tables.specs.declared.lookups.MemberNumber.{MemberNumber}
+use Rattle.name_tables.specs.Numbers.{method_at}
+use Rattle.resolved_code.specs.Numbered.{class_name}
+use Rattle.resolved_code.specs.Resolved.{IsMethod, IsOperation, no_operation, load_int32, load_int64, load_null, load_string, load_argument, store_argument, load_local, store_local, duplicate, pop, binary, unary, shift, compare, convert_int32, convert_int64, branch, branch_true, branch_false, branch_compare, switch, load_field, store_field, load_static_field, store_static_field, new_array, load_length, load_element_int32, load_element_int64, load_element_reference, store_element_int32, store_element_int64, store_element_reference, cast_class, is_instance, call, call_virtual, new_object, return}
+use Rattle.resolved_code.specs.declared.operations.Operation.{Operation}
+use Rattle.resolved_code.specs.declared.operations.Operation.TheVariants as Resolved
+use Rattle.object_memory.specs.declared.addresses.Addr.{Addr}
+use Rattle.object_memory.specs.declared.monitors.Monitor.{Monitor}
+use Rattle.object_memory.specs.declared.values.Value.{Value}
+use Rattle.object_memory.specs.declared.values.Value.TheVariants.{Int32, Int64, Native, Ref}
+use Rattle.object_memory.specs.Cells.{Cell, literal_number, null}
+use Rattle.object_memory.specs.Objects.{Objects, monitor_at, object_cell, object_slots}
+use Rattle.simulation.specs.loaded_program.MethodNumbers.{number_of}
+use Rattle.threads_monitors.specs.Frames.{Frames, with_stack}
+use Rattle.threads_monitors.specs.declared.mutators.Mutator.{Mutator}
+use Rattle.simulation.specs.instructions.barriers.Barriers.{is_monitor_storable}
+use Rattle.threads_monitors.specs.Monitors.{with_entry}
+use Rattle.threads_monitors.specs.declared.effects.Effect.TheVariants.{Raises}
+use Rattle.simulation.specs.instructions.Calls.{call_turn}
+use Rattle.simulation.specs.instructions.Frames.{given}
+use Rattle.simulation.specs.instructions.ObjectTurns.{ObjectTurn, beside}
+use Rattle.simulation.specs.instructions.BuiltInTurns.{carried, is_countable, reference_from}
+use Rattle.simulation.specs.interpreter.Calls.{CallTurn, act_turn, beside_console, call_answer, called_as, chosen, chosen_by, class_at, class_of_kind, receiver, run_chosen, run_turn, top_reference, virtual_at}
+use Rattle.simulation.specs.interpreter.Instructions.{Answer, HasSmallConstant, IsAt, IsDone, MachineTurn, answer_of, line_at, of_calls, operation_turn}
+use Rattle.simulation.specs.interpreter.declared.outcomes.Outcome.TheVariants.{Comes, Joins}
+use Rattle.simulation.specs.MachineContents.{Content, mutator_of}
+use Rattle.simulation.specs.Ready.{IsAnswerable, IsReady}
+use Rattle.interleaving_core.specs.Waits.{HasObject, action_at, called_member}
+
+-- ---- what an instruction calls
+
+-- a call, with what runs for it; or an instruction that calls no built-in member that acts
+pub data Calls (tree : Tree) : Instruction → Operation → Type 0 where
+  plainly : (flag : Bool) (r : MethodReference) (owner : ℕ) (method : MemberNumber) → IsMethod tree flag r method → Calls tree (Named.Call flag r) (Resolved.Call flag owner method)
+  virtually : (c : ClassName) (name : List ℕ) (signature : Signature) (owner : ℕ) (method : MemberNumber) → IsMethod tree true (virtual_reference c name signature) method →
+      Calls tree (Named.CallVirtual c name signature) (Resolved.CallVirtual owner method)
+  nothing : (i : Instruction) (op : Operation) → called_action tree i ≡ None → called_member op ≡ None → Calls tree i op
+
+pub calls_of : (tree : Tree) (lines : List Line) (i : Instruction) (op : Operation) → IsOperation tree lines i op → Calls tree i op
+calls_of tree lines _ _ no_operation = nothing _ _ refl refl
+calls_of tree lines _ _ (load_int32 z) = nothing _ _ refl refl
+calls_of tree lines _ _ (load_int64 z) = nothing _ _ refl refl
+calls_of tree lines _ _ load_null = nothing _ _ refl refl
+calls_of tree lines _ _ (load_string characters number is) = nothing _ _ refl refl
+calls_of tree lines _ _ (load_argument n) = nothing _ _ refl refl
+calls_of tree lines _ _ (store_argument n) = nothing _ _ refl refl
+calls_of tree lines _ _ (load_local n) = nothing _ _ refl refl
+calls_of tree lines _ _ (store_local n) = nothing _ _ refl refl
+calls_of tree lines _ _ duplicate = nothing _ _ refl refl
+calls_of tree lines _ _ pop = nothing _ _ refl refl
+calls_of tree lines _ _ (binary op) = nothing _ _ refl refl
+calls_of tree lines _ _ (unary op) = nothing _ _ refl refl
+calls_of tree lines _ _ (shift op) = nothing _ _ refl refl
+calls_of tree lines _ _ (compare op) = nothing _ _ refl refl
+calls_of tree lines _ _ convert_int32 = nothing _ _ refl refl
+calls_of tree lines _ _ convert_int64 = nothing _ _ refl refl
+calls_of tree lines _ _ (branch label place is) = nothing _ _ refl refl
+calls_of tree lines _ _ (branch_true label place is) = nothing _ _ refl refl
+calls_of tree lines _ _ (branch_false label place is) = nothing _ _ refl refl
+calls_of tree lines _ _ (branch_compare op label place is) = nothing _ _ refl refl
+calls_of tree lines _ _ (switch labels places are) = nothing _ _ refl refl
+calls_of tree lines _ _ (load_field r owner field named finds) = nothing _ _ refl refl
+calls_of tree lines _ _ (store_field r owner field named finds) = nothing _ _ refl refl
+calls_of tree lines _ _ (load_static_field r field finds) = nothing _ _ refl refl
+calls_of tree lines _ _ (store_static_field r field finds) = nothing _ _ refl refl
+calls_of tree lines _ _ (new_array t n is) = nothing _ _ refl refl
+calls_of tree lines _ _ load_length = nothing _ _ refl refl
+calls_of tree lines _ _ load_element_int32 = nothing _ _ refl refl
+calls_of tree lines _ _ load_element_int64 = nothing _ _ refl refl
+calls_of tree lines _ _ load_element_reference = nothing _ _ refl refl
+calls_of tree lines _ _ store_element_int32 = nothing _ _ refl refl
+calls_of tree lines _ _ store_element_int64 = nothing _ _ refl refl
+calls_of tree lines _ _ store_element_reference = nothing _ _ refl refl
+calls_of tree lines _ _ (cast_class t n is) = nothing _ _ refl refl
+calls_of tree lines _ _ (is_instance t n is) = nothing _ _ refl refl
+calls_of tree lines _ _ (call flag r owner method named finds) = plainly flag r owner method finds
+calls_of tree lines _ _ (call_virtual c name signature owner method named finds) = virtually c name signature owner method finds
+calls_of tree lines _ _ (new_object c parameters number finds) = nothing _ _ refl refl
+calls_of tree lines _ _ return = nothing _ _ refl refl
+
+-- ---- the action at a frame's place
+
+module _ (tree : Tree) (m : Frames) (op : Operation) (at : IsAt tree m op) where
+  line_is : line_at tree m ≡ Some at.line
+  line_is = ap (option_and_then (λ (x : ClassName × Method). slice_get (lines_of x.1) m.running.place)) at.found_is ∙ at.line_is
+
+  pub action_is : action_at tree m ≡ called_action tree at.line.instruction
+  action_is = ap (option_and_then (λ (l : Line). called_action tree l.instruction)) line_is
+
+  -- where the instruction is no call there is none
+  pub no_member : called_member op ≡ None → action_at tree m ≡ None
+  no_member none = action_is ∙ by_calls at.line.instruction op (calls_of tree (lines_of at.found.1) at.line.instruction op at.stands) none
+    where
+      by_calls : (i : Instruction) (o : Operation) → Calls tree i o → called_member o ≡ None → called_action tree i ≡ None
+      by_calls _ _ (plainly flag r owner method finds) e = none_is_some method (sym e)
+      by_calls _ _ (virtually c name signature owner method finds) e = none_is_some method (sym e)
+      by_calls _ _ (nothing i o none' e') e = none'
+
+  -- and else it is that of the method of the member's number
+  pub member_acts : (method : MemberNumber) → called_member op ≡ Some method → (found : ClassName × Method) × (method_at tree (method.class, method.place) ≡ Some found) × (action_at tree m ≡ action_of found.0 found.1)
+  member_acts method is = by_calls at.line.instruction op (calls_of tree (lines_of at.found.1) at.line.instruction op at.stands) is action_is
+    where
+      Acting : Option Action → Type 0
+      Acting a = (found : ClassName × Method) × (method_at tree (method.class, method.place) ≡ Some found) × (a ≡ action_of found.0 found.1)
+
+      found_acts : (flag : Bool) (r : MethodReference) (k : MemberNumber) → IsMethod tree flag r k → k ≡ method → (a : Option Action) → a ≡ action_found (find_method tree flag r) → Acting a
+      found_acts flag r k finds same a e = ((finds.declared_in, finds.found), subst (λ (x : MemberNumber). method_at tree (x.class, x.place) ≡ Some (finds.declared_in, finds.found)) same finds.numbered, e ∙ ap action_found finds.finds)
+
+      by_calls : (i : Instruction) (o : Operation) → Calls tree i o → called_member o ≡ Some method → action_at tree m ≡ called_action tree i → Acting (action_at tree m)
+      by_calls _ _ (plainly flag r owner k finds) e a = found_acts flag r k finds (same_Some k method e) (action_at tree m) a
+      by_calls _ _ (virtually c name signature owner k finds) e a = found_acts true (virtual_reference c name signature) k finds (same_Some k method e) (action_at tree m) a
+      by_calls _ _ (nothing i o none' e') e a = none_is_some method (sym e' ∙ e)
+
+-- ---- the turn of a call of a member that acts
+
+abbrev IsNot0 : Addr → Type 0
+IsNot0 a = (a.number == 0) ≡ false
+
+pub not_null_number : (a : Addr) → a ≢ null → IsNot0 a
+not_null_number a apart = by_test (a.number == 0) refl
+  where
+    by_test : (b : Bool) → (a.number == 0) ≡ b → (a.number == 0) ≡ false
+    by_test false e = e
+    by_test true e = absurd (apart (ap (λ n. record { number = n }) (eqb-true a.number 0 e)))
+
+module _ (tree : Tree) (mutator : Mutator) (m : Frames) (o : Objects) (ss : List Value) (pr : List ℕ) (a : Action) (x : Addr) (top : top_reference m.running.stack ≡ Some x) (nonzero : IsNot0 x) where
+  -- the topmost value is a reference to it
+  stack_is : (stack : List Value) → top_reference stack ≡ Some x → (rest : List Value) × (stack ≡ Ref x ∷ rest)
+  stack_is [] e = none_is_some x e
+  stack_is (Ref y ∷ rest) e = (rest, ap (λ z. Ref z ∷ rest) (same_Some y x e))
+  stack_is (Int32 z ∷ rest) e = none_is_some x e
+  stack_is (Int64 z ∷ rest) e = none_is_some x e
+  stack_is (Native z ∷ rest) e = none_is_some x e
+
+  abbrev acted : MachineTurn
+  acted = of_calls o ss pr (act_turn tree mutator a m o pr)
+
+  run_is : (found : ClassName × Method) → action_of found.0 found.1 ≡ Some a → run_turn tree mutator found m o pr ≡ act_turn tree mutator a m o pr
+  run_is found acts = ap (λ k. option_map_or (λ b. act_turn tree mutator b m o pr) k otherwise) acts
+    where
+      otherwise : CallTurn
+      otherwise = given (number_of tree found) (λ n. beside_console pr (beside o (call_turn (called_as found n) m)))
+
+  plain_is : (flag : Bool) (r : MethodReference) (owner : ℕ) (method : MemberNumber) → IsMethod tree flag r method → called_action tree (Named.Call flag r) ≡ Some a →
+      operation_turn tree mutator (Resolved.Call flag owner method) m o ss pr ≡ acted
+  plain_is flag r owner method finds acts =
+      let own : action_of finds.declared_in finds.found ≡ Some a = sym (ap action_found finds.finds) ∙ acts in
+      ap (λ k. of_calls o ss pr (given k (λ found. run_turn tree mutator found m o pr))) finds.numbered ∙ ap (of_calls o ss pr) (run_is (finds.declared_in, finds.found) own)
+
+  -- a method that is not virtual runs itself
+  chosen_itself : (found run : ClassName × Method) → is_virtual found.1.kind ≡ false → (k : Option ℕ) → chosen_by tree found k ≡ Some run → run ≡ found
+  chosen_itself found run plain None e = same_Some run found (sym e ∙ ap (λ b. if b then None else Some found) plain)
+  chosen_itself found run plain (Some n) e = option_and_then_some (λ d. target tree d found.0 found.1) (class_name tree n) run e (λ d there h. same_Some run found (sym h ∙ itself d))
+    where
+      itself : (d : ClassName) → target tree d found.0 found.1 ≡ Some found
+      itself d = ap (λ b. if b then (if is_interface tree found.0 then interface_target tree found.1.name found.1.signature d found.0 else class_target tree found.1.name found.1.signature d found.0) else Some found) plain
+
+  virtual_is : (c : ClassName) (name : List ℕ) (signature : Signature) (owner : ℕ) (method : MemberNumber) → IsMethod tree true (virtual_reference c name signature) method → called_action tree (Named.CallVirtual c name signature) ≡ Some a →
+      IsSome (operation_turn tree mutator (Resolved.CallVirtual owner method) m o ss pr) → operation_turn tree mutator (Resolved.CallVirtual owner method) m o ss pr ≡ acted
+  virtual_is c name signature owner method finds acts there = ap (of_calls o ss pr) fourth ∙ by_run (chosen tree o x found) refl (subst (λ k. IsSome (of_calls o ss pr k)) fourth there)
+    where
+      found : ClassName × Method
+      found = (finds.declared_in, finds.found)
+
+      own : action_of finds.declared_in finds.found ≡ Some a
+      own = sym (ap action_found finds.finds) ∙ acts
+
+      declared : IsDeclared tree finds.declared_in finds.found
+      declared = found_is_declared tree true (virtual_reference c name signature) finds.declared_in finds.found finds.finds
+
+      go : Addr → CallTurn
+      go y = if y.number == 0 then Some (call_answer m o pr (Comes (Raises NullReference))) else run_chosen tree mutator y method m o pr
+
+      runs : ClassName × Method → CallTurn
+      runs run = run_turn tree mutator run m o pr
+
+      called : receiver m.running.stack (length (argument_types finds.found finds.declared_in)) ≡ Some x
+      called =
+          let stack = stack_is m.running.stack top in
+          ap (receiver m.running.stack) (ap length (acts_as_member tree finds.declared_in finds.found a declared own).takes) ∙ ap (λ l. receiver l 1) stack.1
+
+      fourth : virtual_at tree mutator method m o pr ≡ given (chosen tree o x found) runs
+      fourth =
+          ap (λ k. given k (λ (f : ClassName × Method). given (receiver m.running.stack (length (argument_types f.1 f.0))) go)) finds.numbered
+          ∙ (ap (λ k. given k go) called
+          ∙ (ap (λ b. if b then Some (call_answer m o pr (Comes (Raises NullReference))) else run_chosen tree mutator x method m o pr) nonzero
+          ∙ ap (λ k. given (option_and_then (chosen tree o x) k) runs) finds.numbered))
+
+      by_run : (r : Option (ClassName × Method)) → chosen tree o x found ≡ r → IsSome (of_calls o ss pr (given r runs)) → of_calls o ss pr (given r runs) ≡ acted
+      by_run None e there' = absurd cc
+      by_run (Some run) e there' =
+          let same : run ≡ found = option_and_then_some (chosen_by tree found) (class_at o x) run e (λ k lies h. chosen_itself found run (acting_is_not_virtual tree finds.declared_in finds.found a declared own) k h) in
+          ap (of_calls o ss pr) (ap runs same ∙ run_is found own)
+
+-- ---- what a ready thread is about to do can be done
+
+module _ (c : Content) (t left : ℕ) (m : Frames) (ready : IsReady c t m) (answers : (a : Answer) → IsDone c.tree (mutator_of c t) m c.objects c.statics c.printed a → IsAnswerable c t left a a.outcome) where
+  module _ (op : Operation) (at : IsAt c.tree m op) (x : Addr) (top : top_reference m.running.stack ≡ Some x) (apart : x ≢ null) where
+    turn_of : (a : Action) → action_at c.tree m ≡ Some a → HasSmallConstant op × (operation_turn c.tree (mutator_of c t) op m c.objects c.statics c.printed ≡ of_calls c.objects c.statics c.printed (act_turn c.tree (mutator_of c t) a m c.objects c.printed))
+    turn_of a acts = by_calls at.line.instruction op (calls_of c.tree (lines_of at.found.1) at.line.instruction op at.stands) (sym (action_is c.tree m op at) ∙ acts) (ready.there op at)
+      where
+        nonzero : IsNot0 x
+        nonzero = not_null_number x apart
+
+        by_calls : (i : Instruction) (o : Operation) → Calls c.tree i o → called_action c.tree i ≡ Some a → (HasSmallConstant o → IsSome (operation_turn c.tree (mutator_of c t) o m c.objects c.statics c.printed)) →
+            HasSmallConstant o × (operation_turn c.tree (mutator_of c t) o m c.objects c.statics c.printed ≡ of_calls c.objects c.statics c.printed (act_turn c.tree (mutator_of c t) a m c.objects c.printed))
+        by_calls _ _ (plainly flag r owner method finds) e there = (tt, plain_is c.tree (mutator_of c t) m c.objects c.statics c.printed a x top nonzero flag r owner method finds e)
+        by_calls _ _ (virtually k name signature owner method finds) e there = (tt, virtual_is c.tree (mutator_of c t) m c.objects c.statics c.printed a x top nonzero k name signature owner method finds e (there tt))
+        by_calls _ _ (nothing i o none' e') e there = none_is_some a (sym none' ∙ e)
+
+    -- a monitor, where it enters
+    enters : action_at c.tree m ≡ Some Enter → IsSome (monitor_at c.objects x)
+    enters acts =
+        let turn = turn_of Enter acts in
+        by_stack m.running.stack top (subst IsSome turn.1 (ready.there op at turn.0))
+      where
+        goes : Addr → Frames → ObjectTurn
+        goes a n = if (a.number == 0) || (is_countable (monitor_at c.objects a) && is_monitor_storable (mutator_of c t).phase c.objects a) then carried m n (with_entry (mutator_of c t) c.objects a) else None
+
+        by_monitor : (y : Addr) (n : Frames) → y ≡ x → (b d : Bool) → b ≡ false → (w : Option Monitor) → IsSome (of_calls c.objects c.statics c.printed (beside_console c.printed (if b || (is_countable w && d) then carried m n (with_entry (mutator_of c t) c.objects y) else None))) → IsSome w
+        by_monitor y n same true d e w there = not_both true e refl
+        by_monitor y n same false d e None there = absurd cc
+        by_monitor y n same false d e (Some w) there = refl
+
+        by_stack : (stack : List Value) → top_reference stack ≡ Some x → IsSome (of_calls c.objects c.statics c.printed (beside_console c.printed (reference_from stack m goes))) → IsSome (monitor_at c.objects x)
+        by_stack [] e there = none_is_some x e
+        by_stack (Int32 z ∷ rest) e there = none_is_some x e
+        by_stack (Int64 z ∷ rest) e there = none_is_some x e
+        by_stack (Native z ∷ rest) e there = none_is_some x e
+        by_stack (Ref y ∷ rest) e there =
+            let same : y ≡ x = same_Some y x e in
+            subst (λ k. IsSome (monitor_at c.objects k)) same
+            (by_monitor y (with_stack m rest) same (y.number == 0) (is_monitor_storable (mutator_of c t).phase c.objects y) (ap (λ (k : Addr). k.number == 0) same ∙ not_null_number x apart) (monitor_at c.objects y) there)
+
+    -- and the slot that tells a thread, where it joins
+    joins : action_at c.tree m ≡ Some Join → 0 < length (object_slots c.objects x)
+    joins acts =
+        let turn = turn_of Join acts in
+        let answer : Answer = answer_of m c.objects c.statics c.printed (Joins x) in
+        let asked : of_calls c.objects c.statics c.printed (act_turn c.tree (mutator_of c t) Join m c.objects c.printed) ≡ Some answer =
+        ap (λ k. of_calls c.objects c.statics c.printed (option_map (λ b. call_answer m c.objects c.printed (Joins b)) k)) top in
+        (answers answer (record { operation = op; at = at; constant = turn.0; is = sym (turn.1 ∙ asked) })).slot apart
+
+  pub has_object : HasObject c.tree c.objects m
+  has_object = record {
+    place = ready.place;
+    monitor = λ op at acts x top apart. enters op at x top apart acts;
+    slot = λ op at acts x top apart. joins op at x top apart acts;
+  }
+
+-- ---- what lies at an address
+
+-- where there is a monitor there is an object or a literal
+pub class_is_there : (o : Objects) (a : Addr) → IsSome (monitor_at o a) → IsSome (class_at o a)
+class_is_there o a there = by_literal (literal_number a) (object_cell o a) there
+  where
+    by_literal : (n : Option ℕ) (cell : Option Cell) → IsSome (option_map_or (slice_get o.literals) n (option_map (λ (c : Cell). c.monitor) cell)) → IsSome (option_map_or (λ k. Some (Some 1)) n (option_map (λ (c : Cell). class_of_kind c.kind) cell))
+    by_literal (Some n) cell h = refl
+    by_literal None (Some cell) h = refl
+    by_literal None None h = absurd cc

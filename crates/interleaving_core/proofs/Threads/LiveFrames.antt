@@ -1,0 +1,78 @@
+-- Where a machine represents a state, the frames of each live thread have the room that they should, steps are left to it, and local instructions can be
+-- done on its top frame.
+use Rattle.std.proofs.Common.{◌≡◌, ◌<◌, ◌≤◌, ◌-◌, ℕ, List, true, false, length, Option, Some, None, slice_get, slice_set, refl, sym, ap, subst, ◌∙◌}
+use Rattle.std.specs.Prelude.{option_map}
+use Rattle.std.proofs.Common.{Bor}
+use Rattle.std.proofs.lemmas.List.{length-set}
+use Rattle.std.specs.Option.{option_map_or}
+use Rattle.cil_model.specs.declared.events.Event.TheVariants.{Step}
+use Rattle.cil_model.specs.declared.limits.TheConstants.{MOST_THREADS}
+use Rattle.cil_model.specs.declared.reports.End.{End}
+use Rattle.cil_model.specs.declared.reports.Report.TheVariants.{Ran}
+use Rattle.reference_machine.specs.States.{State, Thread as StateThread}
+use Rattle.threads_monitors.specs.Frames.{Frame, Frames}
+use Rattle.threads_monitors.specs.Threads.{is_live}
+use Rattle.threads_monitors.specs.declared.threads.Thread.{Thread}
+use Rattle.simulation.specs.interpreter.Local.{AreLocalSteps, frames_over}
+use Rattle.simulation.specs.Lending.{RunsFrame, with_live}
+use Rattle.simulation.specs.MachineContents.{Content, frame_room}
+use Rattle.simulation.specs.StandsFor.{IsThread, Names, Represents, StandsAlike}
+use Rattle.simulation.specs.Turns.{live_thread}
+use Rattle.simulation.proofs.ListLaws.AgreeingLists.{agree_at}
+use Rattle.simulation.proofs.Threads.LocalInstructions.{local_ready, local_represents}
+use Rattle.interleaving_core.specs.Loans.{CanGoOnLocally}
+use Rattle.interleaving_core.specs.Views.{IsSound, content_of}
+use Rattle.interleaving_core.specs.declared.engine.Engine.{Engine}
+use Rattle.interleaving_core.proofs.Threads.LiveThreads.{live_have_steps}
+
+module _ (c : Content) (s : State) (r : Represents c s) (t left : ℕ) (m : Frames) (there : slice_get c.threads t ≡ Some (live_thread left m)) where
+  pub live_room : m.room ≡ frame_room
+  live_room =
+      let at = agree_at (IsThread c.tree c.limits r.stands.name) c.threads s.threads r.stands.by.threads t (live_thread left m) there in
+      by_end at.0 at.0.ended at.2.standing
+    where
+      by_end : (u : StateThread) (ended : Option End) → StandsAlike c.tree c.limits r.stands.name (live_thread left m).standing u.frames ended → m.room ≡ frame_room
+      by_end u None h = h.room
+      by_end u (Some e) h = absurd h
+
+  pub live_left : 0 < left
+  live_left = subst (λ (o : Option Thread). 0 < option_map_or (λ (x : Thread). x.steps_left) o c.limits.budget) there (live_have_steps c s r t (ap (λ (o : Option Thread). option_map_or is_live o false) there))
+
+  -- the top frame runs there
+  pub top_runs : RunsFrame c t left m.running
+  top_runs = record {
+    below = m.below;
+    depth = m.depth;
+    there = there ∙ ap (λ n. Some (live_thread left (frames_over m.running m.below m.depth n))) live_room;
+  }
+
+  pub top_goes_on : CanGoOnLocally c.tree left m.running
+  top_goes_on n g less steps = local_ready c t left m.running top_runs s r n g less steps
+
+-- a machine goes on to one that represents a state
+pub lent_sound : (e e' : Engine) → IsSound e → (t left n : ℕ) (f g : Frame) → (at : RunsFrame (content_of e) t left f) → n < left → AreLocalSteps (content_of e).tree frame_room n f g
+    → content_of e' ≡ with_live (content_of e) t (left - n) (frames_over g at.below at.depth frame_room) → IsSound e'
+lent_sound e e' sound t left n f g at less steps is =
+    let more = local_represents (content_of e) t left f at sound.state sound.represents n g less steps in
+    record {
+      state = more.0;
+      represents = subst (λ (x : Content). Represents x more.0) (sym is) more.1;
+      few = subst (λ (x : Content). length x.threads ≤ MOST_THREADS) (sym is) (subst (λ k. k ≤ MOST_THREADS) (sym (length-set e.threads.items t (live_thread (left - n) (frames_over g at.below at.depth frame_room)))) sound.few);
+    }
+
+-- ---- a thread that was read
+
+-- what a look-up found
+pub found_there : (threads : List Thread) (t i : ℕ) (found : Option (Bor Thread)) (thread : Bor Thread) → option_map (λ (x : Bor Thread). x.now) found ≡ slice_get threads i → i ≡ t → found ≡ Some thread → slice_get threads t ≡ Some thread.now
+found_there threads t i found thread looks same is = ap (slice_get threads) (sym same) ∙ sym looks ∙ ap (option_map (λ (x : Bor Thread). x.now)) is
+
+pub none_there : (threads : List Thread) (t i : ℕ) (found : Option (Bor Thread)) → option_map (λ (x : Bor Thread). x.now) found ≡ slice_get threads i → i ≡ t → found ≡ None → slice_get threads t ≡ None
+none_there threads t i found looks same is = ap (slice_get threads) (sym same) ∙ sym looks ∙ ap (option_map (λ (x : Bor Thread). x.now)) is
+
+-- a live thread of such frames runs this one
+pub runs_frame : (c : Content) (t left : ℕ) (f : Frame) (m : Frames) (thread : Thread) → slice_get c.threads t ≡ Some thread → thread ≡ live_thread left m → m.running ≡ f → m.room ≡ frame_room → RunsFrame c t left f
+runs_frame c t left f m thread there is same room = record {
+  below = m.below;
+  depth = m.depth;
+  there = there ∙ ap Some is ∙ (λ i. Some (live_thread left (frames_over (same i) m.below m.depth (room i))));
+}

@@ -1,0 +1,263 @@
+-- An event prints no more than the line of its thread's next instruction.
+use Rattle.std.proofs.Common.{◌≡◌, ◌+◌, ◌==◌, ◌≤◌, ℕ, Bool, true, false, if◌then◌else◌, List, [], ◌∷◌, ◌++◌, length, Option, Some, None, option_map, option_and_then, slice_get, unwrap_or, refl, sym, ap, ◌∙◌, subst, arith}
+use Rattle.std.specs.Option.{option_map_or}
+use Rattle.std.proofs.lemmas.List.{length-append}
+use Rattle.std.proofs.lemmas.Option.{option_and_then_some, same_Some}
+use Rattle.cil_model.specs.declared.events.Event.{Event}
+use Rattle.cil_model.specs.declared.events.Event.TheVariants.{Step, Ack, Gc}
+use Rattle.cil_model.specs.declared.instructions.Instruction.{Instruction}
+use Rattle.cil_model.specs.declared.reports.Fault.TheVariants.{NullReference}
+use Rattle.cil_model.specs.declared.reports.Report.{Report}
+use Rattle.cil_model.specs.declared.trees.Method.{Method}
+use Rattle.cil_model.specs.declared.trees.Tree.{Tree}
+use Rattle.cil_model.specs.declared.types.ClassName.{ClassName}
+use Rattle.cil_model.specs.Bodies.{argument_types, lines_of, virtual_reference}
+use Rattle.cil_model.specs.Chains.{is_interface, is_virtual}
+use Rattle.cil_model.specs.Mentions.{literals_of}
+use Rattle.cil_model.specs.Slots.{class_target, interface_target, target}
+use Rattle.cil_model.proofs.Lists.{none_is_some}
+use Rattle.reference_machine.specs.BuiltIn.{Action, Construct, Write, Enter, Exit, Start, Join, action_of}
+use Rattle.reference_machine.proofs.Programs.MethodTypings.{IsDeclared, found_is_declared}
+use Rattle.simulation.specs.reference_machine.Waits.{action_found, called_action}
+use Rattle.simulation.proofs.reference_machine.Programs.ActingMembers.{virtual_target_does_not_act}
+use Rattle.simulation.proofs.CollectorEvents.UnchangedState.{collected_keeps}
+use Rattle.simulation.proofs.Threads.StepEffects.{finished_printed}
+use Rattle.name_tables.specs.declared.lookups.MemberNumber.{MemberNumber}
+use Rattle.name_tables.specs.Numbers.{method_at}
+use Rattle.resolved_code.specs.Numbered.{class_name}
+use Rattle.resolved_code.specs.declared.operations.Operation.{Operation}
+use Rattle.resolved_code.specs.declared.operations.Operation.TheVariants.{NoOperation, LoadInt32, LoadInt64, LoadNull, LoadString, LoadArgument, StoreArgument, LoadLocal, StoreLocal, Duplicate, Pop, Binary, Unary, Shift, Compare, ConvertInt32, ConvertInt64, Branch, BranchTrue, BranchFalse, BranchCompare, Switch, LoadField, StoreField, LoadStaticField, StoreStaticField, NewArray, LoadLength, LoadElementInt32, LoadElementInt64, LoadElementReference, StoreElementInt32, StoreElementInt64, StoreElementReference, CastClass, IsInstance, Call, CallVirtual, NewObject, Return}
+use Rattle.object_memory.specs.declared.addresses.Addr.{Addr}
+use Rattle.object_memory.specs.declared.values.Value.{Value}
+use Rattle.object_memory.specs.Objects.{Objects}
+use Rattle.threads_monitors.specs.Frames.{Frames, with_stack}
+use Rattle.threads_monitors.specs.declared.effects.Effect.{Effect}
+use Rattle.threads_monitors.specs.declared.effects.Effect.TheVariants.{Raises}
+use Rattle.threads_monitors.specs.declared.mutators.Mutator.{Mutator}
+use Rattle.threads_monitors.specs.declared.threads.Standing.{Standing}
+use Rattle.threads_monitors.specs.declared.threads.Standing.TheVariants.{Live, Ended}
+use Rattle.threads_monitors.specs.declared.threads.Thread.{Thread}
+use Rattle.simulation.specs.loaded_program.MethodNumbers.{number_of}
+use Rattle.simulation.specs.instructions.BuiltInTurns.{line_of, printed}
+use Rattle.simulation.specs.instructions.Calls.{call_turn}
+use Rattle.simulation.specs.instructions.Frames.{Turn, given, onward, top_of}
+use Rattle.simulation.specs.instructions.ObjectTurns.{ObjectTurn, StaticTurn, beside}
+use Rattle.simulation.specs.interpreter.Calls.{CallTurn, act_turn, beside_console, call_answer, called_as, chosen, chosen_by, class_at, receiver, run_at, run_chosen, run_turn, top_reference, virtual_at}
+use Rattle.simulation.specs.interpreter.Instructions.{Answer, IsDone, answer_of, of_calls, of_frames, of_objects, of_statics, operation_turn}
+use Rattle.simulation.specs.interpreter.declared.outcomes.Outcome.{Outcome}
+use Rattle.simulation.specs.interpreter.declared.outcomes.Outcome.TheVariants.{Comes, Starts, Joins}
+use Rattle.simulation.specs.MachineContents.{Content, mutator_of}
+use Rattle.simulation.specs.Turns.{IsStandingTurn, IsThreadTurn, IsTurn}
+use Rattle.interleaving_core.specs.Prints.{next_print, print_by, print_in, standing_print}
+use Rattle.interleaving_core.specs.Waits.{called_member}
+use Rattle.interleaving_core.proofs.Threads.AwaitedObjects.{Calls, plainly, virtually, nothing, action_is, calls_of}
+
+-- ---- the method that an object chooses acts only where the method that was called does
+
+module _ (tree : Tree) (found run : ClassName × Method) (declared : IsDeclared tree found.0 found.1) (a : Action) (acts : action_of run.0 run.1 ≡ Some a) where
+  -- a method that is not virtual runs itself
+  plain_acts : is_virtual found.1.kind ≡ false → (k : Option ℕ) → chosen_by tree found k ≡ Some run → action_of found.0 found.1 ≡ Some a
+  plain_acts plain None e = same (same_Some run found (sym e ∙ ap (λ b. if b then None else Some found) plain))
+    where
+      same : run ≡ found → action_of found.0 found.1 ≡ Some a
+      same is = subst (λ (x : ClassName × Method). action_of x.0 x.1 ≡ Some a) is acts
+  plain_acts plain (Some n) e = option_and_then_some (λ d. target tree d found.0 found.1) (class_name tree n) run e (λ d there h. subst (λ (x : ClassName × Method). action_of x.0 x.1 ≡ Some a) (same_Some run found (sym h ∙ itself d)) acts)
+    where
+      itself : (d : ClassName) → target tree d found.0 found.1 ≡ Some found
+      itself d = ap (λ b. if b then (if is_interface tree found.0 then interface_target tree found.1.name found.1.signature d found.0 else class_target tree found.1.name found.1.signature d found.0) else Some found) plain
+
+  -- what is chosen in the place of a virtual one does not act
+  virtual_acts : is_virtual found.1.kind ≡ true → (k : Option ℕ) → chosen_by tree found k ≡ Some run → action_of found.0 found.1 ≡ Some a
+  virtual_acts virtual None e = none_is_some run (sym (ap (λ b. if b then None else Some found) virtual) ∙ e)
+  virtual_acts virtual (Some n) e = option_and_then_some (λ d. target tree d found.0 found.1) (class_name tree n) run e (λ d there h. virtual_target_does_not_act tree d found.0 found.1 run.0 run.1 a declared virtual h acts)
+
+  chosen_acts : (k : Option ℕ) → chosen_by tree found k ≡ Some run → action_of found.0 found.1 ≡ Some a
+  chosen_acts k e = by_kind (is_virtual found.1.kind) refl
+    where
+      by_kind : (v : Bool) → is_virtual found.1.kind ≡ v → action_of found.0 found.1 ≡ Some a
+      by_kind false is = plain_acts is k e
+      by_kind true is = virtual_acts is k e
+
+-- ---- one instruction
+
+module _ (tree : Tree) (mutator : Mutator) (m : Frames) (o : Objects) (ss : List Value) (c : List ℕ) (answer : Answer) where
+  -- no more is printed than this
+  abbrev Within : List ℕ → Type 0
+  Within line = length answer.printed ≤ length c + length line
+
+  same_within : answer.printed ≡ c → (line : List ℕ) → Within line
+  same_within is line = let same : length answer.printed ≡ length c = ap length is in omega (arith, same)
+
+  line_within : (line : List ℕ) → answer.printed ≡ c ++ line → Within line
+  line_within line is = let same : length answer.printed ≡ length c + length line = ap length is ∙ length-append c line in omega (arith, same)
+
+  -- what leaves the printed bytes as they are
+  frames_keep : (turn : Turn) → Some answer ≡ of_frames o ss c turn → answer.printed ≡ c
+  frames_keep None e = none_is_some answer (sym e)
+  frames_keep (Some t) e = ap (λ (x : Answer). x.printed) (same_Some answer (answer_of t.0 o ss c (Comes t.1)) e)
+
+  objects_keep : (turn : ObjectTurn) → Some answer ≡ of_objects o ss c turn → answer.printed ≡ c
+  objects_keep None e = none_is_some answer (sym e)
+  objects_keep (Some t) e = ap (λ (x : Answer). x.printed) (same_Some answer (answer_of t.0 t.1 ss c (Comes t.2)) e)
+
+  statics_keep : (turn : StaticTurn) → Some answer ≡ of_statics o ss c turn → answer.printed ≡ c
+  statics_keep None e = none_is_some answer (sym e)
+  statics_keep (Some t) e = ap (λ (x : Answer). x.printed) (same_Some answer (answer_of t.0 t.1.0 t.1.1 c (Comes t.2)) e)
+
+  console_keeps : (turn : ObjectTurn) → Some answer ≡ of_calls o ss c (beside_console c turn) → answer.printed ≡ c
+  console_keeps None e = none_is_some answer (sym e)
+  console_keeps (Some t) e = ap (λ (x : Answer). x.printed) (same_Some answer (answer_of t.0 t.1 ss c (Comes t.2)) e)
+
+  asks_keep : (what : Addr → Outcome) (a : Option Addr) → Some answer ≡ of_calls o ss c (option_map (λ x. call_answer m o c (what x)) a) → answer.printed ≡ c
+  asks_keep what None e = none_is_some answer (sym e)
+  asks_keep what (Some a) e = ap (λ (x : Answer). x.printed) (same_Some answer (answer_of m o ss c (what a)) e)
+
+  -- an instruction that calls no method by its number
+  quiet : (op : Operation) → called_member op ≡ None → Some answer ≡ operation_turn tree mutator op m o ss c → answer.printed ≡ c
+  quiet NoOperation h e = frames_keep _ e
+  quiet (LoadInt32 z) h e = frames_keep _ e
+  quiet (LoadInt64 z) h e = frames_keep _ e
+  quiet LoadNull h e = frames_keep _ e
+  quiet (LoadString n) h e = frames_keep _ e
+  quiet (LoadArgument n) h e = frames_keep _ e
+  quiet (StoreArgument n) h e = frames_keep _ e
+  quiet (LoadLocal n) h e = frames_keep _ e
+  quiet (StoreLocal n) h e = frames_keep _ e
+  quiet Duplicate h e = frames_keep _ e
+  quiet Pop h e = frames_keep _ e
+  quiet (Binary op) h e = frames_keep _ e
+  quiet (Unary op) h e = frames_keep _ e
+  quiet (Shift op) h e = frames_keep _ e
+  quiet (Compare op) h e = frames_keep _ e
+  quiet ConvertInt32 h e = frames_keep _ e
+  quiet ConvertInt64 h e = frames_keep _ e
+  quiet (Branch place) h e = frames_keep _ e
+  quiet (BranchTrue place) h e = frames_keep _ e
+  quiet (BranchFalse place) h e = frames_keep _ e
+  quiet (BranchCompare op place) h e = frames_keep _ e
+  quiet (Switch places) h e = frames_keep _ e
+  quiet (LoadField owner field) h e = objects_keep _ e
+  quiet (StoreField owner field) h e = objects_keep _ e
+  quiet (LoadStaticField field) h e = statics_keep _ e
+  quiet (StoreStaticField field) h e = statics_keep _ e
+  quiet (NewArray t) h e = objects_keep _ e
+  quiet LoadLength h e = objects_keep _ e
+  quiet LoadElementInt32 h e = objects_keep _ e
+  quiet LoadElementInt64 h e = objects_keep _ e
+  quiet LoadElementReference h e = objects_keep _ e
+  quiet StoreElementInt32 h e = objects_keep _ e
+  quiet StoreElementInt64 h e = objects_keep _ e
+  quiet StoreElementReference h e = objects_keep _ e
+  quiet (CastClass t) h e = objects_keep _ e
+  quiet (IsInstance t) h e = objects_keep _ e
+  quiet (Call is_instance owner method) h e = none_is_some method (sym h)
+  quiet (CallVirtual owner method) h e = none_is_some method (sym h)
+  quiet (NewObject method) h e = console_keeps _ e
+  quiet Return h e = console_keeps _ e
+
+  -- a built-in member
+  writes : (stack : List Value) → Some answer ≡ of_calls o ss c (option_map (λ (t : Frames × List ℕ × Effect). call_answer t.0 o t.1 (Comes t.2)) (top_of stack m (λ v n. given (line_of (literals_of tree) v) (λ line. printed line c n)))) → Within (print_by tree Write stack)
+  writes [] e = none_is_some answer (sym e)
+  writes (v ∷ rest) e = by_line (line_of (literals_of tree) v) e
+    where
+      on : List ℕ → Option (Frames × Effect) → Option (Frames × List ℕ × Effect)
+      on line turn = option_map (λ (t : Frames × Effect). (t.0, c ++ line, t.1)) turn
+
+      by_turn : (line : List ℕ) (turn : Option (Frames × Effect)) → Some answer ≡ of_calls o ss c (option_map (λ (t : Frames × List ℕ × Effect). call_answer t.0 o t.1 (Comes t.2)) (on line turn)) → answer.printed ≡ c ++ line
+      by_turn line None e' = none_is_some answer (sym e')
+      by_turn line (Some t) e' = ap (λ (x : Answer). x.printed) (same_Some answer (answer_of t.0 o ss (c ++ line) (Comes t.1)) e')
+
+      by_line : (l : Option (List ℕ)) → Some answer ≡ of_calls o ss c (option_map (λ (t : Frames × List ℕ × Effect). call_answer t.0 o t.1 (Comes t.2)) (given l (λ line. printed line c (with_stack m rest)))) → Within (unwrap_or l [])
+      by_line None e' = none_is_some answer (sym e')
+      by_line (Some line) e' = line_within line (by_turn line (onward (with_stack m rest)) e')
+
+  constructs : (stack : List Value) → Some answer ≡ of_calls o ss c (top_of stack m (λ v n. beside_console c (beside o (onward n)))) → answer.printed ≡ c
+  constructs [] e = none_is_some answer (sym e)
+  constructs (v ∷ rest) e = console_keeps (beside o (onward (with_stack m rest))) e
+
+  acts : (a : Action) → Some answer ≡ of_calls o ss c (act_turn tree mutator a m o c) → Within (print_by tree a m.running.stack)
+  acts Construct e = same_within (constructs m.running.stack e) []
+  acts Write e = writes m.running.stack e
+  acts Enter e = same_within (console_keeps _ e) []
+  acts Exit e = same_within (console_keeps _ e) []
+  acts Start e = same_within (asks_keep Starts (top_reference m.running.stack) e) []
+  acts Join e = same_within (asks_keep Joins (top_reference m.running.stack) e) []
+
+  -- the line that a method prints as it is called, by what it does
+  abbrev print_of : Option Action → List ℕ
+  print_of k = option_map_or (λ a. print_by tree a m.running.stack) k []
+
+  -- a method that runs
+  runs : (found : ClassName × Method) (k : Option Action) → Some answer ≡ of_calls o ss c (option_map_or (λ a. act_turn tree mutator a m o c) k (given (number_of tree found) (λ n. beside_console c (beside o (call_turn (called_as found n) m))))) → Within (print_of k)
+  runs found None e = by_number (number_of tree found) e
+    where
+      by_number : (n : Option ℕ) → Some answer ≡ of_calls o ss c (given n (λ n. beside_console c (beside o (call_turn (called_as found n) m)))) → Within []
+      by_number None e' = none_is_some answer (sym e')
+      by_number (Some n) e' = same_within (console_keeps (beside o (call_turn (called_as found n) m)) e') []
+  runs found (Some a) e = acts a e
+
+  -- call
+  called : (flag : Bool) (method : MemberNumber) (found : ClassName × Method) → method_at tree (method.class, method.place) ≡ Some found → Some answer ≡ of_calls o ss c (run_at tree mutator method m o c) → Within (print_of (action_of found.0 found.1))
+  called flag method found numbered e =
+      runs found (action_of found.0 found.1) (e ∙ ap (λ k. of_calls o ss c (given k (λ x. run_turn tree mutator x m o c))) numbered)
+
+  -- callvirt
+  called_virtually : (method : MemberNumber) (found : ClassName × Method) → IsDeclared tree found.0 found.1 → method_at tree (method.class, method.place) ≡ Some found →
+      Some answer ≡ of_calls o ss c (virtual_at tree mutator method m o c) → Within (print_of (action_of found.0 found.1))
+  called_virtually method found declared numbered e =
+      by_receiver (receiver m.running.stack (length (argument_types found.1 found.0)))
+      (e ∙ ap (λ k. of_calls o ss c (given k (λ (f : ClassName × Method). given (receiver m.running.stack (length (argument_types f.1 f.0))) go))) numbered)
+    where
+      go : Addr → CallTurn
+      go y = if y.number == 0 then Some (call_answer m o c (Comes (Raises NullReference))) else run_chosen tree mutator y method m o c
+
+      by_run : (y : Addr) (r : Option (ClassName × Method)) → chosen tree o y found ≡ r → Some answer ≡ of_calls o ss c (given r (λ run. run_turn tree mutator run m o c)) → Within (print_of (action_of found.0 found.1))
+      by_run y None is e' = none_is_some answer (sym e')
+      by_run y (Some run) is e' = by_action (action_of run.0 run.1) refl (runs run (action_of run.0 run.1) e')
+        where
+          by_action : (k : Option Action) → action_of run.0 run.1 ≡ k → Within (print_of k) → Within (print_of (action_of found.0 found.1))
+          by_action None none h = let few : length answer.printed ≤ length c + 0 = h in omega (arith, few)
+          by_action (Some a) some h =
+              option_and_then_some (chosen_by tree found) (class_at o y) run is (λ k lies e''. subst (λ x. Within (print_of x)) (sym (chosen_acts tree found run declared a some k e'')) h)
+
+      by_null : (y : Addr) (b : Bool) → Some answer ≡ of_calls o ss c (if b then Some (call_answer m o c (Comes (Raises NullReference))) else run_chosen tree mutator y method m o c) → Within (print_of (action_of found.0 found.1))
+      by_null y true e' = same_within (ap (λ (x : Answer). x.printed) (same_Some answer (answer_of m o ss c (Comes (Raises NullReference))) e')) (print_of (action_of found.0 found.1))
+      by_null y false e' = by_run y (chosen tree o y found) refl (e' ∙ ap (λ k. of_calls o ss c (given (option_and_then (chosen tree o y) k) (λ run. run_turn tree mutator run m o c))) numbered)
+
+      by_receiver : (r : Option Addr) → Some answer ≡ of_calls o ss c (given r go) → Within (print_of (action_of found.0 found.1))
+      by_receiver None e' = none_is_some answer (sym e')
+      by_receiver (Some y) e' = by_null y (y.number == 0) e'
+
+  -- any instruction at the frame's place
+  done_within : IsDone tree mutator m o ss c answer → Within (print_in tree m)
+  done_within done =
+      subst (λ k. Within (print_of k)) (sym (action_is tree m done.operation done.at))
+      (by_calls done.at.line.instruction done.operation (calls_of tree (lines_of done.at.found.1) done.at.line.instruction done.operation done.at.stands) done.is)
+    where
+      by_calls : (i : Instruction) (op : Operation) → Calls tree i op → Some answer ≡ operation_turn tree mutator op m o ss c → Within (print_of (called_action tree i))
+      by_calls _ _ (plainly flag r owner method finds) e =
+          subst (λ k. Within (print_of (action_found k))) (sym finds.finds) (called flag method (finds.declared_in, finds.found) finds.numbered e)
+      by_calls _ _ (virtually d name signature owner method finds) e =
+          subst (λ k. Within (print_of (action_found k))) (sym finds.finds)
+          (called_virtually method (finds.declared_in, finds.found) (found_is_declared tree true (virtual_reference d name signature) finds.declared_in finds.found finds.finds) finds.numbered e)
+      by_calls _ _ (nothing i op none none') e = same_within (quiet op none' e) (print_of (called_action tree i))
+
+-- ---- any event
+
+module _ (c : Content) (after : Content × Report) where
+  -- it prints what is next, and no more
+  pub prints_within : (e : Event) → IsTurn c e after → length after.0.printed ≤ length c.printed + length (next_print c e)
+  prints_within (Step t) h = by_thread (slice_get c.threads t) h
+    where
+      by_standing : (left : ℕ) (standing : Standing) → IsStandingTurn c t left standing after → length after.0.printed ≤ length c.printed + length (standing_print c.tree standing)
+      by_standing left (Live m) k =
+          let done : length k.0.printed ≤ length c.printed + length (print_in c.tree m) = done_within c.tree (mutator_of c t) m c.objects c.statics c.printed k.0 k.1 in
+          let same : length after.0.printed ≡ length k.0.printed = ap length (finished_printed c t left k.0 after k.0.outcome k.2) in
+          omega (arith, done, same)
+      by_standing left (Ended x) k = let same : length after.0.printed ≡ length c.printed = ap (λ (x : Content × Report). length x.0.printed) k in omega (arith, same)
+
+      by_thread : (o : Option Thread) → IsThreadTurn c t o after → length after.0.printed ≤ length c.printed + length (option_map_or (λ (x : Thread). standing_print c.tree x.standing) o [])
+      by_thread None k = let same : length after.0.printed ≡ length c.printed = ap (λ (x : Content × Report). length x.0.printed) k in omega (arith, same)
+      by_thread (Some thread) k = by_standing thread.steps_left thread.standing k
+  prints_within (Ack t) h = let same : length after.0.printed ≡ length c.printed = ap (λ (x : Content × Report). length x.0.printed) h in omega (arith, same)
+  prints_within Gc h = let same : length after.0.printed ≡ length c.printed = ap (λ (x : Content × Report). length x.0.printed) h ∙ ap length (collected_keeps c).printed in omega (arith, same)

@@ -1,0 +1,126 @@
+-- A run ends out of memory only where an allocation is refused.
+use Rattle.std.proofs.Common.{◌≡◌, zero, suc, Bool, true, false, List, [], ◌∷◌, Contains, refl, sym, ap, ◌∙◌, arith}
+use Rattle.cil_model.specs.declared.instructions.BinaryOperation.{BinaryOperation}
+use Rattle.cil_model.specs.declared.instructions.BinaryOperation.TheVariants.{Add, Subtract, Multiply, AddOverflow, SubtractOverflow, MultiplyOverflow, Divide, Remainder, And, Or, ExclusiveOr}
+use Rattle.cil_model.specs.declared.instructions.Instruction.{Instruction}
+use Rattle.cil_model.specs.declared.instructions.Instruction.TheVariants.{NoOperation, LoadInt32, LoadInt64, LoadNull, LoadString, LoadArgument, StoreArgument, LoadLocal, StoreLocal, Duplicate, Pop, Unary, Shift, Compare, ConvertInt32, ConvertInt64, Branch, BranchTrue, BranchFalse, BranchCompare, Switch, LoadField, StoreField, LoadStaticField, StoreStaticField, LoadLength, LoadElementInt32, LoadElementInt64, LoadElementReference, StoreElementInt32, StoreElementInt64, StoreElementReference, CastClass, IsInstance, Call, CallVirtual, Return, Binary, NewArray, NewObject}
+use Rattle.cil_model.specs.declared.reports.Fault.{Fault}
+use Rattle.cil_model.specs.declared.reports.Fault.TheVariants.{Overflow, OutOfMemory, StackOverflow}
+use Rattle.cil_model.specs.Bodies.{constructor_reference}
+use Rattle.cil_model.specs.Chains.{find_method}
+use Rattle.reference_machine.specs.Arithmetic.{as_index}
+use Rattle.reference_machine.specs.BuiltIn.{Action, Construct, Write, Enter, Exit, Start, Join}
+use Rattle.reference_machine.specs.Effects.{Setting, Effect, Goes, Blocks, Raises, Sticks}
+use Rattle.reference_machine.specs.Faults.{faults_of_operation, faults_of, faults_of_action, MayRaise, itself, member}
+use Rattle.reference_machine.specs.States.{Frame, State}
+use Rattle.reference_machine.specs.Steps.{execute}
+use Rattle.reference_machine.proofs.Runs.InstructionEffects.{Allowed, raises, given_ok, one_ok, array_ok, operands_ok, construct_ok, raised_is_listed, same_raised, no_raise}
+
+-- whether a fault is want of memory
+abbrev is_memory : Fault → Bool
+is_memory OutOfMemory = true
+is_memory _ = false
+
+-- faults, none of which is
+abbrev Without : List Fault → Type 0
+Without [] = Unit {0}
+Without (x ∷ xs) = (is_memory x ≡ false) × Without xs
+
+other : {A : Type 0} (x : Fault) → is_memory x ≡ false → x ≡ OutOfMemory → A
+other {A} x h e = absurd (lost (sym h ∙ ap is_memory e))
+  where
+    lost : false ≡ true → ⊥
+    lost k = cc
+
+lacks : {A : Type 0} (xs : List Fault) → Without xs → Contains xs OutOfMemory → A
+lacks [] h (k, inside, is) = absurd (omega (arith, inside))
+lacks (x ∷ xs) h (zero, inside, is) = other x h.0 is
+lacks (x ∷ xs) h (suc k, inside, is) = lacks xs h.1 (k, omega (arith, inside), is)
+
+without_operation : (op : BinaryOperation) → Without (faults_of_operation op)
+without_operation Add = tt
+without_operation Subtract = tt
+without_operation Multiply = tt
+without_operation AddOverflow = (refl, tt)
+without_operation SubtractOverflow = (refl, tt)
+without_operation MultiplyOverflow = (refl, tt)
+without_operation Divide = (refl, (refl, tt))
+without_operation Remainder = (refl, (refl, tt))
+without_operation And = tt
+without_operation Or = tt
+without_operation ExclusiveOr = tt
+
+without_action : (a : Action) → Without (faults_of_action a)
+without_action Construct = tt
+without_action Write = tt
+without_action Enter = (refl, tt)
+without_action Exit = (refl, (refl, tt))
+without_action Start = (refl, (refl, (refl, tt)))
+without_action Join = (refl, (refl, tt))
+
+-- a fault that is want of memory comes of a refusal alone
+abbrev OfRefusal : Setting → Fault → Type 0
+OfRefusal here x = x ≡ OutOfMemory → here.is_refused ≡ true
+
+module _ (here : Setting) (s : State) (f : Frame) (below : List Frame) where
+  of_effect : (e : Effect) → Allowed s (OfRefusal here) e → e ≡ Raises OutOfMemory → here.is_refused ≡ true
+  of_effect (Raises x) (raises _ h) k = h (same_raised x OutOfMemory k)
+  of_effect (Goes fs s') a k = no_raise (Goes fs s') OutOfMemory k tt
+  of_effect Blocks a k = no_raise Blocks OutOfMemory k tt
+  of_effect Sticks a k = no_raise Sticks OutOfMemory k tt
+
+  -- by what is listed
+  listed : (i : Instruction) → Contains (faults_of i) OutOfMemory → execute here s f below i ≡ Raises OutOfMemory → here.is_refused ≡ true
+  listed (NewArray t) h =
+      of_effect (execute here s f below (NewArray t)) (one_ok s (OfRefusal here) f.stack (λ v rest. given_ok s (OfRefusal here) (as_index v) (λ z e.
+      array_ok here s f below (OfRefusal here) t z rest (other Overflow refl) (λ r k. r))))
+  listed (NewObject c parameters) h =
+      of_effect (execute here s f below (NewObject c parameters)) (given_ok s (OfRefusal here) (find_method here.tree true (constructor_reference c parameters)) (λ found e.
+      operands_ok here s f below (OfRefusal here) parameters (λ arguments rest.
+      construct_ok here s f below (OfRefusal here) c found arguments rest (other StackOverflow refl) (λ r k. r))))
+  listed (Binary op) h = lacks (faults_of_operation op) (without_operation op) h
+  listed NoOperation h = lacks (faults_of NoOperation) tt h
+  listed (LoadInt32 z) h = lacks (faults_of (LoadInt32 z)) tt h
+  listed (LoadInt64 z) h = lacks (faults_of (LoadInt64 z)) tt h
+  listed LoadNull h = lacks (faults_of LoadNull) tt h
+  listed (LoadString characters) h = lacks (faults_of (LoadString characters)) tt h
+  listed (LoadArgument n) h = lacks (faults_of (LoadArgument n)) tt h
+  listed (StoreArgument n) h = lacks (faults_of (StoreArgument n)) tt h
+  listed (LoadLocal n) h = lacks (faults_of (LoadLocal n)) tt h
+  listed (StoreLocal n) h = lacks (faults_of (StoreLocal n)) tt h
+  listed Duplicate h = lacks (faults_of Duplicate) tt h
+  listed Pop h = lacks (faults_of Pop) tt h
+  listed (Unary op) h = lacks (faults_of (Unary op)) tt h
+  listed (Shift op) h = lacks (faults_of (Shift op)) tt h
+  listed (Compare op) h = lacks (faults_of (Compare op)) tt h
+  listed ConvertInt32 h = lacks (faults_of ConvertInt32) tt h
+  listed ConvertInt64 h = lacks (faults_of ConvertInt64) tt h
+  listed (Branch label) h = lacks (faults_of (Branch label)) tt h
+  listed (BranchTrue label) h = lacks (faults_of (BranchTrue label)) tt h
+  listed (BranchFalse label) h = lacks (faults_of (BranchFalse label)) tt h
+  listed (BranchCompare op label) h = lacks (faults_of (BranchCompare op label)) tt h
+  listed (Switch labels) h = lacks (faults_of (Switch labels)) tt h
+  listed (LoadField r) h = lacks (faults_of (LoadField r)) (refl, tt) h
+  listed (StoreField r) h = lacks (faults_of (StoreField r)) (refl, tt) h
+  listed (LoadStaticField r) h = lacks (faults_of (LoadStaticField r)) tt h
+  listed (StoreStaticField r) h = lacks (faults_of (StoreStaticField r)) tt h
+  listed LoadLength h = lacks (faults_of LoadLength) (refl, tt) h
+  listed LoadElementInt32 h = lacks (faults_of LoadElementInt32) (refl, (refl, tt)) h
+  listed LoadElementInt64 h = lacks (faults_of LoadElementInt64) (refl, (refl, tt)) h
+  listed LoadElementReference h = lacks (faults_of LoadElementReference) (refl, (refl, tt)) h
+  listed StoreElementInt32 h = lacks (faults_of StoreElementInt32) (refl, (refl, tt)) h
+  listed StoreElementInt64 h = lacks (faults_of StoreElementInt64) (refl, (refl, tt)) h
+  listed StoreElementReference h = lacks (faults_of StoreElementReference) (refl, (refl, (refl, tt))) h
+  listed (CastClass t) h = lacks (faults_of (CastClass t)) (refl, tt) h
+  listed (IsInstance t) h = lacks (faults_of (IsInstance t)) tt h
+  listed (Call is_instance r) h = lacks (faults_of (Call is_instance r)) (refl, tt) h
+  listed (CallVirtual owner name signature) h = lacks (faults_of (CallVirtual owner name signature)) (refl, (refl, tt)) h
+  listed Return h = lacks (faults_of Return) tt h
+
+  by_listing : (i : Instruction) → MayRaise here.tree i OutOfMemory → execute here s f below i ≡ Raises OutOfMemory → here.is_refused ≡ true
+  by_listing i (itself _ _ h) = listed i h
+  by_listing i (member _ chosen a _ runs acts h) = lacks (faults_of_action a) (without_action a) h
+
+  -- an instruction whose birth isn't refused has memory
+  pub memory_is_refused : (i : Instruction) → execute here s f below i ≡ Raises OutOfMemory → here.is_refused ≡ true
+  memory_is_refused i e = by_listing i (raised_is_listed here s f below i OutOfMemory e) e

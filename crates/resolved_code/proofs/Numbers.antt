@@ -1,0 +1,7 @@
+-- Classes, fields, methods, slots and literals have numbers, which stand for them.
+pub mod Classes
+pub mod Declarations
+pub mod Methods
+pub mod Slots
+pub mod Literals
+pub mod EntryPoints

@@ -1,0 +1,322 @@
+-- A heap with a collector stays a memory for its threads where it stays sound, threads may hold what they held, and each cell represents its object.
+use Rattle.std.proofs.Common.{◌≡◌, inl, inr, ℕ, Bool, true, false, if◌then◌else◌, List, [], Option, Some, None, is_some, slice_get, refl, sym, ap, subst, ◌∙◌}
+use Rattle.std.specs.Prelude.{◌&&◌, not}
+use Rattle.std.proofs.lemmas.Option.{same_Some}
+use Rattle.interpreter.specs.cil_model.declared.phases.Phase.{Phase}
+use Rattle.interpreter.specs.cil_model.declared.phases.Phase.TheVariants.{Idle, Mark, Allocate, Copy, PreFlip, HeapFlip, ThreadFlip, Reclaim}
+use Rattle.interpreter.specs.cil_model.declared.trees.Tree.{Tree}
+use Rattle.interpreter.specs.cil_model.Fields.{FieldKey}
+use Rattle.interpreter.specs.cil_model.Same.{same_text}
+use Rattle.interpreter.specs.reference_machine.Cycles.{phase_after}
+use Rattle.interpreter.proofs.cil_model.SameLaws.{never}
+use Rattle.interpreter.specs.reference_machine.Values.{Born, Literal, Value as StateValue}
+use Rattle.interpreter.specs.reference_machine.States.{Monitor as StateMonitor, State, entry_at}
+use Rattle.interpreter.specs.object_memory.declared.addresses.Addr.{Addr}
+use Rattle.interpreter.specs.object_memory.declared.monitors.Monitor.{Monitor}
+use Rattle.interpreter.specs.object_memory.declared.values.Value.{Value}
+use Rattle.interpreter.specs.object_memory.declared.values.Value.TheVariants.{Int32, Int64, Native, Ref}
+use Rattle.interpreter.specs.object_memory.Cells.{Cell, cell_in, change_in, null}
+use Rattle.interpreter.specs.object_memory.Objects.{Objects}
+use Rattle.interpreter.specs.object_memory.Spaces.{Spaces, forward, is_old, is_white, marked_if, other_of, set_mark}
+use Rattle.interpreter.specs.instructions.barriers.Barriers.{with_marked}
+use Rattle.interpreter.proofs.object_memory.TwoBlocks.{after_in, forward-change}
+use Rattle.collector.specs.phase_handshake.Handshakes.{Handshakes, IsClose}
+use Rattle.collector.specs.phase_handshake.declared.posts.Seat.{Seat}
+use Rattle.collector.specs.References.{ValuePasses, is_permanent}
+use Rattle.collector.specs.Phases.{is_live, is_marked_address}
+use Rattle.collector.specs.Soundness.{IsSoundHeap}
+use Rattle.collector.specs.Holding.{AnyLive, HasNotBegun, Hold, MarkedOnly, NewOnly, hold_of, is_flipping, is_marking, passes, static_hold_of, static_may_hold}
+use Rattle.collector.specs.declared.progress.Progress.{Progress}
+use Rattle.collector.proofs.ThreadReferences.AfterStores.{alike_not_begun, marked_first}
+use Rattle.collector.proofs.ThreadReferences.MarkingPhases.{static_loads}
+use Rattle.collector.proofs.HeapStores.StoredCells.{static_literals}
+use Rattle.collector.proofs.Marking.MarksOfStores.{Grows, IsButMarked, alike_grows, grows_then, live_grows, passes_then, value_mark_grows, value_mark_leaves, value_mark_not_begun, value_mark_same, value_mark_sound, value_weakens}
+use Rattle.collector.proofs.HeapStores.ReachedCopies.{close_is_beside}
+use Rattle.collector.proofs.Addresses.TagChanges.{AreAlike, live_stays, passes_still}
+use Rattle.collector.proofs.Addresses.Disjunctions.{or_more}
+use Rattle.collector.proofs.Addresses.Tests.{HoldMeans, held_is_live, is_new_live, old_is}
+use Rattle.simulation.specs.StandsFor.{AreTwins, HasOneName, IsBornAt, IsCell, IsHeap, IsLiteralAt, IsValue, Names, int32, int64, native, null_reference, reference}
+use Rattle.simulation.proofs.ListLaws.AgreeingLists.{agree_get, agree_length}
+use Rattle.simulation.proofs.Memory.NamedAddresses.{heap_beside}
+use Rattle.simulation.proofs.Memory.MemoryModels.{AreStatics, IsBeside}
+use Rattle.simulation.proofs.CollectedHeap.RewrittenCells.{agree_from}
+use Rattle.simulation.proofs.CollectedHeap.TwoCopies.{copy_stays, twins_stay}
+use Rattle.simulation.proofs.CollectedHeap.VisibleNames.{FitsCollected, first_hold, means, named_passes, permanent_passes}
+
+-- ---- values
+
+module _ (tree : Tree) (words : ℕ) (h : Handshakes) (p : Progress) (seat : Seat) (first : Objects) (all : Names) (name : Names) (o : Objects) (ss : List Value) (s : State) (fits : FitsCollected tree words h p seat first all name o ss s) where
+  abbrev hold : Hold
+  hold = first_hold h seat first
+
+  -- a value that stands under the own names may be held
+  pub value_passes : (v : Value) (u : StateValue) → IsValue name v u → ValuePasses (passes hold h.posted o.spaces) v
+  value_passes v u (int32 z fits') = tt
+  value_passes v u (int64 z fits') = tt
+  value_passes v u (native z fits') = tt
+  value_passes v u null_reference = permanent_passes hold h.posted o.spaces null refl
+  value_passes v u (reference a n is) = named_passes tree words h p seat first all name o ss s fits a.number n is
+
+  -- and one that may be held stands under them
+  value_is_cut : (v : Value) (u : StateValue) → ValuePasses (passes hold h.posted o.spaces) v → IsValue fits.whole v u → IsValue name v u
+  value_is_cut v u pass (int32 z fits') = int32 z fits'
+  value_is_cut v u pass (int64 z fits') = int64 z fits'
+  value_is_cut v u pass (native z fits') = native z fits'
+  value_is_cut v u pass null_reference = null_reference
+  value_is_cut v u pass (reference a n is) = reference a n (fits.is_cut a.number n is pass)
+
+  -- ---- static fields
+
+  -- what a thread loads from static fields stands under its own names
+  pub collected_statics : (h.posted ≡ Mark → h.has_round ≡ true → p.scanned_statics ≡ true) → AreStatics name ss s.statics
+  collected_statics rounds =
+      agree_from (λ v (f : FieldKey × StateValue). IsValue name v f.1) ss s.statics (agree_length (λ v (f : FieldKey × StateValue). IsValue fits.whole v f.1) ss s.statics fits.stands)
+      (λ n v f is is'.
+      let old = agree_get (λ w (g : FieldKey × StateValue). IsValue fits.whole w g.1) ss s.statics fits.stands n f is' in
+      let same : old.0 ≡ v = same_Some old.0 v (sym old.1 ∙ is) in
+      value_is_cut v f.1 (loaded n v is) (subst (λ w. IsValue fits.whole w f.1) same old.2))
+    where
+      loaded : (n : ℕ) (v : Value) → slice_get ss n ≡ Some v → ValuePasses (passes hold h.posted o.spaces) v
+      loaded n v is =
+          value_weakens (static_may_hold h.posted o.spaces p n) (passes hold h.posted o.spaces)
+          (λ a held. subst (λ x. passes x h.posted o.spaces a ≡ true) fits.holds (static_loads h o.spaces p seat n rounds a held)) v (fits.static_holds n v is)
+
+  -- the same beside other threads and printed bytes
+  pub collected_beside : (s' : State) → IsBeside s s' → FitsCollected tree words h p seat first all name o ss s'
+  collected_beside s' same = record {
+    sound = fits.sound;
+    on_time = fits.on_time;
+    grows = fits.grows;
+    holds = fits.holds;
+    whole = fits.whole;
+    extends = fits.extends;
+    heap = heap_beside tree fits.whole o s s' same.objects same.monitors fits.heap;
+    live = fits.live;
+    filled = fits.filled;
+    cut = fits.cut;
+    is_cut = fits.is_cut;
+    stands = subst (λ es. AreStatics fits.whole ss es) (sym same.statics) fits.stands;
+    static_holds = fits.static_holds;
+  }
+
+-- ---- changes
+
+-- The heap stays sound, and what was held may be held; nothing else becomes live or may be held, and forwards stay.
+pub record IsChange (tree : Tree) (words : ℕ) (h : Handshakes) (p : Progress) (seat : Seat) (hold : Hold) (o o' : Objects) : Type 0 where
+  pub sound : IsSoundHeap tree h.posted h.has_round words p o'.spaces
+  pub begun : HasNotBegun h.posted h.has_round p o.spaces → HasNotBegun h.posted h.has_round p o'.spaces
+  pub grows : Grows o.spaces o'.spaces
+  pub holds : hold_of h o'.spaces.has_marked seat ≡ hold_of h o.spaces.has_marked seat
+  pub forwards : (x : Addr) → forward o'.spaces x ≡ forward o.spaces x
+  pub live_back : (x : Addr) → is_live h.posted o'.spaces x ≡ true → is_live h.posted o.spaces x ≡ true
+  pub pass_back : (x : Addr) → passes hold h.posted o'.spaces x ≡ true → passes hold h.posted o.spaces x ≡ true
+
+-- a change that leaves all marks is one
+pub alike_change : (tree : Tree) (words : ℕ) (h : Handshakes) (p : Progress) (seat : Seat) (hold : Hold) (o o' : Objects) → AreAlike o.spaces o'.spaces → IsSoundHeap tree h.posted h.has_round words p o'.spaces → IsChange tree words h p seat hold o o'
+alike_change tree words h p seat hold o o' alike sound = record {
+  sound = sound;
+  begun = alike_not_begun o.spaces o'.spaces alike h.posted h.has_round p;
+  grows = alike_grows o.spaces o'.spaces alike;
+  holds = ap (λ t. hold_of h t seat) alike.has_marked;
+  forwards = alike.forwards;
+  live_back = λ x live. sym (live_stays o.spaces o'.spaces alike h.posted x) ∙ live;
+  pass_back = λ x pass. sym (passes_still o.spaces o'.spaces alike hold h.posted x) ∙ pass;
+}
+
+module _ (tree : Tree) (words : ℕ) (h : Handshakes) (p : Progress) (seat : Seat) (first : Objects) (all : Names) (name : Names) (o : Objects) (ss : List Value) (s : State) (fits : FitsCollected tree words h p seat first all name o ss s)
+    (o' : Objects) (change : IsChange tree words h p seat (first_hold h seat first) o o') where
+  -- twins are the same
+  pub twins_then : (a b : ℕ) → AreTwins o.spaces a b → AreTwins o'.spaces a b
+  twins_then a b twins = twins_stay tree h.posted h.has_round words p o.spaces fits.sound o'.spaces a b (change.forwards (record { number = a })) (change.forwards (record { number = b })) twins
+
+  pub twins_before : (a b : ℕ) → AreTwins o'.spaces a b → AreTwins o.spaces a b
+  twins_before a b twins = twins_stay tree h.posted h.has_round words p o'.spaces change.sound o.spaces a b (sym (change.forwards (record { number = a }))) (sym (change.forwards (record { number = b }))) twins
+
+  -- and so is the other copy of an old object
+  pub copy_before : (a b : ℕ) → other_of (cell_in o'.spaces.old (record { number = a })) ≡ Some (record { number = b }) → other_of (cell_in o.spaces.old (record { number = a })) ≡ Some (record { number = b })
+  copy_before a b other = copy_stays tree h.posted h.has_round words p o'.spaces change.sound o.spaces a b (sym (change.forwards (record { number = a }))) other
+
+  -- so names are those of one object as before
+  pub names_stay : HasOneName fits.whole o'.spaces
+  names_stay = record {
+    one = λ a b n is is'. elim (fits.heap.names.one a b n is is') [ inl same ↦ inl same | inr twins ↦ inr (twins_then a b twins) ];
+    twins = λ a b n k is is' twins. fits.heap.names.twins a b n k is is' (twins_before a b twins);
+  }
+
+  -- static fields may hold what they held
+  pub statics_still : (number : ℕ) (v : Value) → slice_get ss number ≡ Some v → ValuePasses (static_may_hold h.posted o'.spaces p number) v
+  statics_still number v there =
+      value_weakens (static_may_hold h.posted o.spaces p number) (static_may_hold h.posted o'.spaces p number)
+      (λ a held. passes_then o.spaces o'.spaces change.grows (static_hold_of h.posted p number) h.posted a held) v (fits.static_holds number v there)
+
+  -- all of it fits where the heap and the static fields stand for a state
+  pub change_fits : (ss' : List Value) (s' : State) → IsHeap tree fits.whole o' s' → AreStatics fits.whole ss' s'.statics → ((number : ℕ) (v : Value) → slice_get ss' number ≡ Some v → ValuePasses (static_may_hold h.posted o'.spaces p number) v) →
+      FitsCollected tree words h p seat first all name o' ss' s'
+  change_fits ss' s' heap stands static_holds = record {
+    sound = change.sound;
+    on_time = λ own time late. change.begun (fits.on_time own time late);
+    grows = grows_then first.spaces o.spaces o'.spaces fits.grows change.grows;
+    holds = change.holds ∙ fits.holds;
+    whole = fits.whole;
+    extends = fits.extends;
+    heap = heap;
+    live = λ a n is. live_grows o.spaces o'.spaces change.grows h.posted (record { number = a }) (fits.live a n is);
+    filled = λ a b n is other live. fits.filled a b n is (copy_before a b other) (change.live_back (record { number = b }) live);
+    cut = λ a n is. let c = fits.cut a n is in (c.0, passes_then o.spaces o'.spaces change.grows (first_hold h seat first) h.posted (record { number = a }) c.1);
+    is_cut = λ a n is pass. fits.is_cut a n is (change.pass_back (record { number = a }) pass);
+    stands = stands;
+    static_holds = static_holds;
+  }
+
+  -- the heap, by its objects and literals
+  pub heap_then : (s' : State) → ((a n : ℕ) → fits.whole a ≡ Some (Born n) → IsBornAt tree fits.whole o' s' a n) → ((a : ℕ) (characters : List ℕ) → fits.whole a ≡ Some (Literal characters) → IsLiteralAt tree o' s' a characters) → IsHeap tree fits.whole o' s'
+  heap_then s' born literals = record {
+    null_unnamed = fits.heap.null_unnamed;
+    small = fits.heap.small;
+    names = names_stay;
+    born = born;
+    literals = literals;
+    each_literal = fits.heap.each_literal;
+  }
+
+  -- literals stay where their monitors do
+  pub literals_stay : (s' : State) → o'.literals ≡ o.literals → s'.literal_monitors ≡ s.literal_monitors → (a : ℕ) (characters : List ℕ) → fits.whole a ≡ Some (Literal characters) → IsLiteralAt tree o' s' a characters
+  literals_stay s' same same' a characters is =
+      let l = fits.heap.literals a characters is in
+      record {
+        number = l.number;
+        numbered = l.numbered;
+        is = l.is;
+        monitor = l.monitor;
+        held = ap (λ (ms : List Monitor). slice_get ms l.number) same ∙ l.held;
+        state_monitor = l.state_monitor;
+        state_held = ap (λ (es : List (List ℕ × StateMonitor)). entry_at same_text characters es) same' ∙ l.state_held;
+        stands = l.stands;
+      }
+
+-- ---- marks
+
+-- a cell that was marked stands for what it stood for
+pub marked_stands : (tree : Tree) (name : Names) (c d : Cell) (object : _) → IsButMarked c d → IsCell tree name c object → IsCell tree name d object
+marked_stands tree name c d object (inl same) stands = subst (λ (x : Cell). IsCell tree name x object) (sym same) stands
+marked_stands tree name c d object (inr same) stands =
+    let marked : IsCell tree name (set_mark c) object = record { contents = stands.contents; monitor = stands.monitor } in
+    subst (λ (x : Cell). IsCell tree name x object) (sym same) marked
+
+module _ (m : Spaces) (q x : Addr) where
+  -- a mark makes nothing old
+  mark_old_back : (t : Bool) → is_old (marked_if t m q) x ≡ true → is_old m x ≡ true
+  mark_old_back false is = is
+  mark_old_back true is = by_cell (cell_in (change_in set_mark m.old q) x) refl is
+    where
+      by_cell : (r : Option Cell) → cell_in (change_in set_mark m.old q) x ≡ r → is_some r ≡ true → is_old m x ≡ true
+      by_cell None lies there = never there
+      by_cell (Some d) lies there = let u = after_in set_mark (λ c. refl) m.old q x d lies in old_is m x u.0 u.1
+
+  -- and leaves forwards
+  mark_forward : (t : Bool) → forward (marked_if t m q) x ≡ forward m x
+  mark_forward false = refl
+  mark_forward true = forward-change set_mark (λ c. refl) (λ c. refl) m q x
+
+value_mark_old_back : (o : Objects) (v : Value) (x : Addr) → is_old (with_marked o v).spaces x ≡ true → is_old o.spaces x ≡ true
+value_mark_old_back o (Ref a) x is = mark_old_back o.spaces a x (is_white (cell_in o.spaces.old a)) is
+value_mark_old_back o (Int32 z) x is = is
+value_mark_old_back o (Int64 z) x is = is
+value_mark_old_back o (Native z) x is = is
+
+value_mark_forward : (o : Objects) (v : Value) (x : Addr) → forward (with_marked o v).spaces x ≡ forward o.spaces x
+value_mark_forward o (Ref a) x = mark_forward o.spaces a x (is_white (cell_in o.spaces.old a))
+value_mark_forward o (Int32 z) x = refl
+value_mark_forward o (Int64 z) x = refl
+value_mark_forward o (Native z) x = refl
+
+-- what may be held by any live hold stays so once something was marked
+any_stays : (s t u w b : Bool) → (if s then NewOnly else if t && (u && (w && not b)) then MarkedOnly else AnyLive) ≡ AnyLive → (if s then NewOnly else if t && (u && (w && false)) then MarkedOnly else AnyLive) ≡ AnyLive
+any_stays true t u w b e = absurd cc
+any_stays false false u w b e = refl
+any_stays false true false w b e = refl
+any_stays false true true false b e = refl
+any_stays false true true true b e = refl
+
+module _ (tree : Tree) (words : ℕ) (h : Handshakes) (p : Progress) (seat : Seat) (close : IsClose h seat) (first : Objects) (all : Names) (name : Names) (o : Objects) (ss : List Value) (s : State) (fits : FitsCollected tree words h p seat first all name o ss s)
+    (v : Value) (u : StateValue) (is : IsValue name v u) where
+  abbrev FitsStill : Objects → Type 0
+  FitsStill q = FitsCollected tree words h p seat first all name q ss s
+
+  pass : ValuePasses (passes (first_hold h seat first) h.posted o.spaces) v
+  pass = value_passes tree words h p seat first all name o ss s fits v u is
+
+  -- what is marked isn't marked again
+  marked_again : ValuePasses (is_marked_address o.spaces) v → FitsStill (with_marked o v)
+  marked_again marked = subst FitsStill (sym (value_mark_same o v fits.sound.blocks.spaces marked)) fits
+
+  module _ (now : h.posted ≡ Mark) (any : first_hold h seat first ≡ AnyLive) where
+    holds_then : (with_marked o v).spaces.has_marked ≡ true → hold_of h (with_marked o v).spaces.has_marked seat ≡ hold_of h o.spaces.has_marked seat
+    holds_then some =
+        ap (λ t. hold_of h t seat) some
+        ∙ any_stays (is_flipping seat.phase && is_flipping h.posted) (is_marking h.posted) h.has_round seat.answered o.spaces.has_marked (fits.holds ∙ any)
+        ∙ sym (fits.holds ∙ any)
+
+    mark_change : IsChange tree words h p seat (first_hold h seat first) o (with_marked o v)
+    mark_change = record {
+      sound = subst (λ q. IsSoundHeap tree q h.has_round words p (with_marked o v).spaces) (sym now) (value_mark_sound tree h.has_round words p o v (subst (λ q. IsSoundHeap tree q h.has_round words p o.spaces) now fits.sound));
+      begun = value_mark_not_begun h.posted h.has_round p o v;
+      grows = value_mark_grows o v;
+      holds = elim (value_mark_grows o v).has_marked [ inl same ↦ ap (λ t. hold_of h t seat) same | inr some ↦ holds_then some ];
+      forwards = value_mark_forward o v;
+      live_back = back;
+      pass_back = λ x pass'. subst (λ y. passes y h.posted o.spaces x ≡ true) (sym any) (back x (subst (λ y. passes y h.posted (with_marked o v).spaces x ≡ true) any pass'));
+    }
+      where
+        back : (x : Addr) → is_live h.posted (with_marked o v).spaces x ≡ true → is_live h.posted o.spaces x ≡ true
+        back x live =
+            subst (λ q. is_live q o.spaces x ≡ true) (sym now)
+            (or_more (is_permanent x) (is_old (with_marked o v).spaces x) (is_old o.spaces x) (value_mark_old_back o v x) (subst (λ q. is_live q (with_marked o v).spaces x ≡ true) now live))
+
+    born_then : (a n : ℕ) → fits.whole a ≡ Some (Born n) → IsBornAt tree fits.whole (with_marked o v) s a n
+    born_then a n named =
+        let b = fits.heap.born a n named in
+        let after = value_mark_leaves o v (record { number = a }) b.cell b.lies in
+        record { no_literal = b.no_literal; cell = after.0; lies = after.1; object = b.object; is = b.is; stands = marked_stands tree fits.whole b.cell after.0 b.object after.2 b.stands }
+
+    marks_fit : FitsStill (with_marked o v)
+    marks_fit =
+        change_fits tree words h p seat first all name o ss s fits (with_marked o v) mark_change ss s
+        (heap_then tree words h p seat first all name o ss s fits (with_marked o v) mark_change s born_then (literals_stay tree words h p seat first all name o ss s fits (with_marked o v) mark_change s (static_literals Mark o [] 0 v) refl))
+        fits.stands
+        (statics_still tree words h p seat first all name o ss s fits (with_marked o v) mark_change)
+
+  -- by what the thread may hold
+  marked_by : (x : Hold) → first_hold h seat first ≡ x → h.posted ≡ Mark → FitsStill (with_marked o v)
+  marked_by AnyLive e now = marks_fit now e
+  marked_by MarkedOnly e now = marked_again (subst (λ y. ValuePasses (passes y h.posted o.spaces) v) e pass)
+  marked_by NewOnly e now =
+      let late : is_new_live h.posted ≡ true = subst (λ y. HoldMeans h.posted h.has_round o.spaces y) e (means tree words h p seat first all name o ss s fits) in
+      never (sym (ap is_new_live now) ∙ late)
+
+  -- once Allocate is posted what it may hold is marked
+  marked_late : h.posted ≡ Allocate → FitsStill (with_marked o v)
+  marked_late now =
+      marked_again
+      (value_weakens (passes (first_hold h seat first) h.posted o.spaces) (is_marked_address o.spaces)
+      (λ a held. subst (λ q. is_live q o.spaces a ≡ true) now (held_is_live h.posted h.has_round o.spaces (first_hold h seat first) (means tree words h p seat first all name o ss s fits) a held)) v pass)
+
+  marked_fits : seat.phase ≡ Mark → FitsStill (with_marked o v)
+  marked_fits own = elim (close_is_beside h seat close) [
+    | inl now ↦ marked_by (first_hold h seat first) refl (sym now ∙ own)
+    | inr late ↦ marked_late (sym late ∙ ap phase_after own)
+  ]
+
+  -- a thread in Mark marks what it stores first
+  pub first_fits : FitsStill (marked_first seat.phase o v)
+  first_fits = by_phase seat.phase refl
+    where
+      by_phase : (q : Phase) → seat.phase ≡ q → FitsStill (marked_first q o v)
+      by_phase Idle e = fits
+      by_phase Mark e = marked_fits e
+      by_phase Allocate e = fits
+      by_phase Copy e = fits
+      by_phase PreFlip e = fits
+      by_phase HeapFlip e = fits
+      by_phase ThreadFlip e = fits
+      by_phase Reclaim e = fits

@@ -1,0 +1,12 @@
+-- Events of the collector and acknowledgements keep a machine sound, and the state that it represents.
+pub mod Soundness
+pub mod RepresentedObjects
+pub mod UnchangedState
+pub mod Reports
+pub mod WaitsAndOpenings
+pub mod NextBlockSize
+pub mod ClosedMarking
+pub mod AcknowledgementSoundness
+pub mod AcknowledgementNames
+pub mod AcknowledgementCases
+pub mod RootMarks

@@ -1,0 +1,301 @@
+-- An acknowledgement keeps a machine sound, in each phase that is posted.
+use Rattle.std.proofs.Common.{◌≡◌, ◌⊎◌, ℕ, Bool, true, false, ◌&&◌, not, if◌then◌else◌, List, ◌∷◌, map, Option, Some, None, slice_get, refl, inl, inr, sym, ap, ◌∙◌, subst}
+use Rattle.std.specs.Prelude.{is_some, All}
+use Rattle.std.specs.Option.{option_map_or}
+use Rattle.std.proofs.lemmas.Bool.{eq-eqb}
+use Rattle.std.proofs.lemmas.Option.{same_Some}
+use Rattle.interpreter.specs.cil_model.declared.phases.Phase.{Phase}
+use Rattle.interpreter.specs.cil_model.declared.phases.Phase.TheVariants.{Idle, Mark, Allocate, Copy, PreFlip, HeapFlip, ThreadFlip, Reclaim}
+use Rattle.interpreter.specs.reference_machine.Cycles.{phase_after}
+use Rattle.interpreter.specs.object_memory.declared.addresses.Addr.{Addr}
+use Rattle.interpreter.specs.object_memory.declared.values.Value.{Value}
+use Rattle.interpreter.specs.object_memory.declared.values.Value.TheVariants.{Ref}
+use Rattle.interpreter.specs.object_memory.Objects.{Objects}
+use Rattle.interpreter.specs.object_memory.Spaces.{Spaces, forward}
+use Rattle.interpreter.specs.threads_monitors.Frames.{Frames}
+use Rattle.interpreter.specs.threads_monitors.Roots.{roots, with_references}
+use Rattle.interpreter.specs.threads_monitors.Threads.{is_live, is_live_at}
+use Rattle.interpreter.specs.threads_monitors.declared.threads.Standing.{Standing}
+use Rattle.interpreter.specs.threads_monitors.declared.threads.Standing.TheVariants.{Live, Ended}
+use Rattle.interpreter.specs.threads_monitors.declared.threads.Thread.{Thread}
+use Rattle.interpreter.proofs.cil_model.Lists.{none_is_some, set_is_there}
+use Rattle.interpreter.proofs.cil_model.SameLaws.{never}
+use Rattle.collector.specs.References.{ValuePasses}
+use Rattle.collector.specs.Phases.{is_live as is_live_address, is_marked_address, is_new_address}
+use Rattle.collector.specs.Marking.{with_all_marked}
+use Rattle.collector.specs.Soundness.{IsListed, IsSoundHeap}
+use Rattle.collector.specs.Holding.{HasNotBegun, IsOnTime, is_flipping, is_marking, may_hold, static_may_hold}
+use Rattle.collector.specs.phase_handshake.Handshakes.{Handshakes, IsClose, is_open_to, is_phase, phase_number, seat_after, seat_of}
+use Rattle.collector.specs.phase_handshake.declared.posts.Seat.{Seat}
+use Rattle.collector.proofs.phase_handshake.Closeness.{answered_close, same_phase}
+use Rattle.collector.proofs.Copying.VisibleCopies.{forward_is_new, has_copies}
+use Rattle.collector.proofs.Marking.MarkChanges.{AreDarker, AreDarker-same}
+use Rattle.collector.proofs.ThreadReferences.MarkingPhases.{held_again, may_hold_marked, phase_held, stays_held, stays_held-static}
+use Rattle.collector.proofs.Marking.MarkedHeaps.{AreDarker-with_all_marked, HasNotBegun-with_all_marked, IsSoundHeap-with_all_marked, with_all_marked-noted, with_all_marked-pass}
+use Rattle.collector.proofs.Addresses.Tests.{value_weakens}
+use Rattle.simulation.specs.Collecting.{standing_flipped, thread_flipped, with_acknowledgement, with_flipped, with_thread_marked}
+use Rattle.simulation.specs.MachineContents.{Content}
+use Rattle.simulation.specs.Sound.{AreSeated, IsSound}
+use Rattle.simulation.proofs.CollectorEvents.AcknowledgementCases.{after_acknowledgement, posts_after}
+use Rattle.simulation.proofs.Representation.NormalContents.{sound_is_held, thread_is_live}
+use Rattle.simulation.proofs.Representation.FrameReferences.{frames_replaced, roots_pass, roots_passed}
+use Rattle.simulation.proofs.CollectorEvents.RootMarks.{all_of_listed, listed_of_all, thread_marked, thread_values}
+use Rattle.simulation.proofs.Threads.ChangedSeats.{other_seat, own_seat, same_or_other, seat_cases, set_other}
+
+-- ---- phases
+
+marking_is_mark : (posted : Phase) → is_marking posted ≡ true → posted ≡ Mark
+marking_is_mark Idle h = never h
+marking_is_mark Mark h = refl
+marking_is_mark Allocate h = never h
+marking_is_mark Copy h = never h
+marking_is_mark PreFlip h = never h
+marking_is_mark HeapFlip h = never h
+marking_is_mark ThreadFlip h = never h
+marking_is_mark Reclaim h = never h
+
+-- beyond ThreadFlip the phase before is one of flips too
+flipping_before : (p : Phase) → is_flipping (phase_after p) ≡ true → is_phase (phase_after p) ThreadFlip ≡ false → is_flipping p ≡ true
+flipping_before Idle flipping later = never flipping
+flipping_before Mark flipping later = never flipping
+flipping_before Allocate flipping later = never flipping
+flipping_before Copy flipping later = never flipping
+flipping_before PreFlip flipping later = never flipping
+flipping_before HeapFlip flipping later = never (sym later)
+flipping_before ThreadFlip flipping later = refl
+flipping_before Reclaim flipping later = never flipping
+
+-- what a thread may hold that is flipped is new
+new_by : (h : Handshakes) (m : Spaces) (seat : Seat) (a : Addr) → is_flipping seat.phase ≡ true → is_flipping h.posted ≡ true → may_hold h m seat a ≡ is_new_address m a
+new_by h m seat a own posted = rw (own, posted) refl
+
+-- ---- the new seat
+
+module _ (posted : Phase) (seat : Seat) where
+  seen_after : is_phase seat.phase posted ≡ true → seat_after posted seat ≡ record seat { answered = true }
+  seen_after seen = ap (λ b. if b then record seat { answered = true } else record seat { phase = posted }) seen
+
+  late_after : is_phase seat.phase posted ≡ false → seat_after posted seat ≡ record seat { phase = posted }
+  late_after late = ap (λ b. if b then record seat { answered = true } else record seat { phase = posted }) late
+
+  -- it is in the posted phase
+  posted_after : (seat_after posted seat).phase ≡ posted
+  posted_after = by_test (is_phase seat.phase posted) refl
+    where
+      by_test : (b : Bool) → is_phase seat.phase posted ≡ b → (seat_after posted seat).phase ≡ posted
+      by_test true seen = ap (λ (x : Seat). x.phase) (seen_after seen) ∙ same_phase seat.phase posted seen
+      by_test false late = ap (λ (x : Seat). x.phase) (late_after late)
+
+module _ (c : Content) (sound : IsSound c) (t : ℕ) (seat : Seat) (here : seat_of c.posts t ≡ Some seat) (opened : is_open_to c.posts.posted c.posts.has_round seat ≡ true) where
+  abbrev next : Seat
+  next = seat_after c.posts.posted seat
+
+  abbrev posts : Handshakes
+  posts = posts_after c t seat
+
+  abbrev m : Spaces
+  m = c.objects.spaces
+
+  cases_of : (n : ℕ) (x : Seat) → seat_of posts n ≡ Some x → ((n ≡ t) × (x ≡ next)) ⊎ ((n ≡ t → ⊥) × (seat_of c.posts n ≡ Some x))
+  cases_of = seat_cases c.posts t next seat here
+
+  -- the same threads are live
+  seated_then : (threads : List Thread) → ((n : ℕ) → is_live_at threads n ≡ is_live_at c.threads n) → AreSeated posts threads
+  seated_then threads same = record { close = answered_close c.posts sound.seated.close t seat here opened; live = λ n. same n ∙ sound.seated.live n ∙ seats n (same_or_other n t) }
+    where
+      seats : (n : ℕ) → (n ≡ t) ⊎ (n ≡ t → ⊥) → is_some (seat_of c.posts n) ≡ is_some (seat_of posts n)
+      seats n (inl is) =
+          ap (λ k. is_some (seat_of c.posts k)) is ∙ ap is_some here ∙ ap is_some (sym (own_seat c.posts t next seat here)) ∙ ap (λ k. is_some (seat_of posts k)) (sym is)
+      seats n (inr other) = ap is_some (sym (other_seat c.posts t next n other))
+
+  -- the machine is sound with these threads and objects, where it holds in them what it may
+  sound_then : (threads : List Thread) (o : Objects) → ((n : ℕ) → is_live_at threads n ≡ is_live_at c.threads n) →
+      IsSoundHeap c.tree c.posts.posted c.posts.has_round c.limits.max_words c.progress o.spaces →
+      ((n : ℕ) (x : Seat) → seat_of c.posts n ≡ Some x → IsOnTime x.phase c.posts.posted c.posts.has_round c.progress o.spaces) →
+      ((n left : ℕ) (fs : Frames) (x : Seat) → (n ≡ t → ⊥) → slice_get threads n ≡ Some (record { standing = Live fs; steps_left = left }) → seat_of c.posts n ≡ Some x → (a : Addr) → IsListed (roots fs) a → may_hold c.posts o.spaces x a ≡ true) →
+      ((left : ℕ) (fs : Frames) → slice_get threads t ≡ Some (record { standing = Live fs; steps_left = left }) → (a : Addr) → IsListed (roots fs) a → may_hold c.posts o.spaces next a ≡ true) →
+      ((number : ℕ) (v : Value) → slice_get c.statics number ≡ Some v → ValuePasses (static_may_hold c.posts.posted o.spaces c.progress number) v) →
+      IsSound (record c { threads = threads; posts = posts; objects = o })
+  sound_then threads o same heap on_time others own statics = record {
+    seated = seated_then threads same;
+    heap = heap;
+    rounds = sound.rounds;
+    on_time = λ n x is. on_time_then n x (cases_of n x is);
+    threads = λ n left fs x there is. threads_then n left fs x there (cases_of n x is);
+    statics = statics;
+  }
+    where
+      on_time_then : (n : ℕ) (x : Seat) → ((n ≡ t) × (x ≡ next)) ⊎ ((n ≡ t → ⊥) × (seat_of c.posts n ≡ Some x)) → IsOnTime x.phase c.posts.posted c.posts.has_round c.progress o.spaces
+      on_time_then n x (inl (is, new)) late = absurd (late (ap (λ (y : Seat). y.phase) new ∙ posted_after c.posts.posted seat))
+      on_time_then n x (inr (other, was)) late = on_time n x was late
+
+      threads_then : (n left : ℕ) (fs : Frames) (x : Seat) → slice_get threads n ≡ Some (record { standing = Live fs; steps_left = left }) → ((n ≡ t) × (x ≡ next)) ⊎ ((n ≡ t → ⊥) × (seat_of c.posts n ≡ Some x)) →
+          (a : Addr) → IsListed (roots fs) a → may_hold c.posts o.spaces x a ≡ true
+      threads_then n left fs x there (inl (is, new)) a listed =
+          subst (λ y. may_hold c.posts o.spaces y a ≡ true) (sym new) (own left fs (subst (λ k. slice_get threads k ≡ Some (record { standing = Live fs; steps_left = left })) is there) a listed)
+      threads_then n left fs x there (inr (other, was)) a listed = others n left fs x other there was a listed
+
+  -- with the same threads and objects, where the thread may hold what it might
+  same_then : ((a : Addr) → may_hold c.posts m seat a ≡ true → may_hold c.posts m next a ≡ true) → IsSound (record c { posts = posts })
+  same_then keep = sound_then c.threads c.objects (λ n. refl) sound.heap sound.on_time
+      (λ n left fs x other there was. sound.threads n left fs x there was)
+      (λ left fs there a listed. keep a (sound.threads t left fs seat there here a listed))
+      sound.statics
+
+  -- ---- a round is answered
+
+  module _ (seen : is_phase seat.phase c.posts.posted ≡ true) where
+    same_own : next.phase ≡ seat.phase
+    same_own = ap (λ (x : Seat). x.phase) (seen_after c.posts.posted seat seen)
+
+    -- in Mark
+    module _ (marking : is_marking c.posts.posted ≡ true) where
+      abbrev vs : List Value
+      vs = thread_values (slice_get c.threads t)
+
+      abbrev marked : Objects
+      marked = with_all_marked c.objects vs
+
+      in_mark : c.posts.posted ≡ Mark
+      in_mark = marking_is_mark c.posts.posted marking
+
+      darker : AreDarker m marked.spaces
+      darker = AreDarker-with_all_marked vs c.objects sound.heap.blocks.spaces
+
+      noted : m.has_marked ≡ true → marked.spaces.has_marked ≡ true
+      noted = with_all_marked-noted vs c.objects
+
+      heap_then : IsSoundHeap c.tree c.posts.posted c.posts.has_round c.limits.max_words c.progress marked.spaces
+      heap_then = subst (λ q. IsSoundHeap c.tree q c.posts.has_round c.limits.max_words c.progress marked.spaces) (sym in_mark)
+          (IsSoundHeap-with_all_marked c.tree c.posts.has_round c.limits.max_words c.progress vs c.objects (subst (λ q. IsSoundHeap c.tree q c.posts.has_round c.limits.max_words c.progress m) in_mark sound.heap))
+
+      on_time_then : (n : ℕ) (x : Seat) → seat_of c.posts n ≡ Some x → IsOnTime x.phase c.posts.posted c.posts.has_round c.progress marked.spaces
+      on_time_then n x is late =
+          let was : HasNotBegun Mark c.posts.has_round c.progress m = subst (λ q. HasNotBegun q c.posts.has_round c.progress m) in_mark (sound.on_time n x is late) in
+          subst (λ q. HasNotBegun q c.posts.has_round c.progress marked.spaces) (sym in_mark) (HasNotBegun-with_all_marked vs c.objects sound.heap.blocks.spaces c.posts.has_round c.progress was)
+
+      -- all that the thread's frames hold is marked
+      own_then : (left : ℕ) (fs : Frames) → slice_get c.threads t ≡ Some (record { standing = Live fs; steps_left = left }) → (a : Addr) → IsListed (roots fs) a → may_hold c.posts marked.spaces next a ≡ true
+      own_then left fs there a listed =
+          may_hold_marked c.posts marked.spaces next a in_mark
+          (listed_of_all (is_marked_address marked.spaces) (roots fs) (subst (All (ValuePasses (is_marked_address marked.spaces))) held (with_all_marked-pass vs c.objects sound.heap.blocks.spaces live)) a listed)
+        where
+          held : vs ≡ map Ref (roots fs)
+          held = ap thread_values there
+
+          live : All (ValuePasses (is_live_address Mark m)) vs
+          live = subst (All (ValuePasses (is_live_address Mark m))) (sym held)
+              (all_of_listed (is_live_address Mark m) (roots fs) (λ b is. subst (λ q. is_live_address q m b ≡ true) in_mark (thread_is_live c (sound_is_held c sound) t left fs there b is)))
+
+      marks_sound : IsSound (record c { posts = posts; objects = with_thread_marked c.objects (slice_get c.threads t) })
+      marks_sound = subst (λ o. IsSound (record c { posts = posts; objects = o })) (sym (thread_marked c.objects (slice_get c.threads t)))
+          (sound_then c.threads marked (λ n. refl) heap_then on_time_then
+          (λ n left fs x other there was a listed. stays_held c.posts m marked.spaces x darker noted a (sound.threads n left fs x there was a listed))
+          own_then
+          (λ number v there. value_weakens (static_may_hold c.posts.posted m c.progress number) (static_may_hold c.posts.posted marked.spaces c.progress number) (stays_held-static c.posts.posted m marked.spaces c.progress number darker) v (sound.statics number v there)))
+
+    -- in other phases it says nothing of what the thread holds
+    answers_sound : is_marking c.posts.posted ≡ false → IsSound (record c { posts = posts })
+    answers_sound other = same_then (held_again c.posts c.posts m m seat next (AreDarker-same m m refl refl refl) refl same_own (ap (λ b. b && (c.posts.has_round && (next.answered && not m.has_marked))) other))
+
+  -- ---- a phase is acknowledged
+
+  module _ (late : is_phase seat.phase c.posts.posted ≡ false) where
+    before : phase_after seat.phase ≡ c.posts.posted
+    before = by_case (sound.seated.close.phases t seat here)
+      where
+        by_case : IsClose c.posts seat → phase_after seat.phase ≡ c.posts.posted
+        by_case (inl same) = never (sym late ∙ eq-eqb (phase_number seat.phase) (phase_number c.posts.posted) (ap phase_number same))
+        by_case (inr (is, open_to)) = is
+
+    same_answer : next.answered ≡ seat.answered
+    same_answer = ap (λ (x : Seat). x.answered) (late_after c.posts.posted seat late)
+
+    -- but for ThreadFlip
+    goes_on_sound : is_phase c.posts.posted ThreadFlip ≡ false → IsSound (record c { posts = posts })
+    goes_on_sound later = same_then (λ a held. by_flips a held (is_flipping c.posts.posted) refl)
+      where
+        by_flips : (a : Addr) → may_hold c.posts m seat a ≡ true → (b : Bool) → is_flipping c.posts.posted ≡ b → may_hold c.posts m next a ≡ true
+        by_flips a held false early = phase_held c.posts c.posts m seat next refl refl same_answer early a held
+        by_flips a held true flipping =
+            let was : is_flipping seat.phase ≡ true = flipping_before seat.phase (ap is_flipping before ∙ flipping) (ap (λ q. is_phase q ThreadFlip) before ∙ later) in
+            new_by c.posts m next a (ap is_flipping (posted_after c.posts.posted seat) ∙ flipping) flipping ∙ sym (new_by c.posts m seat a was flipping) ∙ held
+
+    -- where the frames are flipped
+    module _ (flip : is_phase c.posts.posted ThreadFlip ≡ true) where
+      in_flip : c.posts.posted ≡ ThreadFlip
+      in_flip = same_phase c.posts.posted ThreadFlip flip
+
+      abbrev flipped : List Thread
+      flipped = with_flipped c.objects c.threads t (slice_get c.threads t)
+
+      -- another thread is as it was
+      others_stay : (n : ℕ) → (n ≡ t → ⊥) → slice_get flipped n ≡ slice_get c.threads n
+      others_stay n other = by_thread (slice_get c.threads t)
+        where
+          by_thread : (x : Option Thread) → slice_get (with_flipped c.objects c.threads t x) n ≡ slice_get c.threads n
+          by_thread None = refl
+          by_thread (Some x) = set_other c.threads t n (thread_flipped c.objects x) other
+
+      -- and this one is flipped
+      own_is : (x : Thread) → slice_get c.threads t ≡ Some x → slice_get flipped t ≡ Some (thread_flipped c.objects x)
+      own_is x there = ap (λ o. slice_get (with_flipped c.objects c.threads t o) t) there ∙ set_is_there c.threads t (thread_flipped c.objects x) x there
+
+      own_gone : slice_get c.threads t ≡ None → slice_get flipped t ≡ None
+      own_gone none = ap (λ o. slice_get (with_flipped c.objects c.threads t o) t) none ∙ none
+
+      live_then : (n : ℕ) → is_live_at flipped n ≡ is_live_at c.threads n
+      live_then n = by_place (same_or_other n t)
+        where
+          same_standing : (s : Standing) (left : ℕ) → is_live (thread_flipped c.objects (record { standing = s; steps_left = left })) ≡ is_live (record { standing = s; steps_left = left })
+          same_standing (Live fs) left = refl
+          same_standing (Ended e) left = refl
+
+          here_then : (o : Option Thread) → slice_get c.threads t ≡ o → is_live_at flipped t ≡ is_live_at c.threads t
+          here_then None none = ap (λ o. option_map_or is_live o false) (own_gone none ∙ sym none)
+          here_then (Some x) there = ap (λ o. option_map_or is_live o false) (own_is x there) ∙ same_standing x.standing x.steps_left ∙ ap (λ o. option_map_or is_live o false) (sym there)
+
+          by_place : (n ≡ t) ⊎ (n ≡ t → ⊥) → is_live_at flipped n ≡ is_live_at c.threads n
+          by_place (inl is) = ap (is_live_at flipped) is ∙ here_then (slice_get c.threads t) refl ∙ ap (is_live_at c.threads) (sym is)
+          by_place (inr other) = ap (λ o. option_map_or is_live o false) (others_stay n other)
+
+      -- all that the thread's frames hold is new then
+      new_after : (left : ℕ) (fs : Frames) → slice_get c.threads t ≡ Some (record { standing = Live fs; steps_left = left }) → (a : Addr) → IsListed (roots (with_references (forward m) fs)) a → is_new_address m a ≡ true
+      new_after left fs there =
+          roots_pass (is_new_address m) (with_references (forward m) fs)
+          (frames_replaced (is_live_address c.posts.posted m) (is_new_address m) (forward m)
+          (forward_is_new c.tree c.posts.posted c.progress m sound.heap.blocks.spaces sound.heap.copies (ap has_copies in_flip))
+          (fs.running ∷ fs.below)
+          (roots_passed (is_live_address c.posts.posted m) fs (thread_is_live c (sound_is_held c sound) t left fs there)))
+
+      new_then : (left : ℕ) (fs : Frames) → slice_get flipped t ≡ Some (record { standing = Live fs; steps_left = left }) → (a : Addr) → IsListed (roots fs) a → is_new_address m a ≡ true
+      new_then left fs there a listed = by_thread (slice_get c.threads t) refl
+        where
+          by_standing : (s : Standing) (n : ℕ) → slice_get c.threads t ≡ Some (record { standing = s; steps_left = n }) → standing_flipped c.objects s ≡ Live fs → is_new_address m a ≡ true
+          by_standing (Live gs) n was is = new_after n gs was a (subst (λ x. IsListed (roots x) a) (sym frames_are) listed)
+            where
+              frames_are : with_references (forward m) gs ≡ fs
+              frames_are = cc
+          by_standing (Ended e) n was is = absurd cc
+
+          by_thread : (o : Option Thread) → slice_get c.threads t ≡ o → is_new_address m a ≡ true
+          by_thread None none = none_is_some _ (sym (own_gone none) ∙ there)
+          by_thread (Some x) was = by_standing x.standing x.steps_left was (ap (λ (y : Thread). y.standing) (same_Some (thread_flipped c.objects x) (record { standing = Live fs; steps_left = left }) (sym (own_is x was) ∙ there)))
+
+      flips_sound : IsSound (record c { threads = flipped; posts = posts })
+      flips_sound = sound_then flipped c.objects live_then sound.heap sound.on_time
+          (λ n left fs x other there was. sound.threads n left fs x (sym (others_stay n other) ∙ there) was)
+          (λ left fs there a listed. new_by c.posts m next a (ap is_flipping (posted_after c.posts.posted seat) ∙ ap is_flipping in_flip) (ap is_flipping in_flip) ∙ new_then left fs there a listed)
+          sound.statics
+
+-- an acknowledgement keeps a machine sound
+pub acknowledgement_sound : (c : Content) (t : ℕ) → IsSound c → IsSound (with_acknowledgement c t).0
+acknowledgement_sound c t sound =
+    after_acknowledgement c t IsSound
+    (record {
+      nothing = sound;
+      marks = λ seat here opened seen marking. marks_sound c sound t seat here opened seen marking;
+      answers = λ seat here opened seen other. answers_sound c sound t seat here opened seen other;
+      goes_on = λ seat here opened late later. goes_on_sound c sound t seat here opened late later;
+      flips = λ seat here opened late flip. flips_sound c sound t seat here opened late flip;
+    })

@@ -1,0 +1,356 @@
+-- Events of the collector keep what a machine represents, where its names are those of what is live.
+use Rattle.std.proofs.Common.{◌≡◌, ◌⊎◌, inl, inr, ℕ, ◌+◌, ◌-◌, Bool, true, false, List, [], Option, Some, None, slice_get, refl, sym, ap, ◌∙◌, subst}
+use Rattle.std.specs.Prelude.{◌&&◌, not, if◌then◌else◌}
+use Rattle.std.specs.Option.{option_map_or}
+use Rattle.std.proofs.lemmas.Option.{none-some}
+use Rattle.interpreter.specs.cil_model.declared.phases.Phase.{Phase}
+use Rattle.interpreter.specs.cil_model.declared.phases.Phase.TheVariants.{Idle, Mark, Allocate, Copy, PreFlip, HeapFlip, ThreadFlip, Reclaim}
+use Rattle.interpreter.specs.cil_model.declared.reports.Report.{Report}
+use Rattle.interpreter.specs.cil_model.declared.reports.Report.TheVariants.{Waiting, Worked}
+use Rattle.interpreter.specs.cil_model.declared.trees.Tree.{Tree}
+use Rattle.interpreter.specs.cil_model.Fields.{FieldKey}
+use Rattle.interpreter.specs.reference_machine.Values.{Born, ObjectName, Value as StateValue}
+use Rattle.interpreter.specs.reference_machine.States.{HeapObject, State}
+use Rattle.interpreter.specs.object_memory.declared.addresses.Addr.{Addr}
+use Rattle.interpreter.specs.object_memory.declared.values.Value.{Value}
+use Rattle.interpreter.specs.object_memory.Cells.{Cell, cell_in, size}
+use Rattle.interpreter.specs.object_memory.Objects.{Objects, object_cell}
+use Rattle.interpreter.specs.object_memory.Spaces.{Spaces, clear, first_of, found_in, is_noted, opened, other_of}
+use Rattle.interpreter.specs.instructions.barriers.Barriers.{forwarded}
+use Rattle.collector.specs.Phases.{is_live, is_read}
+use Rattle.collector.specs.Soundness.{IsSoundHeap}
+use Rattle.collector.specs.Marking.{is_closed, marked_on, statics_scanned}
+use Rattle.collector.specs.Copying.{copied_on, looked_on}
+use Rattle.collector.specs.Flips.{cleared_at, cleared_on, flip_step, flipped_on, retired}
+use Rattle.collector.specs.Holding.{AnyLive}
+use Rattle.collector.specs.declared.progress.Progress.{Progress}
+use Rattle.collector.specs.phase_handshake.Handshakes.{all_answered, all_seen}
+use Rattle.simulation.specs.Agreement.{Agree}
+use Rattle.simulation.specs.MachineContents.{Content}
+use Rattle.simulation.specs.Sound.{IsSound}
+use Rattle.simulation.specs.Collecting.{cleared, collected, flipped, marked, next_posted, opening_words, round_posted, rounds, work, worked}
+use Rattle.simulation.specs.StandsFor.{AreTwins, IsCell, IsHeap, IsMonitor, IsOfContents, IsValue, Names, StandsBy}
+use Rattle.interpreter.proofs.object_memory.TwoBlocks.{either, new_is_cell, old_is_cell}
+use Rattle.collector.proofs.Addresses.Tests.{is_new_live, live_is_late, live_is_read, never, new_has_cell, none_is_new}
+use Rattle.collector.proofs.Marking.MarkChanges.{AreDarker, AreDarker-same, stays_there}
+use Rattle.collector.proofs.Marking.MarkedHeaps.{AreDarker-with_all_marked, with_all_marked-literals}
+use Rattle.collector.proofs.Marking.MarkWork.{AreDarker-marked_on, marked_on-literals}
+use Rattle.collector.proofs.Copying.AllocateWork.{looked_sound}
+use Rattle.collector.proofs.Copying.UnchangedReads.{copied_else, copied_live, copied_old, looked_else, looked_live, looked_new, looked_old}
+use Rattle.collector.proofs.Copying.CopyWork.{copied_sound}
+use Rattle.collector.proofs.PhaseChanges.ReclaimWork.{ShowsSame, cleared_shows, cleared_sound, cleared_stays, retired_cell, retired_sound}
+use Rattle.simulation.proofs.CollectorEvents.Soundness.{posting}
+use Rattle.simulation.proofs.Representation.NormalNames.{IsNormal, normal_value, other_cell}
+use Rattle.simulation.proofs.ListLaws.AgreeingLists.{agree_changed}
+
+-- ---- objects that show the same through each name
+
+-- the literals are the same, each named object shows what it did, and the same names are twins
+pub record ShowsNames (name : Names) (o o' : Objects) : Type 0 where
+  pub literals : o'.literals ≡ o.literals
+  pub shows : (a n : ℕ) → name a ≡ Some (Born n) → (c : Cell) → object_cell o (record { number = a }) ≡ Some c → (d : Cell) × (object_cell o' (record { number = a }) ≡ Some d) × ShowsSame c d
+  pub stay : (a b : ℕ) (n k : ObjectName) → name a ≡ Some n → name b ≡ Some k → AreTwins o.spaces a b → AreTwins o'.spaces a b
+  pub were : (a b : ℕ) (n k : ObjectName) → name a ≡ Some n → name b ≡ Some k → AreTwins o'.spaces a b → AreTwins o.spaces a b
+
+-- a cell that stays
+shows_itself : (c : Cell) → ShowsSame c c
+shows_itself c = record { kind = refl; slots = refl; monitor = refl }
+
+-- a cell that shows the same is one of the same object
+cell_shown : (tree : Tree) (name : Names) (c d : Cell) (object : HeapObject) → ShowsSame c d → IsCell tree name c object → IsCell tree name d object
+cell_shown tree name c d object same is = record {
+  contents = subst (λ k. IsOfContents tree name k d.slots object.contents object.thread) (sym same.kind)
+      (subst (λ l. IsOfContents tree name c.kind l object.contents object.thread) (sym same.slots) is.contents);
+  monitor = subst (λ m. IsMonitor m object.monitor) (sym same.monitor) is.monitor;
+}
+
+-- and a heap with such objects holds the same
+pub heap_shown : (tree : Tree) (name : Names) (o o' : Objects) (s : State) → ShowsNames name o o' → IsHeap tree name o s → IsHeap tree name o' s
+heap_shown tree name o o' s same heap = record {
+  null_unnamed = heap.null_unnamed;
+  small = heap.small;
+  names = record {
+    one = λ a b n ea eb. elim (heap.names.one a b n ea eb) [ inl equal ↦ inl equal | inr twins ↦ inr (same.stay a b n n ea eb twins) ];
+    twins = λ a b n k ea eb twins. heap.names.twins a b n k ea eb (same.were a b n k ea eb twins);
+  };
+  born = λ a n e.
+      (let r = heap.born a n e in
+      let d = same.shows a n e r.cell r.lies in
+      record { no_literal = r.no_literal; cell = d.0; lies = d.1; object = r.object; is = r.is; stands = cell_shown tree name r.cell d.0 r.object d.2 r.stands });
+  literals = λ a characters e.
+      (let r = heap.literals a characters e in
+      record {
+        number = r.number;
+        numbered = r.numbered;
+        is = r.is;
+        monitor = r.monitor;
+        held = ap (λ l. slice_get l r.number) same.literals ∙ r.held;
+        state_monitor = r.state_monitor;
+        state_held = r.state_held;
+        stands = r.stands;
+      });
+  each_literal = heap.each_literal;
+}
+
+module _ (name : Names) (c : Content) (s : State) (stands : StandsBy name c s) where
+  -- a machine with such objects stands for the same state
+  pub stands_shown : (o : Objects) → ShowsNames name c.objects o → StandsBy name (record c { objects = o }) s
+  stands_shown o same = record {
+    memory = record { heap = heap_shown c.tree name c.objects o s same stands.memory.heap; static_values = stands.memory.static_values; printed_is = stands.memory.printed_is };
+    threads = stands.threads;
+  }
+
+  -- and so does one of a further phase
+  pub stands_next : StandsBy name (next_posted c).0 s
+  stands_next = record { memory = stands.memory; threads = stands.threads }
+
+-- after one of two turns, by a test
+either_stands : (name : Names) (s : State) (b : Bool) (x y : Content × Report) → (b ≡ true → StandsBy name x.0 s) → (b ≡ false → StandsBy name y.0 s) → StandsBy name (if◌then◌else◌ {A = Content × Report} b x y).0 s
+either_stands name s true x y f g = f refl
+either_stands name s false x y f g = g refl
+
+-- ---- twins
+
+-- twins of one heap are twins of another in which each old object has the same other copy
+twins_by : (m m' : Spaces) → ((a : Addr) → other_of (cell_in m'.old a) ≡ other_of (cell_in m.old a)) → (a b : ℕ) → AreTwins m a b → AreTwins m' a b
+twins_by m m' same a b (inl e) = inl (same (record { number = a }) ∙ e)
+twins_by m m' same a b (inr e) = inr (same (record { number = b }) ∙ e)
+
+-- where a live object has no live copy, none are twins of live ones
+twins_never : {A : Type 0} (m : Spaces) (live : Addr → Type 0) → ((a b : Addr) → live a → live b → other_of (cell_in m.old a) ≡ Some b → ⊥) → (a b : ℕ) → live (record { number = a }) → live (record { number = b }) → AreTwins m a b → A
+twins_never m live none a b la lb (inl e) = absurd (none (record { number = a }) (record { number = b }) la lb e)
+twins_never m live none a b la lb (inr e) = absurd (none (record { number = b }) (record { number = a }) lb la e)
+
+module _ {A : Type 0} (tree : Tree) (posted : Phase) (has_round : Bool) (words : ℕ) (p : Progress) (m : Spaces) (sound : IsSoundHeap tree posted has_round words p m) (a b : ℕ)
+    (live_a : is_live posted m (record { number = a }) ≡ true) (live_b : is_live posted m (record { number = b }) ≡ true) where
+  -- until new objects are live
+  twins_early : is_new_live posted ≡ false → AreTwins m a b → A
+  twins_early early = twins_never m (λ x. is_live posted m x ≡ true) none a b live_a live_b
+    where
+      none : (x y : Addr) → is_live posted m x ≡ true → is_live posted m y ≡ true → other_of (cell_in m.old x) ≡ Some y → ⊥
+      none x y lx ly e =
+          let c = other_cell (cell_in m.old x) y e in
+          let d = sound.copies.out x y c.0 c.1 c.2 in
+          never (sym early ∙ live_is_late m sound.blocks.spaces y d.0 posted d.1 ly)
+
+  -- and once old ones aren't
+  twins_late : ((c : Cell) → is_read posted c ≡ false) → AreTwins m a b → A
+  twins_late late = twins_never m (λ x. is_live posted m x ≡ true) none a b live_a live_b
+    where
+      none : (x y : Addr) → is_live posted m x ≡ true → is_live posted m y ≡ true → other_of (cell_in m.old x) ≡ Some y → ⊥
+      none x y lx ly e =
+          let c = other_cell (cell_in m.old x) y e in
+          never (sym (late c.0) ∙ live_is_read m sound.blocks.spaces x c.0 posted c.1 lx)
+
+-- ---- Idle and Mark
+
+-- a cycle opens
+pub opened_shows : (name : Names) (o : Objects) (words : ℕ) → o.spaces.new.cells ≡ [] → ShowsNames name o (record o { spaces = opened o.spaces words })
+opened_shows name o words none = record {
+  literals = refl;
+  shows = λ a n e c lies. (c, sym (ap (first_of (cell_in o.spaces.old (record { number = a }))) (none_is_new o.spaces (record { number = a }) none)) ∙ lies, shows_itself c);
+  stay = λ a b n k ea eb twins. twins;
+  were = λ a b n k ea eb twins. twins;
+}
+
+-- an object that is marked has the same other copy
+darker_other : (m m' : Spaces) → AreDarker m m' → (a : Addr) → other_of (cell_in m'.old a) ≡ other_of (cell_in m.old a)
+darker_other m m' darker a = by_cells (cell_in m.old a) (cell_in m'.old a) refl refl
+  where
+    by_cells : (x y : Option Cell) → cell_in m.old a ≡ x → cell_in m'.old a ≡ y → other_of y ≡ other_of x
+    by_cells None None was is = refl
+    by_cells None (Some d) was is = let c = darker.was a d is in absurd (none-some c.0 (sym was ∙ c.1))
+    by_cells (Some c) y was is = let d = darker.kept a c was in ap other_of (sym is ∙ d.1) ∙ d.2.other
+
+-- which changes nothing that is shown
+pub darker_shows : (name : Names) (o o' : Objects) (has_round : Bool) (tree : Tree) (words : ℕ) (p : Progress) → IsSoundHeap tree Mark has_round words p o.spaces → o'.literals ≡ o.literals → AreDarker o.spaces o'.spaces → ShowsNames name o o'
+darker_shows name o o' has_round tree words p sound literals darker = record {
+  literals = literals;
+  shows = λ a n e c lies.
+      (let d = stays_there o.spaces o'.spaces darker sound.blocks.spaces (record { number = a }) c lies in
+      (d.0, d.1, record { kind = d.2.kind; slots = d.2.slots; monitor = d.2.monitor }));
+  stay = λ a b n k ea eb twins. twins_by o.spaces o'.spaces (darker_other o.spaces o'.spaces darker) a b twins;
+  were = λ a b n k ea eb twins. twins_by o'.spaces o.spaces (λ x. sym (darker_other o.spaces o'.spaces darker x)) a b twins;
+}
+
+-- ---- Allocate and Copy
+
+-- an object gets its copy
+pub looked_shows : (name : Names) (o : Objects) (has_round : Bool) (tree : Tree) (words : ℕ) (p : Progress) → IsSoundHeap tree Allocate has_round words p o.spaces → IsNormal Allocate o.spaces name → ShowsNames name o (looked_on p o).1
+looked_shows name o has_round tree words p sound normal = record {
+  literals = (looked_else p o).literals;
+  shows = λ a n e c lies. by_block (record { number = a }) c (either o.spaces (record { number = a }) c lies);
+  stay = λ a b n k ea eb twins. twins_early tree Allocate has_round words p o.spaces sound a b (normal.live a n ea) (normal.live b k eb) refl twins;
+  were = λ a b n k ea eb twins.
+      twins_early tree Allocate has_round words (looked_on p o).0 (looked_on p o).1.spaces after a b (looked_live p o (record { number = a }) ∙ normal.live a n ea) (looked_live p o (record { number = b }) ∙ normal.live b k eb) refl twins;
+}
+  where
+    after : IsSoundHeap tree Allocate has_round words (looked_on p o).0 (looked_on p o).1.spaces
+    after = looked_sound tree has_round words p o sound
+
+    by_block : (x : Addr) (c : Cell) → (cell_in o.spaces.old x ≡ Some c) ⊎ (cell_in o.spaces.new x ≡ Some c) → (d : Cell) × (object_cell (looked_on p o).1 x ≡ Some d) × ShowsSame c d
+    by_block x c (inl old) =
+        let d = looked_old p o x c old in
+        (d.0, old_is_cell (looked_on p o).1.spaces x d.0 d.1, record { kind = d.2.kind; slots = d.2.slots; monitor = d.2.monitor })
+    by_block x c (inr new) = (c, new_is_cell (looked_on p o).1.spaces after.blocks.spaces x c (looked_new p o tree has_round words sound x c new), shows_itself c)
+
+-- a word is copied, of an object that isn't live yet
+pub copied_shows : (name : Names) (o : Objects) (has_round : Bool) (tree : Tree) (words : ℕ) (p : Progress) → IsSoundHeap tree Copy has_round words p o.spaces → IsNormal Copy o.spaces name → ShowsNames name o (copied_on tree p o).1
+copied_shows name o has_round tree words p sound normal = record {
+  literals = (copied_else tree p o).literals;
+  shows = λ a n e c lies. by_block (record { number = a }) c (normal.live a (Born n) e) (either o.spaces (record { number = a }) c lies);
+  stay = λ a b n k ea eb twins. twins_early tree Copy has_round words p o.spaces sound a b (normal.live a n ea) (normal.live b k eb) refl twins;
+  were = λ a b n k ea eb twins.
+      twins_early tree Copy has_round words (copied_on tree p o).0 (copied_on tree p o).1.spaces (copied_sound tree has_round words p o sound) a b
+      (live (record { number = a }) ∙ normal.live a n ea) (live (record { number = b }) ∙ normal.live b k eb) refl twins;
+}
+  where
+    live : (x : Addr) → is_live Copy (copied_on tree p o).1.spaces x ≡ is_live Copy o.spaces x
+    live x = copied_live tree p o has_round words sound x
+
+    by_block : (x : Addr) (c : Cell) → is_live Copy o.spaces x ≡ true → (cell_in o.spaces.old x ≡ Some c) ⊎ (cell_in o.spaces.new x ≡ Some c)
+        → (d : Cell) × (object_cell (copied_on tree p o).1 x ≡ Some d) × ShowsSame c d
+    by_block x c live_x (inl old) =
+        (c, old_is_cell (copied_on tree p o).1.spaces x c (ap (λ s. cell_in s x) (copied_old tree p o has_round words sound) ∙ old), shows_itself c)
+    by_block x c live_x (inr new) = never (live_is_late o.spaces sound.blocks.spaces x c Copy new live_x)
+
+-- ---- HeapFlip
+
+module _ (name : Names) (o : Objects) (has_round : Bool) (tree : Tree) (words : ℕ) (p : Progress) (sound : IsSoundHeap tree HeapFlip has_round words p o.spaces) (normal : IsNormal HeapFlip o.spaces name) where
+  -- a static field is flipped
+  pub flipped_agree : (statics : List Value) (fields : List (FieldKey × StateValue)) → Agree (λ v (f : FieldKey × StateValue). IsValue name v f.1) statics fields
+      → Agree (λ v (f : FieldKey × StateValue). IsValue name v f.1) (flipped_on p o statics).1 fields
+  flipped_agree statics fields agree = by_field (slice_get statics p.flipped_statics) refl
+    where
+      by_field : (x : Option Value) → slice_get statics p.flipped_statics ≡ x → Agree (λ v (f : FieldKey × StateValue). IsValue name v f.1) (flip_step p o statics x).1 fields
+      by_field None is = agree
+      by_field (Some v) is =
+          agree_changed (λ w (f : FieldKey × StateValue). IsValue name w f.1) statics fields p.flipped_statics v (forwarded o v) is (λ f stands. normal_value tree HeapFlip has_round words p o sound refl name normal v f.1 stands) agree
+
+-- ---- Reclaim
+
+-- no monitor of a literal changes
+cleared_literals : (p : Progress) (o : Objects) (x : Option ℕ) → (cleared_at p o x).1.literals ≡ o.literals
+cleared_literals p o None = refl
+cleared_literals p o (Some at) = by_cell (cell_in o.spaces.new (record { number = at }))
+  where
+    by_cell : (x : Option Cell)
+        → (option_map_or {U = Progress × Objects × Bool} (λ (c : Cell). (record p { place = at - o.spaces.new.start + size c }, record o { spaces = clear o.spaces (record { number = at }) }, true)) x (p, o, false)).1.literals ≡ o.literals
+    by_cell None = refl
+    by_cell (Some c) = refl
+
+-- a new object is cleared
+pub cleared_shows_names : (name : Names) (o : Objects) (has_round : Bool) (tree : Tree) (words : ℕ) (p : Progress) → IsSoundHeap tree Reclaim has_round words p o.spaces → IsNormal Reclaim o.spaces name → ShowsNames name o (cleared_on p o).1
+cleared_shows_names name o has_round tree words p sound normal = record {
+  literals = cleared_literals p o (found_in is_noted o.spaces.new (o.spaces.new.start + p.place));
+  shows = λ a n e c lies. cleared_shows tree has_round words p o sound (record { number = a }) c lies;
+  stay = λ a b n k ea eb twins. twins_late tree Reclaim has_round words p o.spaces sound a b (normal.live a n ea) (normal.live b k eb) (λ c. refl) twins;
+  were = λ a b n k ea eb twins.
+      twins_late tree Reclaim has_round words (cleared_on p o).0 (cleared_on p o).1.spaces (cleared_sound tree has_round words p o sound) a b
+      (cleared_stays tree has_round words p o sound AnyLive (record { number = a }) (normal.live a n ea)) (cleared_stays tree has_round words p o sound AnyLive (record { number = b }) (normal.live b k eb)) (λ c. refl) twins;
+}
+
+-- the new block is the only one then
+pub retired_shows : (name : Names) (o : Objects) (has_round : Bool) (tree : Tree) (words : ℕ) (p : Progress) → IsSoundHeap tree Reclaim has_round words p o.spaces → IsNormal Reclaim o.spaces name → (cleared_on p o).2 ≡ false → ShowsNames name o (retired o)
+retired_shows name o has_round tree words p sound normal over = record {
+  literals = refl;
+  shows = λ a n e c lies. (c, retired_cell o sound.blocks.spaces (record { number = a }) c (new_has_cell o.spaces sound.blocks.spaces (record { number = a }) c lies (normal.live a (Born n) e)), shows_itself c);
+  stay = λ a b n k ea eb twins. twins_late tree Reclaim has_round words p o.spaces sound a b (normal.live a n ea) (normal.live b k eb) (λ c. refl) twins;
+  were = λ a b n k ea eb twins. twins_never (retired o).spaces (λ x. Unit {0}) bare a b tt tt twins;
+}
+  where
+    bare : (x y : Addr) → Unit {0} → Unit {0} → other_of (cell_in (retired o).spaces.old x) ≡ Some y → ⊥
+    bare x y _ _ e =
+        let c = other_cell (cell_in (retired o).spaces.old x) y e in
+        absurd (none-some y (sym ((retired_sound tree has_round words p o sound over).copies.bare x c.0 c.1 refl) ∙ c.2))
+
+-- ---- each phase
+
+-- a step was done, or none was left
+worked_stands : (name : Names) (s : State) (c : Content) (x : Progress × Objects × Bool) → StandsBy name (record c { progress = x.0; objects = x.1 }) s → StandsBy name (next_posted c).0 s → StandsBy name (worked c x).0 s
+worked_stands name s c (p, o, true) works posts = works
+worked_stands name s c (p, o, false) works posts = posts
+
+module _ (name : Names) (c : Content) (s : State) where
+  -- a cycle opens
+  opens_stand : IsSound (posting Idle c) → StandsBy name c s → StandsBy name (work Idle (posting Idle c)).0 s
+  opens_stand sound stands = let opens = stands_shown name c s stands _ (opened_shows name c.objects (opening_words c) (sound.heap.blocks.none_new refl)) in record { memory = opens.memory; threads = opens.threads }
+
+  -- objects are marked
+  dark_stands : IsSound (posting Mark c) → (o : Objects) → o.literals ≡ c.objects.literals → AreDarker c.objects.spaces o.spaces → StandsBy name c s → StandsBy name (record c { objects = o }) s
+  dark_stands sound o literals darker stands = stands_shown name c s stands o (darker_shows name c.objects o c.posts.has_round c.tree c.limits.max_words c.progress sound.heap literals darker)
+
+  -- a round is posted, or marking ends
+  rounds_stand : IsSound (posting Mark c) → StandsBy name c s → StandsBy name (rounds (posting Mark c)).0 s
+  rounds_stand sound stands = either_stands name s (is_closed c.progress c.objects (posting Mark c).posts) (next_posted (posting Mark c))
+      (if c.posts.has_round && not (all_answered (posting Mark c).posts) then (posting Mark c, Waiting) else (round_posted (posting Mark c), Worked))
+      (λ closed. stands_next name (posting Mark c) s here)
+      (λ more. either_stands name s (c.posts.has_round && not (all_answered (posting Mark c).posts)) (posting Mark c, Waiting) (round_posted (posting Mark c), Worked)
+      (λ waits. here)
+      (λ answered. (let unmarked = dark_stands sound (record c.objects { spaces = record c.objects.spaces { has_marked = false } }) refl (AreDarker-same c.objects.spaces (record c.objects.spaces { has_marked = false }) refl refl refl) stands in
+      record { memory = unmarked.memory; threads = unmarked.threads })))
+    where
+      here : StandsBy name (posting Mark c) s
+      here = record { memory = stands.memory; threads = stands.threads }
+
+  -- a step of Mark
+  by_mark : (x : Progress × Objects × Bool) → StandsBy name (record c { objects = x.1 }) s → StandsBy name (rounds (posting Mark c)).0 s → StandsBy name (marked (posting Mark c) x).0 s
+  by_mark (p, o, true) works ends = record { memory = works.memory; threads = works.threads }
+  by_mark (p, o, false) works ends = ends
+
+  marks_stand : IsSound (posting Mark c) → StandsBy name c s → StandsBy name (work Mark (posting Mark c)).0 s
+  marks_stand sound stands = either_stands name s c.progress.scanned_statics (marked (posting Mark c) (marked_on c.tree c.progress c.objects))
+      (record (posting Mark c) { progress = (statics_scanned c.progress c.objects c.statics).0; objects = (statics_scanned c.progress c.objects c.statics).1 }, Worked)
+      (λ scanned. by_mark (marked_on c.tree c.progress c.objects)
+      (dark_stands sound (marked_on c.tree c.progress c.objects).1 (marked_on-literals c.tree c.progress c.objects) (AreDarker-marked_on c.tree c.posts.has_round c.limits.max_words c.progress c.objects sound.heap) stands)
+      (rounds_stand sound stands))
+      (λ early. (let scans = dark_stands sound (statics_scanned c.progress c.objects c.statics).1 (with_all_marked-literals c.statics c.objects) (AreDarker-with_all_marked c.statics c.objects sound.heap.blocks.spaces) stands in
+      record { memory = scans.memory; threads = scans.threads }))
+
+  -- a step with other objects, or the next phase
+  steps_stand : (x : Phase) (step : Progress × Objects × Bool) → ShowsNames name c.objects step.1 → StandsBy name c s → StandsBy name (worked (posting x c) step).0 s
+  steps_stand x step same stands =
+      let works = stands_shown name c s stands step.1 same in
+      worked_stands name s (posting x c) step (record { memory = works.memory; threads = works.threads }) (stands_next name (posting x c) s (record { memory = stands.memory; threads = stands.threads }))
+
+  -- static fields are flipped
+  by_flip : (x : Progress × List Value × Bool) → StandsBy name (record c { statics = x.1 }) s → StandsBy name c s → StandsBy name (flipped (posting HeapFlip c) x).0 s
+  by_flip (p, statics, true) works stands = record { memory = works.memory; threads = works.threads }
+  by_flip (p, statics, false) works stands = stands_next name (posting HeapFlip c) s (record { memory = stands.memory; threads = stands.threads })
+
+  flips_stand : IsSound (posting HeapFlip c) → IsNormal HeapFlip c.objects.spaces name → StandsBy name c s → StandsBy name (work HeapFlip (posting HeapFlip c)).0 s
+  flips_stand sound normal stands = by_flip (flipped_on c.progress c.objects c.statics)
+      (record {
+        memory = record {
+          heap = stands.memory.heap;
+          static_values = flipped_agree name c.objects c.posts.has_round c.tree c.limits.max_words c.progress sound.heap normal c.statics s.statics stands.memory.static_values;
+          printed_is = stands.memory.printed_is;
+        };
+        threads = stands.threads;
+      })
+      stands
+
+  -- new objects are cleared, and the cycle ends
+  by_clear : (x : Progress × Objects × Bool) → StandsBy name (record c { objects = x.1 }) s → (x.2 ≡ false → StandsBy name (record c { objects = retired c.objects }) s) → StandsBy name (cleared (posting Reclaim c) x).0 s
+  by_clear (p, o, true) works ends = record { memory = works.memory; threads = works.threads }
+  by_clear (p, o, false) works ends = let over = ends refl in record { memory = over.memory; threads = over.threads }
+
+  clears_stand : IsSound (posting Reclaim c) → IsNormal Reclaim c.objects.spaces name → StandsBy name c s → StandsBy name (work Reclaim (posting Reclaim c)).0 s
+  clears_stand sound normal stands = by_clear (cleared_on c.progress c.objects)
+      (stands_shown name c s stands (cleared_on c.progress c.objects).1 (cleared_shows_names name c.objects c.posts.has_round c.tree c.limits.max_words c.progress sound.heap normal))
+      (λ over. stands_shown name c s stands (retired c.objects) (retired_shows name c.objects c.posts.has_round c.tree c.limits.max_words c.progress sound.heap normal over))
+
+  -- in each phase
+  work_stands : (x : Phase) → IsSound (posting x c) → IsNormal x c.objects.spaces name → StandsBy name c s → StandsBy name (work x (posting x c)).0 s
+  work_stands Idle sound normal stands = opens_stand sound stands
+  work_stands Mark sound normal stands = marks_stand sound stands
+  work_stands Allocate sound normal stands = steps_stand Allocate (looked_on c.progress c.objects) (looked_shows name c.objects c.posts.has_round c.tree c.limits.max_words c.progress sound.heap normal) stands
+  work_stands Copy sound normal stands = steps_stand Copy (copied_on c.tree c.progress c.objects) (copied_shows name c.objects c.posts.has_round c.tree c.limits.max_words c.progress sound.heap normal) stands
+  work_stands PreFlip sound normal stands = stands_next name (posting PreFlip c) s (record { memory = stands.memory; threads = stands.threads })
+  work_stands HeapFlip sound normal stands = flips_stand sound normal stands
+  work_stands ThreadFlip sound normal stands = stands_next name (posting ThreadFlip c) s (record { memory = stands.memory; threads = stands.threads })
+  work_stands Reclaim sound normal stands = clears_stand sound normal stands
+
+  -- after an event of the collector a machine stands for the same state, under the same names
+  pub collected_stands : IsSound c → IsNormal c.posts.posted c.objects.spaces name → StandsBy name c s → StandsBy name (collected c).0 s
+  collected_stands sound normal stands = either_stands name s (all_seen c.posts) (work c.posts.posted c) (c, Waiting) (λ seen. work_stands c.posts.posted sound normal stands) (λ late. stands)

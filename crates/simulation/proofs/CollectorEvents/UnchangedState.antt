@@ -1,0 +1,101 @@
+-- What an event of the collector never changes, and that a machine represents the same state after it.
+use Rattle.std.proofs.Common.{◌≡◌, Bool, true, false, List, refl, sym, subst}
+use Rattle.std.specs.Prelude.{◌&&◌, not, if◌then◌else◌, IsTrue}
+use Rattle.interpreter.specs.cil_model.declared.limits.Limits.{Limits}
+use Rattle.interpreter.specs.cil_model.declared.phases.Phase.{Phase}
+use Rattle.interpreter.specs.cil_model.declared.phases.Phase.TheVariants.{Idle, Mark, Allocate, Copy, PreFlip, HeapFlip, ThreadFlip, Reclaim}
+use Rattle.interpreter.specs.cil_model.declared.reports.Report.{Report}
+use Rattle.interpreter.specs.cil_model.declared.reports.Report.TheVariants.{Waiting, Worked}
+use Rattle.interpreter.specs.cil_model.declared.trees.Tree.{Tree}
+use Rattle.interpreter.specs.cil_model.Ranges.{are_in_range}
+use Rattle.interpreter.specs.cil_model.Typings.{IsAccepted}
+use Rattle.interpreter.specs.reference_machine.States.{State}
+use Rattle.interpreter.specs.object_memory.declared.values.Value.{Value}
+use Rattle.interpreter.specs.object_memory.Objects.{Objects}
+use Rattle.reference_machine.specs.TypedStates.{IsTyped}
+use Rattle.collector.specs.Marking.{is_closed, marked_on, statics_scanned}
+use Rattle.collector.specs.Copying.{copied_on, looked_on}
+use Rattle.collector.specs.Flips.{cleared_on, flipped_on}
+use Rattle.collector.specs.declared.progress.Progress.{Progress}
+use Rattle.collector.specs.phase_handshake.Handshakes.{all_answered, all_seen}
+use Rattle.simulation.specs.Counts.{IsCounted}
+use Rattle.simulation.specs.MachineContents.{Content}
+use Rattle.simulation.specs.Collecting.{cleared, collected, flipped, marked, next_posted, round_posted, rounds, work, worked}
+use Rattle.simulation.specs.StandsFor.{Names, Represents, StandsBy}
+use Rattle.simulation.proofs.CollectorEvents.Soundness.{collected_soundly}
+use Rattle.simulation.proofs.CollectorEvents.RepresentedObjects.{collected_stands}
+use Rattle.simulation.proofs.Representation.NormalNames.{IsNormal}
+
+-- a machine goes on with the same program, limits and threads, and has printed the same
+pub record KeepsRest (c d : Content) : Type 0 where
+  pub tree : d.tree ≡ c.tree
+  pub limits : d.limits ≡ c.limits
+  pub threads : d.threads ≡ c.threads
+  pub printed : d.printed ≡ c.printed
+
+module _ (c : Content) where
+  -- where nothing changes, and by a test
+  itself : KeepsRest c c
+  itself = record { tree = refl; limits = refl; threads = refl; printed = refl }
+
+  either_keeps : (b : Bool) (x y : Content × Report) → KeepsRest c x.0 → KeepsRest c y.0 → KeepsRest c (if◌then◌else◌ {A = Content × Report} b x y).0
+  either_keeps true x y f g = f
+  either_keeps false x y f g = g
+
+  -- the next phase
+  next_keeps : KeepsRest c (next_posted c).0
+  next_keeps = record { tree = refl; limits = refl; threads = refl; printed = refl }
+
+  -- a step of Allocate and Copy, of HeapFlip, and of Reclaim
+  worked_keeps : (x : Progress × Objects × Bool) → KeepsRest c (worked c x).0
+  worked_keeps (p, o, true) = record { tree = refl; limits = refl; threads = refl; printed = refl }
+  worked_keeps (p, o, false) = next_keeps
+
+  flipped_keeps : (x : Progress × List Value × Bool) → KeepsRest c (flipped c x).0
+  flipped_keeps (p, statics, true) = record { tree = refl; limits = refl; threads = refl; printed = refl }
+  flipped_keeps (p, statics, false) = next_keeps
+
+  cleared_keeps : (x : Progress × Objects × Bool) → KeepsRest c (cleared c x).0
+  cleared_keeps (p, o, true) = record { tree = refl; limits = refl; threads = refl; printed = refl }
+  cleared_keeps (p, o, false) = record { tree = refl; limits = refl; threads = refl; printed = refl }
+
+  -- a round, and a step of Mark
+  rounds_keep : KeepsRest c (rounds c).0
+  rounds_keep = either_keeps (is_closed c.progress c.objects c.posts) (next_posted c) (if c.posts.has_round && not (all_answered c.posts) then (c, Waiting) else (round_posted c, Worked))
+      next_keeps
+      (either_keeps (c.posts.has_round && not (all_answered c.posts)) (c, Waiting) (round_posted c, Worked) itself (record { tree = refl; limits = refl; threads = refl; printed = refl }))
+
+  marked_keeps : (x : Progress × Objects × Bool) → KeepsRest c (marked c x).0
+  marked_keeps (p, o, true) = record { tree = refl; limits = refl; threads = refl; printed = refl }
+  marked_keeps (p, o, false) = rounds_keep
+
+  -- in each phase
+  work_keeps : (x : Phase) → KeepsRest c (work x c).0
+  work_keeps Idle = record { tree = refl; limits = refl; threads = refl; printed = refl }
+  work_keeps Mark = either_keeps c.progress.scanned_statics (marked c (marked_on c.tree c.progress c.objects))
+      (record c { progress = (statics_scanned c.progress c.objects c.statics).0; objects = (statics_scanned c.progress c.objects c.statics).1 }, Worked)
+      (marked_keeps (marked_on c.tree c.progress c.objects))
+      (record { tree = refl; limits = refl; threads = refl; printed = refl })
+  work_keeps Allocate = worked_keeps (looked_on c.progress c.objects)
+  work_keeps Copy = worked_keeps (copied_on c.tree c.progress c.objects)
+  work_keeps PreFlip = next_keeps
+  work_keeps HeapFlip = flipped_keeps (flipped_on c.progress c.objects c.statics)
+  work_keeps ThreadFlip = next_keeps
+  work_keeps Reclaim = cleared_keeps (cleared_on c.progress c.objects)
+
+  -- and so in all
+  pub collected_keeps : KeepsRest c (collected c).0
+  collected_keeps = either_keeps (all_seen c.posts) (work c.posts.posted c) (c, Waiting) (work_keeps c.posts.posted) itself
+
+-- a machine that represents a state under names of what is live represents it after an event of the collector
+pub collected_represents : (c : Content) (s : State) → Represents c s → (name : Names) → IsNormal c.posts.posted c.objects.spaces name → StandsBy name c s → Represents (collected c).0 s
+collected_represents c s r name normal stands =
+    let keeps = collected_keeps c in
+    record {
+      accepted = subst (λ (t : Tree). IsAccepted t) (sym keeps.tree) r.accepted;
+      limits = subst (λ (l : Limits). IsTrue (are_in_range l)) (sym keeps.limits) r.limits;
+      typed = subst (λ (t : Tree). IsTyped t s) (sym keeps.tree) r.typed;
+      counted = subst (λ (l : Limits). IsCounted l s) (sym keeps.limits) r.counted;
+      sound = collected_soundly c r.sound;
+      stands = record { name = name; by = collected_stands name c s r.sound normal stands };
+    }

@@ -1,0 +1,138 @@
+-- Whether a cycle of the collector is open after some events: exactly where a phase of a cycle is posted.
+use Rattle.std.proofs.Common.{◌≡◌, ◌+◌, ℕ, Bool, true, false, if◌then◌else◌, List, [], ◌∷◌, ◌++◌, length, Option, Some, None, reverse, refl, sym, ap, ◌∙◌, subst, arith, append_assoc, length-append}
+use Rattle.std.specs.Prelude.{◌||◌, nat_lt, slice_get, option_map, option_and_then}
+use Rattle.std.proofs.lemmas.Bool.Decides.{nat_tests}
+use Rattle.std.proofs.lemmas.List.{reverse-append}
+use Rattle.std.proofs.lemmas.Option.{same_Some}
+use Rattle.interpreter.specs.cil_model.declared.events.Event.{Event}
+use Rattle.interpreter.specs.cil_model.declared.events.Event.TheVariants.{Step, Ack, Gc}
+use Rattle.interpreter.specs.cil_model.declared.limits.Limits.{Limits}
+use Rattle.interpreter.specs.cil_model.declared.phases.Phase.{Phase}
+use Rattle.interpreter.specs.cil_model.declared.phases.Phase.TheVariants.{Idle, Mark, Allocate, Copy, PreFlip, HeapFlip, ThreadFlip, Reclaim}
+use Rattle.interpreter.specs.cil_model.declared.reports.Report.{Report}
+use Rattle.interpreter.specs.cil_model.declared.trees.Method.{Method}
+use Rattle.interpreter.specs.cil_model.declared.trees.Tree.{Tree}
+use Rattle.interpreter.specs.cil_model.declared.types.ClassName.{ClassName}
+use Rattle.interpreter.specs.cil_model.Bodies.{entry_points}
+use Rattle.interpreter.specs.loaded_program.MethodNumbers.{number_of}
+use Rattle.interpreter.specs.reference_machine.Cycles.{begins_cycle, ends_cycle, is_cycle_open, is_working, work_since}
+use Rattle.interpreter.specs.reference_machine.States.{State}
+use Rattle.interpreter.proofs.reference_machine.Runs.InstructionEffects.{same_after}
+use Rattle.interpreter.proofs.cil_model.Lists.{none_is_some}
+use Rattle.interpreter.proofs.cil_model.SameLaws.{never}
+use Rattle.collector.specs.Phases.{is_of_cycle}
+use Rattle.simulation.specs.MachineContents.{Content}
+use Rattle.simulation.specs.Runs.{IsNext}
+use Rattle.simulation.specs.StandsFor.{Represents}
+use Rattle.simulation.specs.Turns.{IsTurn, content_at, opening_content}
+use Rattle.simulation.proofs.CollectorEvents.Reports.{IsCollected, collected_is, ends, waits, works}
+use Rattle.simulation.proofs.Instructions.Correspondence.{InstructionsAreAlike}
+use Rattle.simulation.proofs.Threads.UnchangedPosts.{step_posted}
+use Rattle.simulation.proofs.OwedWords.OpenCycleStates.{acknowledged_posted}
+use Rattle.simulation.proofs.Threads.Steps.{step_follows}
+use Rattle.simulation.proofs.Runs.EventCorrespondence.{acknowledgement_keeps, collection_keeps}
+
+-- ---- whether a cycle is open
+
+-- by the work since the last one, after one event more
+abbrev pub then_open : Bool → Bool → Bool → Bool
+then_open done worked before = if done then false else (worked || before)
+
+open_by : (done worked : Bool) (n : ℕ) → nat_lt 0 (if done then 0 else (if worked then 1 else 0) + n) ≡ then_open done worked (nat_lt 0 n)
+open_by true worked n = grind (arith, nat_tests)
+open_by false true n = grind (arith, nat_tests)
+open_by false false n = let same : 0 + n ≡ n = omega arith in ap (nat_lt 0) same
+
+pub open_then : (xs : List (Event × Report)) (e : Event) (r : Report) → is_cycle_open (xs ++ (e, r) ∷ []) ≡ then_open (ends_cycle e r) (is_working e r) (is_cycle_open xs)
+open_then xs e r = ap (λ l. nat_lt 0 (work_since l)) (reverse-append xs ((e, r) ∷ [])) ∙ open_by (ends_cycle e r) (is_working e r) (work_since (reverse xs))
+
+-- a phase of a cycle is posted then too
+posted_then : (c : Content) (x : Content × Report) → IsCollected c x → (b : Bool) → is_of_cycle c.posts.posted ≡ b → is_of_cycle x.0.posts.posted ≡ then_open (ends_cycle Gc x.1) (is_working Gc x.1) b
+posted_then c _ waits b is = is
+posted_then c _ (works d of) b is = of
+posted_then c _ (ends d last idle spaces) b is = ap is_of_cycle idle
+
+-- what an event of the collector comes to
+pub gc_is : (c : Content) (x : Content × Report) → IsTurn c Gc x → IsCollected c x
+gc_is c x turn = subst (IsCollected c) (sym turn) (collected_is c)
+
+-- ---- before the cycle
+
+-- a machine represents the state, and a phase of a cycle is posted where the events leave one open
+pub record IsBefore (done : List (Event × Report)) (c : Content) (s : State) : Type 0 where
+  pub represents : Represents c s
+  pub posted : is_of_cycle c.posts.posted ≡ is_cycle_open done
+
+module _ (each : InstructionsAreAlike) where
+  pub before_goes : (done : List (Event × Report)) (e : Event) (r : Report) (c next : Content) (s after : State) → IsBefore done c s → IsTurn c e (next, r) → IsNext c.tree c.limits s e r after → IsBefore (done ++ (e, r) ∷ []) next after
+  before_goes done (Step t) r c next s after h turn is =
+      let f = step_follows each c s h.represents t (next, r) turn in
+      record {
+        represents = subst (λ (u : State). Represents next u) (same_after r r f.0 after (sym f.1 ∙ is)) f.2;
+        posted = ap is_of_cycle (step_posted c t (next, r) turn) ∙ (h.posted ∙ sym (open_then done (Step t) r));
+      }
+  before_goes done (Ack t) r c next s after h turn is = record {
+    represents = subst (λ (u : State). Represents next u) (sym is) (acknowledgement_keeps c s h.represents t (next, r) turn);
+    posted = ap (λ (x : Content × Report). is_of_cycle x.0.posts.posted) turn ∙ (ap is_of_cycle (acknowledged_posted c t) ∙ (h.posted ∙ sym (open_then done (Ack t) r)));
+  }
+  before_goes done Gc r c next s after h turn is = record {
+    represents = subst (λ (u : State). Represents next u) (sym is) (collection_keeps c s h.represents (next, r) turn);
+    posted = posted_then c (next, r) (gc_is c (next, r) turn) (is_cycle_open done) h.posted ∙ sym (open_then done Gc r);
+  }
+
+-- ---- the opening
+
+-- it is of this program, and no cycle is open
+pub record IsOpened (tree : Tree) (limits : Limits) (c : Content) : Type 0 where
+  pub tree_is : c.tree ≡ tree
+  pub limits_are : c.limits ≡ limits
+  pub idle : c.posts.posted ≡ Idle
+
+pub opened_is : (tree : Tree) (limits : Limits) (c : Content) → opening_content tree limits ≡ Some c → IsOpened tree limits c
+opened_is tree limits c e = by_entry (slice_get (entry_points tree) 0) e
+  where
+    by_number : (entry : ClassName × Method) (n : Option ℕ) → option_map (content_at tree limits entry) n ≡ Some c → IsOpened tree limits c
+    by_number entry None h = none_is_some c h
+    by_number entry (Some n) h = subst (IsOpened tree limits) (same_Some (content_at tree limits entry n) c h) (record { tree_is = refl; limits_are = refl; idle = refl })
+
+    by_entry : (entry : Option (ClassName × Method)) → option_and_then (λ (x : ClassName × Method). option_map (content_at tree limits x) (number_of tree x)) entry ≡ Some c → IsOpened tree limits c
+    by_entry None h = none_is_some c h
+    by_entry (Some entry) h = by_number entry (number_of tree entry) h
+
+-- a phase that is of no cycle
+pub idle_of : (x : Phase) → is_of_cycle x ≡ false → x ≡ Idle
+idle_of Idle e = refl
+idle_of Mark e = absurd cc
+idle_of Allocate e = absurd cc
+idle_of Copy e = absurd cc
+idle_of PreFlip e = absurd cc
+idle_of HeapFlip e = absurd cc
+idle_of ThreadFlip e = absurd cc
+idle_of Reclaim e = absurd cc
+
+-- ---- lists
+
+-- the last of a list
+pub last_split : {X : Type 0} (x : X) (xs : List X) → (front : List X) × (y : X) × (x ∷ xs ≡ front ++ y ∷ [])
+last_split x [] = ([], x, refl)
+last_split x (z ∷ zs) = let later = last_split z zs in (x ∷ later.0, later.1, ap (λ l. x ∷ l) later.2)
+
+heads_same : {X : Type 0} (x y : X) (xs ys : List X) → x ∷ xs ≡ y ∷ ys → x ≡ y
+heads_same x y xs ys e = cc
+
+tails_same : {X : Type 0} (x y : X) (xs ys : List X) → x ∷ xs ≡ y ∷ ys → xs ≡ ys
+tails_same x y xs ys e = cc
+
+pub last_same : {X : Type 0} (xs ys : List X) (x y : X) → xs ++ x ∷ [] ≡ ys ++ y ∷ [] → x ≡ y
+last_same [] [] x y e = heads_same x y [] [] e
+last_same [] (z ∷ zs) x y e = let short = ap length e in let long = length-append zs (y ∷ []) in absurd (omega (arith, short, long))
+last_same (z ∷ zs) [] x y e = let short = ap length e in let long = length-append zs (x ∷ []) in absurd (omega (arith, short, long))
+last_same (z ∷ zs) (w ∷ ws) x y e = last_same zs ws x y (tails_same z w (zs ++ x ∷ []) (ws ++ y ∷ []) e)
+
+-- what begins a cycle has a last event
+pub split_at_last : (xs ys most : List (Event × Report)) (e : Event × Report) → begins_cycle ys ≡ true → xs ++ ys ≡ most ++ e ∷ [] → (front : List (Event × Report)) × (ys ≡ front ++ e ∷ [])
+split_at_last xs [] most e begins split = never begins
+split_at_last xs (y ∷ ys) most e begins split =
+    let last = last_split y ys in
+    let whole : (xs ++ last.0) ++ last.1 ∷ [] ≡ most ++ e ∷ [] = append_assoc xs last.0 (last.1 ∷ []) ∙ (ap (λ l. xs ++ l) (sym last.2) ∙ split) in
+    (last.0, last.2 ∙ ap (λ z. last.0 ++ z ∷ []) (last_same (xs ++ last.0) most last.1 e whole))

@@ -1,0 +1,136 @@
+-- What it means that an instruction does the same on a machine as on the reference machine.
+use Rattle.std.proofs.Common.{◌≡◌, ◌⊎◌, ◌<◌, ◌≤◌, ℕ, Bool, true, false, List, [], ◌∷◌, Some, refl}
+use Rattle.interpreter.specs.cil_model.declared.limits.TheConstants.{MOST_BUDGET}
+use Rattle.interpreter.specs.cil_model.declared.reports.Fault.{Fault}
+use Rattle.interpreter.specs.cil_model.declared.reports.Fault.TheVariants.{NullReference, IndexOutOfRange, ArrayTypeMismatch, InvalidCast, DivideByZero, Arithmetic, Overflow, OutOfMemory, TooManyThreads, StackOverflow, ArgumentNull, SynchronizationLock, ThreadState}
+use Rattle.interpreter.specs.cil_model.declared.instructions.Instruction.{Instruction}
+use Rattle.interpreter.specs.cil_model.Bodies.{lines_of}
+use Rattle.interpreter.specs.reference_machine.Values.{Value as StateValue}
+use Rattle.interpreter.specs.reference_machine.Rooms.{cell_words}
+use Rattle.interpreter.specs.reference_machine.States.{Contents, Frame, State, with_birth}
+use Rattle.simulation.specs.Counts.{IsCounted}
+use Rattle.interpreter.specs.reference_machine.Effects.{Setting, Effect as StateEffect, Goes, Blocks as StateBlocks, Raises as StateRaises}
+use Rattle.interpreter.specs.reference_machine.BuiltIn.{Action, Start, Join, act}
+use Rattle.interpreter.specs.reference_machine.Steps.{execute}
+use Rattle.reference_machine.proofs.TypedStates.RunningFrames.{IsRunning}
+use Rattle.interpreter.specs.resolved_code.Resolved.{IsOperation}
+use Rattle.interpreter.specs.resolved_code.declared.operations.Operation.{Operation}
+use Rattle.interpreter.specs.object_memory.declared.addresses.Addr.{Addr}
+use Rattle.interpreter.specs.object_memory.declared.values.Value.{Value}
+use Rattle.interpreter.specs.object_memory.declared.values.Value.TheVariants.{Ref}
+use Rattle.interpreter.specs.object_memory.Objects.{Objects}
+use Rattle.interpreter.specs.object_memory.Spaces.{room_for}
+use Rattle.interpreter.specs.threads_monitors.Frames.{Frames}
+use Rattle.interpreter.specs.threads_monitors.declared.effects.Effect.{Effect}
+use Rattle.interpreter.specs.threads_monitors.declared.effects.Effect.TheVariants.{GoesOn, Returns, Blocks, Raises}
+use Rattle.interpreter.specs.declared.outcomes.Outcome.{Outcome}
+use Rattle.interpreter.specs.declared.outcomes.Outcome.TheVariants.{Comes, Starts, Joins}
+use Rattle.interpreter.specs.Instructions.{HasSmallConstant, MachineTurn, operation_turn, Answer}
+use Rattle.simulation.specs.StandsFor.{Names, Extends, IsValue, AreFrames}
+use Rattle.interpreter.proofs.cil_model.SameLaws.{never}
+use Rattle.simulation.proofs.Memory.MemoryModels.{MemoryModel, IsModelled, mutator_in}
+
+-- ---- one instruction
+
+-- A machine is where the reference machine is: at the same instruction, with the frames of the thread and all else that an
+-- instruction touches, of a typed state.
+pub record IsSetting (here : Setting) (model : MemoryModel here.tree) (name : Names) (m : Frames) (o : Objects) (statics : List Value) (printed : List ℕ)
+    (s : State) (f : Frame) (below : List Frame) (i : Instruction) (operation : Operation) : Type 0 where
+  pub running : IsRunning here s f below i
+  pub counted : IsCounted here.limits s
+  pub budget : here.limits.budget ≤ MOST_BUDGET
+  pub resolved : IsOperation here.tree (lines_of f.method) i operation
+  pub constant : HasSmallConstant operation
+  pub frames : AreFrames here.tree here.limits name m (f ∷ below)
+  pub memory : IsModelled here.tree model name o statics printed s
+
+-- whether memory was refused
+abbrev pub is_refused_fault : Fault → Bool
+is_refused_fault OutOfMemory = true
+is_refused_fault _ = false
+
+abbrev pub is_refused_effect : Effect → Bool
+is_refused_effect (Raises x) = is_refused_fault x
+is_refused_effect GoesOn = false
+is_refused_effect Returns = false
+is_refused_effect Blocks = false
+
+abbrev pub is_refused_outcome : Outcome → Bool
+is_refused_outcome (Comes e) = is_refused_effect e
+is_refused_outcome (Starts a) = false
+is_refused_outcome (Joins a) = false
+
+-- a fault that is
+pub refused_fault : (x : Fault) → is_refused_fault x ≡ true → StateRaises x ≡ StateRaises OutOfMemory
+refused_fault NullReference h = never h
+refused_fault IndexOutOfRange h = never h
+refused_fault ArrayTypeMismatch h = never h
+refused_fault InvalidCast h = never h
+refused_fault DivideByZero h = never h
+refused_fault Arithmetic h = never h
+refused_fault Overflow h = never h
+refused_fault OutOfMemory h = refl
+refused_fault TooManyThreads h = never h
+refused_fault StackOverflow h = never h
+refused_fault ArgumentNull h = never h
+refused_fault SynchronizationLock h = never h
+refused_fault ThreadState h = never h
+
+module _ (here : Setting) (model : MemoryModel here.tree) (name : Names) (m : Frames) (o : Objects) (statics : List Value) (printed : List ℕ) (s : State) (f : Frame) (below : List Frame) where
+  -- the thread goes on with the same frames, in the same memory, in which nothing lost its name
+  pub record GoesAlike (a : Answer) (e : StateEffect) : Type 0 where
+    pub running : Frame
+    pub waiting : List Frame
+    pub state : State
+    pub is : e ≡ Goes (running ∷ waiting) state
+    pub names : Names
+    pub extends : Extends name names
+    pub others : state.threads ≡ s.threads
+    pub frames : AreFrames here.tree here.limits names a.frames (running ∷ waiting)
+    pub memory : IsModelled here.tree model names a.objects a.statics a.printed state
+
+  -- nothing is changed but the frames
+  abbrev pub LeavesMemory : Answer → Type 0
+  LeavesMemory a = (a.objects ≡ o) × (a.statics ≡ statics) × (a.printed ≡ printed)
+
+  -- Nothing is changed at all, and the reference machine does this action on the object that is the one operand.
+  pub record AsksFor (action : Action) (object : Addr) (a : Answer) (e : StateEffect) : Type 0 where
+    pub operand : StateValue
+    pub rest : List StateValue
+    pub stack : f.stack ≡ operand ∷ rest
+    pub stands : IsValue name (Ref object) operand
+    pub is : e ≡ act here s f below action (operand ∷ []) rest
+    pub frames : a.frames ≡ m
+    pub memory : LeavesMemory a
+
+  -- what an instruction comes to, and the same of the reference machine
+  abbrev pub ComesAlike : Outcome → Answer → StateEffect → Type 0
+  ComesAlike (Comes GoesOn) a e = GoesAlike a e
+  ComesAlike (Comes Returns) a e = (e ≡ Goes [] s) × LeavesMemory a
+  ComesAlike (Comes Blocks) a e = (e ≡ StateBlocks) × (a.frames ≡ m) × LeavesMemory a
+  ComesAlike (Comes (Raises x)) a e = (e ≡ StateRaises x) × LeavesMemory a
+  ComesAlike (Starts object) a e = AsksFor Start object a e
+  ComesAlike (Joins object) a e = AsksFor Join object a e
+
+  -- an object is born on the reference machine, whose cell exceeds the room of the machine
+  pub record ExceedsRoom (e : StateEffect) : Type 0 where
+    pub running : Frame
+    pub waiting : List Frame
+    pub contents : Contents
+    pub is : e ≡ Goes (running ∷ waiting) (with_birth s contents)
+    pub exceeds : room_for model.phase o.spaces < cell_words here.tree contents
+
+  -- The rule has an answer, and where the reference machine is refused memory exactly where the machine is, both do the same. The machine is refused
+  -- it only where the reference machine, if it weren't, would make an object that exceeds the room.
+  pub record DoesAlike (turn : MachineTurn) (e : StateEffect) : Type 0 where
+    pub answer : Answer
+    pub is : turn ≡ Some answer
+    pub alike : here.is_refused ≡ is_refused_outcome answer.outcome → ComesAlike answer.outcome answer e
+    pub refuses : here.is_refused ≡ false → is_refused_outcome answer.outcome ≡ true → ExceedsRoom e ⊎ (e ≡ StateRaises OutOfMemory)
+
+-- each instruction does, in each kind of memory
+abbrev pub InstructionsAreAlike : Type 1
+InstructionsAreAlike =
+    (here : Setting) (model : MemoryModel here.tree) (name : Names) (m : Frames) (o : Objects) (statics : List Value) (printed : List ℕ) (s : State) (f : Frame) (below : List Frame) (i : Instruction) (operation : Operation) →
+    IsSetting here model name m o statics printed s f below i operation →
+    DoesAlike here model name m o statics printed s f below (operation_turn here.tree (mutator_in here model) operation m o statics printed) (execute here s f below i)

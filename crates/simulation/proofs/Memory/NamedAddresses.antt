@@ -1,0 +1,49 @@
+-- A named address is not null; and a heap that represents the objects of a state represents them whatever the state's threads are.
+use Rattle.std.proofs.Common.{◌≡◌, ◌==◌, ℕ, zero, suc, false, List, Some, slice_get, sym, ap, ◌∙◌, subst, arith}
+use Rattle.std.proofs.lemmas.Bool.Decides.{nat_tests}
+use Rattle.interpreter.specs.cil_model.declared.trees.Tree.{Tree}
+use Rattle.interpreter.specs.cil_model.Fields.{FieldKey}
+use Rattle.interpreter.specs.cil_model.Same.{same_text}
+use Rattle.interpreter.specs.reference_machine.Values.{ObjectName, Value as StateValue}
+use Rattle.interpreter.specs.reference_machine.States.{State, entry_at}
+use Rattle.interpreter.specs.object_memory.declared.values.Value.{Value}
+use Rattle.interpreter.specs.object_memory.Objects.{Objects}
+use Rattle.simulation.specs.Agreement.{Agree}
+use Rattle.simulation.specs.StandsFor.{Names, IsValue, IsHeap, IsMemory}
+use Rattle.simulation.proofs.Memory.MemoryModels.{IsReadable}
+use Rattle.interpreter.proofs.cil_model.Lists.{none_is_some}
+
+module _ (tree : Tree) (name : Names) (o : Objects) (s : State) (heap : IsReadable tree name o s) where
+  -- the address of an object isn't null
+  pub named_is_not_null : (a : ℕ) (n : ObjectName) → name a ≡ Some n → (a == 0) ≡ false
+  named_is_not_null zero n is = none_is_some n (sym heap.null_unnamed ∙ is)
+  named_is_not_null (suc a) n is = grind (arith, nat_tests)
+
+module _ (tree : Tree) (name : Names) (o : Objects) (s s' : State) (objects : s'.objects ≡ s.objects) (monitors : s'.literal_monitors ≡ s.literal_monitors) where
+  -- a heap is the same beside other threads, static fields and printed bytes
+  pub heap_beside : IsHeap tree name o s → IsHeap tree name o s'
+  heap_beside h = record {
+    null_unnamed = h.null_unnamed;
+    small = h.small;
+    names = h.names;
+    born = λ a n named. let b = h.born a n named in record { no_literal = b.no_literal; cell = b.cell; lies = b.lies; object = b.object; is = ap (λ os. slice_get os n) objects ∙ b.is; stands = b.stands };
+    literals = λ a characters named. let l = h.literals a characters named in record {
+      number = l.number;
+      numbered = l.numbered;
+      is = l.is;
+      monitor = l.monitor;
+      held = l.held;
+      state_monitor = l.state_monitor;
+      state_held = ap (entry_at same_text characters) monitors ∙ l.state_held;
+      stands = l.stands;
+    };
+    each_literal = h.each_literal;
+  }
+
+  -- a memory is the same beside other threads
+  pub memory_beside : s'.statics ≡ s.statics → s'.printed ≡ s.printed → (statics : List Value) (printed : List ℕ) → IsMemory tree name o statics printed s → IsMemory tree name o statics printed s'
+  memory_beside same same' statics printed h = record {
+    heap = heap_beside h.heap;
+    static_values = subst (Agree (λ v (f : FieldKey × StateValue). IsValue name v f.1) statics) (sym same) h.static_values;
+    printed_is = h.printed_is ∙ sym same';
+  }

@@ -1,0 +1,212 @@
+-- A slot holds references exactly where the values that are stored there are references.
+use Rattle.std.proofs.Common.{◌≡◌, inl, inr, ℕ, zero, suc, ◌+◌, Bool, true, false, if◌then◌else◌, List, [], ◌∷◌, ◌++◌, map, length, Option, Some, None, option_map, slice_get, slice_set, refl, sym, ap, ◌∙◌, subst, arith}
+use Rattle.std.specs.Option.{option_map_or}
+use Rattle.std.proofs.lemmas.Option.{same_Some}
+use Rattle.interpreter.specs.cil_model.declared.types.ClassName.{ClassName}
+use Rattle.interpreter.specs.cil_model.declared.types.DeclaredType.{DeclaredType}
+use Rattle.interpreter.specs.cil_model.declared.types.Element.{Element}
+use Rattle.interpreter.specs.cil_model.declared.types.Element.TheVariants.{Int32 as Int32Element, Int64 as Int64Element, Object, String, Class}
+use Rattle.interpreter.specs.cil_model.declared.trees.Tree.{Tree}
+use Rattle.interpreter.specs.cil_model.Assignable.{is_reference, is_reference_element}
+use Rattle.interpreter.specs.cil_model.Chains.{is_thread_class}
+use Rattle.interpreter.specs.cil_model.Legality.{IsLegal}
+use Rattle.interpreter.specs.cil_model.Fields.{FieldKey, hidden_slots, slot_types, instance_fields, is_reference_slot}
+use Rattle.interpreter.proofs.cil_model.Lists.{none_is_some}
+use Rattle.interpreter.proofs.cil_model.SameLaws.{never}
+use Rattle.interpreter.specs.reference_machine.Values.{Value as StateValue, Int32 as Int32Value, Int64 as Int64Value, Native as NativeValue, Null, Reference, same_kind}
+use Rattle.interpreter.specs.reference_machine.States.{Contents, Instance as IsInstance, Array as IsArray, State}
+use Rattle.reference_machine.specs.TypedStates.{AllHaveType, HasType, HaveFieldTypes, IsTypedContents}
+use Rattle.interpreter.specs.resolved_code.Numbered.{class_name, element_at, type_at}
+use Rattle.interpreter.specs.object_memory.declared.kinds.ArrayElement.{ArrayElement}
+use Rattle.interpreter.specs.object_memory.declared.kinds.ElementType.{ElementType}
+use Rattle.interpreter.specs.object_memory.declared.kinds.ElementType.TheVariants.{Int32 as Int32Type, Int64 as Int64Type, Object as ObjectType, String as StringType, Class as ClassType}
+use Rattle.interpreter.specs.object_memory.declared.kinds.Kind.{Kind}
+use Rattle.interpreter.specs.object_memory.declared.kinds.Kind.TheVariants.{Array, Instance}
+use Rattle.interpreter.specs.object_memory.declared.values.Value.{Value}
+use Rattle.interpreter.specs.object_memory.declared.values.ValueKind.{ValueKind}
+use Rattle.interpreter.specs.object_memory.declared.values.ValueKind.TheVariants as Kinds
+use Rattle.collector.specs.References.{holds_reference, is_reference_value, is_reference_element as is_reference_type}
+use Rattle.interpreter.specs.instructions.TypeTurns.{held_type, numbered}
+use Rattle.interpreter.specs.loaded_program.Prepared.{kind_at, kind_of_type}
+use Rattle.simulation.specs.StandsFor.{IsOfContents, Names, IsValue, int32, int64, native, null_reference, reference}
+use Rattle.collector.proofs.PhaseChanges.StaticFlips.{set_here_or_there}
+use Rattle.simulation.proofs.Memory.TypedWords.{kind_of_state, kind_fits}
+
+-- ---- kinds
+
+-- whether a kind is that of references
+abbrev pub is_reference_kind : ValueKind → Bool
+is_reference_kind Kinds.Ref = true
+is_reference_kind Kinds.Int32 = false
+is_reference_kind Kinds.Int64 = false
+is_reference_kind Kinds.Native = false
+
+kind_says : (e : Element) (n : ℕ) → is_reference_element e n ≡ is_reference_kind (kind_at e n)
+kind_says e (suc n) = refl
+kind_says Int32Element zero = refl
+kind_says Int64Element zero = refl
+kind_says Object zero = refl
+kind_says String zero = refl
+kind_says (Class c) zero = refl
+
+-- a value of the machine is a reference where the state's is
+pub value_says : (name : Names) (v : Value) (u : StateValue) → IsValue name v u → is_reference_value v ≡ is_reference_kind (kind_of_state u)
+value_says name v u (int32 z fits) = refl
+value_says name v u (int64 z fits) = refl
+value_says name v u (native z fits) = refl
+value_says name v u null_reference = refl
+value_says name v u (reference a n is) = refl
+
+-- values of one kind are references both, or neither
+pub same_kinds : (u v : StateValue) → same_kind u v ≡ true → is_reference_kind (kind_of_state u) ≡ is_reference_kind (kind_of_state v)
+same_kinds (Int32Value x) (Int32Value y) e = refl
+same_kinds (Int64Value x) (Int64Value y) e = refl
+same_kinds (NativeValue x) (NativeValue y) e = refl
+same_kinds Null Null e = refl
+same_kinds Null (Reference n) e = refl
+same_kinds (Reference m) Null e = refl
+same_kinds (Reference m) (Reference n) e = refl
+same_kinds (Int32Value x) (Int64Value y) e = refl
+same_kinds (Int32Value x) (NativeValue y) e = refl
+same_kinds (Int64Value x) (Int32Value y) e = refl
+same_kinds (Int64Value x) (NativeValue y) e = refl
+same_kinds (NativeValue x) (Int32Value y) e = refl
+same_kinds (NativeValue x) (Int64Value y) e = refl
+same_kinds (Int32Value x) Null e = never e
+same_kinds (Int32Value x) (Reference n) e = never e
+same_kinds (Int64Value x) Null e = never e
+same_kinds (Int64Value x) (Reference n) e = never e
+same_kinds (NativeValue x) Null e = never e
+same_kinds (NativeValue x) (Reference n) e = never e
+same_kinds Null (Int32Value y) e = never e
+same_kinds Null (Int64Value y) e = never e
+same_kinds Null (NativeValue y) e = never e
+same_kinds (Reference n) (Int32Value y) e = never e
+same_kinds (Reference n) (Int64Value y) e = never e
+same_kinds (Reference n) (NativeValue y) e = never e
+
+-- ---- fields
+
+-- the type of a field at its place
+type_at_place : (tree : Tree) (s : State) (es : List (FieldKey × StateValue)) (ts : List (FieldKey × DeclaredType)) → HaveFieldTypes tree s es ts → (p : ℕ) (e : FieldKey × StateValue) → slice_get es p ≡ Some e →
+    (t : FieldKey × DeclaredType) × (slice_get ts p ≡ Some t) × HasType tree s e.1 t.1
+type_at_place tree s [] [] h p e is = none_is_some e is
+type_at_place tree s (x ∷ xs) (t ∷ ts) h zero e is = (t, refl, subst (λ (y : FieldKey × StateValue). HasType tree s y.1 t.1) (same_Some x e is) h.1)
+type_at_place tree s (x ∷ xs) (t ∷ ts) h (suc p) e is = type_at_place tree s xs ts h.2 p e is
+type_at_place tree s [] (t ∷ ts) h p e is = elim h [ ]
+type_at_place tree s (x ∷ xs) [] h p e is = elim h [ ]
+
+mapped_at : (ts : List (FieldKey × DeclaredType)) (p : ℕ) (t : FieldKey × DeclaredType) → slice_get ts p ≡ Some t → slice_get (map (λ (f : FieldKey × DeclaredType). Some f.1) ts) p ≡ Some (Some t.1)
+mapped_at [] p t is = none_is_some t is
+mapped_at (x ∷ xs) zero t is = ap (λ (y : FieldKey × DeclaredType). Some (Some y.1)) (same_Some x t is)
+mapped_at (x ∷ xs) (suc p) t is = mapped_at xs p t is
+
+-- behind the hidden slots
+behind : (xs ys : List (Option DeclaredType)) (p : ℕ) (x : Option DeclaredType) → slice_get ys p ≡ Some x → slice_get (xs ++ ys) (length xs + p) ≡ Some x
+behind [] ys p x is = let place : p ≡ 0 + p = omega arith in subst (λ n. slice_get ys n ≡ Some x) place is
+behind (z ∷ zs) ys p x is =
+    let place : suc (length zs + p) ≡ length (z ∷ zs) + p = omega arith in
+    subst (λ n. slice_get (z ∷ (zs ++ ys)) n ≡ Some x) place (behind zs ys p x is)
+
+-- as many hidden slots, in classes that are both of threads or both not
+pub same_hidden : (tree : Tree) (c d : ClassName) → is_thread_class tree c ≡ is_thread_class tree d → length (hidden_slots tree c) ≡ length (hidden_slots tree d)
+same_hidden tree c d same = ap (λ b. length {A = Option DeclaredType} (if b then None ∷ [] else [])) same
+
+module _ (tree : Tree) (legal : IsLegal tree) (s : State) where
+  -- the slot of a field that is there
+  pub slot_says : (c : ClassName) (class : ℕ) → class_name tree class ≡ Some c → (fields : List (FieldKey × StateValue)) → HaveFieldTypes tree s fields (instance_fields tree c) → (p : ℕ) (e : FieldKey × StateValue) → slice_get fields p ≡ Some e →
+      holds_reference tree (Instance class) (length (hidden_slots tree c) + p) ≡ is_reference_kind (kind_of_state e.1)
+  slot_says c class is fields typed p e there =
+      let at = type_at_place tree s fields (instance_fields tree c) typed p e there in
+      let slot : slice_get (slot_types tree c) (length (hidden_slots tree c) + p) ≡ Some (Some at.0.1) = behind (hidden_slots tree c) (map (λ (f : FieldKey × DeclaredType). Some f.1) (instance_fields tree c)) p (Some at.0.1) (mapped_at (instance_fields tree c) p at.0 at.1) in
+      ap (λ x. option_map_or (λ c'. is_reference_slot tree c' (length (hidden_slots tree c) + p)) x false) is ∙
+      ap (λ x. option_map_or (λ o. option_map_or is_reference o false) x false) slot ∙
+      kind_says at.0.1.element at.0.1.brackets ∙
+      ap is_reference_kind (kind_fits tree legal s e.1 at.0.1 at.2)
+
+-- the hidden slot of an object of a class of threads holds none
+pub hidden_says : (tree : Tree) (c : ClassName) (class : ℕ) → class_name tree class ≡ Some c → is_thread_class tree c ≡ true → holds_reference tree (Instance class) 0 ≡ false
+hidden_says tree c class is test =
+    ap (λ x. option_map_or (λ c'. is_reference_slot tree c' 0) x false) is ∙
+    ap (λ b. option_map_or (λ o. option_map_or is_reference o false) (slice_get ((if b then None ∷ [] else []) ++ map (λ (f : FieldKey × DeclaredType). Some f.1) (instance_fields tree c)) 0) false) test
+
+-- ---- elements
+
+-- the elements of an array, by their type
+pub element_says : (tree : Tree) (e : ArrayElement) (t : DeclaredType) → type_at tree (held_type e) ≡ Some t → (slot : ℕ) → holds_reference tree (Array e) slot ≡ is_reference_kind (kind_of_type t)
+element_says tree e t is slot = by_type (element_at tree (numbered e.element)) refl is
+  where
+    by_kind : (x : ElementType) (n : ℕ) (d : Element) → element_at tree (numbered x) ≡ Some d → is_reference_type x n ≡ is_reference_kind (kind_at d n)
+    by_kind x (suc n) d h = refl
+    by_kind Int32Type zero d h = ap (λ y. is_reference_kind (kind_at y 0)) (same_Some Int32Element d h)
+    by_kind Int64Type zero d h = ap (λ y. is_reference_kind (kind_at y 0)) (same_Some Int64Element d h)
+    by_kind ObjectType zero d h = ap (λ y. is_reference_kind (kind_at y 0)) (same_Some Object d h)
+    by_kind StringType zero d h = ap (λ y. is_reference_kind (kind_at y 0)) (same_Some String d h)
+    by_kind (ClassType c) zero d h = by_name (class_name tree c) h
+      where
+        by_name : (o : Option ClassName) → option_map Class o ≡ Some d → true ≡ is_reference_kind (kind_at d 0)
+        by_name None k = none_is_some d k
+        by_name (Some y) k = ap (λ z. is_reference_kind (kind_at z 0)) (same_Some (Class y) d k)
+
+    by_type : (o : Option Element) → element_at tree (numbered e.element) ≡ o → option_map (λ d. record { element = d; brackets = e.brackets }) o ≡ Some t → holds_reference tree (Array e) slot ≡ is_reference_kind (kind_of_type t)
+    by_type None h k = none_is_some t k
+    by_type (Some d) h k = by_kind e.element e.brackets d h ∙ ap (λ (y : DeclaredType). is_reference_kind (kind_of_type y)) (same_Some (record { element = d; brackets = e.brackets }) t k)
+
+-- ---- objects
+
+-- a value of the reference machine is a reference
+abbrev pub is_reference_state : StateValue → Bool
+is_reference_state u = is_reference_kind (kind_of_state u)
+
+-- the slot of a field, behind the hidden one of a class of threads
+abbrev pub slot_behind : Bool → ℕ → ℕ
+slot_behind true place = suc place
+slot_behind false place = place
+
+-- each slot holds a reference exactly where the object's value is one
+abbrev pub IsLinked : Tree → Kind → Contents → Type 0
+IsLinked tree (Instance class) (IsInstance c fields) =
+    (place : ℕ) (e : FieldKey × StateValue) → slice_get fields place ≡ Some e → holds_reference tree (Instance class) (slot_behind (is_thread_class tree c) place) ≡ is_reference_state e.1
+IsLinked tree (Array a) (IsArray t elements) = (place : ℕ) (u : StateValue) → slice_get elements place ≡ Some u → holds_reference tree (Array a) place ≡ is_reference_state u
+IsLinked tree (Instance class) (IsArray t elements) = ⊥
+IsLinked tree (Array a) (IsInstance c fields) = ⊥
+
+-- the type of an element
+type_of_element : (tree : Tree) (s : State) (t : DeclaredType) (elements : List StateValue) → AllHaveType tree s t elements → (place : ℕ) (u : StateValue) → slice_get elements place ≡ Some u → HasType tree s u t
+type_of_element tree s t [] h place u is = none_is_some u is
+type_of_element tree s t (x ∷ xs) h zero u is = subst (λ y. HasType tree s y t) (same_Some x u is) h.0
+type_of_element tree s t (x ∷ xs) h (suc place) u is = type_of_element tree s t xs h.1 place u is
+
+behind_hidden : (tree : Tree) (c : ClassName) (place : ℕ) → length (hidden_slots tree c) + place ≡ slot_behind (is_thread_class tree c) place
+behind_hidden tree c place = by_class (is_thread_class tree c)
+  where
+    by_class : (b : Bool) → length {A = Option DeclaredType} (if b then None ∷ [] else []) + place ≡ slot_behind b place
+    by_class true = omega arith
+    by_class false = omega arith
+
+-- so it is of a typed object
+pub typed_is_linked : (tree : Tree) → IsLegal tree → (s : State) (name : Names) (k : Kind) (slots : List ℕ) (contents : Contents) (thread : Option ℕ) → IsTypedContents tree s contents → IsOfContents tree name k slots contents thread → IsLinked tree k contents
+typed_is_linked tree legal s name (Instance class) slots (IsInstance c fields) thread typed h =
+    λ place e is. ap (holds_reference tree (Instance class)) (sym (behind_hidden tree c place)) ∙ slot_says tree legal s c class h.class_is fields typed.2 place e is
+typed_is_linked tree legal s name (Array a) slots (IsArray t elements) thread typed h =
+    λ place u is. element_says tree a t h.0 place ∙ ap is_reference_kind (kind_fits tree legal s u t (type_of_element tree s t elements typed place u is))
+typed_is_linked tree legal s name (Instance class) slots (IsArray t elements) thread typed h = elim h [ ]
+typed_is_linked tree legal s name (Array a) slots (IsInstance c fields) thread typed h = elim h [ ]
+
+-- so it is where a value of the same sort comes in the place of an element,
+pub element_linked : (tree : Tree) (k : Kind) (t : DeclaredType) (elements : List StateValue) (place : ℕ) (old u : StateValue) → slice_get elements place ≡ Some old → is_reference_state old ≡ is_reference_state u → IsLinked tree k (IsArray t elements) →
+    IsLinked tree k (IsArray t (slice_set elements place u))
+element_linked tree (Array a) t elements place old u is same linked = λ i x there. elim (set_here_or_there elements place i u x there) [
+  | inl here ↦ linked i old (subst (λ j. slice_get elements j ≡ Some old) (sym here.0) is) ∙ same ∙ ap is_reference_state (sym here.1)
+  | inr still ↦ linked i x still.1
+]
+element_linked tree (Instance class) t elements place old u is same linked = elim linked [ ]
+
+-- and in that of a field
+pub field_linked : (tree : Tree) (k : Kind) (c : ClassName) (fields : List (FieldKey × StateValue)) (place : ℕ) (old new : FieldKey × StateValue) → slice_get fields place ≡ Some old → is_reference_state old.1 ≡ is_reference_state new.1 → IsLinked tree k (IsInstance c fields) →
+    IsLinked tree k (IsInstance c (slice_set fields place new))
+field_linked tree (Instance class) c fields place old new is same linked = λ i x there. elim (set_here_or_there fields place i new x there) [
+  | inl here ↦ linked i old (subst (λ j. slice_get fields j ≡ Some old) (sym here.0) is) ∙ same ∙ ap (λ (e : FieldKey × StateValue). is_reference_state e.1) (sym here.1)
+  | inr still ↦ linked i x still.1
+]
+field_linked tree (Array a) c fields place old new is same linked = elim linked [ ]

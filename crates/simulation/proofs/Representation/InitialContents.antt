@@ -1,0 +1,174 @@
+-- What a machine holds at first represents the initial state.
+use Rattle.std.proofs.Common.{◌≡◌, ◌==◌, is_some, true, false, inl, inr, ℕ, IsTrue, List, [], ◌∷◌, length, Option, Some, None, option_map, option_and_then, slice_get, refl, sym, ap, ◌∙◌, arith}
+use Rattle.interpreter.specs.cil_model.declared.limits.Limits.{Limits}
+use Rattle.interpreter.specs.cil_model.declared.trees.Code.{Code}
+use Rattle.interpreter.specs.cil_model.declared.trees.Method.{Method}
+use Rattle.interpreter.specs.cil_model.declared.trees.Tree.{Tree}
+use Rattle.interpreter.specs.cil_model.declared.types.ClassName.{ClassName}
+use Rattle.interpreter.specs.cil_model.Bodies.{code_of, entry_points, is_entry_point, source_methods}
+use Rattle.interpreter.specs.cil_model.Chains.{methods_declared}
+use Rattle.interpreter.specs.cil_model.Fields.{static_fields}
+use Rattle.interpreter.specs.cil_model.Mentions.{literals_of}
+use Rattle.interpreter.specs.cil_model.Ranges.{are_in_range}
+use Rattle.interpreter.specs.cil_model.Typings.{IsAccepted}
+use Rattle.interpreter.proofs.cil_model.Lists.{none_is_some}
+use Rattle.interpreter.proofs.cil_model.Legal.{entry_alone}
+use Rattle.interpreter.specs.reference_machine.Values.{ObjectName}
+use Rattle.interpreter.specs.reference_machine.States.{Frame as StateFrame, Free as IsFree, State}
+use Rattle.interpreter.specs.reference_machine.Runs.{opening, opening_at}
+use Rattle.interpreter.proofs.reference_machine.TypedStates.InitialStates.{opens, opening_typed}
+use Rattle.interpreter.proofs.reference_machine.Programs.SourceMethods.{kept_from, source_is_declared}
+use Rattle.simulation.proofs.MonitorCounts.InitialStates.{opening_counted}
+use Rattle.interpreter.specs.loaded_program.AllMethods.{all_methods}
+use Rattle.interpreter.specs.loaded_program.MethodNumbers.{number_of}
+use Rattle.interpreter.proofs.loaded_program.NumberLaws.{declared_is_numbered}
+use Rattle.interpreter.specs.object_memory.declared.monitors.Monitor.TheVariants.{Free}
+use Rattle.interpreter.specs.object_memory.Cells.{literal_number, null}
+use Rattle.interpreter.specs.object_memory.Objects.{no_objects}
+use Rattle.interpreter.specs.object_memory.Spaces.{Spaces}
+use Rattle.interpreter.specs.object_memory.declared.addresses.Addr.{Addr}
+use Rattle.interpreter.specs.cil_model.declared.reports.End.{End}
+use Rattle.collector.specs.phase_handshake.Handshakes.{first_handshakes}
+use Rattle.collector.specs.phase_handshake.declared.posts.Seat.{Seat}
+use Rattle.interpreter.specs.threads_monitors.Frames.{Frames}
+use Rattle.interpreter.specs.threads_monitors.Roots.{roots}
+use Rattle.interpreter.specs.threads_monitors.declared.threads.Standing.TheVariants.{Live}
+use Rattle.simulation.specs.MachineContents.{Content}
+use Rattle.simulation.specs.Sound.{AreSeated, IsSound}
+use Rattle.simulation.specs.StandsFor.{IsHeap, IsThread, StandsAlike, StandsBy, Represents}
+use Rattle.simulation.specs.Turns.{content_at, opening_content, thread_at}
+use Rattle.simulation.proofs.ProgramSizes.LimitRanges.{budget_is_some, depth_is_some, most_words_are_few, words_are_few, words_are_within}
+use Rattle.simulation.proofs.Memory.InitialValues.{fields_stand}
+use Rattle.simulation.proofs.ListLaws.AgreeingLists.{agree_at}
+use Rattle.simulation.proofs.CollectedHeap.VisibleNames.{permanent_passes}
+use Rattle.simulation.proofs.Representation.RootReferences.{roots_pass, statics_pass}
+use Rattle.collector.proofs.Addresses.Disjunctions.{or_second}
+use Rattle.simulation.proofs.Threads.Seats.{first_alone, first_fits}
+use Rattle.interpreter.specs.cil_model.declared.phases.Phase.TheVariants.{Idle}
+use Rattle.collector.specs.Phases.{no_progress}
+use Rattle.collector.specs.Holding.{Hold, hold_of, may_hold, passes, static_hold_of, static_may_hold}
+use Rattle.collector.specs.Soundness.{IsListed, IsSoundHeap}
+use Rattle.collector.proofs.PhaseChanges.BetweenCycles.{quiet_is_sound}
+use Rattle.simulation.proofs.Representation.NewThreads.{beginning_stands}
+use Rattle.simulation.proofs.Representation.LiteralNames.{same_for_each, free_first, literal_names, IsNamedLiteral, named_literal, literal_named, literals_small, literals_apart}
+
+module _ (tree : Tree) (limits : Limits) (accepted : IsAccepted tree) (in_range : IsTrue (are_in_range limits)) where
+  -- no object is there but the literals
+  first_heap : (entry : ClassName × Method) (code : Code) → IsHeap tree (literal_names tree) (no_objects limits.words (length (literals_of tree))) (opening_at tree limits entry code)
+  first_heap entry code = record {
+    null_unnamed = refl;
+    small = literals_small tree accepted.legal;
+    names = record {
+      one = λ a b n is also. inl (literals_apart tree a b n is also);
+      twins = λ a b n k is also twins. elim twins [ inl other ↦ none_is_some (record { number = b }) other | inr other ↦ none_is_some (record { number = a }) other ];
+    };
+    born = λ a n named. let x : IsNamedLiteral tree a _ = named_literal tree a _ named in let name = x.name in absurd cc;
+    literals = λ a characters named. let x : IsNamedLiteral tree a _ = named_literal tree a _ named in let name = x.name in let same : x.characters ≡ characters = cc in let is : slice_get (literals_of tree) x.number ≡ Some characters = x.is ∙ ap Some same in record {
+      number = x.number;
+      numbered = x.numbered;
+      is = is;
+      monitor = Free;
+      held = same_for_each (literals_of tree) x.number characters Free is;
+      state_monitor = IsFree;
+      state_held = free_first (literals_of tree) x.number characters is;
+      stands = tt;
+    };
+    each_literal = literal_named tree;
+  }
+
+  -- it is sound
+  first_sound : IsSoundHeap tree Idle false limits.max_words no_progress (no_objects limits.words (length (literals_of tree))).spaces
+  first_sound =
+      quiet_is_sound tree false limits.max_words no_progress (no_objects limits.words (length (literals_of tree))).spaces
+      (record {
+        spaces = record {
+          old = record { start = inl refl; fits = omega arith; few = words_are_few limits in_range };
+          new = record { start = inr refl; fits = omega arith; few = omega arith };
+          apart = refl;
+        };
+        few = most_words_are_few limits in_range;
+        held = refl;
+        old_words = words_are_within limits in_range;
+        new_words = omega arith;
+        grows = λ cycle. absurd cc;
+        none_new = λ early. refl;
+        none_grey = λ idle. refl;
+      })
+      (λ a c lies. none_is_some c lies)
+
+  -- the thread is at the beginning of the entry point
+  first_stands : (entry : ClassName × Method) (code : Code) → code_of entry.1.kind ≡ Some code → (n : ℕ) → slice_get (all_methods tree) n ≡ Some entry → StandsBy (literal_names tree) (content_at tree limits entry n) (opening_at tree limits entry code)
+  first_stands entry code has_code n stands = record {
+    memory = record { heap = first_heap entry code; static_values = fields_stand (literal_names tree) (static_fields tree); printed_is = refl };
+    threads = (beginning_stands (literal_names tree) tree limits (depth_is_some limits in_range) entry code has_code n stands [] [] tt, tt);
+  }
+
+  -- each thread may hold the literals, and so may static fields
+  literal_passes : (hold : Hold) (m : Spaces) (a : ℕ) (n : ObjectName) → literal_names tree a ≡ Some n → passes hold Idle m (record { number = a }) ≡ true
+  literal_passes hold m a n is =
+      let x : IsNamedLiteral tree a n = named_literal tree a n is in
+      permanent_passes hold Idle m (record { number = a }) (or_second (a == 0) (is_some (literal_number (record { number = a }))) (ap is_some x.numbered))
+
+  -- the first machine is sound
+  opening_sound : (entry : ClassName × Method) (code : Code) (n : ℕ) → StandsBy (literal_names tree) (content_at tree limits entry n) (opening_at tree limits entry code) → IsSound (content_at tree limits entry n)
+  opening_sound entry code n by = record {
+    seated = fit;
+    heap = first_sound;
+    rounds = λ e. absurd cc;
+    on_time = λ t seat is late. absurd (late (ap (λ (x : Seat). x.phase) (first_alone t seat is)));
+    threads = λ t left fs seat at is a listed.
+        let found = agree_at (IsThread tree limits (literal_names tree)) (content_at tree limits entry n).threads (opening_at tree limits entry code).threads by.threads t (record { standing = Live fs; steps_left = left }) at in
+        by_end fs seat a listed found.0.frames found.0.ended found.2.standing;
+    statics = λ number v is.
+        statics_pass (literal_names tree) (static_may_hold Idle m no_progress number) (permanent_passes (static_hold_of Idle no_progress number) Idle m null refl) (literal_passes (static_hold_of Idle no_progress number) m)
+        (content_at tree limits entry n).statics (opening_at tree limits entry code).statics by.memory.static_values number v is;
+  }
+    where
+      fit : AreSeated first_handshakes (thread_at limits entry [] n ∷ [])
+      fit = first_fits (thread_at limits entry [] n) refl
+
+      m : Spaces
+      m = (no_objects limits.words (length (literals_of tree))).spaces
+
+      by_end : (fs : Frames) (seat : Seat) (a : Addr) → IsListed (roots fs) a → (gs : List StateFrame) (e : Option End) → StandsAlike tree limits (literal_names tree) (Live fs) gs e → may_hold first_handshakes m seat a ≡ true
+      by_end fs seat a listed gs None h =
+          let hold : Hold = hold_of first_handshakes m.has_marked seat in
+          roots_pass (literal_names tree) (may_hold first_handshakes m seat) (permanent_passes hold Idle m null refl) (literal_passes hold m) tree fs gs h.frames a listed
+      by_end fs seat a listed gs (Some e) h = elim h [ ]
+
+  abbrev pub IsOpened : Type 0
+  IsOpened = (c : Content) × (s : State) × (opening_content tree limits ≡ Some c) × (opening tree limits ≡ Some s) × Represents c s
+
+  module _ (entry : ClassName × Method) (alone : entry_points tree ≡ entry ∷ []) where
+    entry_declared : (k : ℕ) × (slice_get (methods_declared tree entry.0) k ≡ Some entry.1)
+    entry_declared =
+        let found = kept_from (λ (x : ClassName × Method). is_entry_point x.1) (source_methods tree) 0 entry (ap (λ es. slice_get es 0) alone) in
+        source_is_declared tree accepted.legal found.0 entry.0 entry.1 found.1
+
+    opened_with : (code : Option Code) → code_of entry.1.kind ≡ code → IsOpened
+    opened_with None is =
+        let none : opening tree limits ≡ None = ap (λ es. option_and_then (λ (e : ClassName × Method). option_map (opening_at tree limits e) (code_of e.1.kind)) (slice_get es 0)) alone ∙ ap (option_map (opening_at tree limits entry)) is in
+        none_is_some (opens tree limits accepted).0 (sym none ∙ (opens tree limits accepted).1)
+    opened_with (Some code) is =
+        let opened : opening tree limits ≡ Some (opening_at tree limits entry code) =
+        ap (λ es. option_and_then (λ (e : ClassName × Method). option_map (opening_at tree limits e) (code_of e.1.kind)) (slice_get es 0)) alone ∙ ap (option_map (opening_at tree limits entry)) is in
+        let numbered : (n : ℕ) × (number_of tree entry ≡ Some n) × (slice_get (all_methods tree) n ≡ Some entry) = declared_is_numbered tree accepted.legal entry_declared.0 entry entry_declared.1 in (
+          content_at tree limits entry numbered.0,
+          opening_at tree limits entry code,
+          ap (λ es. option_and_then (λ (e : ClassName × Method). option_map (content_at tree limits e) (number_of tree e)) (slice_get es 0)) alone ∙ ap (option_map (content_at tree limits entry)) numbered.1,
+          opened,
+          record {
+            accepted = accepted;
+            limits = in_range;
+            typed = opening_typed tree limits accepted (opening_at tree limits entry code) opened;
+            counted = opening_counted tree limits (budget_is_some limits in_range) (opening_at tree limits entry code) opened;
+            sound = opening_sound entry code numbered.0 (first_stands entry code is numbered.0 numbered.2);
+            stands = record { name = literal_names tree; by = first_stands entry code is numbered.0 numbered.2 };
+          },
+        )
+
+-- an accepted program has a first content, which stands for its opening state
+pub opening_represents : (tree : Tree) (limits : Limits) → IsAccepted tree → IsTrue (are_in_range limits) →
+    (c : Content) × (s : State) × (opening_content tree limits ≡ Some c) × (opening tree limits ≡ Some s) × Represents c s
+opening_represents tree limits accepted in_range =
+    let entry = entry_alone tree accepted.legal in opened_with tree limits accepted in_range entry.0 entry.1 (code_of entry.0.1.kind) refl

@@ -1,0 +1,124 @@
+-- The same events from one content have the same reports, and come to the same state of the reference machine.
+use Rattle.std.proofs.Common.{◌≡◌, ℕ, List, [], ◌∷◌, Some, length, refl, sym, ap, ◌∙◌, subst, arith, Option, None, option_and_then, option_map, slice_get}
+use Rattle.std.specs.List.{zip}
+use Rattle.std.proofs.lemmas.Option.{same_Some}
+use Rattle.interpreter.specs.cil_model.declared.events.Event.{Event}
+use Rattle.interpreter.specs.cil_model.declared.events.Event.TheVariants.{Step, Ack, Gc}
+use Rattle.interpreter.specs.cil_model.declared.instructions.Instruction.{Instruction}
+use Rattle.interpreter.specs.cil_model.declared.limits.Limits.{Limits}
+use Rattle.interpreter.specs.cil_model.declared.reports.Report.{Report}
+use Rattle.interpreter.specs.cil_model.Bodies.{entry_points}
+use Rattle.interpreter.specs.cil_model.declared.types.ClassName.{ClassName}
+use Rattle.interpreter.specs.cil_model.declared.trees.Method.{Method}
+use Rattle.interpreter.specs.cil_model.declared.trees.Line.{Line}
+use Rattle.interpreter.specs.cil_model.declared.trees.Tree.{Tree}
+use Rattle.interpreter.specs.resolved_code.Resolved.{IsOperation}
+use Rattle.interpreter.specs.resolved_code.declared.operations.Operation.{Operation}
+use Rattle.interpreter.specs.reference_machine.Runs.{RunsTo, is_refusal, run, step_reports, thread_part}
+use Rattle.interpreter.specs.reference_machine.States.{State}
+use Rattle.interpreter.specs.reference_machine.Steps.{Answers, step}
+use Rattle.interpreter.proofs.reference_machine.Runs.JoinedRuns.{first_of, same_state}
+use Rattle.interpreter.proofs.cil_model.Lists.{none_is_some}
+use Rattle.interpreter.specs.loaded_program.MethodNumbers.{number_of}
+use Rattle.simulation.specs.MachineContents.{Content}
+use Rattle.simulation.specs.Runs.{IsNext, IsRunOf, RefusesBeyondRoom}
+use Rattle.simulation.specs.Turns.{IsTurn, content_at, opening_content}
+use Rattle.simulation.proofs.Runs.UniqueTurns.{one_turn}
+use Rattle.simulation.proofs.Threads.StepEffects.{same_program}
+
+no_more : {X : Type 0} (xs : List X) → length xs ≡ 0 → xs ≡ []
+no_more [] h = refl
+no_more (x ∷ xs) h = absurd (omega (arith, h))
+
+one_less : {X Y : Type 0} (x : X) (xs : List X) (y : Y) (ys : List Y) → length (x ∷ xs) ≡ length (y ∷ ys) → length xs ≡ length ys
+one_less x xs y ys h = omega (arith, h)
+
+same_head : (a b : Report) (as' bs : List Report) → a ∷ as' ≡ b ∷ bs → a ≡ b
+same_head a b as' bs e = cc
+
+same_tail : (a b : Report) (as' bs : List Report) → a ∷ as' ≡ b ∷ bs → as' ≡ bs
+same_tail a b as' bs e = cc
+
+module _ (tree : Tree) (limits : Limits) (one : (lines : List Line) (i : Instruction) (o p : Operation) → IsOperation tree lines i o → IsOperation tree lines i p → o ≡ p) where
+  -- a content of this program within these limits
+  abbrev IsOf : Content → Type 0
+  IsOf c = (c.tree ≡ tree) × (c.limits ≡ limits)
+
+  of_next : (c : Content) (e : Event) (x : Content × Report) → IsOf c → IsTurn c e x → IsOf x.0
+  of_next c e x of turn = let kept = same_program c x e turn in (kept.0 ∙ of.0, kept.1 ∙ of.1)
+
+  turns_alike : (c : Content) (e : Event) (x y : Content × Report) → IsOf c → IsTurn c e x → IsTurn c e y → x ≡ y
+  turns_alike c e x y of =
+      one_turn c (subst (λ (t : Tree). (lines : List Line) (i : Instruction) (o p : Operation) → IsOperation t lines i o → IsOperation t lines i p → o ≡ p) (sym of.0) one) e x y
+
+  -- what a run from a content and a state comes to
+  record ComesTo (c : Content) (s : State) (events : List (Event × Report)) (t : State) : Type 0 where
+    pub runs : run tree limits s (thread_part events) ≡ RunsTo (step_reports events) t
+    pub last : Content
+    pub refuses : RefusesBeyondRoom c s events last
+
+  -- the state after an event of a run, and the run from there
+  record Follows (c next : Content) (s : State) (e : Event) (r : Report) (events : List (Event × Report)) (t : State) : Type 0 where
+    pub after : State
+    pub is_next : IsNext tree limits s e r after
+    pub later : ComesTo next after events t
+
+  follows : (c : Content) (s : State) (e : Event) (r : Report) (events : List (Event × Report)) (t : State) → IsOf c → (h : ComesTo c s ((e, r) ∷ events) t) → Follows c h.refuses.0 s e r events t
+  follows c s (Step n) r events t of h =
+      let x = first_of tree limits s (n, is_refusal r) (thread_part events) (r ∷ step_reports events) t h.runs in
+      let reports : r ≡ x.report = same_head r x.report (step_reports events) x.later x.are in
+      let rest : step_reports events ≡ x.later = same_tail r x.report (step_reports events) x.later x.are in
+      let answers : step tree limits s n (is_refusal r) ≡ Answers r x.after = x.answers ∙ ap (λ q. Answers q x.after) (sym reports) in
+      let here : step c.tree c.limits s n (is_refusal r) ≡ Answers r x.after = ap (λ (u : Tree). step u c.limits s n (is_refusal r)) of.0 ∙ (ap (λ (l : Limits). step tree l s n (is_refusal r)) of.1 ∙ answers) in
+      record { after = x.after; is_next = answers; later = record { runs = x.runs ∙ ap (λ l. RunsTo l t) (sym rest); last = h.last; refuses = h.refuses.3 x.after here } }
+  follows c s (Ack n) r events t of h = record { after = s; is_next = refl; later = record { runs = h.runs; last = h.last; refuses = h.refuses.3 s refl } }
+  follows c s Gc r events t of h = record { after = s; is_next = refl; later = record { runs = h.runs; last = h.last; refuses = h.refuses.3 s refl } }
+
+  -- after the same event with the same report the state is the same
+  next_once : (s : State) (e : Event) (r r' : Report) (t u : State) → r ≡ r' → IsNext tree limits s e r t → IsNext tree limits s e r' u → t ≡ u
+  next_once s (Step n) r r' t u same h k = same_after r r' t u (sym h ∙ (ap (λ q. step tree limits s n (is_refusal q)) same ∙ k))
+    where
+      same_after : (r q : Report) (s t : State) → Answers r s ≡ Answers q t → s ≡ t
+      same_after r q s t e = cc
+  next_once s (Ack n) r r' t u same h k = h ∙ sym k
+  next_once s Gc r r' t u same h k = h ∙ sym k
+
+  one_from : (events : List Event) (reports reports' : List Report) → length reports ≡ length events → length reports' ≡ length events → (c : Content) (s t t' : State) → IsOf c
+      → ComesTo c s (zip events reports) t → ComesTo c s (zip events reports') t' → (reports ≡ reports') × (t ≡ t')
+  one_from [] rs rs' each each' c s t t' of h h' = (no_more rs each ∙ sym (no_more rs' each'), sym (same_state [] [] s t h.runs) ∙ same_state [] [] s t' h'.runs)
+  one_from (e ∷ es) [] rs' each each' c s t t' of h h' = absurd (omega (arith, each))
+  one_from (e ∷ es) (r ∷ rs) [] each each' c s t t' of h h' = absurd (omega (arith, each'))
+  one_from (e ∷ es) (r ∷ rs) (r' ∷ rs') each each' c s t t' of h h' =
+      let x = follows c s e r (zip es rs) t of h in
+      let y = follows c s e r' (zip es rs') t' of h' in
+      let turns : (h.refuses.0, r) ≡ (h'.refuses.0, r') = turns_alike c e (h.refuses.0, r) (h'.refuses.0, r') of h.refuses.1 h'.refuses.1 in
+      let contents : h.refuses.0 ≡ h'.refuses.0 = ap (λ (z : Content × Report). z.0) turns in
+      let reports : r ≡ r' = ap (λ (z : Content × Report). z.1) turns in
+      let states : x.after ≡ y.after = next_once s e r r' x.after y.after reports x.is_next y.is_next in
+      let other : ComesTo h.refuses.0 x.after (zip es rs') t' =
+      subst (λ (d : Content). ComesTo d x.after (zip es rs') t') (sym contents) (subst (λ (u : State). ComesTo h'.refuses.0 u (zip es rs') t') (sym states) y.later) in
+      let more = one_from es rs rs' (one_less r rs e es each) (one_less r' rs' e es each') h.refuses.0 x.after t t' (of_next c e (h.refuses.0, r) of h.refuses.1) x.later other in
+      (ap (λ q. q ∷ rs) reports ∙ ap (λ l. r' ∷ l) more.0, more.1)
+
+  of_opened : (c : Content) → opening_content tree limits ≡ Some c → IsOf c
+  of_opened c e = by_entry (slice_get (entry_points tree) 0) e
+    where
+      by_number : (entry : ClassName × Method) (n : Option ℕ) → option_map (content_at tree limits entry) n ≡ Some c → IsOf c
+      by_number entry None h = none_is_some c h
+      by_number entry (Some n) h =
+          let same = same_Some (content_at tree limits entry n) c h in
+          (sym (ap (λ (x : Content). x.tree) same), sym (ap (λ (x : Content). x.limits) same))
+
+      by_entry : (entry : Option (ClassName × Method)) → option_and_then (λ (x : ClassName × Method). option_map (content_at tree limits x) (number_of tree x)) entry ≡ Some c → IsOf c
+      by_entry None h = none_is_some c h
+      by_entry (Some entry) h = by_number entry (number_of tree entry) h
+
+  -- the same events have one run
+  pub runs_are_one : (events : List Event) (reports reports' : List Report) (s s' : State) → IsRunOf tree limits events reports s → IsRunOf tree limits events reports' s' → (reports ≡ reports') × (s ≡ s')
+  runs_are_one events reports reports' s s' h h' =
+      let states : h'.first ≡ h.first = same_Some h'.first h.first (sym h'.begins ∙ h.begins) in
+      let contents : h'.machine ≡ h.machine = same_Some h'.machine h.machine (sym h'.opened ∙ h.opened) in
+      let first : ComesTo h.machine h.first (zip events reports) s = record { runs = h.comes; last = h.last; refuses = h.refuses } in
+      let other : ComesTo h.machine h.first (zip events reports') s' =
+      subst (λ (d : Content). ComesTo d h.first (zip events reports') s') contents (subst (λ (u : State). ComesTo h'.machine u (zip events reports') s') states (record { runs = h'.comes; last = h'.last; refuses = h'.refuses })) in
+      one_from events reports reports' h.each h'.each h.machine h.first s s' (of_opened h.machine h.opened) first other

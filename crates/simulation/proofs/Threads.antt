@@ -1,0 +1,17 @@
+-- Each step of a thread does the same on both machines, and keeps the machine sound.
+pub mod NextInstruction
+pub mod LiveThreads
+pub mod Requests
+pub mod ThreadStarts
+pub mod StartSteps
+pub mod Joins
+pub mod StepEffects
+pub mod StepResults
+pub mod StepSoundness
+pub mod Steps
+pub mod UnchangedPosts
+pub mod RefusedSteps
+pub mod LocalInstructions
+pub mod OtherThreads
+pub mod Seats
+pub mod ChangedSeats

@@ -1,0 +1,162 @@
+-- What the end of a thread, the start of another and an acknowledgement leave of the seats of threads.
+use Rattle.std.proofs.Common.{◌≡◌, ◌⊎◌, ◌<◌, ◌-◌, ◌∙◌, ℕ, zero, suc, true, false, List, [], ◌∷◌, ◌++◌, length, replicate, get_or, Option, Some, None, option_and_then, slice_get, slice_set, refl, inl, inr, sym, ap, arith}
+use Rattle.std.specs.Prelude.{is_some}
+use Rattle.std.specs.Option.{option_map_or}
+use Rattle.std.proofs.lemmas.List.{length-replicate}
+use Rattle.std.proofs.lemmas.Option.{same_Some, slice_get-get_or}
+use Rattle.interpreter.specs.cil_model.declared.limits.TheConstants.{MOST_THREADS}
+use Rattle.interpreter.proofs.cil_model.Lists.{last_is_there, none_is_some, set_is_there, set_or_was}
+use Rattle.interpreter.proofs.cil_model.SameLaws.{never}
+use Rattle.collector.specs.phase_handshake.Handshakes.{Handshakes, first_handshakes, first_seat, joined, left as without_seat, seat_of}
+use Rattle.collector.proofs.phase_handshake.Closeness.{joined_close, left_close, seat_there}
+use Rattle.collector.specs.phase_handshake.declared.posts.Seat.{Seat}
+use Rattle.interpreter.specs.cil_model.declared.reports.End.{End}
+use Rattle.interpreter.specs.threads_monitors.Frames.{Frames}
+use Rattle.interpreter.specs.threads_monitors.Threads.{end_after, is_live, is_live_at, report_of, settled, standing_after}
+use Rattle.interpreter.specs.threads_monitors.declared.effects.Effect.{Effect}
+use Rattle.interpreter.specs.threads_monitors.declared.effects.Effect.TheVariants.{GoesOn, Returns, Blocks, Raises}
+use Rattle.interpreter.specs.threads_monitors.declared.threads.Standing.TheVariants.{Live, Ended}
+use Rattle.interpreter.specs.threads_monitors.declared.threads.Thread.{Thread}
+use Rattle.interpreter.specs.cil_model.declared.reports.Report.{Report}
+use Rattle.interpreter.specs.cil_model.declared.reports.Report.TheVariants.{Ended as HasEnded}
+use Rattle.simulation.specs.Sound.{AreSeated}
+use Rattle.simulation.proofs.Threads.ChangedSeats.{same_or_other, set_other}
+use Rattle.simulation.specs.Turns.{live_thread, seats_after}
+
+-- ---- places of lists
+
+-- one more at the end leaves every other place
+pub append_other : {X : Type 0} (xs : List X) (n : ℕ) (x : X) → (n ≡ length xs → ⊥) → slice_get (xs ++ x ∷ []) n ≡ slice_get xs n
+append_other [] zero x other = absurd (other refl)
+append_other [] (suc n) x other = refl
+append_other (y ∷ ys) zero x other = refl
+append_other (y ∷ ys) (suc n) x other = append_other ys n x (λ e. other (ap suc e))
+
+-- ---- live threads
+
+-- a thread that goes on is live, and all others are as they were
+pub live_set : (xs : List Thread) (t n : ℕ) (x : Thread) → is_live x ≡ true → is_live_at xs t ≡ true → is_live_at (slice_set xs t x) n ≡ is_live_at xs n
+live_set [] t n x lives there = never there
+live_set (y ∷ ys) zero zero x lives there = lives ∙ sym there
+live_set (y ∷ ys) zero (suc n) x lives there = refl
+live_set (y ∷ ys) (suc t) zero x lives there = refl
+live_set (y ∷ ys) (suc t) (suc n) x lives there = live_set ys t n x lives there
+
+-- a live one is so beside one more
+pub live_more : (xs : List Thread) (t : ℕ) (x : Thread) → is_live_at xs t ≡ true → is_live_at (xs ++ x ∷ []) t ≡ true
+live_more [] t x there = never there
+live_more (y ∷ ys) zero x there = there
+live_more (y ∷ ys) (suc t) x there = live_more ys t x there
+
+-- one that has ended is not
+dead_set : (xs : List Thread) (t : ℕ) (x : Thread) → is_live x ≡ false → is_live_at (slice_set xs t x) t ≡ false
+dead_set [] t x ended = refl
+dead_set (y ∷ ys) zero x ended = ended
+dead_set (y ∷ ys) (suc t) x ended = dead_set ys t x ended
+
+live_get : (xs ys : List Thread) (n : ℕ) → slice_get xs n ≡ slice_get ys n → is_live_at xs n ≡ is_live_at ys n
+live_get xs ys n e = ap (λ o. option_map_or is_live o false) e
+
+-- ---- seats
+
+-- places without seats
+empty_places : (m n : ℕ) → option_and_then (λ (x : Option Seat). x) (slice_get (replicate m None) n) ≡ None
+empty_places zero n = refl
+empty_places (suc m) zero = refl
+empty_places (suc m) (suc n) = empty_places m n
+
+-- ---- another seat
+
+-- a place without a seat
+emptied : (seats : List (Option Seat)) (t : ℕ) → option_and_then (λ (x : Option Seat). x) (slice_get (slice_set seats t None) t) ≡ None
+emptied [] t = refl
+emptied (x ∷ xs) zero = refl
+emptied (x ∷ xs) (suc t) = emptied xs t
+
+-- another place is as it was
+pub other_seat : (h : Handshakes) (t n : ℕ) (o : Option Seat) → (n ≡ t → ⊥) → seat_of (record h { seats = slice_set h.seats t o }) n ≡ seat_of h n
+other_seat h t n o other = ap (option_and_then (λ (x : Option Seat). x)) (set_other h.seats t n o other)
+
+-- a seat that is there once one is set is that one, or was there
+pub set_seat : (h : Handshakes) (t n : ℕ) (o : Option Seat) (s : Seat) → seat_of (record h { seats = slice_set h.seats t o }) n ≡ Some s → (o ≡ Some s) ⊎ (seat_of h n ≡ Some s)
+set_seat h t n o s is = elim (set_or_was h.seats t n o (Some s) (seat_there (record h { seats = slice_set h.seats t o }) n s is)) [ inl new ↦ inl (sym new) | inr was ↦ inr (ap (option_and_then (λ (x : Option Seat). x)) was) ]
+
+-- the seats once a step is counted were there,
+pub counted_seat : (h : Handshakes) (t : ℕ) (report : Report) (n : ℕ) (s : Seat) → seat_of (seats_after h t report) n ≡ Some s → seat_of h n ≡ Some s
+counted_seat h t (HasEnded e) n s is = elim (set_seat h t n None s is) [ inl new ↦ none_is_some s new | inr was ↦ was ]
+counted_seat h t report n s is = is
+
+-- and posts are the same
+pub counted_posts : (h : Handshakes) (t : ℕ) (report : Report) → seats_after h t report ≡ record h { seats = (seats_after h t report).seats }
+counted_posts h t (HasEnded e) = refl
+counted_posts h t report = refl
+
+module _ (h : Handshakes) (threads : List Thread) (fit : AreSeated h threads) where
+  -- ---- a thread that goes on, and one that ends
+
+  -- a live thread in the place of another
+  pub live_fits : (t : ℕ) (x : Thread) → is_live x ≡ true → is_live_at threads t ≡ true → AreSeated h (slice_set threads t x)
+  live_fits t x lives there = record { close = fit.close; live = λ n. live_set threads t n x lives there ∙ fit.live n }
+
+  -- one that has ended, without a seat
+  pub ended_fits : (t : ℕ) (x : Thread) → is_live x ≡ false → AreSeated (without_seat h t) (slice_set threads t x)
+  ended_fits t x ended = record { close = left_close h fit.close t; live = λ n. lives n (same_or_other n t) }
+    where
+      lives : (n : ℕ) → (n ≡ t) ⊎ (n ≡ t → ⊥) → is_live_at (slice_set threads t x) n ≡ is_some (seat_of (without_seat h t) n)
+      lives n (inl same) =
+          ap (is_live_at (slice_set threads t x)) same ∙ dead_set threads t x ended ∙ ap is_some (sym (emptied h.seats t)) ∙ ap (λ k. is_some (seat_of (without_seat h t) k)) (sym same)
+      lives n (inr other) = live_get (slice_set threads t x) threads n (set_other threads t n x other) ∙ fit.live n ∙ ap is_some (sym (other_seat h t n None other))
+
+  -- once the step of a live thread is counted
+  pub counted_fits : (t : ℕ) (effect : Effect) (m : Frames) (left : ℕ) → is_live_at threads t ≡ true →
+      AreSeated (seats_after h t (settled effect (live_thread left m)).1) (slice_set threads t (settled effect (live_thread left m)).0)
+  counted_fits t effect m left there = by_end (end_after effect (left - 1))
+    where
+      by_effect : (e : Effect) (x : Thread) → is_live x ≡ true → AreSeated (seats_after h t (report_of e)) (slice_set threads t x)
+      by_effect GoesOn x lives = live_fits t x lives there
+      by_effect Returns x lives = live_fits t x lives there
+      by_effect Blocks x lives = live_fits t x lives there
+      by_effect (Raises f) x lives = live_fits t x lives there
+
+      by_end : (o : Option End) → AreSeated (seats_after h t (standing_after o m (left - 1) effect).1) (slice_set threads t (standing_after o m (left - 1) effect).0)
+      by_end None = by_effect effect (record { standing = Live m; steps_left = left - 1 }) refl
+      by_end (Some e) = ended_fits t (record { standing = Ended e; steps_left = left - 1 }) refl
+
+  -- ---- a thread that begins
+
+  -- it has its starter's seat
+  pub begun_fits : (t : ℕ) (new : Thread) → is_live new ≡ true → length threads < MOST_THREADS → is_live_at threads t ≡ true → AreSeated (joined h (length threads) t) (threads ++ new ∷ [])
+  begun_fits t new lives room there = record { close = joined_close h fit.close (length threads) t; live = λ n. live n (same_or_other n (length threads)) }
+    where
+      inside : length threads < length h.seats
+      inside = let places = fit.close.places in omega (arith, room, places)
+
+      here : slice_get (slice_set h.seats (length threads) (seat_of h t)) (length threads) ≡ Some (seat_of h t)
+      here = set_is_there h.seats (length threads) (seat_of h t) (get_or h.seats (length threads) None) (slice_get-get_or h.seats (length threads) None inside)
+
+      live : (n : ℕ) → (n ≡ length threads) ⊎ (n ≡ length threads → ⊥) → is_live_at (threads ++ new ∷ []) n ≡ is_some (seat_of (joined h (length threads) t) n)
+      live n (inl same) =
+          ap (is_live_at (threads ++ new ∷ [])) same ∙ ap (λ o. option_map_or is_live o false) (last_is_there threads new) ∙ lives ∙ sym there ∙ fit.live t ∙
+          ap (λ o. is_some (option_and_then (λ (x : Option Seat). x) o)) (sym here) ∙ ap (λ k. is_some (seat_of (joined h (length threads) t) k)) (sym same)
+      live n (inr other) = live_get (threads ++ new ∷ []) threads n (append_other threads n new other) ∙ fit.live n ∙ ap is_some (sym (other_seat h (length threads) n (seat_of h t) other))
+
+-- ---- the beginning
+
+-- the first thread alone has a seat
+pub first_alone : (n : ℕ) (s : Seat) → seat_of first_handshakes n ≡ Some s → s ≡ first_seat
+first_alone zero s is = sym (same_Some first_seat s is)
+first_alone (suc n) s is = none_is_some s (sym (empty_places (MOST_THREADS - 1) n) ∙ is)
+
+pub first_fits : (first : Thread) → is_live first ≡ true → AreSeated first_handshakes (first ∷ [])
+first_fits first lives = record {
+  close = record {
+    places = ap suc (length-replicate {A = Option Seat} (MOST_THREADS - 1) None) ∙ refl;
+    phases = λ t s is. inl (ap (λ (x : Seat). x.phase) (first_alone t s is));
+    answers = λ t s is answered. never (sym (ap (λ (x : Seat). x.answered) (first_alone t s is)) ∙ answered);
+  };
+  live = live;
+}
+  where
+    live : (n : ℕ) → is_live_at (first ∷ []) n ≡ is_some (seat_of first_handshakes n)
+    live zero = lives
+    live (suc n) = ap is_some (sym (empty_places (MOST_THREADS - 1) n))
