@@ -11,9 +11,9 @@ use Rattle.source_runs.specs.reference_machine.States.{State}
 use Rattle.cil_model.specs.declared.events.Event.{Event}
 use Rattle.cil_model.specs.declared.limits.Limits.{Limits}
 use Rattle.cil_model.specs.declared.reports.Report.{Report}
-use Rattle.acceptance.specs.Failures.{IsOfWriting, is_refusal}
-use Rattle.acceptance.specs.declared.failure.Failure.{Failure}
-use Rattle.acceptance.specs.declared.failure.Failure.TheVariants.{Memory, Device}
+use Rattle.source_runs.specs.acceptance.Failures.{IsOfWriting, is_refusal}
+use Rattle.source_runs.specs.acceptance.declared.failure.Failure.{Failure}
+use Rattle.source_runs.specs.acceptance.declared.failure.Failure.TheVariants.{Memory, Device}
 use Rattle.event_trace.specs.Traces.{IsTraced}
 use Rattle.source_runs.specs.Runs.{IsNotRunBy, IsPrintedUpTo, IsReady, IsRunBy}
 use Rattle.driver.specs.Outcomes.{AreCut, AreEndsExplainedFor, AreNotesShownInPart, AreThreadsExplained, HasBroken, HasRun, HasTraced, IsEndText, IsExplanation, IsMachineShown, IsMachineShownInPart, IsRun, IsRunInPart, IsRunShown, IsRunShownInPart, IsRunText, IsShown, IsThreadText, IsTracedThenInPart, status_after, stop_text}

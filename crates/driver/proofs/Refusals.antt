@@ -9,10 +9,10 @@ use Rattle.verifier.specs.declared.refusals.VerifyError.{VerifyError}
 use Rattle.verifier.specs.declared.refusals.VerifyError.TheVariants.{NoTyping, OutOfMemory as UnverifiedForMemory}
 use Rattle.schedule_text.specs.declared.errors.ScheduleError.{ScheduleError}
 use Rattle.schedule_text.specs.declared.errors.ScheduleError.TheVariants.{NoItem, NoThread, TooLong as TooManyEvents, OutOfMemory as UnscheduledForMemory}
-use Rattle.acceptance.specs.Failures.{failure_of_reading, failure_of_resolving, failure_of_schedule, failure_of_verifying}
-use Rattle.acceptance.specs.Sources.{IsNotAccepted, IsNotRun}
-use Rattle.acceptance.specs.declared.failure.Failure.{Failure}
-use Rattle.acceptance.specs.declared.failure.Failure.TheVariants.{Device}
+use Rattle.source_runs.specs.acceptance.Failures.{failure_of_reading, failure_of_resolving, failure_of_schedule, failure_of_verifying}
+use Rattle.source_runs.specs.acceptance.Sources.{IsNotAccepted, IsNotRun}
+use Rattle.source_runs.specs.acceptance.declared.failure.Failure.{Failure}
+use Rattle.source_runs.specs.acceptance.declared.failure.Failure.TheVariants.{Device}
 use Rattle.source_runs.specs.Runs.{IsNotRunBy}
 use Rattle.driver.proofs.OutcomeLemmas.{no_device}
 

@@ -13,7 +13,7 @@ use Rattle.schedule_text.specs.Items.{is_numbered}
 use Rattle.outputs.specs.Taken.{Fails, Taken, Takes}
 use Rattle.outputs.proofs.TakenLaws.{takes_both}
 use Rattle.source_runs.proofs.simulation.Representation.VisibleState.{ends_stand, printed_stands}
-use Rattle.acceptance.specs.Sources.{HasRunTo}
+use Rattle.source_runs.specs.acceptance.Sources.{HasRunTo}
 use Rattle.source_runs.specs.Runs.{IsPrintedUpTo}
 use Rattle.source_runs.proofs.RunLemmas.{comes_to}
 use Rattle.source_runs.specs.shared_machine.Histories.{events_of, reports_of}

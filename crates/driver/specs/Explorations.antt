@@ -3,9 +3,9 @@ use Rattle.std.specs.Prelude.{◌≡◌, ◌⊎◌, ◌++◌, ◌||◌, [], ◌�
 use Rattle.std.specs.List.{list_all, list_any}
 use Rattle.std.specs.Option.{unwrap_or}
 use Rattle.std.specs.Str.{bytes_eq}
-use Rattle.acceptance.specs.Sources.{IsNotRun}
-use Rattle.acceptance.specs.declared.failure.Failure.{Failure}
-use Rattle.acceptance.specs.declared.failure.Failure.TheVariants.{Memory}
+use Rattle.source_runs.specs.acceptance.Sources.{IsNotRun}
+use Rattle.source_runs.specs.acceptance.declared.failure.Failure.{Failure}
+use Rattle.source_runs.specs.acceptance.declared.failure.Failure.TheVariants.{Memory}
 use Rattle.cil_model.specs.declared.limits.Limits.{Limits}
 use Rattle.outcome_search.specs.Explorations.{HasAllOutcomes, IsFoundIn}
 use Rattle.outcome_search.specs.exploration.Paths.{outcome_found}

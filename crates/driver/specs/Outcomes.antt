@@ -19,8 +19,8 @@ use Rattle.source_runs.specs.reference_machine.States.{State}
 use Rattle.cil_model.specs.declared.reports.End.{End}
 use Rattle.cil_model.specs.declared.reports.Report.{Report}
 use Rattle.source_runs.specs.simulation.MachineContents.{Content}
-use Rattle.acceptance.specs.Failures.{is_refusal, message_of}
-use Rattle.acceptance.specs.Failures.{IsOfWriting, status_of_failure}
+use Rattle.source_runs.specs.acceptance.Failures.{is_refusal, message_of}
+use Rattle.source_runs.specs.acceptance.Failures.{IsOfWriting, status_of_failure}
 use Rattle.outputs.specs.Taken.{Fails, HasGrown, Taken, Takes}
 use Rattle.orders.specs.GivenLimits.{limits_for}
 use Rattle.orders.specs.Orders.{event_count, is_explained}
@@ -41,11 +41,11 @@ use Rattle.driver.specs.declared.recording.Record.{Record}
 use Rattle.source_runs.specs.shared_machine.Histories.{events_of, reports_of}
 use Rattle.source_runs.specs.shared_machine.declared.history.Entry.{Entry}
 use Rattle.source_runs.specs.shared_machine.Work.{IsDeadlocked, IsOwnOf}
-use Rattle.acceptance.specs.declared.failure.Failure.{Failure}
-use Rattle.acceptance.specs.declared.failure.Failure.TheVariants.{Memory, Device}
+use Rattle.source_runs.specs.acceptance.declared.failure.Failure.{Failure}
+use Rattle.source_runs.specs.acceptance.declared.failure.Failure.TheVariants.{Memory, Device}
 use Rattle.orders.specs.declared.order.Order.{Order}
 use Rattle.orders.specs.declared.order.Order.TheVariants.{Check, Run, Replay, Trace, Picture, Threads, Explore, Flip}
-use Rattle.acceptance.specs.Sources.{IsLetIn, IsMade, IsNotAccepted, IsNotRun, IsOpened}
+use Rattle.source_runs.specs.acceptance.Sources.{IsLetIn, IsMade, IsNotAccepted, IsNotRun, IsOpened}
 use Rattle.source_runs.specs.Runs.{IsNotRunBy, IsPrintedUpTo, ComesTo, ComesToBy, IsReady}
 use Rattle.source_runs.specs.shared_machine.Worlds.{AreDoneOf}
 use Rattle.schedule_text.specs.Items.{words}

@@ -4,7 +4,7 @@ use Rattle.cil_model.specs.declared.events.Event.{Event}
 use Rattle.schedule_text.specs.Writings.{IsWritten}
 use Rattle.schedule_text.specs.declared.errors.ScheduleError.TheVariants.{TooLong as IsTooLong}
 use Rattle.schedule_text.specs.declared.errors.TheConstants.{MOST_EVENTS}
-use Rattle.acceptance.specs.Failures.{failure_of_schedule, message_of, status_of_failure}
+use Rattle.source_runs.specs.acceptance.Failures.{failure_of_schedule, message_of, status_of_failure}
 use Rattle.driver.specs.declared.recording.Record.{Record}
 use Rattle.driver.specs.declared.recording.Record.TheVariants.{Unasked, Texts, TooLong, NoMemory}
 use Rattle.driver.specs.declared.recording.RecordFiles.{RecordFiles}

@@ -6,8 +6,8 @@ ghost use Rattle.outputs.specs.Taken.{Fails, HasGrown, Takes};
 ghost use Rattle.run_picture.specs.Pictures.{IsPicture, IsPictureInPart};
 ghost use Rattle.schedule_text.specs.Items.{events_of};
 ghost use Rattle.schedule_text.specs.declared.errors.TheConstants.{MOST_EVENTS as MOST_SCHEDULED};
-ghost use Rattle.acceptance.specs.Failures.{IsOfWriting, is_refusal};
-ghost use Rattle.acceptance.specs.declared.failure.Failure.TheVariants.{Device as DeviceFailure};
+ghost use Rattle.source_runs.specs.acceptance.Failures.{IsOfWriting, is_refusal};
+ghost use Rattle.source_runs.specs.acceptance.declared.failure.Failure.TheVariants.{Device as DeviceFailure};
 ghost use Rattle.driver.specs.Outcomes.{HasBroken, HasDrawn, HasNotTraced, HasTooMany, IsDrawnInPart};
 ghost use Rattle.driver.specs.Pictures.{too_many_text, window_of};
 

@@ -2,7 +2,7 @@
 
 ghost use Rattle.std.specs.Prelude.{◌≡◌, ◌++◌, IfErr, IfOk, List, ℕ, OnErr, OnOk};
 ghost use Rattle.outputs.specs.Taken.{Fails, Takes};
-ghost use Rattle.acceptance.specs.Failures.{message_of, status_of_failure};
+ghost use Rattle.source_runs.specs.acceptance.Failures.{message_of, status_of_failure};
 ghost use Rattle.driver.specs.Outcomes.{AreNotesShown, AreNotesShownInPart, IsExplanation, is_told_why};
 
 use cil_model::limits::Limits;

@@ -3,9 +3,9 @@
 ghost use Rattle.std.specs.Prelude.{◌≡◌, ◌⊎◌, IfErr, IfOk, OnErr, option_map, true};
 ghost use Rattle.std.specs.List.{list_all, list_any};
 ghost use Rattle.std.specs.Str.{bytes_eq};
-ghost use Rattle.acceptance.specs.Failures.{is_refusal};
-ghost use Rattle.acceptance.specs.Sources.{IsNotRun};
-ghost use Rattle.acceptance.specs.declared.failure.Failure.TheVariants.{Device as DeviceFailure};
+ghost use Rattle.source_runs.specs.acceptance.Failures.{is_refusal};
+ghost use Rattle.source_runs.specs.acceptance.Sources.{IsNotRun};
+ghost use Rattle.source_runs.specs.acceptance.declared.failure.Failure.TheVariants.{Device as DeviceFailure};
 ghost use Rattle.outputs.specs.Taken.{HasGrown};
 ghost use Rattle.driver.specs.Explorations.{AreSaved, HasExplored, IsExploredInPart, first_other, has_deadlock, is_other, status_of_exploration};
 ghost use Rattle.driver.specs.Outcomes.{HasNotExplored};
@@ -14,7 +14,6 @@ ghost use Rattle.driver.specs.Records.{texts_of};
 use crate::outcome_texts::text_of;
 use crate::recording::{RecordFiles, leave};
 use crate::showing::{are_all_done, is_some_live};
-use acceptance::Failure;
 use cil_model::limits::Limits;
 use cil_model::memory::NoMemory;
 use orders::{Extent, Goal};
@@ -22,6 +21,7 @@ use outcome_search::{Bounds, Exploration, Found, explore};
 use outcome_text::schedule_text;
 use outputs::Out;
 use run_files::RunFile;
+use source_runs::Failure;
 use std::alloc::Global;
 
 /// Explores all schedules of a source, prints its outcomes, leaves the files of the first fault, deadlock or other output if that is asked for,

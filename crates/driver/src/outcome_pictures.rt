@@ -4,7 +4,6 @@ ghost use Rattle.std.specs.Prelude.{◌≡◌, IfErr};
 ghost use Rattle.driver.specs.Explorations.{IsNotPictured};
 ghost use Rattle.event_trace.specs.Places.{ArePlacesOf};
 
-use acceptance::{Failure, machine_of};
 use cil_model::events::Event;
 use cil_model::instructions::Instruction;
 use cil_model::limits::{Limits, MOST_THREADS};
@@ -13,6 +12,7 @@ use cil_model::types::ClassName;
 use event_trace::{Machine, MethodPlaces, explain_threads, instruction_at};
 use instruction_text::{CharactersText, InstructionText, MethodNameText};
 use name_tables::bodies::lines_of;
+use source_runs::{Failure, machine_of};
 use std::alloc::Global;
 
 /// The width of the column of an event's number.

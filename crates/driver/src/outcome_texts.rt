@@ -4,11 +4,11 @@ ghost use Rattle.std.specs.Prelude.{◌≡◌, List, ℕ, IfErr, IfOk, OnOk, len
 ghost use Rattle.driver.specs.Explorations.{IsExplorationText, IsNotPictured, IsOutcomeText, IsPictureText, IsShownBelow, cause_of, coverage_of, summary_of};
 
 use crate::outcome_pictures::picture_of;
-use acceptance::Failure;
 use cil_model::limits::Limits;
 use orders::Extent;
 use outcome_search::{Exploration, Found, Goal, Stop};
 use outcome_text::{Cause, Coverage, Summary, add_outcome, add_schedule};
+use source_runs::Failure;
 use std::alloc::Global;
 
 /// The lines of all outcomes, each with a picture of its schedule if that is asked for, and the line that says how much was explored.

@@ -7,11 +7,10 @@ ghost use Rattle.source_runs.specs.shared_machine.Histories.{events_of, reports_
 ghost use Rattle.driver.specs.Outcomes.{AreEndsExplainedFor, IsEndText, IsRunShown, IsRunShownInPart};
 
 use crate::showing::show;
-use acceptance::machine_of;
 use cil_model::limits::Limits;
 use end_explanations::explain_ends;
 use outputs::{Device, Out};
-use source_runs::{History, Outcome};
+use source_runs::{History, Outcome, machine_of};
 use std::alloc::Global;
 
 /// Prints what a run of a source leaves, and returns its status. If `explain` is true, what explains how its threads are follows: first of the live threads, and

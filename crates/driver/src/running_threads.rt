@@ -1,8 +1,8 @@
 //! Has workers run a source.
 
 ghost use Rattle.std.specs.Prelude.{◌≡◌, ◌⊎◌, IfErr, IfOk, OnErr, true};
-ghost use Rattle.acceptance.specs.Failures.{is_refusal};
-ghost use Rattle.acceptance.specs.declared.failure.Failure.TheVariants.{Device as DeviceFailure};
+ghost use Rattle.source_runs.specs.acceptance.Failures.{is_refusal};
+ghost use Rattle.source_runs.specs.acceptance.declared.failure.Failure.TheVariants.{Device as DeviceFailure};
 ghost use Rattle.driver.specs.Outcomes.{HasBroken, HasNotRunThreads, HasRunThreads, IsRunByWorkersInPart};
 ghost use Rattle.driver.specs.Records.{texts_of};
 

@@ -1,7 +1,7 @@
 -- The callers of a thread after a step.
 use Rattle.std.proofs.Common.{◌≡◌, ◌+◌, ◌-◌, ◌<◌, ◌≤◌, ◌++◌, ◌∷◌, ◌∙◌, [], ℕ, zero, suc, List, add-one, ap, replicate, sym, take, refl}
 use Rattle.std.proofs.lemmas.Bool.{le-ltb, lt-ltb}
-use Rattle.interleaving_core.specs.declared.positions.Position.{Position}
+use Rattle.event_trace.specs.interleaving_core.declared.positions.Position.{Position}
 use Rattle.end_explanations.specs.Callers.{callers_after}
 
 -- after a call

@@ -5,7 +5,7 @@ use Rattle.std.specs.List.{zip}
 use Rattle.std.specs.Prelude.{replicate}
 use Rattle.cil_model.specs.declared.events.Event.{Event}
 use Rattle.cil_model.specs.declared.reports.Report.{Report}
-use Rattle.interleaving_core.specs.simulation.MachineContents.{Content}
+use Rattle.event_trace.specs.interleaving_core.simulation.MachineContents.{Content}
 use Rattle.shared_machine.specs.Histories.{events_of, plain, reports_of}
 use Rattle.shared_machine.specs.declared.history.Entry.{Entry}
 use Rattle.shared_machine.specs.declared.history.Run.{Run}

@@ -2,7 +2,7 @@
 use Rattle.std.specs.Prelude.{◌-◌, ◌++◌, ◌∷◌, [], ℕ, List, Option, Some, None, if◌then◌else◌, nat_lt, slice_get, slice_set, take, unwrap_or}
 use Rattle.cil_model.specs.declared.events.Event.{Event}
 use Rattle.cil_model.specs.declared.events.Event.TheVariants.{Step, Ack, Gc}
-use Rattle.interleaving_core.specs.declared.positions.Position.{Position}
+use Rattle.event_trace.specs.interleaving_core.declared.positions.Position.{Position}
 
 -- A step that adds a frame calls: where the thread was before it is a caller, the innermost, which is the last. Else there are as many callers as frames below the
 -- running one.

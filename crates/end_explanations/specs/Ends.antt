@@ -9,10 +9,10 @@ use Rattle.cil_model.specs.declared.reports.Report.{Report}
 use Rattle.cil_model.specs.declared.reports.Report.TheVariants.{Ended}
 use Rattle.cil_model.specs.declared.trees.Method.{Method}
 use Rattle.cil_model.specs.declared.types.ClassName.{ClassName}
-use Rattle.interleaving_core.specs.simulation.MachineContents.{Content}
-use Rattle.interleaving_core.specs.Positions.{position_at}
-use Rattle.interleaving_core.specs.Waits.{wait_at}
-use Rattle.interleaving_core.specs.declared.positions.Position.{Position}
+use Rattle.event_trace.specs.interleaving_core.simulation.MachineContents.{Content}
+use Rattle.event_trace.specs.interleaving_core.Positions.{position_at}
+use Rattle.event_trace.specs.interleaving_core.Waits.{wait_at}
+use Rattle.event_trace.specs.interleaving_core.declared.positions.Position.{Position}
 use Rattle.event_trace.specs.Columns.{found_at, instruction_column}
 use Rattle.event_trace.specs.Texts.{wait_text}
 use Rattle.end_explanations.specs.declared.ends.Cause.{Cause}

@@ -3,9 +3,9 @@ use Rattle.std.specs.Prelude.{◌≡◌, ◌++◌, ◌&&◌, [], ◌∷◌, ℕ,
 use Rattle.cil_model.specs.declared.events.Event.{Event}
 use Rattle.cil_model.specs.declared.limits.TheConstants.{MOST_THREADS}
 use Rattle.cil_model.specs.declared.reports.Report.{Report}
-use Rattle.interleaving_core.specs.simulation.MachineContents.{Content}
-use Rattle.interleaving_core.specs.simulation.Turns.{IsTurn}
-use Rattle.interleaving_core.specs.declared.positions.Position.{Position}
+use Rattle.event_trace.specs.interleaving_core.simulation.MachineContents.{Content}
+use Rattle.event_trace.specs.interleaving_core.simulation.Turns.{IsTurn}
+use Rattle.event_trace.specs.interleaving_core.declared.positions.Position.{Position}
 use Rattle.event_trace.specs.Columns.{position_for}
 use Rattle.event_trace.specs.Deadlocks.{IsDeadlockOf}
 use Rattle.event_trace.specs.Rounds.{is_in}

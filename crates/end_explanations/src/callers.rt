@@ -3,7 +3,7 @@
 ghost use Rattle.std.specs.Prelude.{◌≡◌, [], List, OnOk};
 ghost use Rattle.end_explanations.specs.Callers.{callers_after, followed};
 
-use interleaving_core::Position;
+use event_trace::Position;
 use std::alloc::{AllocError, Global};
 use std::marker::Model;
 
@@ -15,7 +15,7 @@ pub(crate) struct Callers {
 
 impl Model for Callers {
     ghost use Rattle.std.specs.Prelude.{List};
-    ghost use Rattle.interleaving_core.specs.declared.positions.Position.{Position};
+    ghost use Rattle.event_trace.specs.interleaving_core.declared.positions.Position.{Position};
 
     ghost Value = { List Position };
 

@@ -14,8 +14,7 @@ use crate::texts::{add_callers, add_end};
 use cil_model::events::Event;
 use cil_model::limits::MOST_THREADS;
 use cil_model::memory::NoMemory;
-use event_trace::{add_deadlock, deadlocked_threads, is_in};
-use interleaving_core::{Machine, Position};
+use event_trace::{Machine, Position, add_deadlock, deadlocked_threads, is_in};
 use std::alloc::{AllocError, Global};
 use std::marker::Model;
 

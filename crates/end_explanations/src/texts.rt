@@ -10,8 +10,9 @@ ghost use Rattle.end_explanations.specs.Ends.{caller_text, callers_text, end_tex
 use crate::ends::{Cause, EarlyEnd};
 use crate::names::Names;
 use cil_model::memory::NoMemory;
-use event_trace::{AwaitedText, InstructionColumn, InstructionPlace, awaited_by, instruction_at};
-use interleaving_core::{Machine, Position};
+use event_trace::{
+    AwaitedText, InstructionColumn, InstructionPlace, Machine, Position, awaited_by, instruction_at,
+};
 use std::fmt;
 
 /// How many callers are printed of a thread, the innermost ones.

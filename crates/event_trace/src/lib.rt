@@ -21,7 +21,7 @@ mod waiting;
 pub use columns::{EventText, ReportText, phase_name};
 pub use errors::TraceError;
 pub use explanations::{add_deadlock, add_thread_numbers, awaited_by, explain_threads};
-pub use interleaving_core::{Machine, Wait};
+pub use interleaving_core::{Machine, Position, Wait};
 pub use lines::InstructionColumn;
 pub use method_places::MethodPlaces;
 pub use owned_methods::{InstructionPlace, Owner};

@@ -2,11 +2,11 @@
 use Rattle.std.proofs.Common.{◌≡◌, Some, Result, Ok, Err, sym, ap, ◌∙◌, subst}
 use Rattle.std.specs.Prelude.{OnErr, OnOk}
 use Rattle.std.proofs.lemmas.Option.{same_Some}
-use Rattle.simulation.specs.cil_model.declared.limits.Limits.{Limits}
-use Rattle.simulation.specs.cil_model.declared.memory.NoMemory.{NoMemory}
-use Rattle.simulation.specs.cil_model.declared.trees.Tree.{Tree}
-use Rattle.simulation.specs.MachineContents.{Content}
-use Rattle.simulation.specs.Turns.{opening_content}
+use Rattle.interleaving_core.specs.simulation.cil_model.declared.limits.Limits.{Limits}
+use Rattle.interleaving_core.specs.simulation.cil_model.declared.memory.NoMemory.{NoMemory}
+use Rattle.interleaving_core.specs.simulation.cil_model.declared.trees.Tree.{Tree}
+use Rattle.interleaving_core.specs.simulation.MachineContents.{Content}
+use Rattle.interleaving_core.specs.simulation.Turns.{opening_content}
 use Rattle.exploration.specs.Begins.{Begins}
 use Rattle.exploration.proofs.Running.{opened_of}
 

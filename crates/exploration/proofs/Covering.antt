@@ -1,12 +1,12 @@
 -- What is behind something that is behind a third.
 use Rattle.std.proofs.Common.{◌≡◌, List, [], ◌∷◌, refl, ap, ◌∙◌, subst, map}
-use Rattle.simulation.specs.cil_model.declared.trees.Tree.{Tree}
-use Rattle.simulation.specs.threads_monitors.Frames.{Frames}
-use Rattle.simulation.specs.threads_monitors.declared.threads.Standing.{Standing}
-use Rattle.simulation.specs.threads_monitors.declared.threads.Standing.TheVariants.{Live, Ended}
-use Rattle.simulation.specs.threads_monitors.declared.threads.Thread.{Thread}
-use Rattle.simulation.specs.Agreement.{Agree}
-use Rattle.simulation.specs.MachineContents.{Content}
+use Rattle.interleaving_core.specs.simulation.cil_model.declared.trees.Tree.{Tree}
+use Rattle.interleaving_core.specs.simulation.threads_monitors.Frames.{Frames}
+use Rattle.interleaving_core.specs.simulation.threads_monitors.declared.threads.Standing.{Standing}
+use Rattle.interleaving_core.specs.simulation.threads_monitors.declared.threads.Standing.TheVariants.{Live, Ended}
+use Rattle.interleaving_core.specs.simulation.threads_monitors.declared.threads.Thread.{Thread}
+use Rattle.interleaving_core.specs.simulation.Agreement.{Agree}
+use Rattle.interleaving_core.specs.simulation.MachineContents.{Content}
 use Rattle.interleaving_core.specs.Alike.{AreAlike, standing_of}
 use Rattle.exploration.specs.Behind.{IsBehind, IsAhead, here, onward, IsStandingBehind, IsThreadBehind}
 use Rattle.exploration.specs.Searches.{IsCovered}

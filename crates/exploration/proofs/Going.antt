@@ -1,18 +1,18 @@
 -- A machine whose thread did local instructions on a lent frame is further.
 use Rattle.std.proofs.Common.{◌≡◌, ◌<◌, ◌+◌, ◌-◌, ℕ, zero, suc, List, [], ◌∷◌, Some, slice_get, slice_set, replicate, refl, sym, ap, ◌∙◌, subst}
 use Rattle.std.proofs.lemmas.Option.{same_Some}
-use Rattle.simulation.specs.cil_model.declared.events.Event.TheVariants.{Step}
-use Rattle.simulation.specs.cil_model.declared.reports.Report.TheVariants.{Ran}
-use Rattle.simulation.specs.cil_model.declared.trees.Tree.{Tree}
-use Rattle.simulation.specs.interpreter.Local.{AreLocalSteps, frames_over}
-use Rattle.simulation.specs.threads_monitors.Frames.{Frame}
-use Rattle.simulation.specs.threads_monitors.declared.threads.Thread.{Thread}
-use Rattle.simulation.specs.Agreement.{Agree}
-use Rattle.simulation.specs.Lending.{RunsFrame, with_live}
-use Rattle.simulation.specs.MachineContents.{Content, frame_room}
-use Rattle.simulation.specs.Runs.{AreTurns}
-use Rattle.simulation.specs.Turns.{live_thread}
-use Rattle.simulation.proofs.Threads.LocalInstructions.{local_turns}
+use Rattle.interleaving_core.specs.simulation.cil_model.declared.events.Event.TheVariants.{Step}
+use Rattle.interleaving_core.specs.simulation.cil_model.declared.reports.Report.TheVariants.{Ran}
+use Rattle.interleaving_core.specs.simulation.cil_model.declared.trees.Tree.{Tree}
+use Rattle.interleaving_core.specs.simulation.interpreter.Local.{AreLocalSteps, frames_over}
+use Rattle.interleaving_core.specs.simulation.threads_monitors.Frames.{Frame}
+use Rattle.interleaving_core.specs.simulation.threads_monitors.declared.threads.Thread.{Thread}
+use Rattle.interleaving_core.specs.simulation.Agreement.{Agree}
+use Rattle.interleaving_core.specs.simulation.Lending.{RunsFrame, with_live}
+use Rattle.interleaving_core.specs.simulation.MachineContents.{Content, frame_room}
+use Rattle.interleaving_core.specs.simulation.Runs.{AreTurns}
+use Rattle.interleaving_core.specs.simulation.Turns.{live_thread}
+use Rattle.interleaving_core.proofs.simulation.Threads.LocalInstructions.{local_turns}
 use Rattle.interleaving_core.specs.Loans.{Begins, IsAtOrigin, IsLent, Lent, RanLocally}
 use Rattle.exploration.specs.Behind.{IsBehind, IsThreadBehind}
 use Rattle.exploration.proofs.Covering.{threads_itself}

@@ -1,4 +1,5 @@
-pub use Rattle.simulation.proofs as simulation
+pub use Rattle.interleaving_core.proofs as interleaving_core
+pub use Rattle.interleaving_core.proofs.simulation as simulation
 pub mod Settling
 pub mod Stepping
 pub mod Covering

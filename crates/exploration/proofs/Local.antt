@@ -1,8 +1,8 @@
 -- Local instructions of the top frame lead to frames that are further.
 use Rattle.std.proofs.Common.{ℕ, zero, suc, List, sym, subst}
-use Rattle.simulation.specs.cil_model.declared.trees.Tree.{Tree}
-use Rattle.simulation.specs.interpreter.Local.{AreLocalSteps, IsLocalStep, frames_over}
-use Rattle.simulation.specs.threads_monitors.Frames.{Frame, Frames}
+use Rattle.interleaving_core.specs.simulation.cil_model.declared.trees.Tree.{Tree}
+use Rattle.interleaving_core.specs.simulation.interpreter.Local.{AreLocalSteps, IsLocalStep, frames_over}
+use Rattle.interleaving_core.specs.simulation.threads_monitors.Frames.{Frame, Frames}
 use Rattle.exploration.specs.Behind.{IsAhead, here, onward, IsLocalMove}
 
 module _ (tree : Tree) (room : ℕ) (below : List Frame) (depth : ℕ) where

@@ -2,22 +2,22 @@
 use Rattle.std.proofs.Common.{Contains, ◌≡◌, ◌≢◌, ◌⊎◌, ◌<◌, ◌≤◌, ℕ, zero, suc, true, false, List, [], ◌∷◌, Some, length, map, option_map, slice_get, Result, Ok, Err, refl, inl, inr, sym, ap, ◌∙◌, subst, arith}
 use Rattle.std.specs.Prelude.{IfOk}
 use Rattle.std.proofs.lemmas.Option.{get_or_from_slice_get, slice_get-map, slice_get_within, same_Some}
-use Rattle.simulation.specs.cil_model.declared.events.Event.{Event}
-use Rattle.simulation.specs.cil_model.declared.events.Event.TheVariants.{Step}
-use Rattle.simulation.specs.cil_model.declared.instructions.Instruction.{Instruction}
-use Rattle.simulation.specs.cil_model.declared.reports.Report.{Report}
-use Rattle.simulation.specs.cil_model.declared.reports.Report.TheVariants.{Blocked}
-use Rattle.simulation.specs.cil_model.declared.trees.Line.{Line}
-use Rattle.simulation.specs.cil_model.declared.trees.Tree.{Tree}
-use Rattle.simulation.specs.resolved_code.Resolved.{IsOperation}
-use Rattle.simulation.specs.resolved_code.declared.operations.Operation.{Operation}
-use Rattle.simulation.specs.MachineContents.{Content}
-use Rattle.simulation.specs.Runs.{AreTurns}
-use Rattle.simulation.specs.Turns.{IsTurn}
-use Rattle.simulation.specs.threads_monitors.declared.threads.Thread.{Thread}
-use Rattle.simulation.proofs.Runs.UniqueTurns.{one_turn}
-use Rattle.simulation.proofs.Threads.StepEffects.{same_program}
-use Rattle.simulation.specs.threads_monitors.Threads.{is_live_at}
+use Rattle.interleaving_core.specs.simulation.cil_model.declared.events.Event.{Event}
+use Rattle.interleaving_core.specs.simulation.cil_model.declared.events.Event.TheVariants.{Step}
+use Rattle.interleaving_core.specs.simulation.cil_model.declared.instructions.Instruction.{Instruction}
+use Rattle.interleaving_core.specs.simulation.cil_model.declared.reports.Report.{Report}
+use Rattle.interleaving_core.specs.simulation.cil_model.declared.reports.Report.TheVariants.{Blocked}
+use Rattle.interleaving_core.specs.simulation.cil_model.declared.trees.Line.{Line}
+use Rattle.interleaving_core.specs.simulation.cil_model.declared.trees.Tree.{Tree}
+use Rattle.interleaving_core.specs.simulation.resolved_code.Resolved.{IsOperation}
+use Rattle.interleaving_core.specs.simulation.resolved_code.declared.operations.Operation.{Operation}
+use Rattle.interleaving_core.specs.simulation.MachineContents.{Content}
+use Rattle.interleaving_core.specs.simulation.Runs.{AreTurns}
+use Rattle.interleaving_core.specs.simulation.Turns.{IsTurn}
+use Rattle.interleaving_core.specs.simulation.threads_monitors.declared.threads.Thread.{Thread}
+use Rattle.interleaving_core.proofs.simulation.Runs.UniqueTurns.{one_turn}
+use Rattle.interleaving_core.proofs.simulation.Threads.StepEffects.{same_program}
+use Rattle.interleaving_core.specs.simulation.threads_monitors.Threads.{is_live_at}
 use Rattle.exploration.specs.Paths.{IsNotTerminalAt, IsReal, IsTerminalAt, CanStepAt, CannotStepAt, AreStepsChecked, IsStepChecked, LeadsTo, ShowsOneOf, events_of, outcome_found}
 use Rattle.exploration.specs.declared.findings.Found.{Found}
 use Rattle.exploration.specs.Searches.{IsClosed, IsLedTo, LeadsInto}

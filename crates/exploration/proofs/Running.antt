@@ -2,36 +2,36 @@
 use Rattle.std.proofs.Common.{◌≡◌, ◌⊎◌, ◌≢◌, IsTrue, ℕ, Bool, true, false, List, [], ◌∷◌, Option, Some, None, option_map, option_and_then, length, slice_get, refl, inl, inr, sym, ap, ◌∙◌, subst, arith}
 use Rattle.std.specs.List.{zip}
 use Rattle.std.proofs.lemmas.Option.{same_Some}
-use Rattle.simulation.specs.cil_model.Bodies.{entry_points}
-use Rattle.simulation.specs.cil_model.Ranges.{are_in_range}
-use Rattle.simulation.specs.cil_model.Typings.{IsAccepted}
-use Rattle.simulation.specs.cil_model.declared.trees.Method.{Method}
-use Rattle.simulation.specs.cil_model.declared.types.ClassName.{ClassName}
-use Rattle.simulation.specs.loaded_program.MethodNumbers.{number_of}
-use Rattle.simulation.specs.Rooms.{ExceedsRoom}
-use Rattle.simulation.specs.Runs.{AreSteps, AreTurns, IsRunOf, RefusesBeyondRoom}
-use Rattle.simulation.proofs.cil_model.Lists.{none_is_some}
-use Rattle.simulation.specs.cil_model.declared.events.Event.{Event}
-use Rattle.simulation.specs.cil_model.declared.events.Event.TheVariants.{Step, Ack, Gc}
-use Rattle.simulation.specs.cil_model.declared.limits.Limits.{Limits}
-use Rattle.simulation.specs.cil_model.declared.reports.End.TheVariants.{Budget}
-use Rattle.simulation.specs.cil_model.declared.reports.Report.{Report}
-use Rattle.simulation.specs.cil_model.declared.reports.Report.TheVariants.{Absent, Ran, Ended as HasEnded}
-use Rattle.simulation.specs.cil_model.declared.trees.Tree.{Tree}
-use Rattle.simulation.specs.reference_machine.Rooms.{ExceedsRoom as ExceedsOneSpace, words_of_all}
-use Rattle.simulation.specs.reference_machine.Runs.{RunsTo, is_refusal, opening, run, step_reports, thread_part}
-use Rattle.simulation.specs.reference_machine.States.{State}
-use Rattle.simulation.specs.reference_machine.Steps.{Answers, step}
-use Rattle.simulation.specs.threads_monitors.Threads.{is_live_at}
-use Rattle.simulation.specs.MachineContents.{Content}
-use Rattle.simulation.specs.StandsFor.{Represents}
-use Rattle.simulation.specs.Turns.{IsTurn, content_at, opening_content}
-use Rattle.simulation.proofs.reference_machine.Runs.JoinedRuns.{first_of, same_state}
-use Rattle.simulation.proofs.Threads.StepEffects.{same_program}
-use Rattle.simulation.proofs.Runs.UniqueTurns.{one_turn}
-use Rattle.simulation.proofs.OwedWords.BornWords.{AreWithin, IsWithinBirths, acknowledgement_granted, acknowledgement_within, collection_granted, collection_within, exceeds_one_space, opened_within, step_within}
-use Rattle.simulation.proofs.Runs.RunsWithoutCollection.{HasWhole, beyond_own, opened_whole, whole_stepped}
-use Rattle.simulation.proofs.Runs.EventCorrespondence.{acknowledgement_keeps, collection_keeps, each_alike, step_is_refused}
+use Rattle.interleaving_core.specs.simulation.cil_model.Bodies.{entry_points}
+use Rattle.interleaving_core.specs.simulation.cil_model.Ranges.{are_in_range}
+use Rattle.interleaving_core.specs.simulation.cil_model.Typings.{IsAccepted}
+use Rattle.interleaving_core.specs.simulation.cil_model.declared.trees.Method.{Method}
+use Rattle.interleaving_core.specs.simulation.cil_model.declared.types.ClassName.{ClassName}
+use Rattle.interleaving_core.specs.simulation.loaded_program.MethodNumbers.{number_of}
+use Rattle.interleaving_core.specs.simulation.Rooms.{ExceedsRoom}
+use Rattle.interleaving_core.specs.simulation.Runs.{AreSteps, AreTurns, IsRunOf, RefusesBeyondRoom}
+use Rattle.interleaving_core.proofs.simulation.cil_model.Lists.{none_is_some}
+use Rattle.interleaving_core.specs.simulation.cil_model.declared.events.Event.{Event}
+use Rattle.interleaving_core.specs.simulation.cil_model.declared.events.Event.TheVariants.{Step, Ack, Gc}
+use Rattle.interleaving_core.specs.simulation.cil_model.declared.limits.Limits.{Limits}
+use Rattle.interleaving_core.specs.simulation.cil_model.declared.reports.End.TheVariants.{Budget}
+use Rattle.interleaving_core.specs.simulation.cil_model.declared.reports.Report.{Report}
+use Rattle.interleaving_core.specs.simulation.cil_model.declared.reports.Report.TheVariants.{Absent, Ran, Ended as HasEnded}
+use Rattle.interleaving_core.specs.simulation.cil_model.declared.trees.Tree.{Tree}
+use Rattle.interleaving_core.specs.simulation.reference_machine.Rooms.{ExceedsRoom as ExceedsOneSpace, words_of_all}
+use Rattle.interleaving_core.specs.simulation.reference_machine.Runs.{RunsTo, is_refusal, opening, run, step_reports, thread_part}
+use Rattle.interleaving_core.specs.simulation.reference_machine.States.{State}
+use Rattle.interleaving_core.specs.simulation.reference_machine.Steps.{Answers, step}
+use Rattle.interleaving_core.specs.simulation.threads_monitors.Threads.{is_live_at}
+use Rattle.interleaving_core.specs.simulation.MachineContents.{Content}
+use Rattle.interleaving_core.specs.simulation.StandsFor.{Represents}
+use Rattle.interleaving_core.specs.simulation.Turns.{IsTurn, content_at, opening_content}
+use Rattle.interleaving_core.proofs.simulation.reference_machine.Runs.JoinedRuns.{first_of, same_state}
+use Rattle.interleaving_core.proofs.simulation.Threads.StepEffects.{same_program}
+use Rattle.interleaving_core.proofs.simulation.Runs.UniqueTurns.{one_turn}
+use Rattle.interleaving_core.proofs.simulation.OwedWords.BornWords.{AreWithin, IsWithinBirths, acknowledgement_granted, acknowledgement_within, collection_granted, collection_within, exceeds_one_space, opened_within, step_within}
+use Rattle.interleaving_core.proofs.simulation.Runs.RunsWithoutCollection.{HasWhole, beyond_own, opened_whole, whole_stepped}
+use Rattle.interleaving_core.proofs.simulation.Runs.EventCorrespondence.{acknowledgement_keeps, collection_keeps, each_alike, step_is_refused}
 use Rattle.exploration.specs.Behind.{IsBehind}
 use Rattle.exploration.specs.Searches.{AreOrdinary, IsClosed, IsCovered, IsSeen, KeepBudgets, LeadsInto}
 use Rattle.exploration.proofs.Covering.{covered_more, one_covers}

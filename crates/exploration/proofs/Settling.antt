@@ -2,30 +2,30 @@
 use Rattle.std.proofs.Common.{◌≡◌, ◌⊎◌, ◌≢◌, ◌+◌, ◌-◌, ◌==◌, nat_le, ℕ, zero, suc, Bool, true, false, if◌then◌else◌, List, [], ◌∷◌, ◌++◌, length, Option, Some, None, option_map, is_some, slice_set, refl, inl, inr, sym, ap, subst}
 use Rattle.std.specs.Option.{option_map_or}
 use Rattle.std.proofs.lemmas.Option.{same_Some}
-use Rattle.simulation.specs.cil_model.declared.limits.TheConstants.{MOST_THREADS}
-use Rattle.simulation.specs.cil_model.declared.reports.End.TheVariants.{Budget}
-use Rattle.simulation.specs.cil_model.declared.reports.Fault.{Fault}
-use Rattle.simulation.specs.cil_model.declared.reports.Fault.TheVariants.{NullReference, ThreadState, TooManyThreads}
-use Rattle.simulation.specs.cil_model.declared.reports.Report.{Report}
-use Rattle.simulation.specs.cil_model.declared.reports.Report.TheVariants.{Ended as HasEnded}
-use Rattle.simulation.specs.cil_model.declared.trees.Tree.{Tree}
-use Rattle.simulation.specs.object_memory.declared.addresses.Addr.{Addr}
-use Rattle.simulation.specs.object_memory.Objects.{Objects}
-use Rattle.simulation.specs.instructions.barriers.Barriers.{stored_int}
-use Rattle.simulation.specs.threads_monitors.Frames.{Frames}
-use Rattle.simulation.specs.threads_monitors.Threads.{is_live, is_live_at, join_effect, settled, standing_after, thread_on, wait_for}
-use Rattle.simulation.specs.threads_monitors.declared.effects.Effect.{Effect}
-use Rattle.simulation.specs.threads_monitors.declared.effects.Effect.TheVariants.{GoesOn, Returns, Blocks, Raises}
-use Rattle.simulation.specs.threads_monitors.declared.threads.Standing.{Standing}
-use Rattle.simulation.specs.threads_monitors.declared.threads.Standing.TheVariants.{Live, Ended}
-use Rattle.simulation.specs.threads_monitors.declared.threads.Thread.{Thread}
-use Rattle.simulation.specs.interpreter.declared.outcomes.Outcome.{Outcome}
-use Rattle.simulation.specs.interpreter.declared.outcomes.Outcome.TheVariants.{Comes, Starts, Joins}
-use Rattle.simulation.specs.Agreement.{Agree}
-use Rattle.simulation.specs.MachineContents.{Content, mutator_of}
-use Rattle.simulation.specs.Turns.{after_request, answered, counted, finish, live_thread, seated, seats_after, thread_for}
-use Rattle.simulation.proofs.ListLaws.AgreeingLists.{agree_append, agree_length, agree_set}
-use Rattle.simulation.proofs.cil_model.Lists.{none_is_some}
+use Rattle.interleaving_core.specs.simulation.cil_model.declared.limits.TheConstants.{MOST_THREADS}
+use Rattle.interleaving_core.specs.simulation.cil_model.declared.reports.End.TheVariants.{Budget}
+use Rattle.interleaving_core.specs.simulation.cil_model.declared.reports.Fault.{Fault}
+use Rattle.interleaving_core.specs.simulation.cil_model.declared.reports.Fault.TheVariants.{NullReference, ThreadState, TooManyThreads}
+use Rattle.interleaving_core.specs.simulation.cil_model.declared.reports.Report.{Report}
+use Rattle.interleaving_core.specs.simulation.cil_model.declared.reports.Report.TheVariants.{Ended as HasEnded}
+use Rattle.interleaving_core.specs.simulation.cil_model.declared.trees.Tree.{Tree}
+use Rattle.interleaving_core.specs.simulation.object_memory.declared.addresses.Addr.{Addr}
+use Rattle.interleaving_core.specs.simulation.object_memory.Objects.{Objects}
+use Rattle.interleaving_core.specs.simulation.instructions.barriers.Barriers.{stored_int}
+use Rattle.interleaving_core.specs.simulation.threads_monitors.Frames.{Frames}
+use Rattle.interleaving_core.specs.simulation.threads_monitors.Threads.{is_live, is_live_at, join_effect, settled, standing_after, thread_on, wait_for}
+use Rattle.interleaving_core.specs.simulation.threads_monitors.declared.effects.Effect.{Effect}
+use Rattle.interleaving_core.specs.simulation.threads_monitors.declared.effects.Effect.TheVariants.{GoesOn, Returns, Blocks, Raises}
+use Rattle.interleaving_core.specs.simulation.threads_monitors.declared.threads.Standing.{Standing}
+use Rattle.interleaving_core.specs.simulation.threads_monitors.declared.threads.Standing.TheVariants.{Live, Ended}
+use Rattle.interleaving_core.specs.simulation.threads_monitors.declared.threads.Thread.{Thread}
+use Rattle.interleaving_core.specs.simulation.interpreter.declared.outcomes.Outcome.{Outcome}
+use Rattle.interleaving_core.specs.simulation.interpreter.declared.outcomes.Outcome.TheVariants.{Comes, Starts, Joins}
+use Rattle.interleaving_core.specs.simulation.Agreement.{Agree}
+use Rattle.interleaving_core.specs.simulation.MachineContents.{Content, mutator_of}
+use Rattle.interleaving_core.specs.simulation.Turns.{after_request, answered, counted, finish, live_thread, seated, seats_after, thread_for}
+use Rattle.interleaving_core.proofs.simulation.ListLaws.AgreeingLists.{agree_append, agree_length, agree_set}
+use Rattle.interleaving_core.proofs.simulation.cil_model.Lists.{none_is_some}
 use Rattle.exploration.specs.Behind.{IsBehind, here, IsStandingBehind, IsThreadBehind}
 
 -- ---- who is behind itself

@@ -1,24 +1,24 @@
 -- What a covered state shows.
 use Rattle.std.proofs.Common.{Contains, ◌≡◌, ◌⊎◌, ℕ, Bool, true, false, List, [], ◌∷◌, map, Some, refl, inl, inr, sym, ap, ◌∙◌, subst}
-use Rattle.simulation.specs.cil_model.declared.events.Event.TheVariants.{Step}
-use Rattle.simulation.specs.cil_model.declared.reports.End.TheVariants.{Budget}
-use Rattle.simulation.specs.cil_model.declared.reports.Report.{Report}
-use Rattle.simulation.specs.cil_model.declared.reports.Report.TheVariants.{Blocked, Ran, Ended as HasEnded}
-use Rattle.simulation.specs.cil_model.declared.limits.Limits.{Limits}
-use Rattle.simulation.specs.cil_model.declared.trees.Tree.{Tree}
-use Rattle.simulation.specs.reference_machine.Runs.{is_refusal}
-use Rattle.simulation.specs.reference_machine.States.{State, is_live as is_live_state}
-use Rattle.simulation.specs.reference_machine.Steps.{Answers, step}
-use Rattle.simulation.specs.threads_monitors.Threads.{end_of, is_live_at}
-use Rattle.simulation.specs.threads_monitors.declared.threads.Standing.{Standing}
-use Rattle.simulation.specs.threads_monitors.declared.threads.Standing.TheVariants.{Live, Ended}
-use Rattle.simulation.specs.threads_monitors.declared.threads.Thread.{Thread}
-use Rattle.simulation.specs.Agreement.{Agree}
-use Rattle.simulation.specs.MachineContents.{Content}
-use Rattle.simulation.specs.Turns.{IsTurn}
-use Rattle.simulation.proofs.Threads.Joins.{lives_alike}
-use Rattle.simulation.proofs.Representation.VisibleState.{ends_stand, printed_stands}
-use Rattle.simulation.proofs.Runs.EventCorrespondence.{step_is_followed}
+use Rattle.interleaving_core.specs.simulation.cil_model.declared.events.Event.TheVariants.{Step}
+use Rattle.interleaving_core.specs.simulation.cil_model.declared.reports.End.TheVariants.{Budget}
+use Rattle.interleaving_core.specs.simulation.cil_model.declared.reports.Report.{Report}
+use Rattle.interleaving_core.specs.simulation.cil_model.declared.reports.Report.TheVariants.{Blocked, Ran, Ended as HasEnded}
+use Rattle.interleaving_core.specs.simulation.cil_model.declared.limits.Limits.{Limits}
+use Rattle.interleaving_core.specs.simulation.cil_model.declared.trees.Tree.{Tree}
+use Rattle.interleaving_core.specs.simulation.reference_machine.Runs.{is_refusal}
+use Rattle.interleaving_core.specs.simulation.reference_machine.States.{State, is_live as is_live_state}
+use Rattle.interleaving_core.specs.simulation.reference_machine.Steps.{Answers, step}
+use Rattle.interleaving_core.specs.simulation.threads_monitors.Threads.{end_of, is_live_at}
+use Rattle.interleaving_core.specs.simulation.threads_monitors.declared.threads.Standing.{Standing}
+use Rattle.interleaving_core.specs.simulation.threads_monitors.declared.threads.Standing.TheVariants.{Live, Ended}
+use Rattle.interleaving_core.specs.simulation.threads_monitors.declared.threads.Thread.{Thread}
+use Rattle.interleaving_core.specs.simulation.Agreement.{Agree}
+use Rattle.interleaving_core.specs.simulation.MachineContents.{Content}
+use Rattle.interleaving_core.specs.simulation.Turns.{IsTurn}
+use Rattle.interleaving_core.proofs.simulation.Threads.Joins.{lives_alike}
+use Rattle.interleaving_core.proofs.simulation.Representation.VisibleState.{ends_stand, printed_stands}
+use Rattle.interleaving_core.proofs.simulation.Runs.EventCorrespondence.{step_is_followed}
 use Rattle.exploration.specs.Behind.{IsBehind, IsStandingBehind, IsThreadBehind}
 use Rattle.exploration.specs.Searches.{IsClosed, IsSeen, LeadsInto}
 use Rattle.exploration.specs.Shown.{CannotStep, IsTerminal, IsOver, Outcome, ShowOnly, outcome_of, outcome_shown}

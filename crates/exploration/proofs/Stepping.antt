@@ -3,22 +3,22 @@ use Rattle.std.proofs.Common.{◌≡◌, ◌⊎◌, ◌≢◌, ◌-◌, ◌==◌
 use Rattle.std.specs.Option.{option_map_or}
 use Rattle.std.proofs.lemmas.List.{set-set}
 use Rattle.std.proofs.lemmas.Option.{same_Some}
-use Rattle.simulation.specs.cil_model.declared.events.Event.TheVariants.{Step}
-use Rattle.simulation.specs.cil_model.declared.reports.End.TheVariants.{Budget}
-use Rattle.simulation.specs.cil_model.declared.reports.Report.{Report}
-use Rattle.simulation.specs.cil_model.declared.reports.Report.TheVariants.{Absent, Ran, Ended as HasEnded}
-use Rattle.simulation.specs.threads_monitors.Frames.{Frames}
-use Rattle.simulation.specs.threads_monitors.Threads.{is_live, is_live_at, standing_after}
-use Rattle.simulation.specs.threads_monitors.declared.effects.Effect.TheVariants.{GoesOn}
-use Rattle.simulation.specs.threads_monitors.declared.threads.Standing.{Standing}
-use Rattle.simulation.specs.threads_monitors.declared.threads.Standing.TheVariants.{Live, Ended}
-use Rattle.simulation.specs.threads_monitors.declared.threads.Thread.{Thread}
-use Rattle.simulation.specs.interpreter.declared.outcomes.Outcome.TheVariants.{Comes}
-use Rattle.simulation.specs.interpreter.Instructions.{Answer, IsDone, answer_of}
-use Rattle.simulation.specs.Agreement.{Agree}
-use Rattle.simulation.specs.MachineContents.{Content, mutator_of}
-use Rattle.simulation.specs.Turns.{IsStandingTurn, IsThreadTurn, IsTurn, counted, left_by, live_thread, seats_after}
-use Rattle.simulation.proofs.ListLaws.AgreeingLists.{agree_at, agree_set}
+use Rattle.interleaving_core.specs.simulation.cil_model.declared.events.Event.TheVariants.{Step}
+use Rattle.interleaving_core.specs.simulation.cil_model.declared.reports.End.TheVariants.{Budget}
+use Rattle.interleaving_core.specs.simulation.cil_model.declared.reports.Report.{Report}
+use Rattle.interleaving_core.specs.simulation.cil_model.declared.reports.Report.TheVariants.{Absent, Ran, Ended as HasEnded}
+use Rattle.interleaving_core.specs.simulation.threads_monitors.Frames.{Frames}
+use Rattle.interleaving_core.specs.simulation.threads_monitors.Threads.{is_live, is_live_at, standing_after}
+use Rattle.interleaving_core.specs.simulation.threads_monitors.declared.effects.Effect.TheVariants.{GoesOn}
+use Rattle.interleaving_core.specs.simulation.threads_monitors.declared.threads.Standing.{Standing}
+use Rattle.interleaving_core.specs.simulation.threads_monitors.declared.threads.Standing.TheVariants.{Live, Ended}
+use Rattle.interleaving_core.specs.simulation.threads_monitors.declared.threads.Thread.{Thread}
+use Rattle.interleaving_core.specs.simulation.interpreter.declared.outcomes.Outcome.TheVariants.{Comes}
+use Rattle.interleaving_core.specs.simulation.interpreter.Instructions.{Answer, IsDone, answer_of}
+use Rattle.interleaving_core.specs.simulation.Agreement.{Agree}
+use Rattle.interleaving_core.specs.simulation.MachineContents.{Content, mutator_of}
+use Rattle.interleaving_core.specs.simulation.Turns.{IsStandingTurn, IsThreadTurn, IsTurn, counted, left_by, live_thread, seats_after}
+use Rattle.interleaving_core.proofs.simulation.ListLaws.AgreeingLists.{agree_at, agree_set}
 use Rattle.exploration.specs.Behind.{IsBehind, IsAhead, here, onward, IsLocalMove, IsStandingBehind, IsThreadBehind}
 use Rattle.exploration.proofs.Settling.{TurnsAlike, finish_alike}
 

@@ -1,10 +1,10 @@
 -- Machines of one program within the same limits (this profile).
 use Rattle.std.specs.Prelude.{◌≡◌, [], None, Some}
-use Rattle.simulation.specs.object_memory.Objects.{no_objects}
-use Rattle.simulation.specs.phase_handshake.Handshakes.{first_handshakes}
-use Rattle.simulation.specs.collector.Phases.{no_progress}
-use Rattle.simulation.specs.MachineContents.{Content}
-use Rattle.simulation.specs.Turns.{opening_content}
+use Rattle.interleaving_core.specs.simulation.object_memory.Objects.{no_objects}
+use Rattle.interleaving_core.specs.simulation.phase_handshake.Handshakes.{first_handshakes}
+use Rattle.interleaving_core.specs.simulation.collector.Phases.{no_progress}
+use Rattle.interleaving_core.specs.simulation.MachineContents.{Content}
+use Rattle.interleaving_core.specs.simulation.Turns.{opening_content}
 
 -- the second content is the initial content of a machine with the program and the limits of the first
 abbrev pub Begins : Content → Content → Type 0

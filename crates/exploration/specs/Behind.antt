@@ -1,18 +1,18 @@
 -- Two machines of which the second is ahead by local instructions, which no other thread observes (this profile).
 use Rattle.std.specs.Prelude.{◌≡◌, ℕ, List}
-use Rattle.simulation.specs.cil_model.declared.trees.Tree.{Tree}
-use Rattle.simulation.specs.object_memory.Objects.{Objects}
-use Rattle.simulation.specs.object_memory.declared.values.Value.{Value}
-use Rattle.simulation.specs.threads_monitors.Frames.{Frames}
-use Rattle.simulation.specs.threads_monitors.declared.effects.Effect.TheVariants.{GoesOn}
-use Rattle.simulation.specs.threads_monitors.declared.mutators.Mutator.{Mutator}
-use Rattle.simulation.specs.threads_monitors.declared.threads.Standing.{Standing}
-use Rattle.simulation.specs.threads_monitors.declared.threads.Standing.TheVariants.{Live, Ended}
-use Rattle.simulation.specs.threads_monitors.declared.threads.Thread.{Thread}
-use Rattle.simulation.specs.interpreter.declared.outcomes.Outcome.TheVariants.{Comes}
-use Rattle.simulation.specs.interpreter.Instructions.{IsDone, answer_of}
-use Rattle.simulation.specs.Agreement.{Agree}
-use Rattle.simulation.specs.MachineContents.{Content}
+use Rattle.interleaving_core.specs.simulation.cil_model.declared.trees.Tree.{Tree}
+use Rattle.interleaving_core.specs.simulation.object_memory.Objects.{Objects}
+use Rattle.interleaving_core.specs.simulation.object_memory.declared.values.Value.{Value}
+use Rattle.interleaving_core.specs.simulation.threads_monitors.Frames.{Frames}
+use Rattle.interleaving_core.specs.simulation.threads_monitors.declared.effects.Effect.TheVariants.{GoesOn}
+use Rattle.interleaving_core.specs.simulation.threads_monitors.declared.mutators.Mutator.{Mutator}
+use Rattle.interleaving_core.specs.simulation.threads_monitors.declared.threads.Standing.{Standing}
+use Rattle.interleaving_core.specs.simulation.threads_monitors.declared.threads.Standing.TheVariants.{Live, Ended}
+use Rattle.interleaving_core.specs.simulation.threads_monitors.declared.threads.Thread.{Thread}
+use Rattle.interleaving_core.specs.simulation.interpreter.declared.outcomes.Outcome.TheVariants.{Comes}
+use Rattle.interleaving_core.specs.simulation.interpreter.Instructions.{IsDone, answer_of}
+use Rattle.interleaving_core.specs.simulation.Agreement.{Agree}
+use Rattle.interleaving_core.specs.simulation.MachineContents.{Content}
 
 -- An instruction leads from these frames to those after it, and its thread goes on. It reads and changes the frames alone: it does the same for all objects, static fields and
 -- printed bytes, for each thread and in each phase.

@@ -1,4 +1,5 @@
-pub use Rattle.simulation.specs as simulation
+pub use Rattle.interleaving_core.specs as interleaving_core
+pub use Rattle.interleaving_core.specs.simulation as simulation
 pub mod Behind
 pub mod Searches
 pub mod Shown

@@ -1,10 +1,10 @@
 -- Lists of events that lead from the initial content to others, and what is known of these (this profile).
 use Rattle.std.specs.Prelude.{Contains, ◌≡◌, ◌<◌, ℕ, true, List, Some, length, slice_get}
-use Rattle.simulation.specs.cil_model.declared.events.Event.{Event}
-use Rattle.simulation.specs.cil_model.declared.reports.Report.{Report}
-use Rattle.simulation.specs.threads_monitors.Threads.{is_live_at}
-use Rattle.simulation.specs.MachineContents.{Content}
-use Rattle.simulation.specs.Runs.{AreTurns}
+use Rattle.interleaving_core.specs.simulation.cil_model.declared.events.Event.{Event}
+use Rattle.interleaving_core.specs.simulation.cil_model.declared.reports.Report.{Report}
+use Rattle.interleaving_core.specs.simulation.threads_monitors.Threads.{is_live_at}
+use Rattle.interleaving_core.specs.simulation.MachineContents.{Content}
+use Rattle.interleaving_core.specs.simulation.Runs.{AreTurns}
 use Rattle.exploration.specs.Searches.{IsClosed, IsCovered, IsLedTo, LeadsInto}
 use Rattle.exploration.specs.Shown.{CannotStep, IsTerminal, Outcome, ShowOnly, outcome_shown}
 use Rattle.exploration.specs.declared.findings.Found.{Found}

@@ -1,19 +1,19 @@
 -- Sets of contents that no schedule leaves (this profile). A set is given by what is true of its contents.
 use Rattle.std.specs.Prelude.{◌≡◌, ◌≢◌, ℕ, true, false, List, [], ◌∷◌, Some, slice_get}
-use Rattle.simulation.specs.cil_model.declared.events.Event.{Event}
-use Rattle.simulation.specs.cil_model.declared.events.Event.TheVariants.{Step}
-use Rattle.simulation.specs.cil_model.declared.limits.Limits.{Limits}
-use Rattle.simulation.specs.cil_model.declared.trees.Tree.{Tree}
-use Rattle.simulation.specs.cil_model.declared.reports.End.TheVariants.{Budget}
-use Rattle.simulation.specs.cil_model.declared.reports.Report.{Report}
-use Rattle.simulation.specs.cil_model.declared.reports.Report.TheVariants.{Ended}
-use Rattle.simulation.specs.reference_machine.Runs.{is_refusal}
-use Rattle.simulation.specs.reference_machine.States.{State}
-use Rattle.simulation.specs.threads_monitors.Threads.{is_live_at}
-use Rattle.simulation.specs.MachineContents.{Content}
-use Rattle.simulation.specs.StandsFor.{Represents}
-use Rattle.simulation.specs.Runs.{AreTurns}
-use Rattle.simulation.specs.Turns.{IsTurn}
+use Rattle.interleaving_core.specs.simulation.cil_model.declared.events.Event.{Event}
+use Rattle.interleaving_core.specs.simulation.cil_model.declared.events.Event.TheVariants.{Step}
+use Rattle.interleaving_core.specs.simulation.cil_model.declared.limits.Limits.{Limits}
+use Rattle.interleaving_core.specs.simulation.cil_model.declared.trees.Tree.{Tree}
+use Rattle.interleaving_core.specs.simulation.cil_model.declared.reports.End.TheVariants.{Budget}
+use Rattle.interleaving_core.specs.simulation.cil_model.declared.reports.Report.{Report}
+use Rattle.interleaving_core.specs.simulation.cil_model.declared.reports.Report.TheVariants.{Ended}
+use Rattle.interleaving_core.specs.simulation.reference_machine.Runs.{is_refusal}
+use Rattle.interleaving_core.specs.simulation.reference_machine.States.{State}
+use Rattle.interleaving_core.specs.simulation.threads_monitors.Threads.{is_live_at}
+use Rattle.interleaving_core.specs.simulation.MachineContents.{Content}
+use Rattle.interleaving_core.specs.simulation.StandsFor.{Represents}
+use Rattle.interleaving_core.specs.simulation.Runs.{AreTurns}
+use Rattle.interleaving_core.specs.simulation.Turns.{IsTurn}
 use Rattle.exploration.specs.Behind.{IsBehind}
 
 -- a content is behind one of a set

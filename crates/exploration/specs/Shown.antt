@@ -1,15 +1,15 @@
 -- What a user sees of a state, and of the content that covers it (this profile).
 use Rattle.std.specs.Prelude.{Contains, ◌≡◌, ◌⊎◌, ℕ, false, List, Option, map}
-use Rattle.simulation.specs.cil_model.declared.events.Event.TheVariants.{Step}
-use Rattle.simulation.specs.cil_model.declared.reports.End.{End}
-use Rattle.simulation.specs.cil_model.declared.reports.Report.TheVariants.{Blocked}
-use Rattle.simulation.specs.cil_model.declared.limits.Limits.{Limits}
-use Rattle.simulation.specs.cil_model.declared.trees.Tree.{Tree}
-use Rattle.simulation.specs.reference_machine.States.{State, Thread as StateThread, is_live}
-use Rattle.simulation.specs.reference_machine.Steps.{Answers, step}
-use Rattle.simulation.specs.threads_monitors.Threads.{end_of, is_live_at}
-use Rattle.simulation.specs.MachineContents.{Content}
-use Rattle.simulation.specs.Turns.{IsTurn}
+use Rattle.interleaving_core.specs.simulation.cil_model.declared.events.Event.TheVariants.{Step}
+use Rattle.interleaving_core.specs.simulation.cil_model.declared.reports.End.{End}
+use Rattle.interleaving_core.specs.simulation.cil_model.declared.reports.Report.TheVariants.{Blocked}
+use Rattle.interleaving_core.specs.simulation.cil_model.declared.limits.Limits.{Limits}
+use Rattle.interleaving_core.specs.simulation.cil_model.declared.trees.Tree.{Tree}
+use Rattle.interleaving_core.specs.simulation.reference_machine.States.{State, Thread as StateThread, is_live}
+use Rattle.interleaving_core.specs.simulation.reference_machine.Steps.{Answers, step}
+use Rattle.interleaving_core.specs.simulation.threads_monitors.Threads.{end_of, is_live_at}
+use Rattle.interleaving_core.specs.simulation.MachineContents.{Content}
+use Rattle.interleaving_core.specs.simulation.Turns.{IsTurn}
 
 -- ---- which threads can make a step
 

@@ -1,10 +1,10 @@
 //! The check that lists of events lead to every reachable state, and that no outcome is missing.
 
 ghost use Rattle.std.specs.Prelude.{Contains, ◌≡◌, ◌≢◌, ◌<◌, ℕ, IfOk, Some, false, length, map, slice_get, true};
-ghost use Rattle.simulation.specs.cil_model.Legality.{IsLegal};
-ghost use Rattle.simulation.specs.cil_model.declared.reports.End.TheVariants.{Budget};
-ghost use Rattle.simulation.specs.cil_model.declared.reports.Report.TheVariants.{Ended};
-ghost use Rattle.simulation.specs.reference_machine.Runs.{is_refusal};
+ghost use Rattle.interleaving_core.specs.simulation.cil_model.Legality.{IsLegal};
+ghost use Rattle.interleaving_core.specs.simulation.cil_model.declared.reports.End.TheVariants.{Budget};
+ghost use Rattle.interleaving_core.specs.simulation.cil_model.declared.reports.Report.TheVariants.{Ended};
+ghost use Rattle.interleaving_core.specs.simulation.reference_machine.Runs.{is_refusal};
 ghost use Rattle.exploration.specs.Paths.{IsNotTerminalAt, IsTerminalAt, CanStepAt, IsComplete, IsReal, CannotStepAt, AreStepsChecked, IsStepChecked, ShowsOneOf, events_of, outcome_found};
 ghost use Rattle.exploration.specs.Searches.{IsClosed, IsCovered, IsLedTo};
 ghost use Rattle.exploration.specs.Shown.{ShowOnly, outcome_shown};

@@ -11,4 +11,5 @@ mod replayers;
 
 pub use checking::{FIRST_THREAD, are_real, is_complete, is_ordinary};
 pub use findings::{Found, Path};
+pub use interleaving_core::Machine;
 pub use replayers::{First, Replayer};

@@ -1,11 +1,11 @@
 //! Machines of one program that replay lists of events.
 
 ghost use Rattle.std.specs.Prelude.{◌≡◌, ◌≤◌, IfOk, OnOk, length, true};
-ghost use Rattle.simulation.specs.cil_model.Legality.{IsLegal};
-ghost use Rattle.simulation.specs.cil_model.declared.events.Event.TheVariants.{Step as StepOf};
-ghost use Rattle.simulation.specs.cil_model.declared.limits.TheConstants.{MOST_THREADS};
-ghost use Rattle.simulation.specs.threads_monitors.Threads.{is_live_at};
-ghost use Rattle.simulation.specs.Turns.{IsTurn};
+ghost use Rattle.interleaving_core.specs.simulation.cil_model.Legality.{IsLegal};
+ghost use Rattle.interleaving_core.specs.simulation.cil_model.declared.events.Event.TheVariants.{Step as StepOf};
+ghost use Rattle.interleaving_core.specs.simulation.cil_model.declared.limits.TheConstants.{MOST_THREADS};
+ghost use Rattle.interleaving_core.specs.simulation.threads_monitors.Threads.{is_live_at};
+ghost use Rattle.interleaving_core.specs.simulation.Turns.{IsTurn};
 ghost use Rattle.interleaving_core.specs.Alike.{AreAlike};
 ghost use Rattle.exploration.specs.Begins.{Begins};
 ghost use Rattle.exploration.specs.Behind.{IsBehind};
@@ -23,7 +23,7 @@ use std::marker::{Brand, Model, PhantomData};
 
 /// Names the initial content of machines of one program within the same limits. The caller that makes the machines picks it, at `Brand`.
 pub trait First {
-    ghost use Rattle.simulation.specs.MachineContents.{Content};
+    ghost use Rattle.interleaving_core.specs.simulation.MachineContents.{Content};
 
     ghost first: { Content };
 }
@@ -42,7 +42,7 @@ pub struct Replayer<M: First> {
 }
 
 impl<M: First> Model for Replayer<M> {
-    ghost use Rattle.simulation.specs.MachineContents.{Content};
+    ghost use Rattle.interleaving_core.specs.simulation.MachineContents.{Content};
     ghost use Rattle.exploration.specs.Begins.{Begins};
 
     ghost Value = { Content };

@@ -14,9 +14,8 @@ use acceptance::{Failure, machine_of};
 use cil_model::limits::Limits;
 use cil_model::memory::NoMemory;
 use exploration::laws::no_outcome_is_missing;
-use exploration::{First, Found, Path, Replayer, are_real, is_complete};
+use exploration::{First, Found, Machine, Path, Replayer, are_real, is_complete};
 use ilasm_reader::laws::answers_are_unique;
-use interleaving_core::Machine;
 use std::alloc::Global;
 use std::marker::Brand;
 

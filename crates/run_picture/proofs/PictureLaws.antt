@@ -8,10 +8,10 @@ use Rattle.cil_model.specs.declared.reports.Report.{Report}
 use Rattle.schedule_text.specs.Items.{events_of}
 use Rattle.schedule_text.specs.declared.items.Item.{Item}
 use Rattle.schedule_text.proofs.SoFar.{so_far, so_far_all, so_far_before, so_far_more, so_far_none}
-use Rattle.interleaving_core.specs.simulation.MachineContents.{Content}
-use Rattle.interleaving_core.specs.simulation.Runs.{AreTurns}
-use Rattle.interleaving_core.specs.simulation.Turns.{IsTurn}
-use Rattle.interleaving_core.proofs.Runs.FollowedRuns.{SameProgram, turns_length, turns_more, turns_program}
+use Rattle.event_trace.specs.interleaving_core.simulation.MachineContents.{Content}
+use Rattle.event_trace.specs.interleaving_core.simulation.Runs.{AreTurns}
+use Rattle.event_trace.specs.interleaving_core.simulation.Turns.{IsTurn}
+use Rattle.event_trace.proofs.interleaving_core.Runs.FollowedRuns.{SameProgram, turns_length, turns_more, turns_program}
 use Rattle.outputs.specs.Beginnings.{AppendsBeginning}
 use Rattle.event_trace.specs.Deadlocks.{IsDeadlockOf}
 use Rattle.run_picture.specs.Pictures.{IsDrawing, IsDrawn, IsPicture, IsPictureInPart}

@@ -4,8 +4,8 @@ use Rattle.std.specs.Io.KnownBytes.{Appends}
 use Rattle.outputs.specs.Beginnings.{AppendsBeginning}
 use Rattle.cil_model.specs.declared.events.Event.{Event}
 use Rattle.cil_model.specs.declared.reports.Report.{Report}
-use Rattle.interleaving_core.specs.simulation.MachineContents.{Content}
-use Rattle.interleaving_core.specs.simulation.Runs.{AreTurns}
+use Rattle.event_trace.specs.interleaving_core.simulation.MachineContents.{Content}
+use Rattle.event_trace.specs.interleaving_core.simulation.Runs.{AreTurns}
 use Rattle.svg_text.specs.Contents.{IsDocument}
 use Rattle.svg_text.specs.Elements.{escaped}
 use Rattle.event_trace.specs.Deadlocks.{IsDeadlockOf}

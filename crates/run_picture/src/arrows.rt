@@ -3,7 +3,7 @@
 use crate::layout::{Layout, TOP};
 use crate::machine_lanes::Grouped;
 use crate::scene::{Lane, Scene, Waiting};
-use interleaving_core::Wait;
+use event_trace::Wait;
 use std::alloc::Global;
 use svg_text::{Content, Ink};
 

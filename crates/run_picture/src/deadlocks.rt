@@ -7,8 +7,7 @@ ghost use Rattle.run_picture.specs.Sentences.{deadlock_sentence};
 use crate::monitors::{MonitorLetter, Monitors};
 use cil_model::limits::MOST_THREADS;
 use cil_model::memory::NoMemory;
-use event_trace::{OwnerText, add_thread_numbers, deadlocked_threads};
-use interleaving_core::{Machine, Wait};
+use event_trace::{Machine, OwnerText, Wait, add_thread_numbers, deadlocked_threads};
 use std::alloc::{AllocError, Global};
 use std::fmt::{Display, Write};
 

@@ -19,7 +19,7 @@ use crate::style::STYLE;
 use crate::tips::MOST_TIPS;
 use cil_model::events::Event;
 use cil_model::memory::NoMemory;
-use interleaving_core::Machine;
+use event_trace::Machine;
 use std::alloc::Global;
 use svg_text::{Area, Attribute, Content, Ink, Name, Tag};
 

@@ -1,7 +1,7 @@
 //! The monitors that threads enter, and when they hold them.
 
 use cil_model::phases::Phase;
-use interleaving_core::Machine;
+use event_trace::Machine;
 use object_memory::Addr;
 use std::alloc::{AllocError, Global};
 use std::fmt;

@@ -2,7 +2,7 @@
 
 ghost use Rattle.std.specs.Prelude.{◌≡◌, ◌⊎◌, ◌+◌, Bool, IfErr, IfOk, OnErr, OnOk, List, [], replicate, string_bytes};
 ghost use Rattle.cil_model.specs.declared.reports.Report.{Report as AnyReport};
-ghost use Rattle.interleaving_core.specs.simulation.Turns.{IsTurn};
+ghost use Rattle.event_trace.specs.interleaving_core.simulation.Turns.{IsTurn};
 ghost use Rattle.outputs.specs.Taken.{HasGrown};
 ghost use Rattle.schedule_text.specs.Items.{events_of};
 ghost use Rattle.event_trace.specs.Deadlocks.{IsDeadlockOf};
@@ -24,8 +24,7 @@ use crate::windows::Window;
 use cil_model::events::Event;
 use cil_model::memory::NoMemory;
 use cil_model::reports::Report;
-use event_trace::MethodPlaces;
-use interleaving_core::Machine;
+use event_trace::{Machine, MethodPlaces};
 use outputs::Out;
 use schedule_text::Item;
 use std::alloc::{AllocError, Global};

@@ -5,7 +5,7 @@ use crate::fields::StaticFields;
 use crate::monitors::{Holdings, Monitors};
 use crate::tips::Tips;
 use cil_model::reports::End;
-use interleaving_core::Wait;
+use event_trace::Wait;
 use std::alloc::{AllocError, Global};
 
 /// How a thread ended, and by which event.

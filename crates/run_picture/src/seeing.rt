@@ -11,9 +11,10 @@ use cil_model::events::Event;
 use cil_model::memory::NoMemory;
 use cil_model::phases::Phase;
 use cil_model::reports::{End, Report};
-use event_trace::{InstructionPlace, MethodPlaces, deadlocked_threads, instruction_at};
+use event_trace::{
+    InstructionPlace, Machine, MethodPlaces, Position, deadlocked_threads, instruction_at,
+};
 use instruction_text::MethodNameText;
-use interleaving_core::{Machine, Position};
 use object_memory::Addr;
 use std::alloc::{AllocError, Global};
 use std::fmt::{Display, Write};

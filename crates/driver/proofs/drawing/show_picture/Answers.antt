@@ -6,8 +6,8 @@ use Rattle.run_picture.specs.Pictures.{IsPicture, IsPictureInPart}
 use Rattle.run_picture.specs.declared.windows.TheConstants.{MOST_EVENTS}
 use Rattle.schedule_text.specs.Items.{events_of}
 use Rattle.schedule_text.specs.declared.errors.TheConstants.{MOST_EVENTS as MOST_SCHEDULED}
-use Rattle.acceptance.specs.Failures.{IsOfWriting}
-use Rattle.acceptance.proofs.SourceLemmas.{handed_on, if_err, if_ok, on_err, on_err_of}
+use Rattle.source_runs.specs.acceptance.Failures.{IsOfWriting}
+use Rattle.source_runs.proofs.acceptance.SourceLemmas.{handed_on, if_err, if_ok, on_err, on_err_of}
 use Rattle.driver.specs.Outcomes.{HasNotTraced, IsPictureCut}
 use Rattle.driver.specs.Pictures.{too_many_text, window_of}
 use Rattle.driver.proofs.OutcomeLemmas.{by_either, no_refusal}

@@ -1,5 +1,5 @@
 use Rattle.std.proofs.Common.{inr}
-use Rattle.acceptance.proofs.SourceLemmas.{if_err, if_ok, on_err}
+use Rattle.source_runs.proofs.acceptance.SourceLemmas.{if_err, if_ok, on_err}
 use Rattle.driver.proofs.driving.carry_out.Goals as goal
 
 pub returns-in-Err-clause-told : goal.returns-in-Err-clause-told

@@ -1,6 +1,6 @@
 use Rattle.std.proofs.Common.{◌∙◌, inl, inr, refl, subst, sym}
 use Rattle.driver.specs.Outcomes.{IsNotChecked}
-use Rattle.acceptance.proofs.SourceLemmas.{handed_on, on_err}
+use Rattle.source_runs.proofs.acceptance.SourceLemmas.{handed_on, on_err}
 use Rattle.driver.proofs.OutcomeLemmas.{no_refusal, notes_break}
 use Rattle.driver.proofs.Refusals.{not_accepted}
 use Rattle.driver.proofs.driving.check.Goals as goal

@@ -1,6 +1,6 @@
 use Rattle.std.proofs.Common.{inl, refl, subst}
 use Rattle.std.specs.Prelude.{◌≡◌, ◌⊎◌, IfErr, IfOk, None, OnErr}
-use Rattle.acceptance.proofs.SourceLemmas.{if_err, if_ok, on_err, on_err_of}
+use Rattle.source_runs.proofs.acceptance.SourceLemmas.{if_err, if_ok, on_err, on_err_of}
 use Rattle.driver.specs.Explorations.{HasExplored}
 use Rattle.driver.specs.Records.{texts_of}
 use Rattle.driver.specs.Outcomes.{HasNotRun, HasRun, HasRunThreads, IsRunByWorkersInPart, IsRunInPart}

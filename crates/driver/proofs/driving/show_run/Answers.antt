@@ -2,7 +2,7 @@ use Rattle.std.proofs.Common.{◌∙◌, inl, inr, refl, subst, sym}
 use Rattle.source_runs.specs.shared_machine.Histories.{events_of, reports_of}
 use Rattle.driver.specs.Outcomes.{HasNotRun}
 use Rattle.driver.specs.Replays.{differences_from}
-use Rattle.acceptance.proofs.SourceLemmas.{handed_on, on_err}
+use Rattle.source_runs.proofs.acceptance.SourceLemmas.{handed_on, on_err}
 use Rattle.driver.proofs.OutcomeLemmas.{cut_breaks, has_run, no_refusal, run_in_part, run_then_in_part}
 use Rattle.driver.proofs.Refusals.{not_run_by}
 use Rattle.driver.proofs.driving.show_run.Goals as goal

@@ -2,8 +2,8 @@ use Rattle.std.proofs.Common.{◌∙◌, inl, inr, refl, subst, sym}
 use Rattle.event_trace.specs.Traces.{IsTraced, IsTracedInPart}
 use Rattle.schedule_text.specs.Items.{events_of}
 use Rattle.driver.specs.Outcomes.{HasNotTraced, IsTraceInPart}
-use Rattle.acceptance.specs.Failures.{IsOfWriting}
-use Rattle.acceptance.proofs.SourceLemmas.{handed_on, on_err}
+use Rattle.source_runs.specs.acceptance.Failures.{IsOfWriting}
+use Rattle.source_runs.proofs.acceptance.SourceLemmas.{handed_on, on_err}
 use Rattle.driver.proofs.OutcomeLemmas.{breaks_later, cut_breaks, has_traced, no_refusal, traced_in_part}
 use Rattle.driver.proofs.Refusals.{not_run_by}
 use Rattle.driver.proofs.driving.show_trace.Goals as goal

@@ -1,6 +1,6 @@
 use Rattle.std.proofs.Common.{[], refl, subst}
 use Rattle.outputs.proofs.TakenLaws.{fails_first, fails_second}
-use Rattle.acceptance.specs.Failures.{message_of}
+use Rattle.source_runs.specs.acceptance.Failures.{message_of}
 use Rattle.driver.specs.Outcomes.{IsExplanation}
 use Rattle.driver.proofs.OutcomeLemmas.{for_err, no_explanation}
 use Rattle.driver.proofs.explaining.tell_failure.Goals as goal

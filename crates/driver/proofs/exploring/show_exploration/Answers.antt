@@ -1,6 +1,6 @@
 use Rattle.std.proofs.Common.{ap, inl, inr, subst, sym, ◌∙◌}
 use Rattle.std.specs.Prelude.{string_bytes}
-use Rattle.acceptance.proofs.SourceLemmas.{handed_on, on_err}
+use Rattle.source_runs.proofs.acceptance.SourceLemmas.{handed_on, on_err}
 use Rattle.outputs.specs.Taken.{Fails, Takes}
 use Rattle.driver.specs.Explorations.{AreSaved, status_of_exploration}
 use Rattle.driver.specs.Outcomes.{HasNotExplored}

@@ -1,5 +1,5 @@
 use Rattle.std.proofs.Common.{inl, subst, sym}
-use Rattle.acceptance.proofs.SourceLemmas.{handed_on}
+use Rattle.source_runs.proofs.acceptance.SourceLemmas.{handed_on}
 use Rattle.cil_model.specs.declared.trees.Tree.{Tree}
 use Rattle.driver.specs.Explorations.{IsNotPictured}
 use Rattle.event_trace.specs.Places.{ArePlacesOf}

@@ -1,5 +1,5 @@
 use Rattle.source_runs.specs.shared_machine.Histories.{events_of, reports_of}
-use Rattle.acceptance.proofs.SourceLemmas.{on_err}
+use Rattle.source_runs.proofs.acceptance.SourceLemmas.{on_err}
 use Rattle.driver.proofs.EndLemmas.{cut_run, ends_cut, live_run, whole_run}
 use Rattle.driver.proofs.outcomes.show_outcome.Goals as goal
 

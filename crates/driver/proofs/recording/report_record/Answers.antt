@@ -1,6 +1,6 @@
 use Rattle.std.proofs.Common.{subst}
-use Rattle.acceptance.specs.Failures.{message_of}
-use Rattle.acceptance.proofs.SourceLemmas.{on_err, on_err_of}
+use Rattle.source_runs.specs.acceptance.Failures.{message_of}
+use Rattle.source_runs.proofs.acceptance.SourceLemmas.{on_err, on_err_of}
 use Rattle.outputs.specs.Taken.{Fails, Takes}
 use Rattle.outputs.proofs.TakenLaws.{fails_first, fails_second}
 use Rattle.driver.proofs.recording.report_record.Goals as goal

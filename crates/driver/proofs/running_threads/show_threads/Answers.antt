@@ -1,5 +1,5 @@
 use Rattle.std.proofs.Common.{◌≡◌, false, ap, inl, inr, subst, sym, ◌∙◌, List, ℕ, Option}
-use Rattle.acceptance.proofs.SourceLemmas.{handed_on, on_err}
+use Rattle.source_runs.proofs.acceptance.SourceLemmas.{handed_on, on_err}
 use Rattle.source_runs.specs.shared_machine.Histories.{events_of}
 use Rattle.source_runs.specs.shared_machine.Work.{HasEnded}
 use Rattle.driver.specs.Outcomes.{HasNotRunThreads}

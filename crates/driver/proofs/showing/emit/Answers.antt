@@ -1,6 +1,6 @@
 use Rattle.std.proofs.Common.{◌∙◌, ap, inl, inr, refl, subst}
 use Rattle.std.proofs.lemmas.Result.{on_err_weaker, on_ok_weaker}
-use Rattle.acceptance.proofs.SourceLemmas.{on_err}
+use Rattle.source_runs.proofs.acceptance.SourceLemmas.{on_err}
 use Rattle.outputs.specs.Taken.{Fails, Takes}
 use Rattle.driver.specs.Threads.{lines_from}
 use Rattle.driver.proofs.showing.emit.Goals as goal

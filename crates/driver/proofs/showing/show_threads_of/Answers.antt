@@ -1,5 +1,5 @@
 use Rattle.std.proofs.Common.{[], ◌≡◌, ◌∙◌, ap, map, subst}
-use Rattle.acceptance.proofs.SourceLemmas.{on_err}
+use Rattle.source_runs.proofs.acceptance.SourceLemmas.{on_err}
 use Rattle.outputs.specs.Taken.{Fails, Takes}
 use Rattle.outputs.proofs.TakenLaws.{fails_first, fails_second, takes_both}
 use Rattle.source_runs.specs.simulation.threads_monitors.Threads.{end_of}

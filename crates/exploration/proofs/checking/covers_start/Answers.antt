@@ -1,6 +1,6 @@
 use Rattle.std.proofs.Common.{Some, length, refl, sym, ap, ◌∙◌, subst}
 use Rattle.std.proofs.lemmas.Option.{slice_get_read}
-use Rattle.simulation.specs.MachineContents.{Content}
+use Rattle.interleaving_core.specs.simulation.MachineContents.{Content}
 use Rattle.exploration.specs.Behind.{IsBehind}
 use Rattle.exploration.proofs.Covering.{alike_behind, behind_more}
 use Rattle.exploration.proofs.Paths.{events_there}

@@ -4,7 +4,7 @@ use Rattle.cil_model.specs.Sources.{HasTree}
 use Rattle.cil_model.specs.declared.trees.Tree.{Tree}
 use Rattle.acceptance.specs.Sources.{IsNotRun}
 use Rattle.acceptance.proofs.SourceLemmas.{handed_on}
-use Rattle.interleaving_core.proofs.Runs.LongerRuns.{has_done}
+use Rattle.exploration.proofs.interleaving_core.Runs.LongerRuns.{has_done}
 use Rattle.exploration.specs.Shown.{IsOver}
 use Rattle.exploration.specs.simulation.Runs.{IsRunOf}
 use Rattle.outcome_search.proofs.SearchLemmas.{begins_of, same_tree}

@@ -4,7 +4,7 @@ use Rattle.cil_model.specs.declared.events.Event.TheVariants.{Gc}
 use Rattle.cil_model.specs.declared.trees.Tree.{Tree}
 use Rattle.schedule_text.specs.Items.{events_of}
 use Rattle.schedule_text.proofs.SoFar.{so_far_whole}
-use Rattle.interleaving_core.proofs.Threads.RefusedMemory.{on_err}
+use Rattle.event_trace.proofs.interleaving_core.Threads.RefusedMemory.{on_err}
 use Rattle.outputs.specs.Beginnings.{AppendsBeginning}
 use Rattle.event_trace.specs.Places.{ArePlacesOf}
 use Rattle.run_picture.specs.Windows.{clamped}

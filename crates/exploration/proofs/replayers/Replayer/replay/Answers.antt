@@ -1,7 +1,7 @@
 use Rattle.std.proofs.Common.{List, drop, length, subst}
-use Rattle.simulation.specs.cil_model.declared.reports.Report.{Report}
-use Rattle.simulation.specs.MachineContents.{Content}
-use Rattle.simulation.specs.Runs.{AreTurns}
+use Rattle.interleaving_core.specs.simulation.cil_model.declared.reports.Report.{Report}
+use Rattle.interleaving_core.specs.simulation.MachineContents.{Content}
+use Rattle.interleaving_core.specs.simulation.Runs.{AreTurns}
 use Rattle.exploration.proofs.Begins.{begins_first, on_ok, reopened_begins}
 use Rattle.exploration.proofs.replayers.Replayer.replay.Goals as goal
 
