@@ -2,4 +2,4 @@ pub mod ListLaws
 pub mod Resolving
 pub mod LegalPrograms
 pub mod Numbers
-pub mod Operations
+pub mod InstructionOperations

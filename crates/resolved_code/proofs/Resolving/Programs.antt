@@ -9,7 +9,7 @@ use Rattle.resolved_code.specs.declared.errors.ResolveError.TheVariants.{Unresol
 use Rattle.resolved_code.specs.Outcomes.{Gives}
 use Rattle.resolved_code.specs.Resolved.{AreResolved}
 use Rattle.resolved_code.specs.Rules.{classes_rule}
-use Rattle.resolved_code.proofs.Operations.ResolvedNames.{classes_stand}
+use Rattle.resolved_code.proofs.InstructionOperations.ResolvedNames.{classes_stand}
 use Rattle.resolved_code.proofs.LegalPrograms.FoundNames.{classes_found}
 
 module _ (tree : Tree) where

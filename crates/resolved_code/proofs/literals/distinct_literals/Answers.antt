@@ -4,7 +4,7 @@ use Rattle.std.specs.List.{filter_map, cons_option}
 use Rattle.cil_model.specs.Same.{same_text}
 use Rattle.cil_model.specs.Mentions.{literal_of, each_once}
 use Rattle.name_tables.specs.Keys.{text_of_key}
-use Rattle.resolved_code.proofs.Operations.InstructionsWithoutNames.{no_literal}
+use Rattle.resolved_code.proofs.InstructionOperations.InstructionsWithoutNames.{no_literal}
 use Rattle.resolved_code.proofs.Numbers.Literals.{literal_met, literals_more}
 use Rattle.std.proofs.Math.Seq.{take_all}
 use Rattle.resolved_code.proofs.literals.distinct_literals.Goals as goal

@@ -1,4 +1,4 @@
-use Rattle.interpreter.proofs.resolved_code.Operations.UniqueOperations.{one_operation}
+use Rattle.interpreter.proofs.resolved_code.InstructionOperations.UniqueOperations.{one_operation}
 use Rattle.simulation.proofs.Runs.UniqueRuns.{runs_are_one}
 use Rattle.simulation.proofs.laws.the_run_is_one.Goals as goal
 

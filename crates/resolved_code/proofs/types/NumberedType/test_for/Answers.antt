@@ -2,7 +2,7 @@ use Rattle.std.proofs.Common.{sym, subst}
 use Rattle.cil_model.specs.Assignable.{is_assignable}
 use Rattle.resolved_code.specs.declared.type_tests.TypeTest.{TypeTest}
 use Rattle.resolved_code.specs.TypeTests.{ComesTo}
-use Rattle.resolved_code.proofs.Operations.TypeTests.{type_comes_to}
+use Rattle.resolved_code.proofs.InstructionOperations.TypeTests.{type_comes_to}
 use Rattle.resolved_code.proofs.types.NumberedType.test_for.Goals as goal
 
 pub returns : goal.returns

@@ -15,7 +15,7 @@ use Rattle.resolved_code.specs.declared.types.NumberedType.{NumberedType}
 use Rattle.resolved_code.specs.Numbered.{class_name, element_at, type_at}
 use Rattle.resolved_code.specs.declared.type_tests.TypeTest.TheVariants.{Answered}
 use Rattle.resolved_code.specs.TypeTests.{is_object, element_test, type_test, ComesTo}
-use Rattle.resolved_code.proofs.Operations.ArrayTypes.{with_as_many, with_fewer, with_more}
+use Rattle.resolved_code.proofs.InstructionOperations.ArrayTypes.{with_as_many, with_fewer, with_more}
 
 module _ (tree : Tree) where
   -- the element that a numbered one stands for, case by case
