@@ -2,7 +2,7 @@ use Rattle.std.proofs.Common.{inl, inr, sym, ◌∙◌, subst}
 use Rattle.interleaving_core.specs.simulation.cil_model.declared.events.Event.TheVariants.{Step}
 use Rattle.interleaving_core.specs.simulation.cil_model.declared.reports.Report.{Report}
 use Rattle.interleaving_core.specs.simulation.Turns.{IsTurn}
-use Rattle.interleaving_core.proofs.simulation.resolved_code.Operations.UniqueOperations.{one_operation}
+use Rattle.interleaving_core.proofs.simulation.resolved_code.InstructionOperations.UniqueOperations.{one_operation}
 use Rattle.exploration.proofs.Paths.{goes_on_at}
 use Rattle.exploration.proofs.checking.can_step.Goals as goal
 

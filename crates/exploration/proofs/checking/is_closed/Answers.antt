@@ -2,7 +2,7 @@ use Rattle.std.proofs.Common.{◌≡◌, length, map, sym, subst, arith}
 use Rattle.std.proofs.lemmas.List.{length-map}
 use native.Mathlib.Decide.{ℕ_discrete}
 use mathlib.Core.Logic.{dite}
-use Rattle.interleaving_core.proofs.simulation.resolved_code.Operations.UniqueOperations.{one_operation}
+use Rattle.interleaving_core.proofs.simulation.resolved_code.InstructionOperations.UniqueOperations.{one_operation}
 use Rattle.exploration.specs.Paths.{AreStepsChecked, events_of}
 use Rattle.exploration.proofs.Paths.{all_closed}
 use Rattle.exploration.proofs.checking.is_closed.Goals as goal

@@ -2,7 +2,7 @@ use Rattle.std.proofs.Common.{◌≡◌, length, map, sym, subst, arith}
 use native.Mathlib.Decide.{ℕ_discrete}
 use mathlib.Core.Logic.{dite}
 use Rattle.std.proofs.lemmas.List.{length-map}
-use Rattle.interleaving_core.proofs.simulation.resolved_code.Operations.UniqueOperations.{one_operation}
+use Rattle.interleaving_core.proofs.simulation.resolved_code.InstructionOperations.UniqueOperations.{one_operation}
 use Rattle.exploration.specs.Paths.{ShowsOneOf, events_of, outcome_found}
 use Rattle.exploration.proofs.Paths.{shows_only}
 use Rattle.exploration.proofs.checking.show_only.Goals as goal

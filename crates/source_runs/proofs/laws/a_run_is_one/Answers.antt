@@ -3,7 +3,7 @@ use Rattle.cil_model.specs.declared.trees.Tree.{Tree}
 use Rattle.cil_model.specs.Sources.{HasTree}
 use Rattle.shared_machine.specs.simulation.Runs.{IsRunOf}
 use Rattle.shared_machine.proofs.interleaving_core.simulation.Runs.UniqueRuns.{runs_are_one}
-use Rattle.shared_machine.proofs.simulation.resolved_code.Operations.UniqueOperations.{one_operation}
+use Rattle.shared_machine.proofs.simulation.resolved_code.InstructionOperations.UniqueOperations.{one_operation}
 use Rattle.source_runs.proofs.laws.a_run_is_one.Goals as goal
 
 same_tree : (t u : Tree) → HasTree t ≡ HasTree u → t ≡ u

@@ -1,7 +1,7 @@
 use Rattle.std.proofs.Common.{subst, sym}
 use Rattle.interleaving_core.specs.simulation.cil_model.Legality.{IsLegal}
 use Rattle.interleaving_core.specs.simulation.MachineContents.{Content}
-use Rattle.interleaving_core.proofs.simulation.resolved_code.Operations.UniqueOperations.{one_operation}
+use Rattle.interleaving_core.proofs.simulation.resolved_code.InstructionOperations.UniqueOperations.{one_operation}
 use Rattle.exploration.specs.Behind.{IsBehind}
 use Rattle.exploration.proofs.Begins.{begins_program, begins_still}
 use Rattle.exploration.proofs.Covering.{behind_itself}
