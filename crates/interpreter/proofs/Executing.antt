@@ -9,9 +9,8 @@ use Rattle.loaded_program.specs.declared.instructions.LinkedInstruction.{LinkedI
 use Rattle.loaded_program.specs.Loaded.{IsLinkedAt}
 use Rattle.threads_monitors.specs.declared.mutators.Mutator.{Mutator}
 use Rattle.threads_monitors.specs.Frames.{Frames}
-use Rattle.interpreter.specs.Instructions.{HasSmallConstant, IsAt, operation_turn}
-use Rattle.interpreter.specs.Linked.{linked_turn}
-use Rattle.interpreter.proofs.Linking.{linked_does}
+use Rattle.interpreter.specs.Instructions.{HasSmallConstant, IsAt, linked_turn, operation_turn}
+use Rattle.interpreter.proofs.Linking.{link_does, link_is}
 
 -- what is linked at a method and a place, where the frame is there
 pub linked_here : (tree : Tree) (m : Frames) (method place : ℕ) (l : LinkedInstruction) → method ≡ m.running.method → place ≡ m.running.place → IsLinkedAt tree method place l → IsLinkedAt tree m.running.method m.running.place l
@@ -29,7 +28,7 @@ module _ (tree : Tree) (m : Frames) (l : LinkedInstruction) (at : IsLinkedAt tre
 
   module _ (mutator : Mutator) (o : Objects) (ss : List Value) (c : List ℕ) (there : (op : Operation) → IsAt tree m op → HasSmallConstant op → IsSome (operation_turn tree mutator op m o ss c)) where
     pub does_the_same : linked_turn tree mutator l m o ss c ≡ operation_turn tree mutator resolved m o ss c
-    does_the_same = linked_does tree mutator at.found m o ss c at.found_is resolved l at.linked.links.is (there resolved is_at is_small)
+    does_the_same = sym (link_does tree mutator m o ss c resolved l (link_is tree mutator m o ss c at.found at.found_is resolved l at.linked.links.is (there resolved is_at is_small)))
 
     pub has_answer : IsSome (linked_turn tree mutator l m o ss c)
     has_answer = subst IsSome (sym does_the_same) (there resolved is_at is_small)

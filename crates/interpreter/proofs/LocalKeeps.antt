@@ -1,5 +1,5 @@
 -- What local instructions keep: the frames below, the room, and the method that runs. All but operations on two integers go on.
-use Rattle.std.proofs.Common.{◌≡◌, ℕ, ℤ, pos, negsuc, Bool, true, false, if◌then◌else◌, List, [], ◌∷◌, Option, Some, None, Result, Ok, Err, refl, sym, ap, ◌∙◌, subst}
+use Rattle.std.proofs.Common.{◌≡◌, ℕ, ℤ, pos, negsuc, Bool, true, false, if◌then◌else◌, List, [], ◌∷◌, Option, Some, None, Result, Ok, Err, refl, ap, ◌∙◌, subst}
 use Rattle.std.specs.Prelude.{◌+◌, nat_lt, not, length, slice_get}
 use Rattle.std.specs.Int.{w32, cast_unsigned}
 use Rattle.std.proofs.lemmas.Option.{same_Some}
@@ -110,7 +110,6 @@ local_keeps Linked.NoOperation m = onward_keeps true m
 local_keeps (Linked.LoadInt32 z) m = leaves_keeps true (Int32 z) m
 local_keeps (Linked.LoadInt64 z) m = leaves_keeps true (Int64 z) m
 local_keeps Linked.LoadNull m = leaves_keeps true _ m
-local_keeps (Linked.LoadString a) m = none_keeps true m
 local_keeps (Linked.LoadArgument n) m = given_keeps true (at_place m.running.arguments n) m (λ v. leaves v m) (λ v. leaves_keeps true v m)
 local_keeps (Linked.StoreArgument n) m =
     top_keeps true m (λ v k. stored (λ i. with_argument k i v) k.running.arguments n)
@@ -132,57 +131,8 @@ local_keeps (Linked.BranchTrue place) m = one_keeps true is_set (λ holds k. bra
 local_keeps (Linked.BranchFalse place) m = one_keeps true is_set (λ holds k. branch_if (not holds) place k) (λ holds k. branch_keeps true (not holds) place k) m
 local_keeps (Linked.BranchCompare op place) m = two_keeps true (integers_branch op) (λ holds k. branch_if holds place k) (λ holds k. branch_keeps true holds place k) m
 local_keeps (Linked.Switch places) m = top_keeps true m (switch_on places) (λ v rest. switch_keeps true places v (with_stack m rest))
-local_keeps (Linked.LoadField slot kind) m = none_keeps true m
-local_keeps (Linked.StoreField slot) m = none_keeps true m
-local_keeps (Linked.LoadStaticField number) m = none_keeps true m
-local_keeps (Linked.StoreStaticField number) m = none_keeps true m
-local_keeps (Linked.NewArray element) m = none_keeps true m
-local_keeps Linked.LoadLength m = none_keeps true m
-local_keeps (Linked.LoadElement kind) m = none_keeps true m
-local_keeps Linked.StoreElement m = none_keeps true m
-local_keeps Linked.StoreElementReference m = none_keeps true m
-local_keeps (Linked.CastClass t) m = none_keeps true m
-local_keeps (Linked.IsInstance t) m = none_keeps true m
-local_keeps (Linked.Call number) m = none_keeps true m
-local_keeps (Linked.CallVirtual number operands) m = none_keeps true m
-local_keeps (Linked.NewObject class slots number) m = none_keeps true m
-local_keeps (Linked.Return b) m = none_keeps true m
+local_keeps _ m = none_keeps true m
 
 pub plain_unless : (l : LinkedInstruction) → ((op : BinaryOperation) → l ≡ Linked.Binary op → ⊥) → is_plain l ≡ true
 plain_unless (Linked.Binary op) other = absurd (other op refl)
-plain_unless Linked.NoOperation other = refl
-plain_unless (Linked.LoadInt32 z) other = refl
-plain_unless (Linked.LoadInt64 z) other = refl
-plain_unless Linked.LoadNull other = refl
-plain_unless (Linked.LoadString a) other = refl
-plain_unless (Linked.LoadArgument n) other = refl
-plain_unless (Linked.StoreArgument n) other = refl
-plain_unless (Linked.LoadLocal n) other = refl
-plain_unless (Linked.StoreLocal n) other = refl
-plain_unless Linked.Duplicate other = refl
-plain_unless Linked.Pop other = refl
-plain_unless (Linked.Unary op) other = refl
-plain_unless (Linked.Shift op) other = refl
-plain_unless (Linked.Compare op) other = refl
-plain_unless Linked.ConvertInt32 other = refl
-plain_unless Linked.ConvertInt64 other = refl
-plain_unless (Linked.Branch place) other = refl
-plain_unless (Linked.BranchTrue place) other = refl
-plain_unless (Linked.BranchFalse place) other = refl
-plain_unless (Linked.BranchCompare op place) other = refl
-plain_unless (Linked.Switch places) other = refl
-plain_unless (Linked.LoadField slot kind) other = refl
-plain_unless (Linked.StoreField slot) other = refl
-plain_unless (Linked.LoadStaticField number) other = refl
-plain_unless (Linked.StoreStaticField number) other = refl
-plain_unless (Linked.NewArray element) other = refl
-plain_unless Linked.LoadLength other = refl
-plain_unless (Linked.LoadElement kind) other = refl
-plain_unless Linked.StoreElement other = refl
-plain_unless Linked.StoreElementReference other = refl
-plain_unless (Linked.CastClass t) other = refl
-plain_unless (Linked.IsInstance t) other = refl
-plain_unless (Linked.Call number) other = refl
-plain_unless (Linked.CallVirtual number operands) other = refl
-plain_unless (Linked.NewObject class slots number) other = refl
-plain_unless (Linked.Return b) other = refl
+plain_unless _ other = refl

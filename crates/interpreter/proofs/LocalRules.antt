@@ -1,11 +1,7 @@
 -- Local instructions change the frame that runs alone, whatever lies below it, and whatever else the machine holds.
-use Rattle.std.proofs.Common.{◌≡◌, ℕ, ℤ, pos, negsuc, Bool, true, false, if◌then◌else◌, List, [], ◌∷◌, Option, Some, None, Result, Ok, Err, option_map, option_and_then, refl, sym, ap, ◌∙◌, subst}
+use Rattle.std.proofs.Common.{◌≡◌, ℕ, ℤ, pos, negsuc, Bool, true, false, if◌then◌else◌, List, [], ◌∷◌, Option, Some, None, Result, Ok, Err, option_map, refl, ap, ◌∙◌}
 use Rattle.std.specs.Prelude.{◌+◌, nat_lt, not, length, slice_get}
-use Rattle.std.proofs.lemmas.Option.{same_Some}
-use Rattle.cil_model.proofs.Lists.{none_is_some}
 use Rattle.std.specs.Int.{w32, cast_unsigned}
-use Rattle.std.specs.Option.{option_map_or}
-use Rattle.cil_model.specs.declared.instructions.BinaryOperation.{BinaryOperation}
 use Rattle.cil_model.specs.declared.instructions.BranchComparison.{BranchComparison}
 use Rattle.cil_model.specs.declared.instructions.BranchComparison.TheVariants as Branch
 use Rattle.cil_model.specs.declared.instructions.Comparison.{Comparison}
@@ -14,34 +10,22 @@ use Rattle.cil_model.specs.declared.limits.TheConstants.{MOST_INSTRUCTIONS}
 use Rattle.cil_model.specs.declared.phases.Phase.{Phase}
 use Rattle.cil_model.specs.declared.reports.Fault.{Fault}
 use Rattle.cil_model.specs.declared.trees.Tree.{Tree}
-use Rattle.cil_model.specs.Bodies.{argument_types, at_place}
-use Rattle.resolved_code.specs.declared.operations.Operation.{Operation}
-use Rattle.resolved_code.specs.declared.operations.Operation.TheVariants as Resolved
+use Rattle.cil_model.specs.Bodies.{at_place}
 use Rattle.object_memory.specs.declared.addresses.Addr.{Addr}
 use Rattle.object_memory.specs.declared.values.Value.{Value}
 use Rattle.object_memory.specs.declared.values.Value.TheVariants.{Int32, Int64, Native, Ref}
 use Rattle.object_memory.specs.Objects.{Objects}
-use Rattle.instructions.specs.barriers.Barriers.{are_comparable, are_same}
+use Rattle.instructions.specs.barriers.Barriers.{are_comparable}
 use Rattle.loaded_program.specs.declared.instructions.LinkedInstruction.{LinkedInstruction}
 use Rattle.loaded_program.specs.declared.instructions.LinkedInstruction.TheVariants as Linked
-use Rattle.loaded_program.specs.AllMethods.{flat_number}
-use Rattle.loaded_program.specs.Links.{link, number_at}
-use Rattle.loaded_program.specs.Operands.{array_held, class_in, held_at, slot_at, slots_at, static_at}
-use Rattle.name_tables.specs.Numbers.{method_at}
-use Rattle.cil_model.specs.declared.types.ClassName.{ClassName}
-use Rattle.cil_model.specs.declared.trees.Method.{Method}
-use Rattle.object_memory.specs.declared.addresses.TheConstants.{FIRST_LITERAL}
-use Rattle.object_memory.specs.declared.values.ValueKind.TheVariants as Kind
-use Rattle.object_memory.specs.Cells.{literal}
 use Rattle.threads_monitors.specs.declared.mutators.Mutator.{Mutator}
 use Rattle.threads_monitors.specs.declared.effects.Effect.{Effect}
-use Rattle.threads_monitors.specs.declared.effects.Effect.TheVariants.{GoesOn, Raises}
+use Rattle.threads_monitors.specs.declared.effects.Effect.TheVariants.{GoesOn}
 use Rattle.threads_monitors.specs.Frames.{Frame, Frames, size, with_argument, with_local, with_place, with_stack}
-use Rattle.instructions.specs.Frames.{Turn, argument_turn, binary_result, binary_turn, branch_false_turn, branch_if, branch_reference, branch_test, branch_true_turn, compare_turn, comparison, convert_32_turn, convert_64_turn, branch_compare_turn, duplicate_turn, given, in_32_bits, in_64_bits, is_set, jump, leaves, leaves_result, local_turn, one_or_zero, onward, pop_turn, same_reference, shift_result, shift_turn, store_argument_turn, store_local_turn, stored, switch_on, switch_turn, to_place, top_of, unary_result, unary_turn, with_top}
+use Rattle.instructions.specs.Frames.{Turn, binary_result, branch_if, branch_test, compare_turn, comparison, branch_compare_turn, given, in_32_bits, in_64_bits, is_set, jump, leaves, leaves_result, one_or_zero, onward, shift_result, stored, switch_on, to_place, top_of, unary_result, with_top}
 use Rattle.instructions.specs.LocalTurns.{branch_integers_turn, compare_integers_turn, integers_branch, integers_compared, is_ordered, is_ordered_branch}
-use Rattle.interpreter.specs.Instructions.{MachineTurn, of_frames, operation_turn}
-use Rattle.interpreter.specs.Linked.{linked_turn}
-use Rattle.interpreter.specs.Local.{is_local, is_local_link, local_link_turn}
+use Rattle.interpreter.specs.Instructions.{linked_turn, of_frames}
+use Rattle.interpreter.specs.Local.{is_local_link, local_link_turn}
 
 -- ---- over other frames
 
@@ -126,7 +110,6 @@ module _ (below : List Frame) (depth : ℕ) where
   local_moves (Linked.LoadInt32 z) m = leaves_moves (Int32 z) m
   local_moves (Linked.LoadInt64 z) m = leaves_moves (Int64 z) m
   local_moves Linked.LoadNull m = leaves_moves _ m
-  local_moves (Linked.LoadString a) m = refl
   local_moves (Linked.LoadArgument n) m = given_moves (at_place m.running.arguments n) (λ v. leaves v m) (λ v. leaves v (moved m)) (λ v. leaves_moves v m)
   local_moves (Linked.StoreArgument n) m =
       top_moves m (λ v k. stored (λ i. with_argument k i v) k.running.arguments n) (λ v k. stored (λ i. with_argument k i v) k.running.arguments n)
@@ -148,21 +131,7 @@ module _ (below : List Frame) (depth : ℕ) where
   local_moves (Linked.BranchFalse place) m = one_moves is_set (λ holds k. branch_if (not holds) place k) (λ holds k. branch_moves (not holds) place k) m
   local_moves (Linked.BranchCompare op place) m = two_moves (integers_branch op) (λ holds k. branch_if holds place k) (λ holds k. branch_moves holds place k) m
   local_moves (Linked.Switch places) m = top_moves m (switch_on places) (switch_on places) (λ v k. switch_moves places v k)
-  local_moves (Linked.LoadField slot kind) m = refl
-  local_moves (Linked.StoreField slot) m = refl
-  local_moves (Linked.LoadStaticField number) m = refl
-  local_moves (Linked.StoreStaticField number) m = refl
-  local_moves (Linked.NewArray element) m = refl
-  local_moves Linked.LoadLength m = refl
-  local_moves (Linked.LoadElement kind) m = refl
-  local_moves Linked.StoreElement m = refl
-  local_moves Linked.StoreElementReference m = refl
-  local_moves (Linked.CastClass t) m = refl
-  local_moves (Linked.IsInstance t) m = refl
-  local_moves (Linked.Call number) m = refl
-  local_moves (Linked.CallVirtual number operands) m = refl
-  local_moves (Linked.NewObject class slots number) m = refl
-  local_moves (Linked.Return b) m = refl
+  local_moves _ m = refl
 
 -- ---- in any memory
 
@@ -246,7 +215,6 @@ module _ (tree : Tree) (mutator : Mutator) (m : Frames) (o : Objects) (ss : List
   local_is (Linked.LoadInt32 z) e = refl
   local_is (Linked.LoadInt64 z) e = refl
   local_is Linked.LoadNull e = refl
-  local_is (Linked.LoadString a) e = absurd cc
   local_is (Linked.LoadArgument n) e = refl
   local_is (Linked.StoreArgument n) e = refl
   local_is (Linked.LoadLocal n) e = refl
@@ -264,83 +232,4 @@ module _ (tree : Tree) (mutator : Mutator) (m : Frames) (o : Objects) (ss : List
   local_is (Linked.BranchFalse place) e = refl
   local_is (Linked.BranchCompare op place) e = ap (of_frames o ss c) (branch_is mutator.phase o op e place m)
   local_is (Linked.Switch places) e = refl
-  local_is (Linked.LoadField slot kind) e = absurd cc
-  local_is (Linked.StoreField slot) e = absurd cc
-  local_is (Linked.LoadStaticField number) e = absurd cc
-  local_is (Linked.StoreStaticField number) e = absurd cc
-  local_is (Linked.NewArray element) e = absurd cc
-  local_is Linked.LoadLength e = absurd cc
-  local_is (Linked.LoadElement kind) e = absurd cc
-  local_is Linked.StoreElement e = absurd cc
-  local_is Linked.StoreElementReference e = absurd cc
-  local_is (Linked.CastClass t) e = absurd cc
-  local_is (Linked.IsInstance t) e = absurd cc
-  local_is (Linked.Call number) e = absurd cc
-  local_is (Linked.CallVirtual number operands) e = absurd cc
-  local_is (Linked.NewObject class slots number) e = absurd cc
-  local_is (Linked.Return b) e = absurd cc
-
--- ---- links
-
-module _ (tree : Tree) (has_value : Bool) where
-  -- the link of an instruction is of its kind, where it has one
-  abbrev LinksAlike : Operation → Option LinkedInstruction → Type 0
-  LinksAlike op l = (wanted : LinkedInstruction) → l ≡ Some wanted → is_local_link wanted ≡ is_local op
-
-  here : (op : Operation) (l : LinkedInstruction) → is_local_link l ≡ is_local op → LinksAlike op (Some l)
-  here op l alike wanted e = ap is_local_link (sym (same_Some l wanted e)) ∙ alike
-
-  mapped : {X : Type 0} (op : Operation) (f : X → LinkedInstruction) → ((x : X) → is_local_link (f x) ≡ is_local op) → (x : Option X) → LinksAlike op (option_map f x)
-  mapped op f alike None wanted e = none_is_some wanted e
-  mapped op f alike (Some x) wanted e = here op (f x) (alike x) wanted e
-
-  behind : {X : Type 0} (op : Operation) (f : X → Option LinkedInstruction) → ((x : X) → LinksAlike op (f x)) → (x : Option X) → LinksAlike op (option_and_then f x)
-  behind op f alike None wanted e = none_is_some wanted e
-  behind op f alike (Some x) wanted e = alike x wanted e
-
-  chosen : (op : Operation) (l : LinkedInstruction) → is_local_link l ≡ is_local op → (b : Bool) → LinksAlike op (if b then Some l else None)
-  chosen op l alike true wanted e = here op l alike wanted e
-  chosen op l alike false wanted e = none_is_some wanted e
-
-  pub link_alike : (op : Operation) → LinksAlike op (link tree has_value op)
-  link_alike Resolved.NoOperation = here Resolved.NoOperation Linked.NoOperation refl
-  link_alike (Resolved.LoadInt32 z) = here (Resolved.LoadInt32 z) (Linked.LoadInt32 z) refl
-  link_alike (Resolved.LoadInt64 z) = here (Resolved.LoadInt64 z) (Linked.LoadInt64 z) refl
-  link_alike Resolved.LoadNull = here Resolved.LoadNull Linked.LoadNull refl
-  link_alike (Resolved.LoadString n) = chosen (Resolved.LoadString n) (Linked.LoadString (literal n)) refl (nat_lt n FIRST_LITERAL)
-  link_alike (Resolved.LoadArgument n) = here (Resolved.LoadArgument n) (Linked.LoadArgument n) refl
-  link_alike (Resolved.StoreArgument n) = here (Resolved.StoreArgument n) (Linked.StoreArgument n) refl
-  link_alike (Resolved.LoadLocal n) = here (Resolved.LoadLocal n) (Linked.LoadLocal n) refl
-  link_alike (Resolved.StoreLocal n) = here (Resolved.StoreLocal n) (Linked.StoreLocal n) refl
-  link_alike Resolved.Duplicate = here Resolved.Duplicate Linked.Duplicate refl
-  link_alike Resolved.Pop = here Resolved.Pop Linked.Pop refl
-  link_alike (Resolved.Binary op) = here (Resolved.Binary op) (Linked.Binary op) refl
-  link_alike (Resolved.Unary op) = here (Resolved.Unary op) (Linked.Unary op) refl
-  link_alike (Resolved.Shift op) = here (Resolved.Shift op) (Linked.Shift op) refl
-  link_alike (Resolved.Compare op) = here (Resolved.Compare op) (Linked.Compare op) refl
-  link_alike Resolved.ConvertInt32 = here Resolved.ConvertInt32 Linked.ConvertInt32 refl
-  link_alike Resolved.ConvertInt64 = here Resolved.ConvertInt64 Linked.ConvertInt64 refl
-  link_alike (Resolved.Branch place) = here (Resolved.Branch place) (Linked.Branch place) refl
-  link_alike (Resolved.BranchTrue place) = here (Resolved.BranchTrue place) (Linked.BranchTrue place) refl
-  link_alike (Resolved.BranchFalse place) = here (Resolved.BranchFalse place) (Linked.BranchFalse place) refl
-  link_alike (Resolved.BranchCompare op place) = here (Resolved.BranchCompare op place) (Linked.BranchCompare op place) refl
-  link_alike (Resolved.Switch places) = here (Resolved.Switch places) (Linked.Switch places) refl
-  link_alike (Resolved.LoadField owner field) = behind (Resolved.LoadField owner field) (λ slot. option_map (λ kind. Linked.LoadField slot kind) (held_at tree field)) (λ slot. mapped (Resolved.LoadField owner field) (λ kind. Linked.LoadField slot kind) (λ kind. refl) (held_at tree field)) (slot_at tree field)
-  link_alike (Resolved.StoreField owner field) = mapped (Resolved.StoreField owner field) (λ slot. Linked.StoreField slot) (λ slot. refl) (slot_at tree field)
-  link_alike (Resolved.LoadStaticField field) = mapped (Resolved.LoadStaticField field) (λ number. Linked.LoadStaticField number) (λ number. refl) (static_at tree field)
-  link_alike (Resolved.StoreStaticField field) = mapped (Resolved.StoreStaticField field) (λ number. Linked.StoreStaticField number) (λ number. refl) (static_at tree field)
-  link_alike (Resolved.NewArray t) = mapped (Resolved.NewArray t) (λ element. Linked.NewArray element) (λ element. refl) (array_held t)
-  link_alike Resolved.LoadLength = here Resolved.LoadLength Linked.LoadLength refl
-  link_alike Resolved.LoadElementInt32 = here Resolved.LoadElementInt32 (Linked.LoadElement Kind.Int32) refl
-  link_alike Resolved.LoadElementInt64 = here Resolved.LoadElementInt64 (Linked.LoadElement Kind.Int64) refl
-  link_alike Resolved.LoadElementReference = here Resolved.LoadElementReference (Linked.LoadElement Kind.Ref) refl
-  link_alike Resolved.StoreElementInt32 = here Resolved.StoreElementInt32 Linked.StoreElement refl
-  link_alike Resolved.StoreElementInt64 = here Resolved.StoreElementInt64 Linked.StoreElement refl
-  link_alike Resolved.StoreElementReference = here Resolved.StoreElementReference Linked.StoreElementReference refl
-  link_alike (Resolved.CastClass t) = here (Resolved.CastClass t) (Linked.CastClass t) refl
-  link_alike (Resolved.IsInstance t) = here (Resolved.IsInstance t) (Linked.IsInstance t) refl
-  link_alike (Resolved.Call b owner n) = mapped (Resolved.Call b owner n) (λ number. Linked.Call number) (λ number. refl) (number_at tree n)
-  link_alike (Resolved.CallVirtual owner n) = mapped (Resolved.CallVirtual owner n) (λ (found : ClassName × Method). Linked.CallVirtual (flat_number tree n.class n.place) (length (argument_types found.1 found.0))) (λ found. refl) (method_at tree (n.class, n.place))
-  link_alike (Resolved.NewObject n) = behind (Resolved.NewObject n) (λ class. option_and_then (λ slots. option_map (λ number. Linked.NewObject class slots number) (number_at tree n)) (slots_at tree n))
-      (λ class. behind (Resolved.NewObject n) (λ slots. option_map (λ number. Linked.NewObject class slots number) (number_at tree n)) (λ slots. mapped (Resolved.NewObject n) (λ number. Linked.NewObject class slots number) (λ number. refl) (number_at tree n)) (slots_at tree n)) (class_in n)
-  link_alike Resolved.Return = here Resolved.Return (Linked.Return has_value) refl
+  local_is _ e = absurd cc

@@ -1,21 +1,17 @@
 -- A linked instruction that was done to a frame alone is a local instruction of it, over any frames and in any memory.
-use Rattle.std.proofs.Common.{◌≡◌, ◌⊎◌, ◌<◌, inl, inr, ℕ, Bool, true, false, List, [], Option, Some, None, option_map, refl, sym, ap, ◌∙◌, subst}
+use Rattle.std.proofs.Common.{◌≡◌, ◌⊎◌, inl, inr, ℕ, Bool, true, false, List, [], Some, None, refl, sym, ap, ◌∙◌, subst}
+use Rattle.std.specs.Option.{option_map_or}
 use Rattle.std.specs.Prelude.{IsSome, option_and_then, slice_get}
-use Rattle.std.proofs.lemmas.Option.{same_Some}
 use Rattle.cil_model.specs.declared.types.ClassName.{ClassName}
-use Rattle.cil_model.specs.declared.reports.Fault.{Fault}
 use Rattle.cil_model.specs.declared.trees.Method.{Method}
 use Rattle.cil_model.specs.declared.trees.Tree.{Tree}
 use Rattle.resolved_code.specs.declared.operations.Operation.{Operation}
-use Rattle.resolved_code.specs.declared.operations.Operation.TheVariants as Resolved
 use Rattle.object_memory.specs.declared.values.Value.{Value}
 use Rattle.object_memory.specs.Objects.{Objects}
-use Rattle.loaded_program.specs.Links.{IsLinked, link}
-use Rattle.loaded_program.specs.Loaded.{IsCode, IsLinkedAt, IsLinkedLine, has_value, line_in}
+use Rattle.loaded_program.specs.Loaded.{IsCode, IsLinkedAt, IsLinkedLine, line_in}
 use Rattle.loaded_program.proofs.MethodLaws.{alike_from, some_of}
 use Rattle.cil_model.specs.Bodies.{lines_of}
 use Rattle.loaded_program.specs.declared.instructions.LinkedInstruction.{LinkedInstruction}
-use Rattle.loaded_program.specs.declared.instructions.LinkedInstruction.TheVariants as Linked
 use Rattle.threads_monitors.specs.declared.mutators.Mutator.{Mutator}
 use Rattle.threads_monitors.specs.declared.effects.Effect.{Effect}
 use Rattle.threads_monitors.specs.declared.effects.Effect.TheVariants.{GoesOn, Raises}
@@ -23,12 +19,11 @@ use Rattle.threads_monitors.specs.Frames.{Frame, Frames}
 use Rattle.instructions.specs.Frames.{Turn}
 use Rattle.instructions.specs.LocalTurns.{IsFaulty}
 use Rattle.interpreter.specs.declared.outcomes.Outcome.TheVariants.{Comes}
-use Rattle.interpreter.specs.Instructions.{Answer, IsAt, IsDone, answer_of, of_frames, operation_turn}
-use Rattle.interpreter.specs.Linked.{linked_turn}
-use Rattle.interpreter.specs.Local.{EndsLocal, IsFaultyLocal, IsLocalStep, IsNextLocal, IsReadySomewhere, alone, frames_over, is_local, is_local_link, local_link_turn}
+use Rattle.interpreter.specs.Instructions.{IsAt, IsDone, answer_of, link_of, linked_turn, of_frames, operation_turn}
+use Rattle.interpreter.specs.Local.{EndsLocal, IsLocalStep, IsNextLocal, IsReadySomewhere, alone, frames_over, is_local, is_local_link, local_link_turn}
 use Rattle.interpreter.proofs.Executing.{linked_here}
-use Rattle.interpreter.proofs.Linking.{link_is_there, linked_does}
-use Rattle.interpreter.proofs.LocalRules.{link_alike, local_is, local_moves, moved_turn}
+use Rattle.interpreter.proofs.Linking.{link_does, link_is}
+use Rattle.interpreter.proofs.LocalRules.{local_is, local_moves, moved_turn}
 
 -- where a turn is told by another, it has an answer where that has one
 framed_some : (o : Objects) (ss : List Value) (c : List ℕ) (t : Turn) → IsSome (of_frames o ss c t) → IsSome t
@@ -38,50 +33,6 @@ framed_some o ss c (Some x) h = refl
 moved_some : (below : List Frame) (depth : ℕ) (t : Turn) → IsSome (moved_turn below depth t) → IsSome t
 moved_some below depth None h = absurd cc
 moved_some below depth (Some x) h = refl
-
--- what is linked for a local instruction does what that does
-module _ (tree : Tree) (has_value : Bool) (mutator : Mutator) (m : Frames) (o : Objects) (ss : List Value) (c : List ℕ) where
-  pub local_does : (op : Operation) (l : LinkedInstruction) → is_local op ≡ true → IsLinked tree has_value op l → linked_turn tree mutator l m o ss c ≡ operation_turn tree mutator op m o ss c
-  local_does Resolved.NoOperation l e is = ap (λ (x : LinkedInstruction). linked_turn tree mutator x m o ss c) (is Linked.NoOperation refl)
-  local_does (Resolved.LoadInt32 z) l e is = ap (λ (x : LinkedInstruction). linked_turn tree mutator x m o ss c) (is (Linked.LoadInt32 z) refl)
-  local_does (Resolved.LoadInt64 z) l e is = ap (λ (x : LinkedInstruction). linked_turn tree mutator x m o ss c) (is (Linked.LoadInt64 z) refl)
-  local_does Resolved.LoadNull l e is = ap (λ (x : LinkedInstruction). linked_turn tree mutator x m o ss c) (is Linked.LoadNull refl)
-  local_does (Resolved.LoadArgument n) l e is = ap (λ (x : LinkedInstruction). linked_turn tree mutator x m o ss c) (is (Linked.LoadArgument n) refl)
-  local_does (Resolved.StoreArgument n) l e is = ap (λ (x : LinkedInstruction). linked_turn tree mutator x m o ss c) (is (Linked.StoreArgument n) refl)
-  local_does (Resolved.LoadLocal n) l e is = ap (λ (x : LinkedInstruction). linked_turn tree mutator x m o ss c) (is (Linked.LoadLocal n) refl)
-  local_does (Resolved.StoreLocal n) l e is = ap (λ (x : LinkedInstruction). linked_turn tree mutator x m o ss c) (is (Linked.StoreLocal n) refl)
-  local_does Resolved.Duplicate l e is = ap (λ (x : LinkedInstruction). linked_turn tree mutator x m o ss c) (is Linked.Duplicate refl)
-  local_does Resolved.Pop l e is = ap (λ (x : LinkedInstruction). linked_turn tree mutator x m o ss c) (is Linked.Pop refl)
-  local_does (Resolved.Binary op) l e is = ap (λ (x : LinkedInstruction). linked_turn tree mutator x m o ss c) (is (Linked.Binary op) refl)
-  local_does (Resolved.Unary op) l e is = ap (λ (x : LinkedInstruction). linked_turn tree mutator x m o ss c) (is (Linked.Unary op) refl)
-  local_does (Resolved.Shift op) l e is = ap (λ (x : LinkedInstruction). linked_turn tree mutator x m o ss c) (is (Linked.Shift op) refl)
-  local_does (Resolved.Compare op) l e is = ap (λ (x : LinkedInstruction). linked_turn tree mutator x m o ss c) (is (Linked.Compare op) refl)
-  local_does Resolved.ConvertInt32 l e is = ap (λ (x : LinkedInstruction). linked_turn tree mutator x m o ss c) (is Linked.ConvertInt32 refl)
-  local_does Resolved.ConvertInt64 l e is = ap (λ (x : LinkedInstruction). linked_turn tree mutator x m o ss c) (is Linked.ConvertInt64 refl)
-  local_does (Resolved.Branch place) l e is = ap (λ (x : LinkedInstruction). linked_turn tree mutator x m o ss c) (is (Linked.Branch place) refl)
-  local_does (Resolved.BranchTrue place) l e is = ap (λ (x : LinkedInstruction). linked_turn tree mutator x m o ss c) (is (Linked.BranchTrue place) refl)
-  local_does (Resolved.BranchFalse place) l e is = ap (λ (x : LinkedInstruction). linked_turn tree mutator x m o ss c) (is (Linked.BranchFalse place) refl)
-  local_does (Resolved.BranchCompare op place) l e is = ap (λ (x : LinkedInstruction). linked_turn tree mutator x m o ss c) (is (Linked.BranchCompare op place) refl)
-  local_does (Resolved.Switch places) l e is = ap (λ (x : LinkedInstruction). linked_turn tree mutator x m o ss c) (is (Linked.Switch places) refl)
-  local_does (Resolved.LoadString n) l e is = absurd cc
-  local_does (Resolved.LoadField owner field) l e is = absurd cc
-  local_does (Resolved.StoreField owner field) l e is = absurd cc
-  local_does (Resolved.LoadStaticField field) l e is = absurd cc
-  local_does (Resolved.StoreStaticField field) l e is = absurd cc
-  local_does (Resolved.NewArray t) l e is = absurd cc
-  local_does Resolved.LoadLength l e is = absurd cc
-  local_does Resolved.LoadElementInt32 l e is = absurd cc
-  local_does Resolved.LoadElementInt64 l e is = absurd cc
-  local_does Resolved.LoadElementReference l e is = absurd cc
-  local_does Resolved.StoreElementInt32 l e is = absurd cc
-  local_does Resolved.StoreElementInt64 l e is = absurd cc
-  local_does Resolved.StoreElementReference l e is = absurd cc
-  local_does (Resolved.CastClass t) l e is = absurd cc
-  local_does (Resolved.IsInstance t) l e is = absurd cc
-  local_does (Resolved.Call b owner method) l e is = absurd cc
-  local_does (Resolved.CallVirtual owner method) l e is = absurd cc
-  local_does (Resolved.NewObject method) l e is = absurd cc
-  local_does Resolved.Return l e is = absurd cc
 
 module _ (tree : Tree) (room : ℕ) (f : Frame) (l : LinkedInstruction) (at : IsLinkedAt tree f.method f.place l) (ready : IsReadySomewhere tree room f) where
   abbrev op : Operation
@@ -97,17 +48,18 @@ module _ (tree : Tree) (room : ℕ) (f : Frame) (l : LinkedInstruction) (at : Is
   has_answer : IsSome (operation_turn tree ready.mutator op somewhere ready.objects ready.statics ready.printed)
   has_answer = ready.there op (at_over ready.below ready.depth) at.linked.links.constant
 
-  linked : (wanted : LinkedInstruction) × (link tree (has_value at.found) op ≡ Some wanted)
-  linked = link_is_there tree ready.mutator at.found somewhere ready.objects ready.statics ready.printed at.found_is op has_answer
+  -- so it is linked to this, over any frames
+  linked : link_of tree (alone room f) op ≡ Some l
+  linked = link_is tree ready.mutator somewhere ready.objects ready.statics ready.printed at.found at.found_is op l at.linked.links.is has_answer
 
-  pub is_alike : is_local_link l ≡ is_local op
-  is_alike = ap is_local_link (at.linked.links.is linked.0 linked.1) ∙ link_alike tree (has_value at.found) op linked.0 linked.1
+  pub is_alike : is_local_link l ≡ is_local tree (alone room f) op
+  is_alike = sym (ap (λ x. option_map_or is_local_link x false) linked)
 
   -- a local one has an answer on the frame alone
   pub has_local : is_local_link l ≡ true → IsSome (local_link_turn l (alone room f))
   has_local local =
       let there : IsSome (linked_turn tree ready.mutator l somewhere ready.objects ready.statics ready.printed) =
-      subst IsSome (sym (linked_does tree ready.mutator at.found somewhere ready.objects ready.statics ready.printed at.found_is op l at.linked.links.is has_answer)) has_answer in
+      subst IsSome (link_does tree ready.mutator somewhere ready.objects ready.statics ready.printed op l linked) has_answer in
       let on_frames : IsSome (local_link_turn l somewhere) =
       framed_some ready.objects ready.statics ready.printed (local_link_turn l somewhere) (subst IsSome (local_is tree ready.mutator somewhere ready.objects ready.statics ready.printed l local) there) in
       moved_some ready.below ready.depth (local_link_turn l (alone room f)) (subst IsSome (local_moves ready.below ready.depth l (alone room f)) on_frames)
@@ -126,7 +78,7 @@ module _ (tree : Tree) (room : ℕ) (f : Frame) (l : LinkedInstruction) (at : Is
       operation = op;
       at = at_over below depth;
       constant = at.linked.links.constant;
-      is = sym (ap (λ (t : Turn). of_frames o statics printed (moved_turn below depth t)) is) ∙ sym on_linked ∙ local_does tree (has_value at.found) mutator here o statics printed op l (sym is_alike ∙ local) at.linked.links.is;
+      is = sym (ap (λ (t : Turn). of_frames o statics printed (moved_turn below depth t)) is) ∙ sym on_linked ∙ sym (link_does tree mutator here o statics printed op l linked);
     }
 
   -- whether it is one

@@ -15,8 +15,7 @@ use Rattle.threads_monitors.specs.Frames.{Frames}
 use Rattle.threads_monitors.specs.declared.effects.Effect.TheVariants.{Raises}
 use Rattle.instructions.specs.Frames.{given}
 use Rattle.interpreter.specs.declared.outcomes.Outcome.TheVariants.{Comes}
-use Rattle.interpreter.specs.Calls.{CallTurn, call_answer, chosen, chosen_by, class_at, receiver, run_turn}
-use Rattle.interpreter.specs.Linked.{call_numbered, virtual_numbered}
+use Rattle.interpreter.specs.Calls.{CallTurn, call_answer, call_numbered, chosen, chosen_by, class_at, receiver, run_on, run_turn, virtual_numbered}
 use Rattle.interpreter.proofs.Running.{given_some}
 
 module _ (tree : Tree) (mutator : Mutator) (number operands : ℕ) (m : Frames) (o : Objects) (console : List ℕ) where
@@ -27,7 +26,7 @@ module _ (tree : Tree) (mutator : Mutator) (number operands : ℕ) (m : Frames) 
   runs run = run_turn tree mutator run m o console
 
   abbrev pub received : ClassName × Method → Addr → CallTurn
-  received found a = if a.number == 0 then null_raised else given (chosen tree o a found) runs
+  received found a = run_on tree mutator found a m o console
 
   -- the method that is named, and the object
   pub record Receiving : Type 0 where

@@ -19,8 +19,7 @@ use Rattle.threads_monitors.specs.Frames.{Frames}
 use Rattle.instructions.specs.Frames.{Turn, given}
 use Rattle.instructions.specs.ObjectTurns.{beside}
 use Rattle.instructions.specs.Calls.{call_turn, new_object_turn, new_plain_object_turn}
-use Rattle.interpreter.specs.Calls.{beside_console, act_turn, called_as, made, run_turn}
-use Rattle.interpreter.specs.Linked.{call_numbered, made_numbered}
+use Rattle.interpreter.specs.Calls.{act_turn, beside_console, call_numbered, called_as, made, made_numbered, run_turn}
 
 -- ---- options
 

@@ -1,6 +1,6 @@
--- What runs for calls, newobj and ret, and for the built-in members (III.3.19, III.4.2, III.4.21, III.3.57, Partition IV). A rule has no
--- answer where it is not that rule's instruction, or where an operand is missing or of another kind.
-use Rattle.std.specs.Prelude.{ℕ, zero, suc, ◌==◌, Bool, false, if◌then◌else◌, nat_lt, is_some, List, ◌∷◌, length, Option, Some, None, option_map, option_and_then, slice_get}
+-- What runs for calls and newobj, and for the built-in members (III.3.19, III.4.2, III.4.21, Partition IV). A rule has no answer where an
+-- operand is missing or of another kind.
+use Rattle.std.specs.Prelude.{ℕ, zero, suc, ◌==◌, Bool, false, if◌then◌else◌, nat_lt, List, ◌∷◌, length, Option, Some, None, option_map, option_and_then, slice_get}
 use Rattle.std.specs.Option.{option_map_or}
 use Rattle.cil_model.specs.declared.types.ClassName.{ClassName}
 use Rattle.cil_model.specs.declared.trees.Tree.{Tree}
@@ -10,9 +10,8 @@ use Rattle.cil_model.specs.Bodies.{argument_types}
 use Rattle.cil_model.specs.Mentions.{literals_of}
 use Rattle.reference_machine.specs.BuiltIn.{Action, Construct, Write, Enter, Exit, Start, Join, action_of}
 use Rattle.name_tables.specs.declared.lookups.MemberNumber.{MemberNumber}
+use Rattle.name_tables.specs.declared.numbers.TheConstants.{STRING}
 use Rattle.name_tables.specs.Numbers.{method_at}
-use Rattle.resolved_code.specs.declared.operations.Operation.{Operation}
-use Rattle.resolved_code.specs.declared.operations.Operation.TheVariants.{Call, CallVirtual, NewObject, Return}
 use Rattle.object_memory.specs.declared.addresses.Addr.{Addr}
 use Rattle.object_memory.specs.declared.kinds.Kind.{Kind}
 use Rattle.object_memory.specs.declared.kinds.Kind.TheVariants.{Instance, Array}
@@ -27,11 +26,10 @@ use Rattle.threads_monitors.specs.declared.mutators.Mutator.{Mutator}
 use Rattle.threads_monitors.specs.Frames.{Frames}
 use Rattle.threads_monitors.specs.declared.effects.Effect.{Effect}
 use Rattle.threads_monitors.specs.declared.effects.Effect.TheVariants.{Raises}
-pub use Rattle.loaded_program.specs.Operands.{class_in, slots_at}
 pub use Rattle.loaded_program.specs.Loaded.{chosen_by}
-use Rattle.instructions.specs.Frames.{Turn, given, with_top, onward}
+use Rattle.instructions.specs.Frames.{given, with_top, onward}
 use Rattle.instructions.specs.ObjectTurns.{ObjectTurn, beside}
-use Rattle.instructions.specs.Calls.{Called, call_turn, new_object_turn, new_plain_object_turn, return_turn}
+use Rattle.instructions.specs.Calls.{Called, call_turn, new_object_turn, new_plain_object_turn}
 use Rattle.instructions.specs.BuiltInTurns.{enter_turn, exit_turn, write_turn}
 use Rattle.interpreter.specs.declared.outcomes.Outcome.{Outcome}
 use Rattle.interpreter.specs.declared.outcomes.Outcome.TheVariants.{Comes, Starts, Joins}
@@ -90,18 +88,18 @@ run_turn tree mutator found m o console =
     option_map_or (λ a. act_turn tree mutator a m o console) (action_of found.0 found.1)
     (given (number_of tree found) (λ n. beside_console console (beside o (call_turn (called_as found n) m))))
 
--- the same of the method of a number
-abbrev pub run_at : Tree → Mutator → MemberNumber → Frames → Objects → List ℕ → CallTurn
-run_at tree mutator n m o console = given (method_at tree (n.class, n.place)) (λ found. run_turn tree mutator found m o console)
+-- the same of the method of a flat number
+abbrev pub call_numbered : Tree → Mutator → ℕ → Frames → Objects → List ℕ → CallTurn
+call_numbered tree mutator number m o console = given (slice_get (all_methods tree) number) (λ found. run_turn tree mutator found m o console)
 
 -- the number of the class of an object of this kind; an array has none
 abbrev pub class_of_kind : Kind → Option ℕ
 class_of_kind (Instance c) = Some c
 class_of_kind (Array a) = None
 
--- of what lies at an address: a literal is of the second class, System.String
+-- of what lies at an address: a literal is of System.String
 abbrev pub class_at : Objects → Addr → Option (Option ℕ)
-class_at o a = option_map_or (λ n. Some (Some 1)) (literal_number a) (option_map (λ (c : Cell). class_of_kind c.kind) (object_cell o a))
+class_at o a = option_map_or (λ n. Some (Some STRING)) (literal_number a) (option_map (λ (c : Cell). class_of_kind c.kind) (object_cell o a))
 
 -- the method that runs for an object
 abbrev pub chosen : Tree → Objects → Addr → ClassName × Method → Option (ClassName × Method)
@@ -110,10 +108,6 @@ chosen tree o a found = option_and_then (chosen_by tree found) (class_at o a)
 -- the same of the method of a number
 abbrev pub chosen_at : Tree → Objects → Addr → MemberNumber → Option (ClassName × Method)
 chosen_at tree o a n = option_and_then (chosen tree o a) (method_at tree (n.class, n.place))
-
--- the method that an object runs for the method of a number
-abbrev pub run_chosen : Tree → Mutator → Addr → MemberNumber → Frames → Objects → List ℕ → CallTurn
-run_chosen tree mutator a n m o console = given (chosen_at tree o a n) (λ run. run_turn tree mutator run m o console)
 
 -- the object on which a method with so many operands is called
 abbrev pub receiver_in : Option Value → Option Addr
@@ -124,32 +118,26 @@ abbrev pub receiver : List Value → ℕ → Option Addr
 receiver stack zero = None
 receiver stack (suc n) = receiver_in (slice_get stack n)
 
--- callvirt (III.4.2)
-abbrev pub virtual_at : Tree → Mutator → MemberNumber → Frames → Objects → List ℕ → CallTurn
-virtual_at tree mutator n m o console =
-    given (method_at tree (n.class, n.place)) (λ found.
-    given (receiver m.running.stack (length (argument_types found.1 found.0))) (λ a.
-    if a.number == 0 then Some (call_answer m o console (Comes (Raises NullReference))) else run_chosen tree mutator a n m o console))
+-- the method runs that an object has for the named one; null raises NullReference (III.4.2)
+abbrev pub run_on : Tree → Mutator → ClassName × Method → Addr → Frames → Objects → List ℕ → CallTurn
+run_on tree mutator found a m o console =
+    if a.number == 0 then Some (call_answer m o console (Comes (Raises NullReference)))
+    else given (chosen tree o a found) (λ run. run_turn tree mutator run m o console)
 
--- an object, at once where its constructor is built in (III.4.21)
+-- a virtual call of a method with so many operands (III.4.2)
+abbrev pub virtual_turn : Tree → Mutator → ClassName × Method → ℕ → Frames → Objects → List ℕ → CallTurn
+virtual_turn tree mutator found operands m o console = given (receiver m.running.stack operands) (λ a. run_on tree mutator found a m o console)
+
+-- of the method of a flat number
+abbrev pub virtual_numbered : Tree → Mutator → ℕ → ℕ → Frames → Objects → List ℕ → CallTurn
+virtual_numbered tree mutator number operands m o console = given (slice_get (all_methods tree) number) (λ found. virtual_turn tree mutator found operands m o console)
+
+-- an object of a class with so many slots, at once where its constructor is built in (III.4.21)
 abbrev pub made : Tree → Mutator → ℕ → ℕ → ClassName × Method → Frames → Objects → ObjectTurn
 made tree mutator class slots found m o =
     option_map_or (λ a. new_plain_object_turn mutator.phase class slots m o) (action_of found.0 found.1)
     (given (number_of tree found) (λ n. new_object_turn mutator.phase class slots (called_as found n) m o))
 
--- newobj (III.4.21)
-abbrev pub new_at : Tree → Mutator → MemberNumber → Frames → Objects → ObjectTurn
-new_at tree mutator n m o =
-    given (class_in n) (λ class. given (slots_at tree n) (λ slots. given (method_at tree (n.class, n.place)) (λ found. made tree mutator class slots found m o)))
-
--- ret (III.3.57)
-abbrev pub return_rule : Tree → Frames → Turn
-return_rule tree m = given (slice_get (all_methods tree) m.running.method) (λ found. return_turn (is_some found.1.signature.return_type) m)
-
--- calls, newobj and ret
-abbrev pub call_rule : Tree → Mutator → Operation → Frames → Objects → List ℕ → CallTurn
-call_rule tree mutator (Call is_instance owner method) m o console = run_at tree mutator method m o console
-call_rule tree mutator (CallVirtual owner method) m o console = virtual_at tree mutator method m o console
-call_rule tree mutator (NewObject method) m o console = beside_console console (new_at tree mutator method m o)
-call_rule tree mutator Return m o console = beside_console console (beside o (return_rule tree m))
-call_rule tree mutator _ m o console = None
+-- the same with the constructor of a flat number
+abbrev pub made_numbered : Tree → Mutator → ℕ → ℕ → ℕ → Frames → Objects → ObjectTurn
+made_numbered tree mutator class slots number m o = given (slice_get (all_methods tree) number) (λ found. made tree mutator class slots found m o)

@@ -6,9 +6,7 @@ pub use Rattle.object_memory.specs as object_memory
 pub use Rattle.loaded_program.specs as loaded_program
 pub use Rattle.threads_monitors.specs as threads_monitors
 pub use Rattle.instructions.specs as instructions
-pub mod Operations
 pub mod Calls
 pub mod Instructions
-pub mod Linked
 pub mod Local
 pub mod Stores

@@ -1,10 +1,10 @@
 -- Local instructions: what a thread may do with the frame that runs while it holds nothing else of its machine (III.3; which they are is this
 -- profile's).
-use Rattle.std.specs.Prelude.{◌≡◌, ◌⊎◌, ◌<◌, ℕ, zero, suc, Bool, true, false, List, [], IsSome, None}
+use Rattle.std.specs.Prelude.{◌≡◌, ◌⊎◌, ℕ, zero, suc, Bool, true, false, List, [], IsSome, None}
+use Rattle.std.specs.Option.{option_map_or}
 use Rattle.cil_model.specs.declared.reports.Fault.{Fault}
 use Rattle.cil_model.specs.declared.trees.Tree.{Tree}
 use Rattle.resolved_code.specs.declared.operations.Operation.{Operation}
-use Rattle.resolved_code.specs.declared.operations.Operation.TheVariants as Resolved
 use Rattle.object_memory.specs.declared.values.Value.{Value}
 use Rattle.object_memory.specs.declared.values.Value.TheVariants.{Int32, Int64, Ref}
 use Rattle.object_memory.specs.Cells.{null}
@@ -17,93 +17,12 @@ use Rattle.threads_monitors.specs.Frames.{Frame, Frames}
 use Rattle.instructions.specs.Frames.{Turn, jump, onward, leaves, argument_turn, local_turn, store_argument_turn, store_local_turn, duplicate_turn, pop_turn, binary_turn, unary_turn, shift_turn, convert_32_turn, convert_64_turn, branch_true_turn, branch_false_turn, switch_turn}
 use Rattle.instructions.specs.LocalTurns.{branch_integers_turn, compare_integers_turn, is_ordered, is_ordered_branch}
 use Rattle.interpreter.specs.declared.outcomes.Outcome.TheVariants.{Comes}
-use Rattle.interpreter.specs.Instructions.{HasSmallConstant, IsAt, IsDone, answer_of, line_at, operation_turn}
+use Rattle.interpreter.specs.Instructions.{HasSmallConstant, IsAt, IsDone, answer_of, line_at, link_of, operation_turn}
 
 -- ---- which they are
 
 -- constants, arguments, locals and the stack, arithmetic, comparisons that integers alone have, and branches: they use no object, static field, call
 -- or comparison of references
-abbrev pub is_local : Operation → Bool
-is_local Resolved.NoOperation = true
-is_local (Resolved.LoadInt32 z) = true
-is_local (Resolved.LoadInt64 z) = true
-is_local Resolved.LoadNull = true
-is_local (Resolved.LoadArgument n) = true
-is_local (Resolved.StoreArgument n) = true
-is_local (Resolved.LoadLocal n) = true
-is_local (Resolved.StoreLocal n) = true
-is_local Resolved.Duplicate = true
-is_local Resolved.Pop = true
-is_local (Resolved.Binary op) = true
-is_local (Resolved.Unary op) = true
-is_local (Resolved.Shift op) = true
-is_local (Resolved.Compare op) = is_ordered op
-is_local Resolved.ConvertInt32 = true
-is_local Resolved.ConvertInt64 = true
-is_local (Resolved.Branch place) = true
-is_local (Resolved.BranchTrue place) = true
-is_local (Resolved.BranchFalse place) = true
-is_local (Resolved.BranchCompare op place) = is_ordered_branch op
-is_local (Resolved.Switch places) = true
-is_local _ = false
-
--- ---- a frame's local instructions
-
--- the frames of a thread of which this one runs
-abbrev pub frames_over : Frame → List Frame → (depth room : ℕ) → Frames
-frames_over f below depth room = record { running = f; below = below; depth = depth; room = room }
-
--- a frame without others
-abbrev pub alone : ℕ → Frame → Frames
-alone room f = frames_over f [] 1 room
-
--- A local instruction of a frame is done, and its thread goes on: whatever frames lie below, and whatever else the machine holds, this frame alone changes.
-pub record IsLocalStep (tree : Tree) (room : ℕ) (f g : Frame) : Type 0 where
-  pub operation : Operation
-  pub at : IsAt tree (alone room f) operation
-  pub local : is_local operation ≡ true
-  pub done : (below : List Frame) (depth : ℕ) (mutator : Mutator) (o : Objects) (statics : List Value) (printed : List ℕ) →
-      IsDone tree mutator (frames_over f below depth room) o statics printed (answer_of (frames_over g below depth room) o statics printed (Comes GoesOn))
-
--- so many of them, one after another
-abbrev pub AreLocalSteps : Tree → (room : ℕ) → ℕ → Frame → Frame → Type 0
-AreLocalSteps tree room zero f g = g ≡ f
-AreLocalSteps tree room (suc n) f g = (next : Frame) × AreLocalSteps tree room n f next × IsLocalStep tree room next g
-
--- whether the next instruction of the frame is local
-abbrev pub IsNextLocal : Tree → (room : ℕ) → Frame → Bool → Type 0
-IsNextLocal tree room f local = (op : Operation) × IsAt tree (alone room f) op × (is_local op ≡ local)
-
--- it is not
-abbrev pub IsNoLocal : Tree → (room : ℕ) → Frame → Type 0
-IsNoLocal tree room f = IsNextLocal tree room f false
-
--- or it is, and raises a fault, whatever else the machine holds
-pub record IsFaultyLocal (tree : Tree) (room : ℕ) (f : Frame) : Type 0 where
-  pub operation : Operation
-  pub at : IsAt tree (alone room f) operation
-  pub local : is_local operation ≡ true
-  pub fault : Fault
-  pub raises : (below : List Frame) (depth : ℕ) (mutator : Mutator) (o : Objects) (statics : List Value) (printed : List ℕ) →
-      (m : Frames) × IsDone tree mutator (frames_over f below depth room) o statics printed (answer_of m o statics printed (Comes (Raises fault)))
-
--- local instructions end here
-abbrev pub EndsLocal : Tree → (room : ℕ) → Frame → Type 0
-EndsLocal tree room f = IsNoLocal tree room f ⊎ IsFaultyLocal tree room f
-
--- somewhere the next instruction has an answer: over some frames, in some memory
-pub record IsReadySomewhere (tree : Tree) (room : ℕ) (f : Frame) : Type 0 where
-  pub below : List Frame
-  pub depth : ℕ
-  pub mutator : Mutator
-  pub objects : Objects
-  pub statics : List Value
-  pub printed : List ℕ
-  pub place : IsSome (line_at tree (frames_over f below depth room))
-  pub there : (op : Operation) → IsAt tree (frames_over f below depth room) op → HasSmallConstant op → IsSome (operation_turn tree mutator op (frames_over f below depth room) objects statics printed)
-
--- ---- linked instructions
-
 abbrev pub is_local_link : LinkedInstruction → Bool
 is_local_link Linked.NoOperation = true
 is_local_link (Linked.LoadInt32 z) = true
@@ -127,6 +46,67 @@ is_local_link (Linked.BranchFalse place) = true
 is_local_link (Linked.BranchCompare op place) = is_ordered_branch op
 is_local_link (Linked.Switch places) = true
 is_local_link _ = false
+
+-- a resolved instruction is local if its link is
+abbrev pub is_local : Tree → Frames → Operation → Bool
+is_local tree m op = option_map_or is_local_link (link_of tree m op) false
+
+-- ---- a frame's local instructions
+
+-- the frames of a thread of which this one runs
+abbrev pub frames_over : Frame → List Frame → (depth room : ℕ) → Frames
+frames_over f below depth room = record { running = f; below = below; depth = depth; room = room }
+
+-- a frame without others
+abbrev pub alone : ℕ → Frame → Frames
+alone room f = frames_over f [] 1 room
+
+-- A local instruction of a frame is done, and its thread goes on: whatever frames lie below, and whatever else the machine holds, this frame alone changes.
+pub record IsLocalStep (tree : Tree) (room : ℕ) (f g : Frame) : Type 0 where
+  pub operation : Operation
+  pub at : IsAt tree (alone room f) operation
+  pub local : is_local tree (alone room f) operation ≡ true
+  pub done : (below : List Frame) (depth : ℕ) (mutator : Mutator) (o : Objects) (statics : List Value) (printed : List ℕ) →
+      IsDone tree mutator (frames_over f below depth room) o statics printed (answer_of (frames_over g below depth room) o statics printed (Comes GoesOn))
+
+-- so many of them, one after another
+abbrev pub AreLocalSteps : Tree → (room : ℕ) → ℕ → Frame → Frame → Type 0
+AreLocalSteps tree room zero f g = g ≡ f
+AreLocalSteps tree room (suc n) f g = (next : Frame) × AreLocalSteps tree room n f next × IsLocalStep tree room next g
+
+-- whether the next instruction of the frame is local
+abbrev pub IsNextLocal : Tree → (room : ℕ) → Frame → Bool → Type 0
+IsNextLocal tree room f local = (op : Operation) × IsAt tree (alone room f) op × (is_local tree (alone room f) op ≡ local)
+
+-- it is not
+abbrev pub IsNoLocal : Tree → (room : ℕ) → Frame → Type 0
+IsNoLocal tree room f = IsNextLocal tree room f false
+
+-- or it is, and raises a fault, whatever else the machine holds
+pub record IsFaultyLocal (tree : Tree) (room : ℕ) (f : Frame) : Type 0 where
+  pub operation : Operation
+  pub at : IsAt tree (alone room f) operation
+  pub local : is_local tree (alone room f) operation ≡ true
+  pub fault : Fault
+  pub raises : (below : List Frame) (depth : ℕ) (mutator : Mutator) (o : Objects) (statics : List Value) (printed : List ℕ) →
+      (m : Frames) × IsDone tree mutator (frames_over f below depth room) o statics printed (answer_of m o statics printed (Comes (Raises fault)))
+
+-- local instructions end here
+abbrev pub EndsLocal : Tree → (room : ℕ) → Frame → Type 0
+EndsLocal tree room f = IsNoLocal tree room f ⊎ IsFaultyLocal tree room f
+
+-- somewhere the next instruction has an answer: over some frames, in some memory
+pub record IsReadySomewhere (tree : Tree) (room : ℕ) (f : Frame) : Type 0 where
+  pub below : List Frame
+  pub depth : ℕ
+  pub mutator : Mutator
+  pub objects : Objects
+  pub statics : List Value
+  pub printed : List ℕ
+  pub place : IsSome (line_at tree (frames_over f below depth room))
+  pub there : (op : Operation) → IsAt tree (frames_over f below depth room) op → HasSmallConstant op → IsSome (operation_turn tree mutator op (frames_over f below depth room) objects statics printed)
+
+-- ---- what they do
 
 -- what a local one does to frames; none of another one
 abbrev pub local_link_turn : LinkedInstruction → Frames → Turn

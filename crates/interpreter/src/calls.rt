@@ -2,8 +2,7 @@
 
 ghost use Rattle.std.specs.Prelude.{◌≡◌, IsSome, Some, IfOk, OnErr, true};
 ghost use Rattle.loaded_program.specs.Prepared.{action_named};
-ghost use Rattle.interpreter.specs.Calls.{act_turn, class_at, prints, receiver, top_reference, call_answer};
-ghost use Rattle.interpreter.specs.Linked.{call_numbered, made_numbered, virtual_numbered};
+ghost use Rattle.interpreter.specs.Calls.{act_turn, call_answer, call_numbered, class_at, made_numbered, prints, receiver, top_reference, virtual_numbered};
 ghost use Rattle.interpreter.specs.Stores.{HoldSame};
 
 use crate::outcomes::Outcome;

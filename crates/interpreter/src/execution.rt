@@ -1,8 +1,7 @@
 //! One linked instruction.
 
 ghost use Rattle.std.specs.Prelude.{◌≡◌, IsSome, Some, IfOk, OnErr, true};
-ghost use Rattle.interpreter.specs.Instructions.{is_printing, answer_of};
-ghost use Rattle.interpreter.specs.Linked.{linked_turn};
+ghost use Rattle.interpreter.specs.Instructions.{is_printing, answer_of, linked_turn};
 ghost use Rattle.interpreter.specs.Stores.{HoldSame};
 
 use crate::calls::{create, run, run_virtual};

@@ -17,6 +17,7 @@ use Rattle.interpreter.specs.cil_model.Mentions.{literals_of}
 use Rattle.collector.specs.phase_handshake.Handshakes.{Handshakes, first_handshakes, joined, left as without_seat}
 use Rattle.collector.specs.Phases.{no_progress}
 use Rattle.interpreter.specs.name_tables.declared.lookups.MemberNumber.{MemberNumber}
+use Rattle.interpreter.specs.name_tables.declared.numbers.TheConstants.{THREAD}
 use Rattle.interpreter.specs.object_memory.declared.addresses.Addr.{Addr}
 use Rattle.interpreter.specs.object_memory.declared.values.Value.{Value}
 use Rattle.interpreter.specs.object_memory.declared.values.Value.TheVariants.{Ref}
@@ -70,9 +71,9 @@ after_request Returns m = m
 after_request Blocks m = m
 after_request (Raises x) m = m
 
--- Cilvm.Thread's Run by number: the second method of the fifth class
+-- Cilvm.Thread's Run by number: the second method of its class
 abbrev pub run_member : MemberNumber
-run_member = record { class = 4; place = 1 }
+run_member = record { class = THREAD; place = 1 }
 
 -- the thread that begins where one is started on an object: at its Run
 abbrev pub thread_for : Tree → Limits → Objects → Addr → Option Thread

@@ -1,5 +1,5 @@
 -- Each turn of a machine adds its event and its report to what the machine has done.
-use Rattle.std.proofs.Common.{◌≡◌, ◌<◌, List, [], ◌∷◌, ◌++◌, Some, true, ap, arith, refl, subst, sym}
+use Rattle.std.proofs.Common.{◌≡◌, ◌<◌, List, [], ◌∷◌, ◌++◌, Some, true, arith, refl, subst, sym}
 use Rattle.cil_model.specs.Ranges.{are_in_range}
 use Rattle.cil_model.specs.Typings.{IsAccepted}
 use Rattle.cil_model.specs.declared.events.Event.{Event}

@@ -26,7 +26,7 @@ use Rattle.simulation.proofs.reference_machine.Programs.ActingMembers.{acting_is
 use Rattle.name_tables.specs.declared.lookups.MemberNumber.{MemberNumber}
 use Rattle.name_tables.specs.Numbers.{method_at}
 use Rattle.resolved_code.specs.Numbered.{class_name}
-use Rattle.resolved_code.specs.Resolved.{IsMethod, IsOperation, no_operation, load_int32, load_int64, load_null, load_string, load_argument, store_argument, load_local, store_local, duplicate, pop, binary, unary, shift, compare, convert_int32, convert_int64, branch, branch_true, branch_false, branch_compare, switch, load_field, store_field, load_static_field, store_static_field, new_array, load_length, load_element_int32, load_element_int64, load_element_reference, store_element_int32, store_element_int64, store_element_reference, cast_class, is_instance, call, call_virtual, new_object, return}
+use Rattle.resolved_code.specs.Resolved.{IsMethod, IsOperation, call, call_virtual}
 use Rattle.resolved_code.specs.declared.operations.Operation.{Operation}
 use Rattle.resolved_code.specs.declared.operations.Operation.TheVariants as Resolved
 use Rattle.object_memory.specs.declared.addresses.Addr.{Addr}
@@ -45,8 +45,9 @@ use Rattle.simulation.specs.instructions.Calls.{call_turn}
 use Rattle.simulation.specs.instructions.Frames.{given}
 use Rattle.simulation.specs.instructions.ObjectTurns.{ObjectTurn, beside}
 use Rattle.simulation.specs.instructions.BuiltInTurns.{carried, is_countable, reference_from}
-use Rattle.simulation.specs.interpreter.Calls.{CallTurn, act_turn, beside_console, call_answer, called_as, chosen, chosen_by, class_at, class_of_kind, receiver, run_chosen, run_turn, top_reference, virtual_at}
+use Rattle.simulation.specs.interpreter.Calls.{CallTurn, act_turn, beside_console, call_answer, called_as, chosen, chosen_by, class_at, class_of_kind, receiver, run_turn, top_reference, run_on}
 use Rattle.simulation.specs.interpreter.Instructions.{Answer, HasSmallConstant, IsAt, IsDone, MachineTurn, answer_of, line_at, of_calls, operation_turn}
+use Rattle.simulation.proofs.interpreter.Linking.{call_does, virtual_does}
 use Rattle.simulation.specs.interpreter.declared.outcomes.Outcome.TheVariants.{Comes, Joins}
 use Rattle.simulation.specs.MachineContents.{Content, mutator_of}
 use Rattle.simulation.specs.Ready.{IsAnswerable, IsReady}
@@ -62,46 +63,9 @@ pub data Calls (tree : Tree) : Instruction → Operation → Type 0 where
   nothing : (i : Instruction) (op : Operation) → called_action tree i ≡ None → called_member op ≡ None → Calls tree i op
 
 pub calls_of : (tree : Tree) (lines : List Line) (i : Instruction) (op : Operation) → IsOperation tree lines i op → Calls tree i op
-calls_of tree lines _ _ no_operation = nothing _ _ refl refl
-calls_of tree lines _ _ (load_int32 z) = nothing _ _ refl refl
-calls_of tree lines _ _ (load_int64 z) = nothing _ _ refl refl
-calls_of tree lines _ _ load_null = nothing _ _ refl refl
-calls_of tree lines _ _ (load_string characters number is) = nothing _ _ refl refl
-calls_of tree lines _ _ (load_argument n) = nothing _ _ refl refl
-calls_of tree lines _ _ (store_argument n) = nothing _ _ refl refl
-calls_of tree lines _ _ (load_local n) = nothing _ _ refl refl
-calls_of tree lines _ _ (store_local n) = nothing _ _ refl refl
-calls_of tree lines _ _ duplicate = nothing _ _ refl refl
-calls_of tree lines _ _ pop = nothing _ _ refl refl
-calls_of tree lines _ _ (binary op) = nothing _ _ refl refl
-calls_of tree lines _ _ (unary op) = nothing _ _ refl refl
-calls_of tree lines _ _ (shift op) = nothing _ _ refl refl
-calls_of tree lines _ _ (compare op) = nothing _ _ refl refl
-calls_of tree lines _ _ convert_int32 = nothing _ _ refl refl
-calls_of tree lines _ _ convert_int64 = nothing _ _ refl refl
-calls_of tree lines _ _ (branch label place is) = nothing _ _ refl refl
-calls_of tree lines _ _ (branch_true label place is) = nothing _ _ refl refl
-calls_of tree lines _ _ (branch_false label place is) = nothing _ _ refl refl
-calls_of tree lines _ _ (branch_compare op label place is) = nothing _ _ refl refl
-calls_of tree lines _ _ (switch labels places are) = nothing _ _ refl refl
-calls_of tree lines _ _ (load_field r owner field named finds) = nothing _ _ refl refl
-calls_of tree lines _ _ (store_field r owner field named finds) = nothing _ _ refl refl
-calls_of tree lines _ _ (load_static_field r field finds) = nothing _ _ refl refl
-calls_of tree lines _ _ (store_static_field r field finds) = nothing _ _ refl refl
-calls_of tree lines _ _ (new_array t n is) = nothing _ _ refl refl
-calls_of tree lines _ _ load_length = nothing _ _ refl refl
-calls_of tree lines _ _ load_element_int32 = nothing _ _ refl refl
-calls_of tree lines _ _ load_element_int64 = nothing _ _ refl refl
-calls_of tree lines _ _ load_element_reference = nothing _ _ refl refl
-calls_of tree lines _ _ store_element_int32 = nothing _ _ refl refl
-calls_of tree lines _ _ store_element_int64 = nothing _ _ refl refl
-calls_of tree lines _ _ store_element_reference = nothing _ _ refl refl
-calls_of tree lines _ _ (cast_class t n is) = nothing _ _ refl refl
-calls_of tree lines _ _ (is_instance t n is) = nothing _ _ refl refl
 calls_of tree lines _ _ (call flag r owner method named finds) = plainly flag r owner method finds
 calls_of tree lines _ _ (call_virtual c name signature owner method named finds) = virtually c name signature owner method finds
-calls_of tree lines _ _ (new_object c parameters number finds) = nothing _ _ refl refl
-calls_of tree lines _ _ return = nothing _ _ refl refl
+calls_of tree lines _ _ _ = nothing _ _ refl refl
 
 -- ---- the action at a frame's place
 
@@ -170,7 +134,7 @@ module _ (tree : Tree) (mutator : Mutator) (m : Frames) (o : Objects) (ss : List
       operation_turn tree mutator (Resolved.Call flag owner method) m o ss pr ≡ acted
   plain_is flag r owner method finds acts =
       let own : action_of finds.declared_in finds.found ≡ Some a = sym (ap action_found finds.finds) ∙ acts in
-      ap (λ k. of_calls o ss pr (given k (λ found. run_turn tree mutator found m o pr))) finds.numbered ∙ ap (of_calls o ss pr) (run_is (finds.declared_in, finds.found) own)
+      call_does tree mutator m o ss pr method (finds.declared_in, finds.found) finds.numbered flag owner ∙ ap (of_calls o ss pr) (run_is (finds.declared_in, finds.found) own)
 
   -- a method that is not virtual runs itself
   chosen_itself : (found run : ClassName × Method) → is_virtual found.1.kind ≡ false → (k : Option ℕ) → chosen_by tree found k ≡ Some run → run ≡ found
@@ -182,7 +146,7 @@ module _ (tree : Tree) (mutator : Mutator) (m : Frames) (o : Objects) (ss : List
 
   virtual_is : (c : ClassName) (name : List ℕ) (signature : Signature) (owner : ℕ) (method : MemberNumber) → IsMethod tree true (virtual_reference c name signature) method → called_action tree (Named.CallVirtual c name signature) ≡ Some a →
       IsSome (operation_turn tree mutator (Resolved.CallVirtual owner method) m o ss pr) → operation_turn tree mutator (Resolved.CallVirtual owner method) m o ss pr ≡ acted
-  virtual_is c name signature owner method finds acts there = ap (of_calls o ss pr) fourth ∙ by_run (chosen tree o x found) refl (subst (λ k. IsSome (of_calls o ss pr k)) fourth there)
+  virtual_is c name signature owner method finds acts there = whole ∙ by_run (chosen tree o x found) refl (subst IsSome whole there)
     where
       found : ClassName × Method
       found = (finds.declared_in, finds.found)
@@ -194,7 +158,7 @@ module _ (tree : Tree) (mutator : Mutator) (m : Frames) (o : Objects) (ss : List
       declared = found_is_declared tree true (virtual_reference c name signature) finds.declared_in finds.found finds.finds
 
       go : Addr → CallTurn
-      go y = if y.number == 0 then Some (call_answer m o pr (Comes (Raises NullReference))) else run_chosen tree mutator y method m o pr
+      go y = run_on tree mutator found y m o pr
 
       runs : ClassName × Method → CallTurn
       runs run = run_turn tree mutator run m o pr
@@ -204,12 +168,11 @@ module _ (tree : Tree) (mutator : Mutator) (m : Frames) (o : Objects) (ss : List
           let stack = stack_is m.running.stack top in
           ap (receiver m.running.stack) (ap length (acts_as_member tree finds.declared_in finds.found a declared own).takes) ∙ ap (λ l. receiver l 1) stack.1
 
-      fourth : virtual_at tree mutator method m o pr ≡ given (chosen tree o x found) runs
-      fourth =
-          ap (λ k. given k (λ (f : ClassName × Method). given (receiver m.running.stack (length (argument_types f.1 f.0))) go)) finds.numbered
-          ∙ (ap (λ k. given k go) called
-          ∙ (ap (λ b. if b then Some (call_answer m o pr (Comes (Raises NullReference))) else run_chosen tree mutator x method m o pr) nonzero
-          ∙ ap (λ k. given (option_and_then (chosen tree o x) k) runs) finds.numbered))
+      whole : operation_turn tree mutator (Resolved.CallVirtual owner method) m o ss pr ≡ of_calls o ss pr (given (chosen tree o x found) runs)
+      whole =
+          virtual_does tree mutator m o ss pr method found finds.numbered owner
+          ∙ ap (λ k. of_calls o ss pr (given k go)) called
+          ∙ ap (λ b. of_calls o ss pr (if b then Some (call_answer m o pr (Comes (Raises NullReference))) else given (chosen tree o x found) runs)) nonzero
 
       by_run : (r : Option (ClassName × Method)) → chosen tree o x found ≡ r → IsSome (of_calls o ss pr (given r runs)) → of_calls o ss pr (given r runs) ≡ acted
       by_run None e there' = absurd cc

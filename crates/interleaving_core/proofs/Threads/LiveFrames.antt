@@ -1,14 +1,12 @@
 -- Where a machine represents a state, the frames of each live thread have the room that they should, steps are left to it, and local instructions can be
 -- done on its top frame.
-use Rattle.std.proofs.Common.{◌≡◌, ◌<◌, ◌≤◌, ◌-◌, ℕ, List, true, false, length, Option, Some, None, slice_get, slice_set, refl, sym, ap, subst, ◌∙◌}
+use Rattle.std.proofs.Common.{◌≡◌, ◌<◌, ◌≤◌, ◌-◌, ℕ, List, false, length, Option, Some, None, slice_get, sym, ap, subst, ◌∙◌}
 use Rattle.std.specs.Prelude.{option_map}
 use Rattle.std.proofs.Common.{Bor}
 use Rattle.std.proofs.lemmas.List.{length-set}
 use Rattle.std.specs.Option.{option_map_or}
-use Rattle.cil_model.specs.declared.events.Event.TheVariants.{Step}
 use Rattle.cil_model.specs.declared.limits.TheConstants.{MOST_THREADS}
 use Rattle.cil_model.specs.declared.reports.End.{End}
-use Rattle.cil_model.specs.declared.reports.Report.TheVariants.{Ran}
 use Rattle.reference_machine.specs.States.{State, Thread as StateThread}
 use Rattle.threads_monitors.specs.Frames.{Frame, Frames}
 use Rattle.threads_monitors.specs.Threads.{is_live}
@@ -16,7 +14,7 @@ use Rattle.threads_monitors.specs.declared.threads.Thread.{Thread}
 use Rattle.simulation.specs.interpreter.Local.{AreLocalSteps, frames_over}
 use Rattle.simulation.specs.Lending.{RunsFrame, with_live}
 use Rattle.simulation.specs.MachineContents.{Content, frame_room}
-use Rattle.simulation.specs.StandsFor.{IsThread, Names, Represents, StandsAlike}
+use Rattle.simulation.specs.StandsFor.{IsThread, Represents, StandsAlike}
 use Rattle.simulation.specs.Turns.{live_thread}
 use Rattle.simulation.proofs.ListLaws.AgreeingLists.{agree_at}
 use Rattle.simulation.proofs.Threads.LocalInstructions.{local_ready, local_represents}

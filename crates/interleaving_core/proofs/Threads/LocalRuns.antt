@@ -1,10 +1,10 @@
 -- Runs of local instructions, one after another.
-use Rattle.std.proofs.Common.{◌≡◌, ◌<◌, ◌+◌, ℕ, zero, suc, subst, sym, ap, arith, ◌∙◌}
+use Rattle.std.proofs.Common.{◌≡◌, ◌<◌, ◌+◌, ℕ, zero, suc, subst, sym, arith}
 use Rattle.cil_model.specs.declared.trees.Tree.{Tree}
 use Rattle.threads_monitors.specs.Frames.{Frame}
 use Rattle.simulation.specs.interpreter.Local.{AreLocalSteps, IsReadySomewhere}
 use Rattle.simulation.specs.MachineContents.{frame_room}
-use Rattle.interleaving_core.specs.Loans.{CanGoOnLocally, IsLent, Lent}
+use Rattle.interleaving_core.specs.Loans.{IsLent, Lent}
 
 module _ (tree : Tree) (room : ℕ) where
   pub steps_behind : (n k : ℕ) (f g h : Frame) → AreLocalSteps tree room n f g → AreLocalSteps tree room k g h → AreLocalSteps tree room (n + k) f h

@@ -1,5 +1,5 @@
 -- An event prints no more than the line of its thread's next instruction.
-use Rattle.std.proofs.Common.{◌≡◌, ◌+◌, ◌==◌, ◌≤◌, ℕ, Bool, true, false, if◌then◌else◌, List, [], ◌∷◌, ◌++◌, length, Option, Some, None, option_map, option_and_then, slice_get, unwrap_or, refl, sym, ap, ◌∙◌, subst, arith}
+use Rattle.std.proofs.Common.{◌≡◌, ◌+◌, ◌==◌, ◌≤◌, ℕ, Bool, true, false, if◌then◌else◌, List, [], ◌∷◌, ◌++◌, length, Option, Some, None, option_map, option_and_then, slice_get, unwrap_or, refl, sym, ap, ◌∙◌, subst, arith, nat_lt}
 use Rattle.std.specs.Option.{option_map_or}
 use Rattle.std.proofs.lemmas.List.{length-append}
 use Rattle.std.proofs.lemmas.Option.{option_and_then_some, same_Some}
@@ -26,7 +26,7 @@ use Rattle.name_tables.specs.declared.lookups.MemberNumber.{MemberNumber}
 use Rattle.name_tables.specs.Numbers.{method_at}
 use Rattle.resolved_code.specs.Numbered.{class_name}
 use Rattle.resolved_code.specs.declared.operations.Operation.{Operation}
-use Rattle.resolved_code.specs.declared.operations.Operation.TheVariants.{NoOperation, LoadInt32, LoadInt64, LoadNull, LoadString, LoadArgument, StoreArgument, LoadLocal, StoreLocal, Duplicate, Pop, Binary, Unary, Shift, Compare, ConvertInt32, ConvertInt64, Branch, BranchTrue, BranchFalse, BranchCompare, Switch, LoadField, StoreField, LoadStaticField, StoreStaticField, NewArray, LoadLength, LoadElementInt32, LoadElementInt64, LoadElementReference, StoreElementInt32, StoreElementInt64, StoreElementReference, CastClass, IsInstance, Call, CallVirtual, NewObject, Return}
+use Rattle.resolved_code.specs.declared.operations.Operation.TheVariants.{LoadString, LoadField, StoreField, LoadStaticField, StoreStaticField, NewArray, LoadLength, LoadElementInt32, LoadElementInt64, LoadElementReference, StoreElementInt32, StoreElementInt64, StoreElementReference, CastClass, IsInstance, Call, CallVirtual, NewObject}
 use Rattle.object_memory.specs.declared.addresses.Addr.{Addr}
 use Rattle.object_memory.specs.declared.values.Value.{Value}
 use Rattle.object_memory.specs.Objects.{Objects}
@@ -42,8 +42,15 @@ use Rattle.simulation.specs.instructions.BuiltInTurns.{line_of, printed}
 use Rattle.simulation.specs.instructions.Calls.{call_turn}
 use Rattle.simulation.specs.instructions.Frames.{Turn, given, onward, top_of}
 use Rattle.simulation.specs.instructions.ObjectTurns.{ObjectTurn, StaticTurn, beside}
-use Rattle.simulation.specs.interpreter.Calls.{CallTurn, act_turn, beside_console, call_answer, called_as, chosen, chosen_by, class_at, receiver, run_at, run_chosen, run_turn, top_reference, virtual_at}
-use Rattle.simulation.specs.interpreter.Instructions.{Answer, IsDone, answer_of, of_calls, of_frames, of_objects, of_statics, operation_turn}
+use Rattle.simulation.specs.interpreter.Calls.{CallTurn, act_turn, beside_console, call_answer, called_as, chosen, chosen_by, class_at, receiver, run_turn, top_reference, run_on}
+use Rattle.simulation.specs.loaded_program.declared.instructions.LinkedInstruction.TheVariants as Linked
+use Rattle.simulation.specs.interpreter.Instructions.{Answer, IsDone, answer_of, of_calls, of_frames, of_objects, of_statics, operation_turn, linked_turn, MachineTurn}
+use Rattle.object_memory.specs.Cells.{literal}
+use Rattle.object_memory.specs.declared.addresses.TheConstants.{FIRST_LITERAL}
+use Rattle.simulation.specs.loaded_program.declared.instructions.LinkedInstruction.{LinkedInstruction}
+use Rattle.simulation.specs.loaded_program.Links.{number_at}
+use Rattle.simulation.specs.loaded_program.Operands.{array_held, class_in, held_at, slot_at, slots_at, static_at}
+use Rattle.simulation.proofs.interpreter.Linking.{call_does, virtual_does}
 use Rattle.simulation.specs.interpreter.declared.outcomes.Outcome.{Outcome}
 use Rattle.simulation.specs.interpreter.declared.outcomes.Outcome.TheVariants.{Comes, Starts, Joins}
 use Rattle.simulation.specs.MachineContents.{Content, mutator_of}
@@ -112,35 +119,31 @@ module _ (tree : Tree) (mutator : Mutator) (m : Frames) (o : Objects) (ss : List
   asks_keep what None e = none_is_some answer (sym e)
   asks_keep what (Some a) e = ap (λ (x : Answer). x.printed) (same_Some answer (answer_of m o ss c (what a)) e)
 
+  -- what is linked for operands that are found
+  abbrev linked_answer : LinkedInstruction → MachineTurn
+  linked_answer l = linked_turn tree mutator l m o ss c
+
+  mapped_keep : {X : Type 0} (f : X → LinkedInstruction) → ((x : X) → Some answer ≡ linked_answer (f x) → answer.printed ≡ c) → (x : Option X) → Some answer ≡ given (option_map f x) linked_answer → answer.printed ≡ c
+  mapped_keep f keep None e = none_is_some answer (sym e)
+  mapped_keep f keep (Some x) e = keep x e
+
+  then_keep : {X : Type 0} (f : X → Option LinkedInstruction) → ((x : X) → Some answer ≡ given (f x) linked_answer → answer.printed ≡ c) → (x : Option X) → Some answer ≡ given (option_and_then f x) linked_answer → answer.printed ≡ c
+  then_keep f keep None e = none_is_some answer (sym e)
+  then_keep f keep (Some x) e = keep x e
+
+  string_keeps : (a : Addr) (b : Bool) → Some answer ≡ given (if b then Some (Linked.LoadString a) else None) linked_answer → answer.printed ≡ c
+  string_keeps a true e = frames_keep _ e
+  string_keeps a false e = none_is_some answer (sym e)
+
   -- an instruction that calls no method by its number
   quiet : (op : Operation) → called_member op ≡ None → Some answer ≡ operation_turn tree mutator op m o ss c → answer.printed ≡ c
-  quiet NoOperation h e = frames_keep _ e
-  quiet (LoadInt32 z) h e = frames_keep _ e
-  quiet (LoadInt64 z) h e = frames_keep _ e
-  quiet LoadNull h e = frames_keep _ e
-  quiet (LoadString n) h e = frames_keep _ e
-  quiet (LoadArgument n) h e = frames_keep _ e
-  quiet (StoreArgument n) h e = frames_keep _ e
-  quiet (LoadLocal n) h e = frames_keep _ e
-  quiet (StoreLocal n) h e = frames_keep _ e
-  quiet Duplicate h e = frames_keep _ e
-  quiet Pop h e = frames_keep _ e
-  quiet (Binary op) h e = frames_keep _ e
-  quiet (Unary op) h e = frames_keep _ e
-  quiet (Shift op) h e = frames_keep _ e
-  quiet (Compare op) h e = frames_keep _ e
-  quiet ConvertInt32 h e = frames_keep _ e
-  quiet ConvertInt64 h e = frames_keep _ e
-  quiet (Branch place) h e = frames_keep _ e
-  quiet (BranchTrue place) h e = frames_keep _ e
-  quiet (BranchFalse place) h e = frames_keep _ e
-  quiet (BranchCompare op place) h e = frames_keep _ e
-  quiet (Switch places) h e = frames_keep _ e
-  quiet (LoadField owner field) h e = objects_keep _ e
-  quiet (StoreField owner field) h e = objects_keep _ e
-  quiet (LoadStaticField field) h e = statics_keep _ e
-  quiet (StoreStaticField field) h e = statics_keep _ e
-  quiet (NewArray t) h e = objects_keep _ e
+  quiet (LoadString n) h e = string_keeps (literal n) (nat_lt n FIRST_LITERAL) e
+  quiet (LoadField owner field) h e =
+      then_keep (λ slot. option_map (λ kind. Linked.LoadField slot kind) (held_at tree field)) (λ slot. mapped_keep (λ kind. Linked.LoadField slot kind) (λ kind. objects_keep _) (held_at tree field)) (slot_at tree field) e
+  quiet (StoreField owner field) h e = mapped_keep (λ slot. Linked.StoreField slot) (λ slot. objects_keep _) (slot_at tree field) e
+  quiet (LoadStaticField field) h e = mapped_keep (λ number. Linked.LoadStaticField number) (λ number. frames_keep _) (static_at tree field) e
+  quiet (StoreStaticField field) h e = mapped_keep (λ number. Linked.StoreStaticField number) (λ number. statics_keep _) (static_at tree field) e
+  quiet (NewArray t) h e = mapped_keep (λ element. Linked.NewArray element) (λ element. objects_keep _) (array_held t) e
   quiet LoadLength h e = objects_keep _ e
   quiet LoadElementInt32 h e = objects_keep _ e
   quiet LoadElementInt64 h e = objects_keep _ e
@@ -152,8 +155,11 @@ module _ (tree : Tree) (mutator : Mutator) (m : Frames) (o : Objects) (ss : List
   quiet (IsInstance t) h e = objects_keep _ e
   quiet (Call is_instance owner method) h e = none_is_some method (sym h)
   quiet (CallVirtual owner method) h e = none_is_some method (sym h)
-  quiet (NewObject method) h e = console_keeps _ e
-  quiet Return h e = console_keeps _ e
+  quiet (NewObject method) h e =
+      then_keep (λ class. option_and_then (λ slots. option_map (λ number. Linked.NewObject class slots number) (number_at tree method)) (slots_at tree method)) (λ class.
+      then_keep (λ slots. option_map (λ number. Linked.NewObject class slots number) (number_at tree method)) (λ slots.
+      mapped_keep (λ number. Linked.NewObject class slots number) (λ number. objects_keep _) (number_at tree method)) (slots_at tree method)) (class_in method) e
+  quiet _ h e = frames_keep _ e
 
   -- a built-in member
   writes : (stack : List Value) → Some answer ≡ of_calls o ss c (option_map (λ (t : Frames × List ℕ × Effect). call_answer t.0 o t.1 (Comes t.2)) (top_of stack m (λ v n. given (line_of (literals_of tree) v) (λ line. printed line c n)))) → Within (print_by tree Write stack)
@@ -197,19 +203,18 @@ module _ (tree : Tree) (mutator : Mutator) (m : Frames) (o : Objects) (ss : List
   runs found (Some a) e = acts a e
 
   -- call
-  called : (flag : Bool) (method : MemberNumber) (found : ClassName × Method) → method_at tree (method.class, method.place) ≡ Some found → Some answer ≡ of_calls o ss c (run_at tree mutator method m o c) → Within (print_of (action_of found.0 found.1))
-  called flag method found numbered e =
-      runs found (action_of found.0 found.1) (e ∙ ap (λ k. of_calls o ss c (given k (λ x. run_turn tree mutator x m o c))) numbered)
+  called : (flag : Bool) (owner : ℕ) (method : MemberNumber) (found : ClassName × Method) → method_at tree (method.class, method.place) ≡ Some found →
+      Some answer ≡ operation_turn tree mutator (Call flag owner method) m o ss c → Within (print_of (action_of found.0 found.1))
+  called flag owner method found numbered e = runs found (action_of found.0 found.1) (e ∙ call_does tree mutator m o ss c method found numbered flag owner)
 
   -- callvirt
-  called_virtually : (method : MemberNumber) (found : ClassName × Method) → IsDeclared tree found.0 found.1 → method_at tree (method.class, method.place) ≡ Some found →
-      Some answer ≡ of_calls o ss c (virtual_at tree mutator method m o c) → Within (print_of (action_of found.0 found.1))
-  called_virtually method found declared numbered e =
-      by_receiver (receiver m.running.stack (length (argument_types found.1 found.0)))
-      (e ∙ ap (λ k. of_calls o ss c (given k (λ (f : ClassName × Method). given (receiver m.running.stack (length (argument_types f.1 f.0))) go))) numbered)
+  called_virtually : (owner : ℕ) (method : MemberNumber) (found : ClassName × Method) → IsDeclared tree found.0 found.1 → method_at tree (method.class, method.place) ≡ Some found →
+      Some answer ≡ operation_turn tree mutator (CallVirtual owner method) m o ss c → Within (print_of (action_of found.0 found.1))
+  called_virtually owner method found declared numbered e =
+      by_receiver (receiver m.running.stack (length (argument_types found.1 found.0))) (e ∙ virtual_does tree mutator m o ss c method found numbered owner)
     where
       go : Addr → CallTurn
-      go y = if y.number == 0 then Some (call_answer m o c (Comes (Raises NullReference))) else run_chosen tree mutator y method m o c
+      go y = run_on tree mutator found y m o c
 
       by_run : (y : Addr) (r : Option (ClassName × Method)) → chosen tree o y found ≡ r → Some answer ≡ of_calls o ss c (given r (λ run. run_turn tree mutator run m o c)) → Within (print_of (action_of found.0 found.1))
       by_run y None is e' = none_is_some answer (sym e')
@@ -220,9 +225,9 @@ module _ (tree : Tree) (mutator : Mutator) (m : Frames) (o : Objects) (ss : List
           by_action (Some a) some h =
               option_and_then_some (chosen_by tree found) (class_at o y) run is (λ k lies e''. subst (λ x. Within (print_of x)) (sym (chosen_acts tree found run declared a some k e'')) h)
 
-      by_null : (y : Addr) (b : Bool) → Some answer ≡ of_calls o ss c (if b then Some (call_answer m o c (Comes (Raises NullReference))) else run_chosen tree mutator y method m o c) → Within (print_of (action_of found.0 found.1))
+      by_null : (y : Addr) (b : Bool) → Some answer ≡ of_calls o ss c (if b then Some (call_answer m o c (Comes (Raises NullReference))) else given (chosen tree o y found) (λ run. run_turn tree mutator run m o c)) → Within (print_of (action_of found.0 found.1))
       by_null y true e' = same_within (ap (λ (x : Answer). x.printed) (same_Some answer (answer_of m o ss c (Comes (Raises NullReference))) e')) (print_of (action_of found.0 found.1))
-      by_null y false e' = by_run y (chosen tree o y found) refl (e' ∙ ap (λ k. of_calls o ss c (given (option_and_then (chosen tree o y) k) (λ run. run_turn tree mutator run m o c))) numbered)
+      by_null y false e' = by_run y (chosen tree o y found) refl e'
 
       by_receiver : (r : Option Addr) → Some answer ≡ of_calls o ss c (given r go) → Within (print_of (action_of found.0 found.1))
       by_receiver None e' = none_is_some answer (sym e')
@@ -236,10 +241,10 @@ module _ (tree : Tree) (mutator : Mutator) (m : Frames) (o : Objects) (ss : List
     where
       by_calls : (i : Instruction) (op : Operation) → Calls tree i op → Some answer ≡ operation_turn tree mutator op m o ss c → Within (print_of (called_action tree i))
       by_calls _ _ (plainly flag r owner method finds) e =
-          subst (λ k. Within (print_of (action_found k))) (sym finds.finds) (called flag method (finds.declared_in, finds.found) finds.numbered e)
+          subst (λ k. Within (print_of (action_found k))) (sym finds.finds) (called flag owner method (finds.declared_in, finds.found) finds.numbered e)
       by_calls _ _ (virtually d name signature owner method finds) e =
           subst (λ k. Within (print_of (action_found k))) (sym finds.finds)
-          (called_virtually method (finds.declared_in, finds.found) (found_is_declared tree true (virtual_reference d name signature) finds.declared_in finds.found finds.finds) finds.numbered e)
+          (called_virtually owner method (finds.declared_in, finds.found) (found_is_declared tree true (virtual_reference d name signature) finds.declared_in finds.found finds.finds) finds.numbered e)
       by_calls _ _ (nothing i op none none') e = same_within (quiet op none' e) (print_of (called_action tree i))
 
 -- ---- any event

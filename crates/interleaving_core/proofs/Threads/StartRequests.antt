@@ -1,19 +1,14 @@
 -- An instruction that asks for the start of a thread changes nothing itself.
-use Rattle.std.proofs.Common.{◌≡◌, ℕ, Bool, true, false, List, [], ◌∷◌, Option, Some, None, option_map, refl, sym, ap, ◌∙◌}
-use Rattle.std.specs.Prelude.{◌==◌, if◌then◌else◌, length}
+use Rattle.std.proofs.Common.{◌≡◌, ℕ, Bool, true, false, List, [], ◌∷◌, Option, Some, None, option_map, refl, sym, ap, ◌∙◌, slice_get}
+use Rattle.std.specs.Prelude.{◌==◌, if◌then◌else◌}
 use Rattle.std.specs.Option.{option_map_or}
 use Rattle.std.proofs.lemmas.Option.{same_Some}
 use Rattle.cil_model.specs.declared.types.ClassName.{ClassName}
 use Rattle.cil_model.specs.declared.trees.Tree.{Tree}
 use Rattle.cil_model.specs.declared.trees.Method.{Method}
 use Rattle.cil_model.specs.declared.reports.Fault.TheVariants.{NullReference}
-use Rattle.cil_model.specs.Bodies.{argument_types}
 use Rattle.cil_model.specs.Mentions.{literals_of}
 use Rattle.reference_machine.specs.BuiltIn.{Action, Construct, Write, Enter, Exit, Start, Join, action_of}
-use Rattle.name_tables.specs.declared.lookups.MemberNumber.{MemberNumber}
-use Rattle.name_tables.specs.Numbers.{method_at}
-use Rattle.resolved_code.specs.declared.operations.Operation.{Operation}
-use Rattle.resolved_code.specs.declared.operations.Operation.TheVariants.{NoOperation, LoadInt32, LoadInt64, LoadNull, LoadString, LoadArgument, StoreArgument, LoadLocal, StoreLocal, Duplicate, Pop, Binary, Unary, Shift, Compare, ConvertInt32, ConvertInt64, Branch, BranchTrue, BranchFalse, BranchCompare, Switch, LoadField, StoreField, LoadStaticField, StoreStaticField, NewArray, LoadLength, LoadElementInt32, LoadElementInt64, LoadElementReference, StoreElementInt32, StoreElementInt64, StoreElementReference, CastClass, IsInstance, Call, CallVirtual, NewObject, Return}
 use Rattle.object_memory.specs.declared.addresses.Addr.{Addr}
 use Rattle.object_memory.specs.declared.values.Value.{Value}
 use Rattle.object_memory.specs.Objects.{Objects}
@@ -26,9 +21,11 @@ use Rattle.simulation.specs.instructions.Frames.{Turn, given, onward, top_of}
 use Rattle.simulation.specs.instructions.ObjectTurns.{ObjectTurn, beside, StaticTurn}
 use Rattle.simulation.specs.instructions.Calls.{call_turn}
 use Rattle.simulation.specs.instructions.BuiltInTurns.{enter_turn, exit_turn, write_turn}
-use Rattle.simulation.specs.interpreter.Operations.{constant_rule, stack_rule, arithmetic_rule, branch_rule, field_rule, array_rule, type_rule, static_rule}
-use Rattle.simulation.specs.interpreter.Instructions.{IsDone, MachineTurn, of_frames, of_objects, of_statics, of_calls, operation_turn, Answer, answer_of}
-use Rattle.simulation.specs.interpreter.Calls.{CallTurn, act_turn, beside_console, called_as, call_rule, chosen_at, new_at, receiver, return_rule, run_chosen, run_turn, top_reference, virtual_at, CallAnswer, call_answer}
+use Rattle.simulation.specs.loaded_program.declared.instructions.LinkedInstruction.TheVariants as Linked
+use Rattle.simulation.specs.interpreter.Instructions.{IsDone, MachineTurn, of_frames, of_objects, of_statics, of_calls, Answer, answer_of, linked_turn, link_of}
+use Rattle.simulation.specs.loaded_program.AllMethods.{all_methods}
+use Rattle.simulation.specs.loaded_program.declared.instructions.LinkedInstruction.{LinkedInstruction}
+use Rattle.simulation.specs.interpreter.Calls.{CallTurn, act_turn, beside_console, called_as, receiver, run_turn, top_reference, CallAnswer, call_answer, call_numbered, chosen, run_on, virtual_numbered, virtual_turn}
 use Rattle.simulation.specs.interpreter.declared.outcomes.Outcome.{Outcome}
 use Rattle.simulation.specs.interpreter.declared.outcomes.Outcome.TheVariants.{Comes, Starts, Joins}
 use Rattle.cil_model.proofs.Lists.{none_is_some}
@@ -132,63 +129,38 @@ module _ (m : Frames) (o : Objects) (statics : List Value) (printed : List ℕ) 
         action_keeps (action_of found.0 found.1) (given (number_of tree found) (λ n. beside_console printed (beside o (call_turn (called_as found n) m))))
         (given_keeps (number_of tree found) (λ n. beside_console printed (beside o (call_turn (called_as found n) m))) (λ n. console_keeps (beside o (call_turn (called_as found n) m))))
 
-    chosen_keeps : (a : Addr) (n : MemberNumber) → KeepsCall (run_chosen tree mutator a n m o printed)
-    chosen_keeps a n = given_keeps (chosen_at tree o a n) (λ run. run_turn tree mutator run m o printed) run_keeps
-
     null_keeps : (is_null : Bool) (turn : CallTurn) → KeepsCall turn → KeepsCall (if is_null then Some (call_answer m o printed (Comes (Raises NullReference))) else turn)
     null_keeps true turn keeps = effect_keeps m o printed (Raises NullReference)
     null_keeps false turn keeps = keeps
 
-    virtual_keeps : (n : MemberNumber) → KeepsCall (virtual_at tree mutator n m o printed)
-    virtual_keeps n =
-        given_keeps (method_at tree (n.class, n.place)) _ (λ found.
-        given_keeps (receiver m.running.stack (length (argument_types found.1 found.0))) _ (λ a.
-        null_keeps (a.number == 0) (run_chosen tree mutator a n m o printed) (chosen_keeps a n)))
+    virtual_keeps : (number operands : ℕ) → KeepsCall (virtual_numbered tree mutator number operands m o printed)
+    virtual_keeps number operands =
+        given_keeps (slice_get (all_methods tree) number) (λ found. virtual_turn tree mutator found operands m o printed) (λ found.
+        given_keeps (receiver m.running.stack operands) (λ a. run_on tree mutator found a m o printed) (λ a.
+        null_keeps (a.number == 0) (given (chosen tree o a found) (λ run. run_turn tree mutator run m o printed)) (given_keeps (chosen tree o a found) (λ run. run_turn tree mutator run m o printed) run_keeps)))
 
     -- ---- every instruction
 
-    operation_keeps : (op : Operation) → KeepsAll (operation_turn tree mutator op m o statics printed)
-    operation_keeps NoOperation = frames_keep (constant_rule NoOperation m)
-    operation_keeps (LoadInt32 z) = frames_keep (constant_rule (LoadInt32 z) m)
-    operation_keeps (LoadInt64 z) = frames_keep (constant_rule (LoadInt64 z) m)
-    operation_keeps LoadNull = frames_keep (constant_rule LoadNull m)
-    operation_keeps (LoadString n) = frames_keep (constant_rule (LoadString n) m)
-    operation_keeps (LoadArgument n) = frames_keep (stack_rule (LoadArgument n) m)
-    operation_keeps (StoreArgument n) = frames_keep (stack_rule (StoreArgument n) m)
-    operation_keeps (LoadLocal n) = frames_keep (stack_rule (LoadLocal n) m)
-    operation_keeps (StoreLocal n) = frames_keep (stack_rule (StoreLocal n) m)
-    operation_keeps Duplicate = frames_keep (stack_rule Duplicate m)
-    operation_keeps Pop = frames_keep (stack_rule Pop m)
-    operation_keeps (Binary op) = frames_keep (arithmetic_rule mutator.phase (Binary op) m o)
-    operation_keeps (Unary op) = frames_keep (arithmetic_rule mutator.phase (Unary op) m o)
-    operation_keeps (Shift op) = frames_keep (arithmetic_rule mutator.phase (Shift op) m o)
-    operation_keeps (Compare op) = frames_keep (arithmetic_rule mutator.phase (Compare op) m o)
-    operation_keeps ConvertInt32 = frames_keep (arithmetic_rule mutator.phase ConvertInt32 m o)
-    operation_keeps ConvertInt64 = frames_keep (arithmetic_rule mutator.phase ConvertInt64 m o)
-    operation_keeps (Branch place) = frames_keep (branch_rule mutator.phase (Branch place) m o)
-    operation_keeps (BranchTrue place) = frames_keep (branch_rule mutator.phase (BranchTrue place) m o)
-    operation_keeps (BranchFalse place) = frames_keep (branch_rule mutator.phase (BranchFalse place) m o)
-    operation_keeps (BranchCompare op place) = frames_keep (branch_rule mutator.phase (BranchCompare op place) m o)
-    operation_keeps (Switch places) = frames_keep (branch_rule mutator.phase (Switch places) m o)
-    operation_keeps (LoadField owner field) = objects_keep (field_rule mutator.phase tree (LoadField owner field) m o)
-    operation_keeps (StoreField owner field) = objects_keep (field_rule mutator.phase tree (StoreField owner field) m o)
-    operation_keeps (LoadStaticField field) = statics_keep (static_rule mutator.phase tree (LoadStaticField field) m o statics)
-    operation_keeps (StoreStaticField field) = statics_keep (static_rule mutator.phase tree (StoreStaticField field) m o statics)
-    operation_keeps (NewArray t) = objects_keep (array_rule mutator.phase (NewArray t) m o)
-    operation_keeps LoadLength = objects_keep (array_rule mutator.phase LoadLength m o)
-    operation_keeps LoadElementInt32 = objects_keep (array_rule mutator.phase LoadElementInt32 m o)
-    operation_keeps LoadElementInt64 = objects_keep (array_rule mutator.phase LoadElementInt64 m o)
-    operation_keeps LoadElementReference = objects_keep (array_rule mutator.phase LoadElementReference m o)
-    operation_keeps StoreElementInt32 = objects_keep (array_rule mutator.phase StoreElementInt32 m o)
-    operation_keeps StoreElementInt64 = objects_keep (array_rule mutator.phase StoreElementInt64 m o)
-    operation_keeps StoreElementReference = objects_keep (type_rule mutator.phase tree StoreElementReference m o)
-    operation_keeps (CastClass t) = objects_keep (type_rule mutator.phase tree (CastClass t) m o)
-    operation_keeps (IsInstance t) = objects_keep (type_rule mutator.phase tree (IsInstance t) m o)
-    operation_keeps (Call b owner method) = calls_keep (call_rule tree mutator (Call b owner method) m o printed) (given_keeps (method_at tree (method.class, method.place)) (λ found. run_turn tree mutator found m o printed) run_keeps)
-    operation_keeps (CallVirtual owner method) = calls_keep (call_rule tree mutator (CallVirtual owner method) m o printed) (virtual_keeps method)
-    operation_keeps (NewObject method) = calls_keep (call_rule tree mutator (NewObject method) m o printed) (console_keeps (new_at tree mutator method m o))
-    operation_keeps Return = calls_keep (call_rule tree mutator Return m o printed) (console_keeps (beside o (return_rule tree m)))
+    link_keeps : (l : LinkedInstruction) → KeepsAll (linked_turn tree mutator l m o statics printed)
+    link_keeps (Linked.LoadField slot kind) = objects_keep _
+    link_keeps (Linked.StoreField slot) = objects_keep _
+    link_keeps (Linked.StoreStaticField number) = statics_keep _
+    link_keeps (Linked.NewArray element) = objects_keep _
+    link_keeps Linked.LoadLength = objects_keep _
+    link_keeps (Linked.LoadElement kind) = objects_keep _
+    link_keeps Linked.StoreElement = objects_keep _
+    link_keeps Linked.StoreElementReference = objects_keep _
+    link_keeps (Linked.CastClass t) = objects_keep _
+    link_keeps (Linked.IsInstance t) = objects_keep _
+    link_keeps (Linked.Call number) = calls_keep (call_numbered tree mutator number m o printed) (given_keeps (slice_get (all_methods tree) number) (λ found. run_turn tree mutator found m o printed) run_keeps)
+    link_keeps (Linked.CallVirtual number operands) = calls_keep (virtual_numbered tree mutator number operands m o printed) (virtual_keeps number operands)
+    link_keeps (Linked.NewObject class slots number) = objects_keep _
+    link_keeps _ = frames_keep _
+
+    linked_keeps : (l : Option LinkedInstruction) → KeepsAll (given l (λ x. linked_turn tree mutator x m o statics printed))
+    linked_keeps None = λ answer object is starts. none_is_some answer (sym is)
+    linked_keeps (Some l) = link_keeps l
 
     -- an instruction that asks for a thread to start leaves all as it was
     pub start_changes_nothing : (answer : Answer) (object : Addr) → IsDone tree mutator m o statics printed answer → answer.outcome ≡ Starts object → answer ≡ answer_of m o statics printed (Starts object)
-    start_changes_nothing answer object done starts = operation_keeps done.operation answer object done.is starts
+    start_changes_nothing answer object done starts = linked_keeps (link_of tree m done.operation) answer object done.is starts

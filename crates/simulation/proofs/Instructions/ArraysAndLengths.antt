@@ -41,8 +41,10 @@ use Rattle.interpreter.specs.threads_monitors.declared.effects.Effect.TheVariant
 use Rattle.interpreter.specs.instructions.Frames.{given, leaves}
 use Rattle.interpreter.specs.instructions.ObjectTurns.{beside, object_of, index_of, slots_of, leaves_born, new_array_of, new_array_turn}
 use Rattle.interpreter.specs.declared.outcomes.Outcome.TheVariants.{Comes}
+use Rattle.interpreter.specs.loaded_program.declared.instructions.LinkedInstruction.TheVariants as Linked
 use Rattle.interpreter.specs.Instructions.{operation_turn, of_objects, answer_of}
-use Rattle.interpreter.specs.Operations.{element_held, array_held}
+use Rattle.interpreter.proofs.Linking.{link_does}
+use Rattle.interpreter.specs.loaded_program.Operands.{element_held, array_held}
 use Rattle.simulation.specs.Agreement.{Agree}
 use Rattle.simulation.specs.StandsFor.{Names, IsValue, native, int32, int64, null_reference, reference, IsWord}
 use Rattle.simulation.proofs.ListLaws.AgreeingLists.{agree_length}
@@ -209,7 +211,7 @@ module _ (here : Setting) (model : MemoryModel here.tree) (name : Names) (m : Fr
         (let low : t.brackets < MOST_BRACKETS = arrays_shallow here.tree at.running.accepted.legal f.owner at.running.frame.is_declared.0 f.method at.running.frame.is_declared.1 at.running.frame.code at.running.frame.has_code f.place at.running.line at.running.at t at.running.is in omega (arith, low)) in
         let held = type_held_back here.tree at.running.accepted.legal n t is shallow in
         alike_turn here model name m o statics printed s f below (Named.NewArray t) (Resolved.NewArray n) at _ (of_objects o statics printed (new_array_turn model.phase held.0 m o)) _
-        (ap (λ x. of_objects o statics printed (given x (λ element. new_array_turn model.phase element m o))) held.1)
+        (link_does here.tree (mutator_in here model) m o statics printed (Resolved.NewArray n) (Linked.NewArray held.0) (ap (option_map (λ element. Linked.NewArray element)) held.1))
         (one_operand here model name m o statics printed s f below (Named.NewArray t) (Resolved.NewArray n) at (of_objects o statics printed)
         (λ v k. index_of v (λ z. new_array_of model.phase held.0 z k o))
         (λ v rest. state_given (as_index v) (λ z. new_array here s f below t z rest))

@@ -31,7 +31,7 @@ use Rattle.interpreter.specs.loaded_program.AllMethods.{all_methods}
 use Rattle.interpreter.specs.loaded_program.MethodNumbers.{number_of}
 use Rattle.interpreter.specs.loaded_program.Prepared.{local_kinds}
 use Rattle.interpreter.proofs.loaded_program.NumberLaws.{declared_is_numbered}
-use Rattle.interpreter.specs.Calls.{class_in, slots_at}
+use Rattle.interpreter.specs.loaded_program.Operands.{class_in, slots_at}
 use Rattle.simulation.proofs.Memory.InitialValues.{locals_low}
 use Rattle.interpreter.proofs.cil_model.Lists.{none_is_some}
 

@@ -22,12 +22,13 @@ use Rattle.interpreter.specs.resolved_code.declared.operations.Operation.{Operat
 use Rattle.interpreter.specs.resolved_code.declared.operations.Operation.TheVariants as Resolved
 use Rattle.interpreter.specs.object_memory.declared.addresses.TheConstants.{ADDRESSES, FIRST_LITERAL}
 use Rattle.interpreter.specs.object_memory.declared.values.Value.{Value}
-use Rattle.interpreter.specs.object_memory.declared.values.Value.TheVariants.{Ref}
 use Rattle.interpreter.specs.object_memory.Cells.{literal}
 use Rattle.interpreter.specs.object_memory.Objects.{Objects}
 use Rattle.interpreter.specs.threads_monitors.Frames.{Frames, with_stack, with_argument, with_local}
 use Rattle.interpreter.specs.instructions.Frames.{leaves, onward, stored, leaves_result, binary_result, unary_result, shift_result, comparison, branch_test, one_or_zero, is_set, in_32_bits, in_64_bits, branch_if, switch_on}
+use Rattle.interpreter.specs.loaded_program.declared.instructions.LinkedInstruction.TheVariants as Linked
 use Rattle.interpreter.specs.Instructions.{of_frames, operation_turn}
+use Rattle.interpreter.proofs.Linking.{link_does}
 use Rattle.simulation.specs.Agreement.{Agree}
 use Rattle.simulation.specs.StandsFor.{Names, IsValue, int32, int64, null_reference, reference}
 use Rattle.simulation.proofs.ListLaws.AgreeingLists.{agree_set}
@@ -69,7 +70,8 @@ module _ (here : Setting) (model : MemoryModel here.tree) (name : Names) (m : Fr
       let named : name (literal number).number ≡ Some (Literal characters) = (model.reads name o statics s at.memory.fits at.running.typed).each_literal number characters is in
       let small : FIRST_LITERAL + number < ADDRESSES = (model.reads name o statics s at.memory.fits at.running.typed).small (literal number).number (Literal characters) named in
       let few : number < FIRST_LITERAL = omega (arith, small) in
-      subst (λ b. Alike here model name m o statics printed s f below _ _ at (if b then leaves (Ref (literal number)) m else None) (next here s f below (Reference (Literal characters) ∷ f.stack))) (sym (lt-ltb number FIRST_LITERAL few))
+      subst (λ turn. DoesAlike here model name m o statics printed s f below turn (next here s f below (Reference (Literal characters) ∷ f.stack)))
+      (sym (link_does here.tree (mutator_in here model) m o statics printed (Resolved.LoadString number) (Linked.LoadString (literal number)) (ap (λ b. if b then Some (Linked.LoadString (literal number)) else None) (lt-ltb number FIRST_LITERAL few))))
       (pushes_does here model name m o statics printed s f below _ _ at _ _ (reference (literal number) (Literal characters) named))
 
   -- ---- arguments and locals

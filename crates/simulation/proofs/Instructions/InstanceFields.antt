@@ -28,11 +28,12 @@ use Rattle.interpreter.specs.object_memory.Cells.{store_slot as with_cell_slot}
 use Rattle.interpreter.specs.object_memory.Objects.{Objects}
 use Rattle.interpreter.specs.object_memory.Values.{value_word}
 use Rattle.interpreter.specs.threads_monitors.Frames.{Frames, with_stack}
-use Rattle.interpreter.specs.instructions.Frames.{given}
 use Rattle.interpreter.specs.loaded_program.Prepared.{kind_of_type}
 use Rattle.interpreter.specs.instructions.ObjectTurns.{object_of, load_slot, store_slot, load_field_turn, store_field_turn}
+use Rattle.interpreter.specs.loaded_program.declared.instructions.LinkedInstruction.TheVariants as Linked
 use Rattle.interpreter.specs.Instructions.{operation_turn, of_objects}
-use Rattle.interpreter.specs.Operations.{held_at}
+use Rattle.interpreter.proofs.Linking.{link_does}
+use Rattle.interpreter.specs.loaded_program.Operands.{held_at}
 use Rattle.simulation.specs.Agreement.{Agree}
 use Rattle.simulation.specs.StandsFor.{Names, IsValue, IsWord, thread_word, IsInstanceCell, IsOfContents, IsCell}
 use Rattle.simulation.proofs.ListLaws.AgreeingLists.{agree_get, agree_set}
@@ -209,8 +210,8 @@ module _ (here : Setting) (model : MemoryModel here.tree) (name : Names) (m : Fr
         let kind : ValueKind = kind_of_type finds.found.field_type in
         let number : ℕ = slot here.tree at.running.accepted.legal r field finds in
         alike_turn here model name m o statics printed s f below (Named.LoadField r) (Resolved.LoadField owner field) at _ (of_objects o statics printed (load_field_turn kind number m o)) _
-        (ap (λ x. of_objects o statics printed (given x (λ n. given (held_at here.tree field) (λ k. load_field_turn k n m o)))) slot_there ∙
-        ap (λ x. of_objects o statics printed (given x (λ k. load_field_turn k number m o))) kind_there)
+        (link_does here.tree (mutator_in here model) m o statics printed (Resolved.LoadField owner field) (Linked.LoadField number kind)
+        (ap (option_and_then (λ n. option_map (λ k. Linked.LoadField n k) (held_at here.tree field))) slot_there ∙ ap (option_map (λ k. Linked.LoadField number k)) kind_there))
         (one_operand here model name m o statics printed s f below (Named.LoadField r) (Resolved.LoadField owner field) at (of_objects o statics printed)
         (λ object k. object_of object k o (λ a. load_slot kind number a k o))
         (λ object rest. state_given (find_field here.tree false r) (λ found. not_null object NullReference (λ n. state_given (field_value s n (key_of found)) (λ v. next here s f below (v ∷ rest)))))
@@ -237,7 +238,7 @@ module _ (here : Setting) (model : MemoryModel here.tree) (name : Names) (m : Fr
         let slot_there = slot_is here.tree at.running.accepted.legal r field finds in
         let number : ℕ = slot here.tree at.running.accepted.legal r field finds in
         alike_turn here model name m o statics printed s f below (Named.StoreField r) (Resolved.StoreField owner field) at _ (of_objects o statics printed (store_field_turn model.phase number m o)) _
-        (ap (λ x. of_objects o statics printed (given x (λ n. store_field_turn model.phase n m o))) slot_there)
+        (link_does here.tree (mutator_in here model) m o statics printed (Resolved.StoreField owner field) (Linked.StoreField number) (ap (option_map (λ n. Linked.StoreField n)) slot_there))
         (two_operands here model name m o statics printed s f below (Named.StoreField r) (Resolved.StoreField owner field) at (of_objects o statics printed)
         (λ object v k. object_of object k o (λ a. store_slot model.phase v number a k o))
         (λ object v rest. state_given (find_field here.tree false r) (λ found. not_null object NullReference (λ n. state_given (with_field s n (key_of found) v) (λ s'. onward_frame f below s' rest))))

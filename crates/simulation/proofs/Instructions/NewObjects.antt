@@ -17,7 +17,6 @@ use Rattle.interpreter.specs.reference_machine.BuiltIn.{Action, action_of}
 use Rattle.interpreter.specs.reference_machine.Steps.{birth as state_birth, frame_for, is_too_deep, operands, construct, execute}
 use Rattle.interpreter.proofs.reference_machine.TypedStates.RunningFrames.{IsTypedEffect}
 use Rattle.interpreter.specs.name_tables.declared.lookups.MemberNumber.{MemberNumber}
-use Rattle.interpreter.specs.name_tables.Numbers.{method_at}
 use Rattle.interpreter.specs.resolved_code.Resolved.{IsMethod}
 use Rattle.interpreter.specs.resolved_code.declared.operations.Operation.TheVariants as Resolved
 use Rattle.interpreter.specs.object_memory.declared.addresses.Addr.{Addr}
@@ -34,8 +33,9 @@ use Rattle.interpreter.specs.instructions.Frames.{given}
 use Rattle.interpreter.specs.instructions.ObjectTurns.{ObjectTurn, bears, beside, born as born_turn}
 use Rattle.interpreter.specs.instructions.Calls.{constructs, is_full, new_object_turn, new_plain_object_turn}
 use Rattle.interpreter.specs.declared.outcomes.Outcome.TheVariants.{Comes}
-use Rattle.interpreter.specs.Instructions.{MachineTurn, of_calls, operation_turn, Answer, answer_of}
-use Rattle.interpreter.specs.Calls.{beside_console, called_as, slots_at, made, new_at}
+use Rattle.interpreter.specs.Instructions.{MachineTurn, operation_turn, Answer, answer_of, of_objects}
+use Rattle.interpreter.proofs.Linking.{new_does}
+use Rattle.interpreter.specs.Calls.{called_as, made}
 use Rattle.simulation.specs.StandsFor.{Names, reference}
 use Rattle.simulation.proofs.Representation.MoreNames.{values_extend}
 use Rattle.simulation.proofs.Instructions.Correspondence.{IsSetting, GoesAlike, DoesAlike}
@@ -72,7 +72,7 @@ module _ (here : Setting) (model : MemoryModel here.tree) (name : Names) (m : Fr
 
   -- a turn of frames and objects, as one of the machine, and what the reference machine does
   abbrev as_turn : ObjectTurn → MachineTurn
-  as_turn turn = of_calls o statics printed (beside_console printed turn)
+  as_turn turn = of_objects o statics printed turn
 
   abbrev Alike : ObjectTurn → StateEffect → Type 0
   Alike turn e = DoesAlike here model name m o statics printed s f below (as_turn turn) e
@@ -118,11 +118,10 @@ module _ (here : Setting) (model : MemoryModel here.tree) (name : Names) (m : Fr
 
   -- ---- what the machine finds
 
-  turn_is : new_at here.tree (mutator_in here model) number m o ≡ made here.tree (mutator_in here model) number.class slots (c, built) m o
+  turn_is : operation_turn here.tree (mutator_in here model) (Resolved.NewObject number) m o statics printed ≡ as_turn (made here.tree (mutator_in here model) number.class slots (c, built) m o)
   turn_is =
-      ap (λ x. given x (λ class. given (slots_at here.tree number) (λ n. given (method_at here.tree (number.class, number.place)) (λ found. made here.tree (mutator_in here model) class n found m o)))) (class_is_in here.tree legal c parameters number is) ∙
-      ap (λ x. given x (λ n. given (method_at here.tree (number.class, number.place)) (λ found. made here.tree (mutator_in here model) number.class n found m o))) (slots_are_at here.tree legal c parameters number is) ∙
-      ap (λ x. given x (λ found. made here.tree (mutator_in here model) number.class slots found m o)) (numbered_own here.tree legal c parameters number is)
+      new_does here.tree (mutator_in here model) m o statics printed number (c, built) (numbered_own here.tree legal c parameters number is) number.class slots (class_is_in here.tree legal c parameters number is)
+      (slots_are_at here.tree legal c parameters number is)
 
   -- ---- refusals
 
@@ -275,5 +274,5 @@ module _ (here : Setting) (model : MemoryModel here.tree) (name : Names) (m : Fr
   -- newobj
   pub new_object_alike : DoesAlike here model name m o statics printed s f below (operation_turn here.tree (mutator_in here model) (Resolved.NewObject number) m o statics printed) (execute here s f below (Named.NewObject c parameters))
   new_object_alike =
-      subst (λ turn. Alike turn (execute here s f below (Named.NewObject c parameters))) (sym turn_is)
+      subst (λ turn. DoesAlike here model name m o statics printed s f below turn (execute here s f below (Named.NewObject c parameters))) (sym turn_is)
       (subst (Alike (made here.tree (mutator_in here model) number.class slots (c, built) m o)) (sym executes) (by_action (action_of c built) refl typed))

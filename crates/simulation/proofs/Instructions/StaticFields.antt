@@ -1,5 +1,5 @@
 -- Loads and stores of static fields do the same on both machines.
-use Rattle.std.proofs.Common.{◌≡◌, ◌<◌, ◌+◌, ◌^◌, ℕ, Bool, true, IsTrue, ◌&&◌, if◌then◌else◌, List, [], ◌∷◌, find, length, Some, None, option_and_then, slice_get, slice_set, refl, sym, ap, ◌∙◌, subst, arith}
+use Rattle.std.proofs.Common.{◌≡◌, ◌<◌, ◌+◌, ◌^◌, ℕ, Bool, true, IsTrue, ◌&&◌, if◌then◌else◌, List, [], ◌∷◌, find, length, Some, None, option_and_then, slice_get, slice_set, refl, sym, ap, ◌∙◌, subst, arith, option_map}
 use Rattle.std.specs.Prelude.{nat_lt}
 use Rattle.std.specs.List.{list_any}
 use Rattle.std.proofs.lemmas.Bool.{and_from}
@@ -34,11 +34,13 @@ use Rattle.interpreter.specs.object_memory.Objects.{Objects}
 use Rattle.interpreter.specs.instructions.barriers.Barriers.{is_static_storable, stored_static}
 use Rattle.interpreter.specs.threads_monitors.Frames.{Frames, with_place, with_stack}
 use Rattle.interpreter.specs.threads_monitors.declared.effects.Effect.TheVariants.{GoesOn}
-use Rattle.interpreter.specs.instructions.Frames.{given, leaves, onward}
+use Rattle.interpreter.specs.instructions.Frames.{given, leaves, onward, Turn}
 use Rattle.interpreter.specs.instructions.ObjectTurns.{load_static_turn, store_static_turn, StaticTurn, beside_statics}
 use Rattle.interpreter.specs.declared.outcomes.Outcome.TheVariants.{Comes}
-use Rattle.interpreter.specs.Instructions.{operation_turn, of_statics, answer_of}
-use Rattle.interpreter.specs.Operations.{small, static_in, static_at}
+use Rattle.interpreter.specs.loaded_program.declared.instructions.LinkedInstruction.TheVariants as Linked
+use Rattle.interpreter.specs.Instructions.{operation_turn, of_statics, answer_of, of_frames}
+use Rattle.interpreter.proofs.Linking.{link_does}
+use Rattle.interpreter.specs.loaded_program.Operands.{small, static_in, static_at}
 use Rattle.simulation.specs.Agreement.{Agree}
 use Rattle.simulation.specs.StandsFor.{Names, IsValue}
 use Rattle.simulation.proofs.ListLaws.AgreeingLists.{agree_get, agree_set}
@@ -99,15 +101,15 @@ module _ (here : Setting) (model : MemoryModel here.tree) (name : Names) (m : Fr
 
   module _ (r : FieldReference) (field : MemberNumber) (is : IsField here.tree true r field) (at : IsSetting here model name m o statics printed s f below (Named.LoadStaticField r) (Resolved.LoadStaticField field)) where
     -- the turn, by the number of the field
-    abbrev loads : ℕ → StaticTurn
-    loads n = beside_statics (o, statics) (load_static_turn n m statics)
+    abbrev loads : ℕ → Turn
+    loads n = load_static_turn n m statics
 
     -- once the value is found
-    load_after : (n : ℕ) (v : Value) (u : StateValue) → slice_get statics n ≡ Some v → IsValue name v u → DoesAlike here model name m o statics printed s f below (of_statics o statics printed (loads n)) (next here s f below (u ∷ f.stack))
+    load_after : (n : ℕ) (v : Value) (u : StateValue) → slice_get statics n ≡ Some v → IsValue name v u → DoesAlike here model name m o statics printed s f below (of_frames o statics printed (loads n)) (next here s f below (u ∷ f.stack))
     load_after n v u there stands = record {
       answer = answer_of (with_place (with_stack m (v ∷ m.running.stack)) (m.running.place + 1)) o statics printed (Comes GoesOn);
-      is = ap (λ x. of_statics o statics printed (beside_statics (o, statics) (given x (λ w. leaves w m)))) there ∙
-          ap (λ x. of_statics o statics printed (beside_statics (o, statics) x)) (leaves_is here model name m o statics printed s f below (Named.LoadStaticField r) (Resolved.LoadStaticField field) at v m.running.stack (omega arith));
+      is = ap (λ x. of_frames o statics printed (given x (λ w. leaves w m))) there ∙
+          ap (of_frames o statics printed) (leaves_is here model name m o statics printed s f below (Named.LoadStaticField r) (Resolved.LoadStaticField field) at v m.running.stack (omega arith));
       refuses = λ _ h. never h;
       alike = λ refused. next_alike here model name m o statics printed s f below (Named.LoadStaticField r) (Resolved.LoadStaticField field) at (v ∷ m.running.stack) (u ∷ f.stack) (stands, (own_frame here model name m o statics printed s f below (Named.LoadStaticField r) (Resolved.LoadStaticField field) at).stack);
     }
@@ -117,8 +119,8 @@ module _ (here : Setting) (model : MemoryModel here.tree) (name : Names) (m : Fr
     load_static_field_alike =
         let own = place (Named.LoadStaticField r) (Resolved.LoadStaticField field) at r field is in
         let there = held (Named.LoadStaticField r) (Resolved.LoadStaticField field) at r field is in
-        alike_turn here model name m o statics printed s f below (Named.LoadStaticField r) (Resolved.LoadStaticField field) at _ (of_statics o statics printed (loads own.place)) _
-        (ap (λ x. of_statics o statics printed (given x loads)) (number_is (Named.LoadStaticField r) (Resolved.LoadStaticField field) at r field is))
+        alike_turn here model name m o statics printed s f below (Named.LoadStaticField r) (Resolved.LoadStaticField field) at _ (of_frames o statics printed (loads own.place)) _
+        (link_does here.tree (mutator_in here model) m o statics printed (Resolved.LoadStaticField field) (Linked.LoadStaticField own.place) (ap (option_map (λ n. Linked.LoadStaticField n)) (number_is (Named.LoadStaticField r) (Resolved.LoadStaticField field) at r field is)))
         (known_alike here model name m o statics printed s f below (Named.LoadStaticField r) (Resolved.LoadStaticField field) at _ (find_field here.tree true r) (is.declared_in, is.found) is.finds _
         (fine here model name m o statics printed s f below (Named.LoadStaticField r) (Resolved.LoadStaticField field) at) (λ typed.
         known_alike here model name m o statics printed s f below (Named.LoadStaticField r) (Resolved.LoadStaticField field) at _ (entry_at same_key (key_of (is.declared_in, is.found)) s.statics) own.entry.1 own.found _ typed (λ typed'.
@@ -160,7 +162,7 @@ module _ (here : Setting) (model : MemoryModel here.tree) (name : Names) (m : Fr
         let there = held (Named.StoreStaticField r) (Resolved.StoreStaticField field) at r field is in
         let key' : FieldKey = key_of (is.declared_in, is.found) in
         alike_turn here model name m o statics printed s f below (Named.StoreStaticField r) (Resolved.StoreStaticField field) at _ (of_statics o statics printed (store_static_turn model.phase own.place m o statics)) _
-        (ap (λ x. of_statics o statics printed (given x (λ n. store_static_turn model.phase n m o statics))) (number_is (Named.StoreStaticField r) (Resolved.StoreStaticField field) at r field is))
+        (link_does here.tree (mutator_in here model) m o statics printed (Resolved.StoreStaticField field) (Linked.StoreStaticField own.place) (ap (option_map (λ n. Linked.StoreStaticField n)) (number_is (Named.StoreStaticField r) (Resolved.StoreStaticField field) at r field is)))
         (one_operand here model name m o statics printed s f below (Named.StoreStaticField r) (Resolved.StoreStaticField field) at (of_statics o statics printed) (stores own.place)
         (λ v rest. state_given (find_field here.tree true r) (λ found. state_given (replaced_entry (key_of found) v s.statics) (λ entries. onward_frame f below (record s { statics = entries }) rest)))
         (fine here model name m o statics printed s f below (Named.StoreStaticField r) (Resolved.StoreStaticField field) at)

@@ -1,5 +1,5 @@
 use Rattle.std.proofs.Common.{◌≡◌, true, Some, sym, ap, ◌∙◌}
-use Rattle.interpreter.specs.Local.{is_local_link, local_link_turn}
+use Rattle.interpreter.specs.Local.{is_local_link}
 use Rattle.interpreter.proofs.LocalKeeps.{local_keeps, plain_unless}
 use Rattle.interpreter.proofs.local_runs.do_local.Goals as goal
 

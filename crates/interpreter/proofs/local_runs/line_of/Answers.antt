@@ -1,4 +1,4 @@
-use Rattle.std.proofs.Common.{◌≡◌, length, refl, sym, subst, ◌∙◌}
+use Rattle.std.proofs.Common.{length, refl, sym, subst, ◌∙◌}
 use Rattle.std.proofs.lemmas.Option.{same_Some, slice_get_read, slice_get_within}
 use Rattle.loaded_program.specs.Loaded.{IsLinkedAt}
 use Rattle.interpreter.proofs.LocalSteps.{linked_in}

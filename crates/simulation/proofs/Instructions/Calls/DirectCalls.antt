@@ -22,9 +22,9 @@ use Rattle.interpreter.specs.resolved_code.declared.operations.Operation.TheVari
 use Rattle.interpreter.specs.object_memory.declared.values.Value.{Value}
 use Rattle.interpreter.specs.object_memory.Objects.{Objects}
 use Rattle.interpreter.specs.threads_monitors.Frames.{Frames}
-use Rattle.interpreter.specs.instructions.Frames.{given}
 use Rattle.interpreter.specs.Calls.{run_turn}
 use Rattle.interpreter.specs.Instructions.{MachineTurn, of_calls, operation_turn}
+use Rattle.interpreter.proofs.Linking.{call_does}
 use Rattle.simulation.specs.StandsFor.{Names}
 use Rattle.simulation.proofs.Instructions.Correspondence.{IsSetting, DoesAlike}
 use Rattle.simulation.proofs.Instructions.StackOperands.{fine}
@@ -69,7 +69,7 @@ module _ (here : Setting) (model : MemoryModel here.tree) (name : Names) (m : Fr
       let is : IsFound here.tree is_instance r finds.declared_in finds.found = found here.tree at.running.accepted.legal is_instance r finds.declared_in finds.found finds.finds in
       let types : List DeclaredType = reference_operands is_instance r in
       let turn : MachineTurn = operation_turn here.tree (mutator_in here model) (Resolved.Call is_instance owner method) m o statics printed in
-      let turn_is : turn ≡ of_calls o statics printed (run_turn here.tree (mutator_in here model) run m o printed) = ap (λ x. of_calls o statics printed (given x (λ y. run_turn here.tree (mutator_in here model) y m o printed))) finds.numbered in
+      let turn_is : turn ≡ of_calls o statics printed (run_turn here.tree (mutator_in here model) run m o printed) = call_does here.tree (mutator_in here model) m o statics printed method run finds.numbered is_instance owner in
       let typed : IsTypedEffect here.tree (operands here s f below types (run_method here s f below run)) =
       subst (λ x. IsTypedEffect here.tree (given_there x (λ y. operands here s f below types (run_method here s f below y)))) finds.finds
       (fine here model name m o statics printed s f below (Named.Call is_instance r) (Resolved.Call is_instance owner method) at) in

@@ -4,9 +4,7 @@ use Rattle.std.specs.Prelude.{nat_lt, ◌==◌, if◌then◌else◌, is_some}
 use Rattle.std.specs.Option.{option_map_or}
 use Rattle.std.proofs.lemmas.Bool.Decides.{nat_tests}
 use Rattle.interpreter.specs.cil_model.declared.instructions.Instruction.TheVariants as Named
-use Rattle.interpreter.specs.cil_model.declared.types.ClassName.{ClassName}
 use Rattle.interpreter.specs.cil_model.declared.types.DeclaredType.{DeclaredType}
-use Rattle.interpreter.specs.cil_model.declared.trees.Method.{Method}
 use Rattle.interpreter.specs.reference_machine.Values.{ObjectName, Value as StateValue, Reference, is_of_kind}
 use Rattle.interpreter.specs.reference_machine.States.{Frame as StateFrame, State}
 use Rattle.interpreter.specs.reference_machine.Effects.{Setting, Effect as StateEffect, Goes, Sticks, returned as returned_frames}
@@ -21,10 +19,9 @@ use Rattle.interpreter.specs.object_memory.Objects.{Objects}
 use Rattle.interpreter.specs.threads_monitors.Frames.{Frame, Frames, size, with_running, returned, returned_to}
 use Rattle.interpreter.specs.threads_monitors.declared.effects.Effect.TheVariants.{GoesOn, Returns}
 use Rattle.interpreter.specs.instructions.Frames.{Turn, given}
-use Rattle.interpreter.specs.instructions.ObjectTurns.{beside}
-use Rattle.interpreter.specs.instructions.Calls.{gives, return_by, return_turn}
-use Rattle.interpreter.specs.Calls.{beside_console, return_rule}
-use Rattle.interpreter.specs.Instructions.{MachineTurn, of_calls, operation_turn, answer_of}
+use Rattle.interpreter.specs.instructions.Calls.{gives, return_by}
+use Rattle.interpreter.specs.Instructions.{operation_turn, answer_of, of_frames}
+use Rattle.interpreter.proofs.Linking.{return_does}
 use Rattle.interpreter.specs.declared.outcomes.Outcome.TheVariants.{Comes}
 use Rattle.simulation.specs.Agreement.{Agree}
 use Rattle.simulation.specs.MachineContents.{frame_room}
@@ -65,11 +62,8 @@ IsGiven name (Some v) None = ⊥
 
 module _ (here : Setting) (model : MemoryModel here.tree) (name : Names) (m : Frames) (o : Objects) (statics : List Value) (printed : List ℕ) (s : State) (f : StateFrame) (below : List StateFrame)
     (at : IsSetting here model name m o statics printed s f below Named.Return Resolved.Return) where
-  abbrev lifted : Turn → MachineTurn
-  lifted turn = of_calls o statics printed (beside_console printed (beside o turn))
-
   abbrev Alike : Turn → StateEffect → Type 0
-  Alike turn e = DoesAlike here model name m o statics printed s f below (lifted turn) e
+  Alike turn e = DoesAlike here model name m o statics printed s f below (of_frames o statics printed turn) e
 
   -- back in the frame below, with another stack
   returns_to : (g : Frame) (gs : List Frame) (g' : StateFrame) (gs' : List StateFrame) → m.below ≡ g ∷ gs → IsFrame here.tree name g g' → Agree (IsFrame here.tree name) gs gs' →
@@ -108,19 +102,19 @@ module _ (here : Setting) (model : MemoryModel here.tree) (name : Names) (m : Fr
           (v : Option Value) (u : Option StateValue) → IsGiven name v u → Alike (gives v (with_running m r)) (Goes (returned_frames u bs') s)
       by_below [] [] is h waiting v u k = record {
         answer = answer_of (with_running m r) o statics printed (Comes Returns);
-        is = ap lifted (gives_done v (with_running m r) is);
+        is = ap (of_frames o statics printed) (gives_done v (with_running m r) is);
         refuses = λ _ h. never h;
         alike = λ x. (refl, (refl, refl, refl));
       }
       by_below (g ∷ gs) (g' ∷ gs') is h waiting None None k = record {
         answer = (answer_of (record m { running = g; below = gs }) o statics printed (Comes GoesOn));
-        is = ap lifted (gives_none (with_running m r) g gs is);
+        is = ap (of_frames o statics printed) (gives_none (with_running m r) g gs is);
         refuses = λ _ h. never h;
         alike = λ x. returns_to g gs g' gs' is h.0 h.1 g.stack g'.stack h.0.stack;
       }
       by_below (g ∷ gs) (g' ∷ gs') is h waiting (Some v) (Some u) k = record {
         answer = (answer_of (record m { running = record g { stack = v ∷ g.stack }; below = gs }) o statics printed (Comes GoesOn));
-        is = ap lifted (gives_some v (with_running m r) g gs is (has_room g g' gs' h.0 waiting));
+        is = ap (of_frames o statics printed) (gives_some v (with_running m r) g gs is (has_room g g' gs' h.0 waiting));
         refuses = λ _ h. never h;
         alike = λ x. returns_to g gs g' gs' is h.0 h.1 (v ∷ g.stack) (u ∷ g'.stack) (k, h.0.stack);
       }
@@ -138,7 +132,7 @@ module _ (here : Setting) (model : MemoryModel here.tree) (name : Names) (m : Fr
   by_type : (t : Option DeclaredType) → IsTypedEffect here.tree (ends_by t) → Alike (return_by None (is_some t) m) (ends_by t)
   by_type None typed = leaves_alike m.running None None tt
   by_type (Some t) typed =
-      one_operand here model name m o statics printed s f below Named.Return Resolved.Return at lifted (λ v n. gives (Some v) n) (λ u rest. if is_of_kind t u then leave here s f below (Some u) else Sticks) typed
+      one_operand here model name m o statics printed s f below Named.Return Resolved.Return at (of_frames o statics printed) (λ v n. gives (Some v) n) (λ u rest. if is_of_kind t u then leave here s f below (Some u) else Sticks) typed
       (λ v rest u rest' top top' h k shorter typed'. by_kind v rest u h (is_of_kind t u) typed')
     where
       by_kind : (v : Value) (rest : List Value) (u : StateValue) → IsValue name v u → (b : Bool) → IsTypedEffect here.tree (if b then leave here s f below (Some u) else Sticks) →
@@ -159,6 +153,5 @@ module _ (here : Setting) (model : MemoryModel here.tree) (name : Names) (m : Fr
   pub return_alike : DoesAlike here model name m o statics printed s f below (operation_turn here.tree (mutator_in here model) Resolved.Return m o statics printed) (execute here s f below Named.Return)
   return_alike =
       let own : IsFrame here.tree name m.running f = own_frame here model name m o statics printed s f below Named.Return Resolved.Return at in
-      let turn_is : return_rule here.tree m ≡ return_turn (is_some f.method.signature.return_type) m = ap (λ x. given x (λ (found : ClassName × Method). return_turn (is_some found.1.signature.return_type) m)) own.method in
-      subst (λ x. Alike x (execute here s f below Named.Return)) (sym turn_is)
+      subst (λ turn. DoesAlike here model name m o statics printed s f below turn (execute here s f below Named.Return)) (sym (return_does here.tree (mutator_in here model) m o statics printed (f.owner, f.method) own.method))
       (by_object m.running.constructed f.constructed own.constructed (fine here model name m o statics printed s f below Named.Return Resolved.Return at))

@@ -1,5 +1,5 @@
 -- Virtual calls do the same on a machine as on the reference machine (III.4.2).
-use Rattle.std.proofs.Common.{◌≡◌, ◌≤◌, ◌++◌, ℕ, zero, suc, ◌==◌, Bool, true, false, if◌then◌else◌, nat_le, List, [], ◌∷◌, length, take, drop, reverse, Option, Some, None, option_and_then, slice_get, refl, sym, ap, ◌∙◌, subst, arith}
+use Rattle.std.proofs.Common.{◌≡◌, ◌≤◌, ◌++◌, ℕ, zero, suc, Bool, true, false, if◌then◌else◌, nat_le, List, [], ◌∷◌, length, take, drop, reverse, Option, Some, None, slice_get, refl, sym, ap, ◌∙◌, subst, arith}
 use Rattle.std.proofs.lemmas.List.{reverse-append, length-reverse}
 use Rattle.std.proofs.lemmas.Bool.{leb-true}
 use Rattle.interpreter.specs.cil_model.declared.instructions.Instruction.TheVariants as Named
@@ -26,8 +26,9 @@ use Rattle.interpreter.specs.threads_monitors.Frames.{Frames}
 use Rattle.interpreter.specs.threads_monitors.declared.effects.Effect.TheVariants.{Raises}
 use Rattle.interpreter.specs.instructions.Frames.{given}
 use Rattle.interpreter.specs.declared.outcomes.Outcome.TheVariants.{Comes}
-use Rattle.interpreter.specs.Calls.{CallTurn, chosen, receiver, receiver_in, run_chosen, run_turn, call_answer}
+use Rattle.interpreter.specs.Calls.{CallTurn, chosen, receiver, receiver_in, run_turn, call_answer, run_on}
 use Rattle.interpreter.specs.Instructions.{of_calls, operation_turn, answer_of}
+use Rattle.interpreter.proofs.Linking.{virtual_does}
 use Rattle.simulation.specs.Agreement.{Agree}
 use Rattle.simulation.specs.StandsFor.{Names, IsValue, int32, int64, native, null_reference, reference}
 use Rattle.simulation.proofs.ListLaws.AgreeingLists.{agree_get}
@@ -85,12 +86,11 @@ module _ (methods_run_alike : MethodsRunAlike) where
 
       -- the machine's part once the object is known
       abbrev turn_on : Addr → CallTurn
-      turn_on a = if a.number == 0 then Some (call_answer m o printed (Comes (Raises NullReference))) else run_chosen here.tree (mutator_in here model) a method m o printed
+      turn_on a = run_on here.tree (mutator_in here model) own a m o printed
 
       turn_on_is : (a : Addr) (n : ObjectName) → name a.number ≡ Some n → turn_on a ≡ given (method_by here.tree own (class_of s n)) (λ x. run_turn here.tree (mutator_in here model) x m o printed)
       turn_on_is a n named =
-          ap (λ b. if b then Some (call_answer m o printed (Comes (Raises NullReference))) else run_chosen here.tree (mutator_in here model) a method m o printed) (named_is_not_null here.tree name o s (model.reads name o statics s at.memory.fits at.running.typed) a.number n named) ∙
-          ap (λ x. given (option_and_then (chosen here.tree o a) x) (λ y. run_turn here.tree (mutator_in here model) y m o printed)) finds.numbered ∙
+          ap (λ b. if b then Some (call_answer m o printed (Comes (Raises NullReference))) else given (chosen here.tree o a own) (λ y. run_turn here.tree (mutator_in here model) y m o printed)) (named_is_not_null here.tree name o s (model.reads name o statics s at.memory.fits at.running.typed) a.number n named) ∙
           ap (λ x. given x (λ y. run_turn here.tree (mutator_in here model) y m o printed)) (chosen_is here.tree name o s (model.reads name o statics s at.memory.fits at.running.typed) own a n named)
 
       module _ (few : nat_le count (length f.stack) ≡ true) (this : StateValue) (arguments : List StateValue) (taken : reverse (take count f.stack) ≡ this ∷ arguments) where
@@ -155,6 +155,6 @@ module _ (methods_run_alike : MethodsRunAlike) where
         IsSetting here model name m o statics printed s f below (Named.CallVirtual c label signature) (Resolved.CallVirtual owner method) →
         DoesAlike here model name m o statics printed s f below (operation_turn here.tree (mutator_in here model) (Resolved.CallVirtual owner method) m o statics printed) (execute here s f below (Named.CallVirtual c label signature))
     call_virtual_alike c label signature owner method named finds at =
-        subst (λ x. Alike (given x (λ y. given (receiver m.running.stack (length (argument_types y.1 y.0))) (turn_on c label signature owner method finds at))) (execute here s f below (Named.CallVirtual c label signature))) (sym finds.numbered)
+        subst (λ turn. DoesAlike here model name m o statics printed s f below turn (execute here s f below (Named.CallVirtual c label signature))) (sym (virtual_does here.tree (mutator_in here model) m o statics printed method (finds.declared_in, finds.found) finds.numbered owner))
         (subst (λ x. Alike (given (receiver m.running.stack (length (argument_types finds.found finds.declared_in))) (turn_on c label signature owner method finds at)) (given_state x (λ y. operands here s f below (types c label signature owner method finds at) (run_virtual here s f below y)))) (sym finds.finds)
         (found_alike c label signature owner method finds at))

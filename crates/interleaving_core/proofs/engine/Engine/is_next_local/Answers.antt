@@ -1,4 +1,4 @@
-use Rattle.std.proofs.Common.{◌≡◌, Option, Some, false, refl, sym, ap, subst, true≢false, ◌∙◌}
+use Rattle.std.proofs.Common.{Option, Some, false, refl, sym, ap, subst, true≢false, ◌∙◌}
 use Rattle.std.specs.Option.{option_map_or}
 use Rattle.std.proofs.lemmas.Option.{same_Some}
 use Rattle.cil_model.proofs.Lists.{none_is_some}

@@ -1,10 +1,9 @@
-use Rattle.std.proofs.Common.{◌≡◌, Some, refl, sym, ap, subst, false, ◌∙◌}
+use Rattle.std.proofs.Common.{Some, refl, sym, ap, subst, false, ◌∙◌}
 use Rattle.std.specs.Option.{option_map_or}
 use Rattle.cil_model.specs.declared.trees.Tree.{Tree}
 use Rattle.threads_monitors.specs.Threads.{is_live}
 use Rattle.threads_monitors.specs.declared.threads.Standing.{Standing}
-use Rattle.threads_monitors.specs.declared.threads.Thread.{Thread}
-use Rattle.interleaving_core.specs.Loans.{Begins, CanGoOnLocally, Lent}
+use Rattle.interleaving_core.specs.Loans.{Begins, CanGoOnLocally}
 use Rattle.interleaving_core.specs.Views.{content_of}
 use Rattle.interleaving_core.proofs.Threads.LiveFrames.{found_there, runs_frame}
 use Rattle.interleaving_core.proofs.Threads.HalfSteps.{thread_is}

@@ -1,7 +1,7 @@
-use Rattle.std.proofs.Common.{◌≡◌, ◌-◌, ℕ, List, Some, slice_get, slice_set, refl, sym, ap, ◌∙◌}
+use Rattle.std.proofs.Common.{ℕ, List, slice_set, refl, sym, ap, ◌∙◌}
 use Rattle.std.proofs.lemmas.Option.{same_Some}
 use Rattle.threads_monitors.specs.declared.threads.Thread.{Thread}
-use Rattle.simulation.specs.MachineContents.{Content, frame_room}
+use Rattle.simulation.specs.MachineContents.{frame_room}
 use Rattle.simulation.specs.Turns.{live_thread}
 use Rattle.simulation.specs.interpreter.Local.{frames_over}
 use Rattle.interleaving_core.specs.Views.{content_of}

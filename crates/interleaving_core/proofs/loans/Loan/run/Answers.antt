@@ -1,8 +1,8 @@
-use Rattle.std.proofs.Common.{◌≡◌, ◌<◌, ◌+◌, ℕ, arith, ap, sym, subst}
-use Rattle.threads_monitors.specs.Frames.{Frame, Frames}
+use Rattle.std.proofs.Common.{◌≡◌, ℕ, arith, ap, sym, subst}
+use Rattle.threads_monitors.specs.Frames.{Frames}
 use Rattle.simulation.specs.interpreter.Local.{AreLocalSteps, IsReadySomewhere, alone}
 use Rattle.simulation.specs.MachineContents.{frame_room}
-use Rattle.interleaving_core.specs.Loans.{IsAlone, IsLent, Lent}
+use Rattle.interleaving_core.specs.Loans.{IsAlone, IsLent}
 use Rattle.interleaving_core.specs.declared.loans.Rooms.{Rooms}
 use Rattle.interleaving_core.proofs.Threads.LocalRuns.{goes_on, steps_behind}
 use Rattle.interleaving_core.proofs.loans.Loan.run.Goals as goal

@@ -1,4 +1,4 @@
-use Rattle.std.proofs.Common.{◌≡◌, sym, ap, subst, replicate, ◌∙◌}
+use Rattle.std.proofs.Common.{sym, ap, subst, replicate, ◌∙◌}
 use Rattle.cil_model.specs.declared.events.Event.TheVariants.{Step}
 use Rattle.cil_model.specs.declared.reports.Report.TheVariants.{Ran}
 use Rattle.cil_model.specs.declared.trees.Tree.{Tree}
