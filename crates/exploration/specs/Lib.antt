@@ -5,3 +5,4 @@ pub mod Searches
 pub mod Shown
 pub mod Paths
 pub mod Begins
+pub mod Findings

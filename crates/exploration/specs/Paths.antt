@@ -1,5 +1,5 @@
 -- Lists of events that lead from the initial content to others, and what is known of these (this profile).
-use Rattle.std.specs.Prelude.{Contains, ◌≡◌, ◌<◌, ℕ, true, List, Some, length, slice_get}
+use Rattle.std.specs.Prelude.{Contains, ◌≡◌, ℕ, true, List}
 use Rattle.interleaving_core.specs.simulation.cil_model.declared.events.Event.{Event}
 use Rattle.interleaving_core.specs.simulation.cil_model.declared.reports.Report.{Report}
 use Rattle.interleaving_core.specs.simulation.threads_monitors.Threads.{is_live_at}
@@ -39,33 +39,15 @@ IsTerminalAt first events = (c : Content) × LeadsTo first events c × IsTermina
 abbrev pub IsNotTerminalAt : Content → List Event → Type 0
 IsNotTerminalAt first events = (c : Content) × LeadsTo first events c × (IsTerminal c → ⊥)
 
--- ---- the list at an index
+-- ---- what is checked of one list of events
 
--- in the content to which the list leads, a step of the thread, if it is live, leads to a content that is behind one to which some list leads
-pub record IsStepChecked (first : Content) (paths : List (List Event)) (place t : ℕ) : Type 0 where
-  pub path : List Event
-  pub there : slice_get paths place ≡ Some path
-  pub content : Content
-  pub reports : List Report
-  pub turns : AreTurns first path content reports
-  pub leads : is_live_at content.threads t ≡ true → LeadsInto (IsLedTo first paths) content t
-
--- the same for each thread
-pub record AreStepsChecked (first : Content) (paths : List (List Event)) (place : ℕ) : Type 0 where
-  pub path : List Event
-  pub there : slice_get paths place ≡ Some path
-  pub content : Content
-  pub reports : List Report
-  pub turns : AreTurns first path content reports
-  pub each : (t : ℕ) → t < length content.threads → IsStepChecked first paths place t
+-- from the content to which the list leads, each step of a live thread leads to a content that is behind one to which some list leads
+abbrev pub AreStepsChecked : Content → List (List Event) → List Event → Type 0
+AreStepsChecked first paths events = (c : Content) × LeadsTo first events c × ((t : ℕ) → is_live_at c.threads t ≡ true → LeadsInto (IsLedTo first paths) c t)
 
 -- if no thread can make a step there, the content shows one of these outcomes
-pub record ShowsOneOf (first : Content) (paths : List (List Event)) (outcomes : List Outcome) (place : ℕ) : Type 0 where
-  pub path : List Event
-  pub there : slice_get paths place ≡ Some path
-  pub content : Content
-  pub leads : LeadsTo first path content
-  pub shows : IsTerminal content → Contains outcomes (outcome_shown content)
+abbrev pub ShowsOneOf : Content → List Outcome → List Event → Type 0
+ShowsOneOf first outcomes events = (c : Content) × LeadsTo first events c × (IsTerminal c → Contains outcomes (outcome_shown c))
 
 -- the events of an outcome lead to a content that shows it, and in which no thread can make a step
 pub record IsReal (first : Content) (found : Found) : Type 0 where

@@ -1,5 +1,9 @@
 //! What a search gives to the check.
 
+ghost use Rattle.std.specs.Prelude.{◌≡◌};
+ghost use Rattle.std.specs.Str.{bytes_eq};
+ghost use Rattle.exploration.specs.Findings.{has_deadlock, has_fault};
+
 use cil_model::events::Event;
 use cil_model::reports::End;
 
@@ -21,17 +25,11 @@ pub struct Found {
     pub ends: Vec<Option<End>>,
 }
 
-impl Path {
-    /// The first thread of which a step leads to another list than the one at `index`. None if there is no such thread.
-    pub(crate) fn first_mover(&self, index: usize) -> Option<u8> {
-        let thread = self.next.iter().position(|next| *next != index)?;
-        u8::try_from(thread).ok()
-    }
-}
-
 impl Found {
     /// Whether a thread ended by a fault.
-    pub fn has_fault(&self) -> bool {
+    pub fn has_fault(&self) -> bool
+        ensures { result ≡ has_fault self.now }
+    {
         self.ends.iter().any(|end| match end {
             Some(End::Fault(_)) => true,
             _ => false,
@@ -39,12 +37,16 @@ impl Found {
     }
 
     /// Whether a thread is blocked.
-    pub fn has_deadlock(&self) -> bool {
+    pub fn has_deadlock(&self) -> bool
+        ensures { result ≡ has_deadlock self.now }
+    {
         self.ends.iter().any(|end| end.is_none())
     }
 
-    /// Whether another outcome has the same printed bytes.
-    pub fn prints_same(&self, other: &Found) -> bool {
+    /// Whether another outcome has the same printed bytes, in the same order.
+    pub fn prints_same(&self, other: &Found) -> bool
+        ensures { result ≡ bytes_eq self.now.printed.items other.now.printed.items }
+    {
         self.printed == other.printed
     }
 }

@@ -1,12 +1,13 @@
 //! Machines of one program that replay lists of events.
 
-ghost use Rattle.std.specs.Prelude.{◌≡◌, ◌≤◌, IfOk, OnOk, length, true};
+ghost use Rattle.std.specs.Prelude.{◌≡◌, ◌≤◌, ◌-◌, ◌&&◌, IfOk, OnOk, is_none, length, map, true};
 ghost use Rattle.interleaving_core.specs.simulation.cil_model.Legality.{IsLegal};
 ghost use Rattle.interleaving_core.specs.simulation.cil_model.declared.events.Event.TheVariants.{Step as StepOf};
 ghost use Rattle.interleaving_core.specs.simulation.cil_model.declared.limits.TheConstants.{MOST_THREADS};
-ghost use Rattle.interleaving_core.specs.simulation.threads_monitors.Threads.{is_live_at};
+ghost use Rattle.interleaving_core.specs.simulation.threads_monitors.Threads.{end_of, is_live_at};
 ghost use Rattle.interleaving_core.specs.simulation.Turns.{IsTurn};
 ghost use Rattle.interleaving_core.specs.Alike.{AreAlike};
+ghost use Rattle.interleaving_core.specs.Waits.{wait_at};
 ghost use Rattle.exploration.specs.Begins.{Begins};
 ghost use Rattle.exploration.specs.Behind.{IsBehind};
 ghost use Rattle.exploration.specs.Paths.{LeadsTo, outcome_found};
@@ -35,9 +36,11 @@ impl First for Brand {
 }
 
 /// A machine of the program and the limits whose initial content `M` names. Contracts see its content.
+/// It keeps the memory of the reports of the last replay for the next one.
 #[derive(Drop)]
 pub struct Replayer<M: First> {
     machine: Machine,
+    reports: Vec<Report>,
     of: PhantomData<M>,
 }
 
@@ -54,12 +57,13 @@ impl<M: First> Model for Replayer<M> {
 
 impl<M: First> Replayer<M> {
     /// A replayer of this machine.
-    pub fn new(machine: Machine) -> Replayer<M>
+    pub fn new(alloc: Global, machine: Machine) -> Replayer<M>
         requires { Begins machine M.first }
         ensures { result ≡ machine }
     {
         Replayer {
             machine,
+            reports: Vec::new(alloc),
             of: PhantomData,
         }
     }
@@ -76,8 +80,8 @@ impl<M: First> Replayer<M> {
         ensures { OnOk result (LeadsTo M.first events.now self.new) }
     {
         self.machine.reopen(alloc)?;
-        let mut reports = Vec::new(alloc);
-        self.machine.run(alloc, events, &mut reports)
+        self.reports.clear();
+        self.machine.run(alloc, events, &mut self.reports)
     }
 
     /// Makes a step of a thread, and returns its report. It fails only if memory runs out.
@@ -112,6 +116,16 @@ impl<M: First> Replayer<M> {
         self.machine.is_live(thread)
     }
 
+    /// How each thread that was started has ended, by its number; None for a live thread. It fails only if memory runs out.
+    pub(crate) fn ends(&self, alloc: Global) -> Result<Vec<Option<End>>, NoMemory>
+        ensures all { IfOk result (λ ends. ends.items ≡ map end_of self.now.threads) }
+        ensures few { IfOk result (λ ends. length ends.items ≤ MOST_THREADS) }
+    {
+        let _started = self.machine.started();
+        let ends = self.machine.ends(alloc)?;
+        Ok(ends)
+    }
+
     /// The number of threads that were started.
     pub fn started(&self) -> usize
         ensures all { result ≡ length self.now.threads }
@@ -120,8 +134,10 @@ impl<M: First> Replayer<M> {
         self.machine.started()
     }
 
-    /// The thread that was started last.
-    pub fn newest(&self) -> u8 {
+    /// The number of the thread that was started last.
+    pub fn newest(&self) -> u8
+        ensures { result ≡ length self.now.threads - 1 }
+    {
         self.machine.started().saturating_sub(1) as u8
     }
 
@@ -133,11 +149,13 @@ impl<M: First> Replayer<M> {
     }
 
     /// Whether a thread is live, and its next step is not blocked.
-    pub fn can_step(&self, thread: u8) -> bool {
+    pub fn can_step(&self, thread: u8) -> bool
+        ensures { result ≡ (is_live_at self.now.threads thread && is_none (wait_at self.now thread)) }
+    {
         self.machine.is_live(thread) && self.machine.wait_of(thread).is_none()
     }
 
-    /// A hash of the machine's state: equal for machines of which `is_like` is true.
+    /// A hash of the machine's state: equal for machines of which `is_like` is true. Nothing is proved of it.
     pub fn digest(&self) -> u64 {
         self.machine.digest()
     }
@@ -147,7 +165,8 @@ impl<M: First> Replayer<M> {
         ensures { IfOk result (λ yes. yes ≡ true → outcome_shown self.now ≡ outcome_found found.now) }
     {
         let ends = self.machine.ends(alloc)?;
-        if !are_same_bytes(self.machine.console(), &found.printed) {
+        let is_printed = *self.machine.console() == *found.printed.as_slice();
+        if !is_printed {
             return Ok(false);
         }
         Ok(are_same_ends(&ends, &found.ends))
@@ -159,7 +178,10 @@ impl<M: First> Replayer<M> {
         alloc: Global,
         events: Vec<Event>,
         preemptions: usize,
-    ) -> Result<Found, NoMemory> {
+    ) -> Result<Found, NoMemory>
+        ensures shows { IfOk result (λ found. outcome_found found ≡ outcome_shown self.now) }
+        ensures schedule { IfOk result (λ found. (found.events ≡ events) × (found.preemptions ≡ preemptions)) }
+    {
         Ok(Found {
             events,
             preemptions,
@@ -167,21 +189,6 @@ impl<M: First> Replayer<M> {
             ends: self.machine.ends(alloc)?,
         })
     }
-}
-
-/// Whether two lists of bytes are equal. True only if they are.
-fn are_same_bytes(bytes: &[u8], others: &[u8]) -> bool
-    ensures { result ≡ true → bytes.now ≡ others.now }
-{
-    if bytes.len() != others.len() {
-        return false;
-    }
-    for index in 0..bytes.len() {
-        if bytes[index] != others[index] {
-            return false;
-        }
-    }
-    true
 }
 
 /// Whether two lists of ends are equal. True only if they are.

@@ -8,7 +8,7 @@ pub mod laws;
 mod references;
 mod types;
 
-pub use characters::CharactersText;
+pub use characters::{BytesText, CharactersText};
 pub use instructions::InstructionText;
 pub use references::MethodNameText;
 pub use types::ClassText;

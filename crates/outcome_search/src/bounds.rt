@@ -1,7 +1,7 @@
 //! How far a search goes, and why it stops.
 
 /// The kind of outcome at which a search stops.
-#[derive(Clone, Copy, PartialEq, Eq, Debug)]
+#[derive(Clone, Copy)]
 pub enum Goal {
     /// A thread ended by a fault.
     Fault,
@@ -12,7 +12,7 @@ pub enum Goal {
 }
 
 /// The bounds of a search.
-#[derive(Clone, Copy, Debug)]
+#[derive(Clone, Copy)]
 pub struct Bounds {
     /// The maximum number of states.
     pub states: usize,
@@ -23,7 +23,7 @@ pub struct Bounds {
 }
 
 /// Why a search stopped before it visited all states.
-#[derive(Clone, Copy, PartialEq, Eq, Debug)]
+#[derive(Clone, Copy)]
 pub enum Stop {
     /// It reached the maximum number of states.
     States,

@@ -57,6 +57,16 @@ pub fn explore(
     Ok(explore_machines::<Brand>(alloc, machine, other, bounds)?)
 }
 
+/// The size of the block of `keep_freed_memory`: more than the frames of all threads of two machines.
+const KEPT_WORDS: usize = 524_288;
+
+/// Allocates a large block and gives it back. An allocator that returns freed memory to the system, as that of the C library does, then keeps as much for later allocations: so each
+/// replay finds the memory that the one before has freed.
+fn keep_freed_memory(alloc: Global) -> Result<(), NoMemory> {
+    let _block: Vec<u64> = Vec::with_capacity(alloc, KEPT_WORDS)?;
+    Ok(())
+}
+
 /// Finds every outcome of a program, by two machines of it within the same limits. It fails only if memory runs out.
 fn explore_machines<M: First>(
     alloc: Global,
@@ -70,8 +80,9 @@ fn explore_machines<M: First>(
     ensures complete { IfOk result (λ e. e.is_complete ≡ true → IsOutcomeList M.first (map outcome_found e.found.items)) }
     ensures real { IfOk result (λ e. (n : ℕ) (f : AnyFound) → slice_get e.found.items n ≡ Some f → IsReal M.first f) }
 {
-    let mut replayer: Replayer<M> = Replayer::new(machine);
-    let mut other: Replayer<M> = Replayer::new(other);
+    keep_freed_memory(alloc)?;
+    let mut replayer: Replayer<M> = Replayer::new(alloc, machine);
+    let mut other: Replayer<M> = Replayer::new(alloc, other);
     let search = search(&mut replayer, alloc, bounds)?;
     let found = confirm(&mut replayer, alloc, search.found)?;
     let is_complete = has_found_all(
@@ -84,7 +95,7 @@ fn explore_machines<M: First>(
     )?;
     Ok(Exploration {
         found,
-        states: search.paths.len(),
+        states: search.states,
         is_complete,
         stop: search.stop,
     })
@@ -105,7 +116,8 @@ fn has_found_all<M: First>(
     if stop.is_some() {
         return Ok(false);
     }
-    is_complete(replayer, other, alloc, paths, found)
+    let is_complete = is_complete(replayer, other, alloc, paths, found)?;
+    Ok(is_complete)
 }
 
 /// The outcomes if all of them are confirmed; otherwise none. It fails only if memory runs out.

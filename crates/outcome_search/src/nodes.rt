@@ -87,9 +87,15 @@ impl Nodes {
         self.all.get(index as usize).copied()
     }
 
+    /// The number of steps of the schedule of a node; 0 if there is no such node.
+    fn steps(&self, index: u32) -> usize {
+        self.get(index).map_or(0, |node| node.steps as usize)
+    }
+
     /// The moves of the schedule of a node, the last one first.
+    // Each move but the first one has a step at least.
     fn moves(&self, alloc: Global, index: u32) -> Result<Vec<Move>, NoMemory> {
-        let mut moves = Vec::new(alloc);
+        let mut moves = Vec::with_capacity(alloc, self.steps(index).saturating_add(1))?;
         let mut next = Some(index);
         for _node in 0..self.all.len() {
             let Some(node) = next.and_then(|index| self.get(index)) else {
@@ -101,18 +107,10 @@ impl Nodes {
         Ok(moves)
     }
 
-    /// A list without elements, with room for the events of the schedule of a node.
-    fn room_for_events(&self, alloc: Global, index: u32) -> Result<Vec<Event>, NoMemory> {
-        match self.get(index) {
-            Some(node) => Ok(Vec::with_capacity(alloc, node.steps as usize)?),
-            None => Ok(Vec::new(alloc)),
-        }
-    }
-
     /// The events that lead to the state of a node. A new thread runs its first local instructions right after it is started.
     pub fn events(&self, alloc: Global, index: u32) -> Result<Vec<Event>, NoMemory> {
         let moves = self.moves(alloc, index)?;
-        let mut events = self.room_for_events(alloc, index)?;
+        let mut events = Vec::with_capacity(alloc, self.steps(index))?;
         for step in moves.iter().rev() {
             push_steps(&mut events, step.thread, step.count)?;
             push_steps(&mut events, step.newest, step.more)?;
@@ -125,7 +123,7 @@ impl Nodes {
     pub fn schedule(&self, alloc: Global, index: u32) -> Result<Vec<Event>, NoMemory> {
         let moves = self.moves(alloc, index)?;
         let mut pending = [0; MOST_THREADS];
-        let mut events = self.room_for_events(alloc, index)?;
+        let mut events = Vec::with_capacity(alloc, self.steps(index))?;
         for step in moves.iter().rev() {
             push_pending(&mut events, &mut pending, step.thread)?;
             push_steps(&mut events, step.thread, step.count)?;

@@ -11,9 +11,10 @@ use cil_model::reports::{End, Report};
 use exploration::{FIRST_THREAD, First, Found, Path, Replayer, is_ordinary};
 use std::alloc::Global;
 
-/// What a search found. `stop` is None if it visited all states.
+/// What a search found: the number of states and the outcomes. `stop` is None if it visited all states; only then are there paths, one for each state.
 #[derive(Drop)]
 pub struct SearchResult {
+    pub states: usize,
     pub paths: Vec<Path>,
     pub found: Vec<Found>,
     pub stop: Option<Stop>,
@@ -49,7 +50,8 @@ pub fn search<M: First>(
         }
     }
     Ok(SearchResult {
-        paths: searching.states.paths(alloc, &searching.nodes)?,
+        states: searching.states.count(),
+        paths: searching.paths(alloc)?,
         found: searching.found,
         stop: searching.stop,
     })
@@ -153,6 +155,14 @@ fn stop_of(report: Report, thread: u8) -> Stop {
 }
 
 impl Searching {
+    /// The path of each state, by its index. None of them if the search stopped early, since the check needs all states.
+    fn paths(&self, alloc: Global) -> Result<Vec<Path>, NoMemory> {
+        if self.stop.is_some() {
+            return Ok(Vec::new(alloc));
+        }
+        self.states.paths(alloc, &self.nodes)
+    }
+
     /// Whether it stops here.
     fn is_over(&self) -> bool {
         match self.stop {
@@ -312,7 +322,7 @@ impl Searching {
         }
     }
 
-    /// Adds the nodes after a node whose state is expanded.
+    /// Adds the nodes after a node whose state is expanded, except those that would not be visited.
     fn push_successors(&mut self, node: Node, index: u32) -> Result<(), NoMemory> {
         let last = node.last.thread;
         let can_continue = self.move_from(node.state, last).is_some();
@@ -324,6 +334,9 @@ impl Searching {
             let preemptions = node.preemptions.saturating_add(u32::from(preempts));
             if self.is_beyond(preemptions) {
                 self.stop = self.stop.or(Some(Stop::Preemptions));
+                continue;
+            }
+            if self.states.is_visited(next, thread) {
                 continue;
             }
             self.nodes.push(Node {

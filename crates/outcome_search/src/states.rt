@@ -83,6 +83,17 @@ impl States {
         is_first
     }
 
+    /// Whether a state was visited after a move of a thread.
+    pub fn is_visited(&self, index: u32, thread: u8) -> bool {
+        match self.all.get(index as usize) {
+            Some(state) => state
+                .visited
+                .get(usize::from(thread))
+                .is_some_and(|visited| *visited),
+            None => false,
+        }
+    }
+
     /// Where the edges of a state are. None if they are not known.
     fn expansion(&self, index: u32) -> Option<Expansion> {
         self.all.get(index as usize)?.expansion

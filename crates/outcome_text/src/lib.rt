@@ -6,7 +6,6 @@
 mod counts;
 mod ends;
 mod outcomes;
-mod printed;
 mod summaries;
 
 pub use outcomes::{add_outcome, add_schedule, schedule_text};

@@ -7,10 +7,10 @@ ghost use Rattle.outcome_text.specs.Outcomes.{IsSchedule, outcome_line, printed_
 
 use crate::counts::CountText;
 use crate::ends::add_ends;
-use crate::printed::PrintedText;
 use cil_model::events::Event;
 use cil_model::memory::NoMemory;
 use cil_model::reports::End;
+use instruction_text::BytesText;
 use schedule_text::{Item, ScheduleError, write_schedule};
 use std::alloc::Global;
 
@@ -41,7 +41,7 @@ fn add_number(text: &mut String, number: usize) -> Result<(), NoMemory>
 fn add_printed(text: &mut String, printed: &[u8]) -> Result<(), NoMemory>
     ensures { OnOk result (string_bytes text.new ≡ string_bytes text.old ++ printed_text printed.now) }
 {
-    let printed = PrintedText(printed);
+    let printed = BytesText(printed);
     write!(text, "prints \"{printed}\"\n")?;
     Ok(())
 }

@@ -5,7 +5,7 @@ use std::fmt;
 use std::fmt::Display;
 
 /// Why an exploration stopped early.
-#[derive(Clone, Copy, PartialEq, Eq, Debug)]
+#[derive(Clone, Copy)]
 pub enum Cause {
     /// It reached the maximum number of states.
     States,
@@ -24,7 +24,7 @@ pub enum Cause {
 }
 
 /// Which schedules an exploration covers.
-#[derive(Clone, Copy, PartialEq, Eq, Debug)]
+#[derive(Clone, Copy)]
 pub enum Coverage {
     /// All of them: no outcome is missing.
     AllSchedules,
@@ -35,7 +35,7 @@ pub enum Coverage {
 }
 
 /// How much was explored: one line.
-#[derive(Clone, Copy, PartialEq, Eq, Debug)]
+#[derive(Clone, Copy)]
 pub struct Summary {
     /// The number of outcomes.
     pub outcomes: usize,

@@ -8,7 +8,7 @@ use Rattle.exploration.proofs.replayers.Replayer.replay.Goals as goal
 pub returns : goal.returns
 returns g c =
     let first = begins_first c.self.inside.machine c.reopen.new.self g.M.First.first c.in_ok-reopen.ensures.begins c.self.invariant in
-    let reports : List Report = drop (length c.new-reports.result.items) c.run.new.reports.items in
+    let reports : List Report = drop (length c.clear.new.self.items) c.run.new.reports.items in
     on_ok c.run.result c.run.ensures.turns (λ turns. record { reports = reports; turns = subst (λ (x : Content). AreTurns x c.args.events.now c.run.new.self reports) first turns })
 
 pub invariant_of-self : goal.invariant_of-self

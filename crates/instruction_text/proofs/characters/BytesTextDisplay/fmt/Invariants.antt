@@ -1,7 +1,7 @@
 use Rattle.std.proofs.Common.{take}
 use Rattle.std.specs.Fmt.{HasWritten, IsPlainFormatter}
 use Rattle.instruction_text.specs.Characters.{characters_text}
-use Rattle.outcome_text.proofs.printed.PrintedTextDisplay.fmt.Given as goal
+use Rattle.instruction_text.proofs.characters.BytesTextDisplay.fmt.Given as goal
 
 -- the bytes so far are written
 abbrev pub invariant-loop-byte : goal.invariant-loop-byte

@@ -1,6 +1,0 @@
-use Rattle.std.proofs.Common.{◌≡◌, take}
-use Rattle.exploration.proofs.replayers.are_same_bytes.Given as goal
-
--- those so far
-abbrev pub invariant-loop-index : goal.invariant-loop-index
-invariant-loop-index l = take l.index l.bytes ≡ take l.index l.others

@@ -1,9 +1,0 @@
-use Rattle.std.proofs.Common.{take}
-use Rattle.std.specs.Fmt.{HasWritten, IsPlainFormatter}
-use Rattle.instruction_text.specs.Characters.{characters_text}
-use Rattle.instruction_text.proofs.characters.CharactersTextDisplay.fmt.Given as goal
-
--- the bytes so far are written
-abbrev pub invariant-loop-byte : goal.invariant-loop-byte
-invariant-loop-byte g l =
-    IsPlainFormatter l.fn.f → HasWritten g.W.Write.write_str_gives l.fn.f (characters_text (take l.byte-index l.byte-items)) l.f
