@@ -210,7 +210,7 @@ fn run_crew<
 /// is set, and gives all their tickets back, in order.
 ///
 /// Of n tickets, the worker of number k drives the threads t for which k is left when t is divided by n; its own threads in a pass are
-/// those that are live as the pass begins. A pass is told to `gate`. Then the worker polls its seat; where the number is newer than the
+/// those that are live as the pass begins. A pass is told to `gate`, which may leave some out where it is open. Then the worker polls its seat; where the number is newer than the
 /// last one that it acknowledged, it does an `Ack` of each of its own threads and acknowledges. It does a `Step` of each of them, in the order
 /// of their numbers. Worker 0 then does one `Gc`; where that answered `Waiting`, it acknowledges for as many workers as drive
 /// no live thread, and posts the next number. A worker that meets want of memory sets the stop mark and ends; so does this function where a
@@ -241,6 +241,7 @@ pub fn run_workers<M: Opening + Send + Sync, R: Threads + Wait + Sync, G: Gate +
     let plan = Plan {
         workers: tickets.as_slice().len() as u8,
         stop_at,
+        is_open: gate.is_open(),
     };
     let crew = Crew {
         tickets,

@@ -4,6 +4,11 @@
 pub trait Gate {
     /// The worker of this number begins a pass. `turn` is the number of its passes before, from 0; it stays at 2^32 - 1 once it is there.
     fn pass(&self, worker: u8, turn: u32);
+
+    /// Whether it holds nobody. Then a worker may keep the lock from one pass to the next, and need not tell it of each pass.
+    fn is_open(&self) -> bool {
+        false
+    }
 }
 
 /// A gate that holds nobody.
@@ -12,4 +17,8 @@ pub struct OpenGate;
 
 impl Gate for OpenGate {
     fn pass(&self, _worker: u8, _turn: u32) {}
+
+    fn is_open(&self) -> bool {
+        true
+    }
 }

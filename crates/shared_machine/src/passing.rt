@@ -20,8 +20,11 @@ use epoch_words::{Epochs, Herald, Post, Seat};
 use std::alloc::Global;
 use std::sync::{Mutex, MutexGuard, Wait};
 
-/// The most local instructions of a thread between two holds of the lock.
+/// The most local instructions of a thread in a pass.
 const MOST_LOCAL: u32 = 64;
+
+/// How many passes a worker makes on one loan, where they need nothing but the lent frame.
+const PASSES_ON_A_LOAN: u32 = 16;
 
 /// A worker at its work.
 #[derive(Drop)]
@@ -40,6 +43,8 @@ pub(crate) struct Worker<M: Opening> {
 pub(crate) enum Progress {
     /// A thread or the collector went on.
     Made,
+    /// A thread went on by local instructions, and the lock was given back meanwhile.
+    MadeApart,
     /// Each thread that was asked is blocked or absent, and the collector waits.
     None,
     /// Memory did not last.
@@ -61,6 +66,7 @@ impl Progress {
     fn then(self, next: Progress) -> Progress {
         match (self, next) {
             (Progress::OutOfMemory, _) | (_, Progress::OutOfMemory) => Progress::OutOfMemory,
+            (Progress::MadeApart, _) | (_, Progress::MadeApart) => Progress::MadeApart,
             (Progress::None, Progress::None) => Progress::None,
             _ => Progress::Made,
         }
@@ -113,6 +119,8 @@ fn is_driven_by(workers: u8, worker: u8, thread: u8) -> bool
 }
 
 /// Does an event as `perform` does it. Where it is one of the worker's own, the worker has done nothing else.
+// Where it is called for one kind of event, only that kind's code is left of it.
+#[inline(always)]
 fn ask<M: Opening>(
     alloc: Global,
     world: &mut World<M>,
@@ -138,13 +146,41 @@ fn settle<M: Opening>(
 {
     match check_in(world, ticket, lent) {
         Ok(0) => Progress::of(perform(world, alloc, ticket, Event::Step(thread))),
-        Ok(_) => Progress::Made,
+        Ok(_) => Progress::MadeApart,
         Err(_) => Progress::OutOfMemory,
     }
 }
 
+/// How many threads that were found live a worker drives.
+fn driven(found: &Findings, workers: u8, worker: u8) -> usize
+    requires some { 0 < workers }
+    requires few { found.now.started ≤ MOST_THREADS }
+    ensures { result ≤ MOST_THREADS }
+{
+    let mut count = 0;
+    for thread in 0..found.started {
+        if found.live[thread] && is_driven_by(workers, worker, thread as u8) {
+            count += 1;
+        }
+    }
+    count
+}
+
+/// How many local instructions of a thread a worker does between two holds of the lock: those of a pass, or of some passes in a row that
+/// need nothing but the thread's frame, since no event of the collector and no other thread of the worker stands between them.
+fn most_local(found: &Findings, plan: Plan, worker: u8) -> u32
+    requires some { 0 < plan.workers }
+    requires few { found.now.started ≤ MOST_THREADS }
+{
+    if plan.is_open && worker != 0 && driven(found, plan.workers, worker) == 1 {
+        MOST_LOCAL * PASSES_ON_A_LOAN
+    } else {
+        MOST_LOCAL
+    }
+}
+
 /// Has a thread go on, under the lock that is held: by one step, or, where its next instruction is local, by local instructions without the
-/// lock, 64 at most. The lock is held again at the end. Where the thread is the worker's own, the worker has done nothing else.
+/// lock, so many at most. The lock is held again at the end. Where the thread is the worker's own, the worker has done nothing else.
 fn go_on<'s, M: Opening, R: Wait>(
     rt: &R,
     alloc: Global,
@@ -152,14 +188,15 @@ fn go_on<'s, M: Opening, R: Wait>(
     mut world: MutexGuard<'s, World<M>>,
     ticket: &mut Ticket<M>,
     thread: u8,
+    most: u32,
 ) -> (Progress, MutexGuard<'s, World<M>>)
     ensures { (workers : ℕ) → IsOwn workers ticket.old.worker (StepOf thread) → HasWorked workers ticket.old ticket.new }
 {
     if world.machine().is_next_local(thread) {
         if let Some(lent) = lend(&mut *world, thread) {
             drop(world);
-            let lent = run_local(lent, MOST_LOCAL);
-            let mut again = shared.lock(rt);
+            let lent = run_local(lent, most);
+            let mut again = shared.lock_soon(rt);
             let progress = settle(alloc, &mut *again, ticket, lent, thread);
             return (progress, again);
         }
@@ -176,18 +213,19 @@ fn step_each<'s, M: Opening, R: Wait>(
     shared: &'s Shared<M>,
     mut world: MutexGuard<'s, World<M>>,
     ticket: &mut Ticket<M>,
-    workers: u8,
+    plan: Plan,
     found: &Findings,
 ) -> (Progress, MutexGuard<'s, World<M>>)
-    requires some { 0 < workers }
+    requires some { 0 < plan.workers }
     requires few { found.now.started ≤ MOST_THREADS }
-    ensures { HasWorked workers ticket.old ticket.new }
+    ensures { HasWorked plan.workers ticket.old ticket.new }
 {
+    let most = most_local(found, plan, ticket.worker());
     let mut progress = Progress::None;
     for thread in 0..found.started {
         let number = thread as u8;
-        if found.live[thread] && is_driven_by(workers, ticket.worker(), number) {
-            let (came, held) = go_on(rt, alloc, shared, world, ticket, number);
+        if found.live[thread] && is_driven_by(plan.workers, ticket.worker(), number) {
+            let (came, held) = go_on(rt, alloc, shared, world, ticket, number, most);
             world = held;
             progress = progress.then(came);
             if !progress.lasts() {
@@ -253,19 +291,6 @@ fn acknowledge<M: Opening>(
     }
 }
 
-/// Whether a worker drives a thread that was found live.
-fn drives_any(found: &Findings, workers: u8, worker: u8) -> bool
-    requires some { 0 < workers }
-    requires few { found.now.started ≤ MOST_THREADS }
-{
-    for thread in 0..found.started {
-        if found.live[thread] && is_driven_by(workers, worker, thread as u8) {
-            return true;
-        }
-    }
-    false
-}
-
 /// Has the worker's seat acknowledge, or a parked one where the worker has none, and parks it where the worker drives no live thread. It
 /// gives back the seat that stays with the worker, and the number that is acknowledged now.
 fn take_part<M: Opening, E: Naming, R: Wait>(
@@ -290,7 +315,7 @@ fn take_part<M: Opening, E: Naming, R: Wait>(
     let Some(seat) = seat_of(rt, parked, seat) else {
         return (Progress::None, None, acknowledged);
     };
-    let is_driving = drives_any(found, workers, ticket.worker());
+    let is_driving = driven(found, workers, ticket.worker()) > 0;
     let (progress, seat, acknowledged) = acknowledge(
         alloc,
         epochs,
@@ -327,7 +352,7 @@ fn idle_workers(found: &Findings, workers: u8) -> usize
 {
     let mut idle = 0;
     for worker in 0..workers {
-        if !drives_any(found, workers, worker) {
+        if driven(found, workers, worker) == 0 {
             idle += 1;
         }
     }
@@ -359,9 +384,10 @@ fn collect<M: Opening, E: Naming, R: Wait>(
     let answer = ask(alloc, world, ticket, Event::Gc);
     let mut is_late = false;
     if answer == Answer::Did(Report::Waiting) {
-        parked
-            .lock(rt)
-            .acknowledge(epochs, idle_workers(found, workers));
+        let idle = idle_workers(found, workers);
+        if idle > 0 {
+            parked.lock(rt).acknowledge(epochs, idle);
+        }
         is_late = post(epochs, herald);
     }
     (Progress::of(answer), is_late)
@@ -377,15 +403,15 @@ fn serve<'s, M: Opening, E: Naming, R: Wait>(
     parked: &Mutex<Parked<E>>,
     mut world: MutexGuard<'s, World<M>>,
     worker: Worker<M>,
-    workers: u8,
+    plan: Plan,
     found: &Findings,
-) -> (Passed, Worker<M>)
-    requires some { 0 < workers }
+) -> (Passed, Worker<M>, MutexGuard<'s, World<M>>)
+    requires some { 0 < plan.workers }
     requires few { found.now.started ≤ MOST_THREADS }
     requires here { IsSeatHere epochs.now worker.seat × IsHeraldOf epochs.now worker.herald }
     requires same { epochs.now.table ≡ E.table }
     ensures here { IsSeatHere epochs.now result.1.seat × IsHeraldOf epochs.now result.1.herald }
-    ensures worked { HasWorked workers worker.ticket result.1.ticket }
+    ensures worked { HasWorked plan.workers worker.ticket result.1.ticket }
 {
     let Worker {
         mut ticket,
@@ -402,13 +428,13 @@ fn serve<'s, M: Opening, E: Naming, R: Wait>(
         &mut ticket,
         seat,
         acknowledged,
-        workers,
+        plan.workers,
         found,
     );
     let mut steps = Progress::None;
     let mut is_late = false;
     if progress.lasts() {
-        let (came, held) = step_each(rt, alloc, shared, world, &mut ticket, workers, found);
+        let (came, held) = step_each(rt, alloc, shared, world, &mut ticket, plan, found);
         world = held;
         steps = came;
         progress = progress.then(came);
@@ -422,7 +448,7 @@ fn serve<'s, M: Opening, E: Naming, R: Wait>(
             &mut *world,
             &mut ticket,
             &mut herald,
-            workers,
+            plan.workers,
             found,
         );
         is_late = late;
@@ -444,43 +470,39 @@ fn serve<'s, M: Opening, E: Naming, R: Wait>(
         acknowledged,
         herald,
     };
-    (passed, worker)
+    (passed, worker, world)
 }
 
 /// One pass of a worker: it looks, polls and acknowledges, has each of its threads go on, and, as worker 0, does an event of the collector.
 /// Its threads are those that it drives and that it found live. Where memory does not last, it stops there and sets the stop mark. Where
 /// the run is to stop at a deadlock, a worker that finds the stop mark does nothing else.
 ///
-/// The lock is taken once, and once more after the local instructions of each thread.
-pub(crate) fn pass<M: Opening, E: Naming, R: Wait>(
+/// The lock, which may be held from the pass before, is given back meanwhile where a thread goes on without it, and is held at the end.
+pub(crate) fn pass<'s, M: Opening, E: Naming, R: Wait>(
     rt: &R,
     alloc: Global,
-    shared: &Shared<M>,
+    shared: &'s Shared<M>,
     epochs: &Epochs,
     parked: &Mutex<Parked<E>>,
+    held: Option<MutexGuard<'s, World<M>>>,
     worker: Worker<M>,
     plan: Plan,
-) -> (Passed, Worker<M>)
+) -> (Passed, Worker<M>, MutexGuard<'s, World<M>>)
     requires some { 0 < plan.workers }
     requires here { IsSeatHere epochs.now worker.seat × IsHeraldOf epochs.now worker.herald }
     requires same { epochs.now.table ≡ E.table }
     ensures here { IsSeatHere epochs.now result.1.seat × IsHeraldOf epochs.now result.1.herald }
     ensures worked { HasWorked plan.workers worker.ticket result.1.ticket }
 {
-    let world = shared.lock(rt);
+    let world = match held {
+        Some(world) => world,
+        None => shared.lock_soon(rt),
+    };
     let found = found_in(&*world);
     if found.is_stopped && matches!(plan.stop_at, StopAt::Deadlock) {
-        return (Passed::nothing(), worker);
+        return (Passed::nothing(), worker, world);
     }
     serve(
-        rt,
-        alloc,
-        shared,
-        epochs,
-        parked,
-        world,
-        worker,
-        plan.workers,
-        &found,
+        rt, alloc, shared, epochs, parked, world, worker, plan, &found,
     )
 }

@@ -13,8 +13,12 @@ use cil_model::events::Event;
 use cil_model::memory::NoMemory;
 use interleaving_core::Machine;
 use std::alloc::{AllocError, Global};
+use std::hint::spin_loop;
 use std::marker::Model;
 use std::sync::{Mutex, MutexGuard, Wait};
+
+/// How often a worker tries to take the lock before it waits for it.
+const TRIES: u32 = 64;
 
 /// Workers of a shared machine.
 pub const MOST_WORKERS: u8 = 16;
@@ -83,6 +87,17 @@ impl<M: Opening> Shared<M> {
 
     /// Takes the lock, and waits while another thread has it. The guard gives it back when it is dropped.
     pub fn lock<R: Wait>(&self, rt: &R) -> MutexGuard<'_, World<M>> {
+        self.world.lock(rt)
+    }
+
+    /// Takes the lock as `lock` does, where it is held for a short time only: it tries some times before it waits as others do.
+    pub(crate) fn lock_soon<R: Wait>(&self, rt: &R) -> MutexGuard<'_, World<M>> {
+        for _try in 0..TRIES {
+            if let Some(guard) = self.world.try_lock() {
+                return guard;
+            }
+            spin_loop();
+        }
         self.world.lock(rt)
     }
 

@@ -21,11 +21,17 @@ use std::thread::yield_now;
 /// In how many passes of a row in which the collector waits for another worker each is followed by twice as many yields as the one before.
 const PATIENT_PASSES: u32 = 8;
 
+/// In how many passes of such a row in which the worker's threads did nothing but local instructions, which take no memory, it yields once.
+const LOCAL_PASSES: u32 = 64;
+
 /// How often a worker yields that drives no live thread, between two passes.
 const IDLE_YIELDS: u32 = 16;
 
 /// In how many passes of worker 0 in which none of its threads went on it looks for a deadlock once.
 const PASSES_TO_A_LOOK: u32 = 64;
+
+/// How many passes the only worker makes in a hold of the lock, at most.
+const PASSES_IN_A_HOLD: u32 = 64;
 
 /// How the passes of a worker went up to now.
 #[derive(Clone, Copy)]
@@ -56,7 +62,9 @@ impl Pace {
     /// How often one of several workers yields after such a pass. While the collector waits for another worker, it is twice as often after
     /// each pass, for some passes, so that the worker's threads hardly go on meanwhile.
     fn yields(self, passed: &Passed) -> u32 {
-        if self.late > PATIENT_PASSES {
+        if self.late > 0 && passed.steps == Progress::MadeApart {
+            if self.late % LOCAL_PASSES == 0 { 1 } else { 0 }
+        } else if self.late > PATIENT_PASSES {
             1
         } else if self.late > 0 {
             1u32 << self.late
@@ -66,6 +74,16 @@ impl Pace {
             1
         } else {
             IDLE_YIELDS
+        }
+    }
+
+    /// Whether a worker that yields to nobody keeps the lock up to its next pass: the only worker for some passes, one of several after a pass
+    /// in which the lock was given back.
+    fn keeps_lock(self, passed: &Passed, workers: u8, turn: u32) -> bool {
+        if workers == 1 {
+            passed.steps != Progress::None && turn % PASSES_IN_A_HOLD != PASSES_IN_A_HOLD - 1
+        } else {
+            passed.steps == Progress::MadeApart && self.yields(passed) == 0
         }
     }
 
@@ -137,16 +155,23 @@ pub(crate) fn work<M: Opening, E: Naming, R: Wait, G: Gate>(
         late: 0,
         held_up: 0,
     };
+    let mut held = None;
     for _ in rt.forever() {
         gate.pass(worker.ticket.worker(), turn);
-        let (passed, next) = pass(rt, alloc, shared, epochs, parked, worker, plan);
+        let (passed, next, world) = pass(rt, alloc, shared, epochs, parked, held, worker, plan);
         worker = next;
         if passed.is_last || passed.progress == Progress::OutOfMemory {
             break;
         }
         turn = turn.saturating_add(1);
         pace = pace.after(&passed);
-        rest(rt, shared, worker.ticket.worker(), plan, pace, &passed);
+        if plan.is_open && pace.keeps_lock(&passed, plan.workers, turn) {
+            held = Some(world);
+        } else {
+            drop(world);
+            held = None;
+            rest(rt, shared, worker.ticket.worker(), plan, pace, &passed);
+        }
     }
     worker.ticket
 }

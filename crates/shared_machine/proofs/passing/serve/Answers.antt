@@ -6,11 +6,11 @@ use Rattle.shared_machine.proofs.passing.serve.Goals.{then-lasts, else-lasts, th
 pub returns-clause-worked : goal.returns-clause-worked
 returns-clause-worked g c =
     let first = c.take_part-progress.ensures.worked in
-    let stepped : HasWorked c.args.workers c.args.worker.ticket c.if-lasts.ticket = elim c.if-lasts.branch [
+    let stepped : HasWorked c.args.plan.workers c.args.worker.ticket c.if-lasts.ticket = elim c.if-lasts.branch [
       | then-lasts w ↦ rw w.ticket-is (worked_both _ _ _ _ first w.step_each-came.ensures)
       | else-lasts w ↦ rw w.ticket-is first
     ] in
     elim c.if-lasts-2.branch [
-      | then-lasts-2 w ↦ rw w.ticket-is (worked_both _ _ _ _ stepped (w.collect-came.ensures.worked c.args.workers))
+      | then-lasts-2 w ↦ rw w.ticket-is (worked_both _ _ _ _ stepped (w.collect-came.ensures.worked c.args.plan.workers))
       | else-lasts-2 w ↦ rw w.ticket-is stepped
     ]
