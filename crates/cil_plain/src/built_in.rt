@@ -36,7 +36,7 @@ pub fn action_of(classes: Classes<'_>, found: Found<'_>) -> Option<Action> {
 
 impl<'a> State<'a> {
     /// Does the action on the one operand that each has. A blocked one leaves it on the stack.
-    pub fn act(&mut self, frame: &mut Frame<'a>, action: Action) -> Done<'a> {
+    pub fn act(&mut self, frame: &mut Frame<'a>, action: Action) -> Done {
         let operand = frame.top()?;
         match action {
             Action::Construct => {}

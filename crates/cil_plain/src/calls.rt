@@ -19,7 +19,7 @@ impl<'a> State<'a> {
         frame: &mut Frame<'a>,
         is_instance: bool,
         reference: &MethodReference,
-    ) -> Done<'a> {
+    ) -> Done {
         let parameters = reference.signature.parameters.as_slice();
         let found = self.classes.names.find_method(is_instance, reference);
         let callee = self.classes.method_at(found)?;
@@ -35,7 +35,7 @@ impl<'a> State<'a> {
         owner: &ClassName,
         name: &Text,
         signature: &Signature,
-    ) -> Done<'a> {
+    ) -> Done {
         let parameters = signature.parameters.as_slice();
         let found = self.classes.names.find_virtual(owner, name, signature);
         let called = self.classes.method_at(found)?;
@@ -51,13 +51,14 @@ impl<'a> State<'a> {
     }
 
     /// Runs a method on so many operands: an action of its own, or a frame within the depth.
-    fn run_method(&mut self, frame: &mut Frame<'a>, found: Found<'a>, count: usize) -> Done<'a> {
+    fn run_method(&mut self, frame: &mut Frame<'a>, found: Found<'a>, count: usize) -> Done {
         if let Some(action) = action_of(self.classes, found) {
             return self.act(frame, action);
         }
         self.turn.check_depth(self.limits)?;
         let arguments = frame.take(count)?;
-        Ok(Effect::Call(self.frame_of(found, arguments)?))
+        self.callee = Some(self.frame_of(found, arguments)?);
+        Ok(Effect::Call)
     }
 
     /// `newobj`: a new object, at once where the constructor is built in, else at the end of its frame.
@@ -66,7 +67,7 @@ impl<'a> State<'a> {
         frame: &mut Frame<'a>,
         class: &ClassName,
         parameters: &[DeclaredType],
-    ) -> Done<'a> {
+    ) -> Done {
         let found = self.classes.names.find_constructor(class, parameters);
         let constructor = self.classes.method_at(found)?;
         frame.check_operands(parameters)?;
@@ -80,12 +81,13 @@ impl<'a> State<'a> {
         arguments.insert(0, Value::Reference(object))?;
         let mut callee = self.frame_of(constructor, arguments)?;
         callee.constructed = Some(object);
-        Ok(Effect::Call(callee))
+        self.callee = Some(callee);
+        Ok(Effect::Call)
     }
 }
 
 /// `ret`: back with the method's value, or with the object that it constructed.
-pub fn return_from<'a>(frame: &mut Frame<'a>) -> Done<'a> {
+pub fn return_from(frame: &mut Frame<'_>) -> Done {
     if let Some(object) = frame.constructed {
         return Ok(Effect::Return(Some(Value::Reference(object))));
     }

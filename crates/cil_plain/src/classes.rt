@@ -129,14 +129,22 @@ impl<'a> Classes<'a> {
 
     /// Whether one of the names is the class's.
     fn is_among(&self, names: &[ClassName], class: usize) -> bool {
-        names.iter().any(|name| self.names.classes.number(ClassKey::of(name)) == Some(class))
+        for name in names {
+            if self.names.classes.number(ClassKey::of(name)) == Some(class) {
+                return true;
+            }
+        }
+        false
     }
 
     /// Whether the class is the wanted one, is below it, or has it as an interface.
     fn is_class_assignable(&self, class: usize, wanted: usize) -> bool {
-        self.chain(class)
-            .iter()
-            .any(|base| *base == wanted || self.lists(*base, wanted))
+        for base in self.chain(class) {
+            if *base == wanted || self.lists(*base, wanted) {
+                return true;
+            }
+        }
+        false
     }
 
     /// Whether a value of the type may stand where the other is wanted (ECMA-335 I.8.7). Arrays of references may where

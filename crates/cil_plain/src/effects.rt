@@ -1,19 +1,18 @@
 //! What an instruction comes to.
 
-use crate::frames::Frame;
 use crate::values::Value;
 use cil_model::reports::Fault;
 use std::alloc::{AllocError, AllocFailed};
 
 /// Where the thread goes on.
-#[derive(Drop)]
-pub enum Effect<'a> {
+#[derive(Clone, Copy, Debug)]
+pub enum Effect {
     /// At the next instruction.
     Next,
     /// At the instruction of this place.
     Jump(usize),
-    /// At the beginning of a method that is called.
-    Call(Frame<'a>),
+    /// At the beginning of the method that is called, whose frame is the state's `callee`.
+    Call,
     /// In the caller, with the value that is returned.
     Return(Option<Value>),
 }
@@ -32,7 +31,7 @@ pub enum Halt {
 }
 
 /// What an instruction comes to.
-pub type Done<'a> = Result<Effect<'a>, Halt>;
+pub type Done = Result<Effect, Halt>;
 
 impl From<AllocError> for Halt {
     fn from(_error: AllocError) -> Halt {

@@ -14,7 +14,6 @@ use std::fmt;
 
 /// A method that runs: the place of its next instruction, and its values. Of a constructor that `newobj` runs, the object to
 /// push at its end.
-#[derive(Drop)]
 pub struct Frame<'a> {
     pub method: &'a Method,
     pub place: usize,
@@ -22,6 +21,20 @@ pub struct Frame<'a> {
     pub locals: Vec<Value>,
     pub stack: Vec<Value>,
     pub constructed: Option<usize>,
+}
+
+/// Each list gives back its own.
+impl Drop for Frame<'_> {
+    fn drop(self) {
+        let Frame {
+            method: _method,
+            place: _place,
+            arguments: _arguments,
+            locals: _locals,
+            stack: _stack,
+            constructed: _constructed,
+        } = self;
+    }
 }
 
 impl<'a> Frame<'a> {
@@ -52,7 +65,7 @@ impl<'a> Frame<'a> {
     }
 
     /// On to the instruction of a label.
-    pub fn jump(&self, label: &Text) -> Done<'a> {
+    pub fn jump(&self, label: &Text) -> Done {
         let lines = lines_of(self.method);
         for (place, line) in lines.iter().enumerate() {
             for other in line.labels.as_slice() {
@@ -65,7 +78,7 @@ impl<'a> Frame<'a> {
     }
 
     /// There where the test holds, else to the next instruction.
-    pub fn jump_if(&self, holds: bool, label: &Text) -> Done<'a> {
+    pub fn jump_if(&self, holds: bool, label: &Text) -> Done {
         if holds {
             self.jump(label)
         } else {
@@ -103,7 +116,7 @@ impl<'a> Frame<'a> {
     }
 
     /// On to the next instruction, with a value on the stack.
-    pub fn next_with(&mut self, value: Value) -> Done<'a> {
+    pub fn next_with(&mut self, value: Value) -> Done {
         self.stack.push(value)?;
         Ok(Effect::Next)
     }
@@ -119,7 +132,7 @@ impl<'a> Frame<'a> {
 }
 
 /// On to the next instruction with another value of its kind at a place.
-pub fn next_stored<'a>(values: &mut [Value], place: i64, value: Value) -> Done<'a> {
+pub fn next_stored(values: &mut [Value], place: i64, value: Value) -> Done {
     match usize::try_from(place) {
         Err(_) => Err(Halt::Sticks),
         Ok(place) => {

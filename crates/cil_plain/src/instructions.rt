@@ -10,7 +10,7 @@ use cil_model::instructions::Instruction;
 
 impl<'a> State<'a> {
     /// Does the instruction at which a frame is.
-    pub fn execute(&mut self, frame: &mut Frame<'a>) -> Done<'a> {
+    pub fn execute(&mut self, frame: &mut Frame<'a>) -> Done {
         let instruction = frame.instruction().ok_or(Halt::Sticks)?;
         match instruction {
             Instruction::LoadString(characters) => {
@@ -38,11 +38,7 @@ impl<'a> State<'a> {
     }
 
     /// The loads and stores of fields and elements.
-    fn execute_on_places(
-        &mut self,
-        frame: &mut Frame<'a>,
-        instruction: &'a Instruction,
-    ) -> Done<'a> {
+    fn execute_on_places(&mut self, frame: &mut Frame<'a>, instruction: &'a Instruction) -> Done {
         match instruction {
             Instruction::LoadField(field) => self.load_field(frame, field),
             Instruction::StoreField(field) => self.store_field(frame, field),
@@ -60,7 +56,7 @@ impl<'a> State<'a> {
 }
 
 /// The instructions on what a frame holds alone.
-fn execute_in_frame<'a>(frame: &mut Frame<'a>, instruction: &'a Instruction) -> Done<'a> {
+fn execute_in_frame(frame: &mut Frame<'_>, instruction: &Instruction) -> Done {
     match instruction {
         Instruction::NoOperation => Ok(Effect::Next),
         Instruction::LoadInt32(number) => frame.next_with(Value::Int32(*number)),
@@ -96,7 +92,7 @@ fn execute_in_frame<'a>(frame: &mut Frame<'a>, instruction: &'a Instruction) -> 
 }
 
 /// Operations on the topmost values, and branches.
-fn execute_on_operands<'a>(frame: &mut Frame<'a>, instruction: &'a Instruction) -> Done<'a> {
+fn execute_on_operands(frame: &mut Frame<'_>, instruction: &Instruction) -> Done {
     if let Instruction::Branch(label) = instruction {
         return frame.jump(label);
     }
@@ -119,11 +115,7 @@ fn execute_on_operands<'a>(frame: &mut Frame<'a>, instruction: &'a Instruction) 
 }
 
 /// Operations on two values.
-fn execute_on_two<'a>(
-    frame: &mut Frame<'a>,
-    instruction: &'a Instruction,
-    last: Value,
-) -> Done<'a> {
+fn execute_on_two(frame: &mut Frame<'_>, instruction: &Instruction, last: Value) -> Done {
     let first = frame.pop()?;
     match instruction {
         Instruction::Binary(op) => frame.next_with(binary(*op, first, last)?),

@@ -12,7 +12,7 @@ use cil_model::types::DeclaredType;
 /// Fields.
 impl<'a> State<'a> {
     /// `ldfld` (ECMA-335 III.4.10).
-    pub fn load_field(&mut self, frame: &mut Frame<'a>, reference: &FieldReference) -> Done<'a> {
+    pub fn load_field(&mut self, frame: &mut Frame<'a>, reference: &FieldReference) -> Done {
         let name = frame.pop()?.not_null(Fault::NullReference)?;
         let field = self.classes.field(false, reference)?;
         match &self.heap.object(name)?.contents {
@@ -22,7 +22,7 @@ impl<'a> State<'a> {
     }
 
     /// `stfld` (ECMA-335 III.4.28).
-    pub fn store_field(&mut self, frame: &mut Frame<'a>, reference: &FieldReference) -> Done<'a> {
+    pub fn store_field(&mut self, frame: &mut Frame<'a>, reference: &FieldReference) -> Done {
         let value = frame.pop()?;
         let name = frame.pop()?.not_null(Fault::NullReference)?;
         let field = self.classes.field(false, reference)?;
@@ -36,13 +36,13 @@ impl<'a> State<'a> {
     }
 
     /// `ldsfld` (ECMA-335 III.4.14).
-    pub fn load_static(&mut self, frame: &mut Frame<'a>, reference: &FieldReference) -> Done<'a> {
+    pub fn load_static(&mut self, frame: &mut Frame<'a>, reference: &FieldReference) -> Done {
         let field = self.classes.field(true, reference)?;
         frame.next_with(field_in(self.statics.as_slice(), field)?)
     }
 
     /// `stsfld` (ECMA-335 III.4.30).
-    pub fn store_static(&mut self, frame: &mut Frame<'a>, reference: &FieldReference) -> Done<'a> {
+    pub fn store_static(&mut self, frame: &mut Frame<'a>, reference: &FieldReference) -> Done {
         let value = frame.pop()?;
         let field = self.classes.field(true, reference)?;
         set_field_in(self.statics.as_mut_slice(), field, value)?;
@@ -63,7 +63,7 @@ impl<'a> State<'a> {
     }
 
     /// `newarr` (ECMA-335 III.4.20).
-    pub fn new_array(&mut self, frame: &mut Frame<'a>, t: &DeclaredType) -> Done<'a> {
+    pub fn new_array(&mut self, frame: &mut Frame<'a>, t: &DeclaredType) -> Done {
         let length = frame.pop()?.as_index()?;
         let element = self.classes.type_named(t)?;
         let Ok(length) = usize::try_from(length) else {
@@ -79,7 +79,7 @@ impl<'a> State<'a> {
 /// Arrays.
 impl<'a> State<'a> {
     /// `ldlen` (ECMA-335 III.4.12).
-    pub fn load_length(&mut self, frame: &mut Frame<'a>) -> Done<'a> {
+    pub fn load_length(&mut self, frame: &mut Frame<'a>) -> Done {
         let name = frame.pop()?.not_null(Fault::NullReference)?;
         let (_, elements) = self.heap.array(name)?;
         match i64::try_from(elements.len()) {
@@ -89,7 +89,7 @@ impl<'a> State<'a> {
     }
 
     /// `ldelem.i4`, `ldelem.i8` and `ldelem.ref` (ECMA-335 III.4.8).
-    pub fn load_element(&mut self, frame: &mut Frame<'a>, kind: Value) -> Done<'a> {
+    pub fn load_element(&mut self, frame: &mut Frame<'a>, kind: Value) -> Done {
         let index = frame.pop()?;
         let name = frame.pop()?.not_null(Fault::NullReference)?;
         let place = self.heap.place(name, index, kind)?;
@@ -101,7 +101,7 @@ impl<'a> State<'a> {
     }
 
     /// `stelem.i4`, `stelem.i8` and `stelem.ref` (ECMA-335 III.4.27). The index is looked at before the object's class.
-    pub fn store_element(&mut self, frame: &mut Frame<'a>, kind: Value) -> Done<'a> {
+    pub fn store_element(&mut self, frame: &mut Frame<'a>, kind: Value) -> Done {
         let value = frame.pop()?;
         let index = frame.pop()?;
         let name = frame.pop()?.not_null(Fault::NullReference)?;
@@ -123,7 +123,7 @@ impl<'a> State<'a> {
 /// Casts.
 impl<'a> State<'a> {
     /// `castclass` (ECMA-335 III.4.3).
-    pub fn cast_class(&mut self, frame: &mut Frame<'a>, t: &DeclaredType) -> Done<'a> {
+    pub fn cast_class(&mut self, frame: &mut Frame<'a>, t: &DeclaredType) -> Done {
         let value = frame.top()?;
         let wanted = self.classes.type_named(t)?;
         if self.heap.fits(self.classes, value, wanted)? {
@@ -134,7 +134,7 @@ impl<'a> State<'a> {
     }
 
     /// `isinst` (ECMA-335 III.4.6).
-    pub fn is_instance(&mut self, frame: &mut Frame<'a>, t: &DeclaredType) -> Done<'a> {
+    pub fn is_instance(&mut self, frame: &mut Frame<'a>, t: &DeclaredType) -> Done {
         let value = frame.pop()?;
         let wanted = self.classes.type_named(t)?;
         let fits = self.heap.fits(self.classes, value, wanted)?;

@@ -49,8 +49,7 @@ impl Turn {
     }
 }
 
-/// All that a run changes.
-#[derive(Drop)]
+/// All that a run changes. `callee` is the frame of a method that an instruction has just called.
 pub struct State<'a> {
     pub alloc: Global,
     pub classes: Classes<'a>,
@@ -58,8 +57,26 @@ pub struct State<'a> {
     pub heap: Heap<'a>,
     pub statics: Vec<FieldValue>,
     pub threads: Vec<PlainThread<'a>>,
+    pub callee: Option<Frame<'a>>,
     pub console: String,
     pub turn: Turn,
+}
+
+/// Each part gives back its own.
+impl Drop for State<'_> {
+    fn drop(self) {
+        let State {
+            alloc: _alloc,
+            classes: _classes,
+            limits: _limits,
+            heap: _heap,
+            statics: _statics,
+            threads: _threads,
+            callee: _callee,
+            console: _console,
+            turn: _turn,
+        } = self;
+    }
 }
 
 impl<'a> State<'a> {
@@ -75,6 +92,7 @@ impl<'a> State<'a> {
             heap: Heap::new(alloc),
             statics: Vec::new(alloc),
             threads: Vec::new(alloc),
+            callee: None,
             console: String::new(alloc),
             turn: Turn {
                 thread: 0,

@@ -52,19 +52,27 @@ impl<'a> State<'a> {
     }
 
     /// The thread goes on, in this frame or in another one.
-    fn go_on(&mut self, mut frame: Frame<'a>, effect: Effect<'a>) -> Result<(), Halt> {
+    fn go_on(&mut self, mut frame: Frame<'a>, effect: Effect) -> Result<(), Halt> {
         frame.place = match effect {
             Effect::Jump(place) => place,
             _ => frame.place.saturating_add(1),
         };
         match effect {
             Effect::Next | Effect::Jump(_) => self.put_frame(frame),
-            Effect::Call(callee) => {
+            Effect::Call => {
                 self.put_frame(frame)?;
-                self.put_frame(callee)
+                self.enter_callee()
             }
             Effect::Return(None) => Ok(()),
             Effect::Return(Some(value)) => self.give_back(value),
+        }
+    }
+
+    /// Puts the frame of the method that is called above the others of the thread.
+    fn enter_callee(&mut self) -> Result<(), Halt> {
+        match self.callee.take() {
+            None => Err(Halt::Sticks),
+            Some(callee) => self.put_frame(callee),
         }
     }
 
