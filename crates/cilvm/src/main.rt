@@ -9,6 +9,7 @@ use std::fs::File;
 use std::process::ExitCode;
 use std::sync::Wait;
 use std::thread::Threads;
+use std::time::Instant;
 use std::{env, fs, io};
 
 fn main(rt: HostRuntime) -> ExitCode {
@@ -80,7 +81,7 @@ fn carry_out(rt: &HostRuntime, threads: &(impl Threads + Wait + Sync), order: &O
         Err(unread) => return tell_unread(rt, &unread),
     };
     match with_run_file(rt, order) {
-        Ok(order) => carry_out_on(rt, threads, &order, source.as_slice(), schedule.as_slice()),
+        Ok(order) => carry_out_timed(rt, threads, &order, source.as_slice(), schedule.as_slice()),
         Err(status) => status,
     }
 }
@@ -88,7 +89,7 @@ fn carry_out(rt: &HostRuntime, threads: &(impl Threads + Wait + Sync), order: &O
 /// The order with what the `.run` file beside its schedule says, where there is one. If that is not read or is not a `.run` file, it is
 /// reported, and the error is the status.
 fn with_run_file<'a>(rt: &HostRuntime, order: &Order<'a>) -> Result<Order<'a>, u8> {
-    let Some(schedule) = order.replayed_file() else {
+    let Some(schedule) = order.schedule_file() else {
         return Ok(*order);
     };
     let name = match run_file_name(rt.alloc(), schedule) {
@@ -114,6 +115,39 @@ fn text_where_found(rt: &HostRuntime, file: &str) -> io::Result<Option<Vec<u8>>>
             io::ErrorKind::NotFound | io::ErrorKind::InvalidFilename => Ok(None),
             _ => Err(error),
         },
+    }
+}
+
+/// Carries out an order on the bytes of its files, and returns the status. Prints the seconds that it took after the numbers of a run.
+fn carry_out_timed(
+    rt: &HostRuntime,
+    threads: &(impl Threads + Wait + Sync),
+    order: &Order<'_>,
+    source: &[u8],
+    schedule: &[u8],
+) -> u8 {
+    let start = Instant::now(rt);
+    let status = carry_out_on(rt, threads, order, source, schedule);
+    if let Ok(start) = start {
+        if order.counts() && is_of_run(status) {
+            show_seconds(rt, start);
+        }
+    }
+    status
+}
+
+/// Whether a status is that of a run that has its numbers printed: each of its threads is done, some have ended early, some are live, or it differs from
+/// the recorded one.
+fn is_of_run(status: u8) -> bool {
+    matches!(status, 0 | 3 | 4 | 6)
+}
+
+/// Prints the seconds since a moment. Prints nothing if the clock can't be read.
+fn show_seconds(rt: &HostRuntime, start: Instant) {
+    if let Ok(time) = start.elapsed(rt) {
+        let seconds = time.as_secs();
+        let millis = time.subsec_millis();
+        let _written = eprintln!(rt; "seconds: {seconds}.{millis:03}");
     }
 }
 

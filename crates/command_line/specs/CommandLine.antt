@@ -114,7 +114,7 @@ abbrev pub replay_app : App
 replay_app = with_given_limits (with_explain (with_stats (with_output (with_files (codes "replay")))))
 
 abbrev pub trace_app : App
-trace_app = with_run_options (with_files (codes "trace"))
+trace_app = with_given_limits (with_explain (with_files (codes "trace")))
 
 -- the first event that is drawn, the first of all where none is said, and perhaps the last one
 abbrev pub with_part : App → App
@@ -122,7 +122,7 @@ with_part a = with_rule (with_rule a
     (with_default (codes "1") (number_rule (codes "from") 1 LAST_NUMBER))) (number_rule (codes "to") 1 LAST_NUMBER)
 
 abbrev pub picture_app : App
-picture_app = with_run_options (with_part (with_files (codes "picture")))
+picture_app = with_given_limits (with_explain (with_part (with_files (codes "picture"))))
 
 -- 1 to 16 workers, 1 where none is said, perhaps the file of a record, and whether a deadlock ends the run
 abbrev pub threads_app : App
@@ -162,8 +162,8 @@ pub data Wanted : Type 0 where
   check : Text → Bool → Wanted
   run : Text → Text → Option ℕ → Limits → Bool → Bool → Wanted
   replay : Text → Text → Option ℕ → GivenLimits → Bool → Bool → Wanted
-  trace : Text → Text → Limits → Bool → Wanted
-  picture : Text → Text → ℕ → Option ℕ → Limits → Bool → Wanted
+  trace : Text → Text → GivenLimits → Bool → Wanted
+  picture : Text → Text → ℕ → Option ℕ → GivenLimits → Bool → Wanted
   threads : Text → ℕ → Option Text → StopAt → Option ℕ → Limits → Bool → Bool → Wanted
   explore : Text → Extent → Option Text → Limits → Bool → Wanted
   flip : ℕ → ℕ → ℕ → ℕ → Wanted
@@ -172,8 +172,8 @@ abbrev pub wanted_of : Order → Wanted
 wanted_of (Check file explain) = check file.now explain
 wanted_of (Run file schedule most_printed limits explain stats) = run file.now schedule.now most_printed limits explain stats
 wanted_of (Replay file schedule most_printed limits expected explain stats) = replay file.now schedule.now most_printed limits explain stats
-wanted_of (Trace file schedule limits explain) = trace file.now schedule.now limits explain
-wanted_of (Picture file schedule part limits explain) = picture file.now schedule.now part.first part.last limits explain
+wanted_of (Trace file schedule limits expected explain) = trace file.now schedule.now limits explain
+wanted_of (Picture file schedule part limits expected explain) = picture file.now schedule.now part.first part.last limits explain
 wanted_of (Threads file workers kept stop_at most_printed limits explain stats) = threads file.now workers.count (option_map (λ name. name.now) kept) stop_at most_printed limits explain stats
 wanted_of (Explore file extent kept limits explain) = explore file.now extent (option_map (λ name. name.now) kept) limits explain
 wanted_of (Flip sizes) = flip sizes.seats sizes.objects sizes.slots sizes.rounds
@@ -237,12 +237,17 @@ given_in rows = option_and_then (λ words. option_and_then (λ most. option_and_
 }) (given_at 1 MOST_DEPTH (codes "depth") rows)) (given_at 1 MOST_BUDGET (codes "budget") rows)) (given_at LEAST_WORDS MOST_WORDS (codes "max-words") rows))
     (given_at LEAST_WORDS MOST_WORDS (codes "words") rows)
 
+-- a source's file, the file of a schedule, and the limits that are given
+abbrev pub replayed_in : List Row → Option (Text × Text × GivenLimits)
+replayed_in rows = option_and_then (λ file. option_and_then (λ schedule. option_map (λ given. (file, schedule, given))
+    (given_in rows)) (first_of (codes "schedule") rows)) (first_of (codes "file") rows)
+
 abbrev pub replay_in : List Row → Option Wanted
-replay_in rows = option_and_then (λ most. option_and_then (λ file. option_and_then (λ schedule. option_map (λ given. replay file schedule most given (flag_at (codes "explain") rows) (flag_at (codes "stats") rows))
-    (given_in rows)) (first_of (codes "schedule") rows)) (first_of (codes "file") rows)) (output_in rows)
+replay_in rows = option_and_then (λ most. option_map (λ (s : Text × Text × GivenLimits). replay s.0 s.1 most s.2 (flag_at (codes "explain") rows) (flag_at (codes "stats") rows))
+    (replayed_in rows)) (output_in rows)
 
 abbrev pub trace_in : List Row → Option Wanted
-trace_in rows = option_map (λ (s : Text × Text × Limits). trace s.0 s.1 s.2 (flag_at (codes "explain") rows)) (scheduled_in rows)
+trace_in rows = option_map (λ (s : Text × Text × GivenLimits). trace s.0 s.1 s.2 (flag_at (codes "explain") rows)) (replayed_in rows)
 
 -- the last event that is drawn, where one is said: not before the first one
 abbrev pub last_in : ℕ → List Row → Option (Option ℕ)
@@ -253,8 +258,8 @@ abbrev pub part_in : List Row → Option (ℕ × Option ℕ)
 part_in rows = option_and_then (λ first. option_map (λ last. (first, last)) (last_in first rows)) (number_at 1 LAST_NUMBER (codes "from") rows)
 
 abbrev pub picture_in : List Row → Option Wanted
-picture_in rows = option_and_then (λ (p : ℕ × Option ℕ). option_map (λ (s : Text × Text × Limits). picture s.0 s.1 p.0 p.1 s.2 (flag_at (codes "explain") rows))
-    (scheduled_in rows)) (part_in rows)
+picture_in rows = option_and_then (λ (p : ℕ × Option ℕ). option_map (λ (s : Text × Text × GivenLimits). picture s.0 s.1 p.0 p.1 s.2 (flag_at (codes "explain") rows))
+    (replayed_in rows)) (part_in rows)
 
 -- a source's file, the number of workers and the limits of a run
 abbrev pub worked_in : List Row → Option (Text × ℕ × Limits)
@@ -392,8 +397,8 @@ abbrev pub IsInRange : Order → Type 0
 IsInRange (Check file explain) = ⊤
 IsInRange (Run file schedule most_printed limits explain stats) = (are_numbers_in_range limits ≡ true) × IsOutputInRange most_printed
 IsInRange (Replay file schedule most_printed limits expected explain stats) = AreGivenInRange limits × (expected ≡ None) × IsOutputInRange most_printed
-IsInRange (Trace file schedule limits explain) = are_numbers_in_range limits ≡ true
-IsInRange (Picture file schedule part limits explain) = (are_numbers_in_range limits ≡ true) × IsPartInRange part
+IsInRange (Trace file schedule limits expected explain) = AreGivenInRange limits × (expected ≡ None)
+IsInRange (Picture file schedule part limits expected explain) = AreGivenInRange limits × (expected ≡ None) × IsPartInRange part
 IsInRange (Threads file workers kept stop_at most_printed limits explain stats) = (are_numbers_in_range limits ≡ true) × IsOutputInRange most_printed
 IsInRange (Explore file extent kept limits explain) = are_numbers_in_range limits ≡ true
 IsInRange (Flip sizes) = ⊤

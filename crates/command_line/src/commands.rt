@@ -238,7 +238,7 @@ fn with_output<'a>(
     )
 }
 
-/// The limits of a replay, whose defaults are those of the recorded run where that is known.
+/// The limits of a replay, a trace or a picture, whose defaults are those of the recorded run where that is known.
 fn with_given_limits<'a>(
     alloc: Global,
     command: Result<Command<'a>, AllocError>,
@@ -372,9 +372,9 @@ fn trace_command<'a>(alloc: Global) -> Result<Command<'a>, AllocError>
         alloc,
         "trace",
         "Replays a schedule, and prints a line of each event",
-        "A line has these columns, with tabs between them: the event's number, the event, what was reported of it, the instruction that the thread was at, and then, after the event, the thread's frames, the height of its stack, the words in use in the old space, or the only one, and in the new one, the phase that the collector has posted and the one that the thread has acknowledged. An empty line ends the trace. What the program prints and how its threads stand follow as 'cilvm replay' prints them.\n\nExample:\n  cilvm trace examples/add.il examples/add.schedule",
+        "A line has these columns, with tabs between them: the event's number, the event, what was reported of it, the instruction that the thread was at, and then, after the event, the thread's frames, the height of its stack, the words in use in the old space, or the only one, and in the new one, the phase that the collector has posted and the one that the thread has acknowledged. An empty line ends the trace. What the program prints and how its threads stand follow as 'cilvm replay' prints them. Where a file SCHEDULE.run is beside the schedule, it has the limits.\n\nExample:\n  cilvm trace examples/add.il examples/add.schedule",
     );
-    with_run_options(alloc, command, EXPLAIN_RUN)
+    with_given_limits(alloc, with_explain(alloc, command, EXPLAIN_RUN))
 }
 
 /// The options of a picture: its first and its last event.
@@ -410,9 +410,10 @@ fn picture_command<'a>(alloc: Global) -> Result<Command<'a>, AllocError>
         alloc,
         "picture",
         "Replays a schedule, and draws the run as an SVG",
-        "The picture has a lane for each thread, with its steps, what it waits for and what it printed, and one for the collector. It shows at most 20000 events; the others are run and not drawn. How the threads stand follows on the standard error as 'cilvm replay' prints it.\n\nExample:\n  cilvm picture examples/add.il examples/add.schedule > add.svg",
+        "The picture has a lane for each thread, with its steps, what it waits for and what it printed, and one for the collector. It shows at most 20000 events; the others are run and not drawn. How the threads stand follows on the standard error as 'cilvm replay' prints it. Where a file SCHEDULE.run is beside the schedule, it has the limits.\n\nExample:\n  cilvm picture examples/add.il examples/add.schedule > add.svg",
     );
-    with_run_options(alloc, with_part(alloc, command), EXPLAIN_RUN)
+    let command = with_part(alloc, command);
+    with_given_limits(alloc, with_explain(alloc, command, EXPLAIN_RUN))
 }
 
 fn explore_command<'a>(alloc: Global) -> Result<Command<'a>, AllocError>

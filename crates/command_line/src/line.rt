@@ -3,7 +3,7 @@ ghost use Rattle.std.specs.Prelude.{◌≡◌, ◌≤◌, IfErr, IfOk, IfSome, S
 ghost use Rattle.clap.specs.Words.{fault_of, found_of, first_of, kind_of, matches_of, rows_of, subcommand_of, subcommand_rows_of};
 ghost use Rattle.command_line.specs.CommandLine.{Answers, AnswersBy, begins_with_source, cilvm_app, is_source_name, threads_app};
 ghost use Rattle.command_line.specs.CommandLine.{AreGivenInRange, FaultIs, IsInRange, IsOfNone, IsOutputInRange, IsPartInRange, check_in, limits_in, most_in, output_in};
-ghost use Rattle.command_line.specs.CommandLine.{flag_at, number_at, number_in, flip_in, part_in, is_explained_in, picture_in, replay_in, run_in, scheduled_in, stop_at_in, threads_in, trace_in, wanted_in};
+ghost use Rattle.command_line.specs.CommandLine.{flag_at, number_at, number_in, flip_in, part_in, is_explained_in, picture_in, replay_in, replayed_in, run_in, scheduled_in, stop_at_in, threads_in, trace_in, wanted_in};
 ghost use Rattle.command_line.specs.CommandLine.{explore_in, explored_in, extent_in, given_at, given_in, goal_in, said, wanted_of, worked_in};
 ghost use Rattle.cil_model.specs.Ranges.{are_numbers_in_range};
 ghost use Rattle.command_line.specs.declared.line.LineFault.TheVariants.{Memory};
@@ -216,9 +216,7 @@ fn wanted_replay<'a>(found: &ArgMatches<'a>) -> Option<Order<'a>>
     ensures range { IfSome result IsInRange }
 {
     let most_printed = most_printed(found)?;
-    let file = text(found, "file")?;
-    let schedule = text(found, "schedule")?;
-    let limits = given_limits(found)?;
+    let (file, schedule, limits) = replayed(found)?;
     let explain = flag(found, "explain");
     let stats = flag(found, "stats");
     Some(Order::Replay {
@@ -230,6 +228,17 @@ fn wanted_replay<'a>(found: &ArgMatches<'a>) -> Option<Order<'a>>
         explain,
         stats,
     })
+}
+
+/// The source's file, the file of a schedule, and the limits that are given.
+fn replayed<'a>(found: &ArgMatches<'a>) -> Option<(&'a str, &'a str, GivenLimits)>
+    ensures value { option_map (λ s. (s.0.now, s.1.now, s.2)) result ≡ replayed_in (rows_of (found_of found.now)) }
+    ensures range { IfSome result (λ s. AreGivenInRange s.2) }
+{
+    let file = text(found, "file")?;
+    let schedule = text(found, "schedule")?;
+    let limits = given_limits(found)?;
+    Some((file, schedule, limits))
 }
 
 /// The limits that are given.
@@ -264,12 +273,13 @@ fn wanted_trace<'a>(found: &ArgMatches<'a>) -> Option<Order<'a>>
     ensures value { option_map wanted_of result ≡ trace_in (rows_of (found_of found.now)) }
     ensures range { IfSome result IsInRange }
 {
-    let (file, schedule, limits) = scheduled(found)?;
+    let (file, schedule, limits) = replayed(found)?;
     let explain = flag(found, "explain");
     Some(Order::Trace {
         file,
         schedule,
         limits,
+        expected: None,
         explain,
     })
 }
@@ -279,13 +289,14 @@ fn wanted_picture<'a>(found: &ArgMatches<'a>) -> Option<Order<'a>>
     ensures range { IfSome result IsInRange }
 {
     let part = part(found)?;
-    let (file, schedule, limits) = scheduled(found)?;
+    let (file, schedule, limits) = replayed(found)?;
     let explain = flag(found, "explain");
     Some(Order::Picture {
         file,
         schedule,
         part,
         limits,
+        expected: None,
         explain,
     })
 }

@@ -170,8 +170,8 @@ nothing_kept order source schedule out out' err err' kept kept' status (inr told
 nothing_kept (Check file explain) source schedule out out' err err' kept kept' status (inl done) none = done.1
 nothing_kept (Run file text most limits explain stats) source schedule out out' err err' kept kept' status (inl done) none = done.1
 nothing_kept (Replay file name most limits expected explain stats) source schedule out out' err err' kept kept' status (inl done) none = done.1
-nothing_kept (Trace file name limits explain) source schedule out out' err err' kept kept' status (inl done) none = done.1
-nothing_kept (Picture file name part limits explain) source schedule out out' err err' kept kept' status (inl done) none = done.1
+nothing_kept (Trace file name limits expected explain) source schedule out out' err err' kept kept' status (inl done) none = done.1
+nothing_kept (Picture file name part limits expected explain) source schedule out out' err err' kept kept' status (inl done) none = done.1
 nothing_kept (Threads file workers None stop_at most limits explain stats) source schedule out out' err err' kept kept' status (inl done) none =
     done.left ∙ ap (λ (texts : Option (List ℕ × List ℕ)). texts_over texts kept)
     (no_texts (events_of done.is_run.entries) (run_file source limits workers.count done.state.printed) done.made done.is_run.is_record)

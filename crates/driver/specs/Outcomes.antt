@@ -62,7 +62,7 @@ IsThreadText true c text = (text ≡ []) ⊎ AreThreadsExplained c text
 
 -- the text on the threads that a fault or their budget ended in these events with their reports, which a new machine of the source performs
 abbrev pub AreEndsExplainedFor : List ℕ → Limits → List (Event × Report) → List ℕ → Type 0
-AreEndsExplainedFor source limits events text = (begins : Content) × IsMade source limits begins × AreEndsExplained begins events text
+AreEndsExplainedFor source limits events text = (begins : Content) × IsMade source limits begins × AreEndsExplained source begins events text
 
 -- that text, if it is asked for, unless memory runs out; else nothing
 abbrev pub IsEndText : Bool → List ℕ → Limits → List (Event × Report) → List ℕ → Type 0
@@ -304,10 +304,10 @@ IsDone (Run file text most limits explain stats) source schedule out out' err er
     HasRun source limits text.now most None explain stats out out' err err' status × (kept' ≡ kept)
 IsDone (Replay file name most limits expected explain stats) source schedule out out' err err' kept kept' status =
     HasRun source (limits_for limits expected) schedule most expected explain stats out out' err err' status × (kept' ≡ kept)
-IsDone (Trace file name limits explain) source schedule out out' err err' kept kept' status =
-    HasTraced source limits schedule explain out out' err err' status × (kept' ≡ kept)
-IsDone (Picture file name part limits explain) source schedule out out' err err' kept kept' status =
-    (HasDrawn source limits schedule part explain out out' err err' status ⊎ HasTooMany source limits schedule part out out' err err' status) × (kept' ≡ kept)
+IsDone (Trace file name limits expected explain) source schedule out out' err err' kept kept' status =
+    HasTraced source (limits_for limits expected) schedule explain out out' err err' status × (kept' ≡ kept)
+IsDone (Picture file name part limits expected explain) source schedule out out' err err' kept kept' status =
+    (HasDrawn source (limits_for limits expected) schedule part explain out out' err err' status ⊎ HasTooMany source (limits_for limits expected) schedule part out out' err err' status) × (kept' ≡ kept)
 IsDone (Threads file workers name stop_at most limits explain stats) source schedule out out' err err' kept kept' status =
     HasRunThreads source limits workers.count stop_at most (is_some name) explain stats out out' err err' kept kept' status
 IsDone (Explore file extent name limits explain) source schedule out out' err err' kept kept' status =
@@ -322,10 +322,10 @@ IsNotDone (Run file text most limits explain stats) source schedule failure =
     HasNotRun source limits text.now failure
 IsNotDone (Replay file name most limits expected explain stats) source schedule failure =
     HasNotRun source (limits_for limits expected) schedule failure
-IsNotDone (Trace file name limits explain) source schedule failure =
-    HasNotTraced source limits schedule failure
-IsNotDone (Picture file name part limits explain) source schedule failure =
-    HasNotTraced source limits schedule failure
+IsNotDone (Trace file name limits expected explain) source schedule failure =
+    HasNotTraced source (limits_for limits expected) schedule failure
+IsNotDone (Picture file name part limits expected explain) source schedule failure =
+    HasNotTraced source (limits_for limits expected) schedule failure
 IsNotDone (Threads file workers name stop_at most limits explain stats) source schedule failure =
     HasNotRunThreads source limits failure
 IsNotDone (Explore file extent name limits explain) source schedule failure =
@@ -417,10 +417,10 @@ IsDoneInPart (Run file text most limits explain stats) source schedule out out' 
     IsRunInPart source limits text.now most None explain stats explain out out' err err'
 IsDoneInPart (Replay file name most limits expected explain stats) source schedule out out' err err' =
     IsRunInPart source (limits_for limits expected) schedule most expected explain stats explain out out' err err'
-IsDoneInPart (Trace file name limits explain) source schedule out out' err err' =
-    (IsTraceInPart source limits schedule out out' × (err' ≡ err)) ⊎ IsTracedThenInPart source limits schedule explain out out' err err'
-IsDoneInPart (Picture file name part limits explain) source schedule out out' err err' =
-    IsDrawnInPart source limits schedule part explain out out' err err'
+IsDoneInPart (Trace file name limits expected explain) source schedule out out' err err' =
+    (IsTraceInPart source (limits_for limits expected) schedule out out' × (err' ≡ err)) ⊎ IsTracedThenInPart source (limits_for limits expected) schedule explain out out' err err'
+IsDoneInPart (Picture file name part limits expected explain) source schedule out out' err err' =
+    IsDrawnInPart source (limits_for limits expected) schedule part explain out out' err err'
 IsDoneInPart (Threads file workers name stop_at most limits explain stats) source schedule out out' err err' =
     IsRunByWorkersInPart source limits workers.count stop_at most (is_some name) explain stats out out' err err'
 IsDoneInPart (Explore file extent name limits explain) source schedule out out' err err' =

@@ -54,8 +54,9 @@ use std::thread::Threads;
 /// printed until then and how its threads stand is printed all the same, then `memory`, and the status is 5. So it is before an event by which the
 /// program would print more bytes than the command allows.
 ///
-/// A replay of which it is known what the `.run` file says has the limits of that file where no others are given. It reports on `err`, before the
-/// numbers of the run, if its source, its limits or what it printed is not what the file says; then the status is 6, unless memory ran out.
+/// A replay, a trace or a picture of which it is known what the `.run` file says has the limits of that file where no others are given. A replay reports
+/// on `err`, before the numbers of the run, if its source, its limits or what it printed is not what the file says; then the status is 6, unless memory
+/// ran out.
 ///
 /// Where workers run the program and a record is asked for, the text of the run's events and that of its `.run` file are left in `record`, once
 /// all is printed: a replay of it with the same limits prints the same. Of more than 1,000,000 events there is no record; that is reported by
@@ -173,15 +174,34 @@ fn perform<W: Out, E: Out>(
         }
         Order::Trace {
             limits,
+            expected,
             explain,
             ..
-        } => show_trace(alloc, source, limits, schedule, explain, out, err),
+        } => show_trace(
+            alloc,
+            source,
+            limits.limits_for(expected),
+            schedule,
+            explain,
+            out,
+            err,
+        ),
         Order::Picture {
             part,
             limits,
+            expected,
             explain,
             ..
-        } => show_picture(alloc, source, limits, schedule, part, explain, out, err),
+        } => show_picture(
+            alloc,
+            source,
+            limits.limits_for(expected),
+            schedule,
+            part,
+            explain,
+            out,
+            err,
+        ),
         Order::Threads {
             workers,
             record: file,

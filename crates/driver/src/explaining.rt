@@ -125,17 +125,19 @@ fn explanation(
             limits,
             expected,
             ..
-        } => explain_run(alloc, limits.limits_for(expected), name, schedule)?,
-        Order::Trace {
+        }
+        | Order::Trace {
             schedule: name,
             limits,
+            expected,
             ..
         }
         | Order::Picture {
             schedule: name,
             limits,
+            expected,
             ..
-        } => explain_run(alloc, limits, name, schedule)?,
+        } => explain_run(alloc, limits.limits_for(expected), name, schedule)?,
         Order::Threads { limits, .. } | Order::Explore { limits, .. } => {
             explain_limits(alloc, limits)?
         }

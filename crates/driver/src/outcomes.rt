@@ -60,14 +60,14 @@ fn write_ends<E: Out>(
     }
 }
 
-/// What explains how a fault or their budget ended threads: the history is performed again on a new machine of the source. None if there is no memory for it.
+/// What explains how a fault or their budget ended threads of a run of a source: the history is performed again on a new machine of the source. None if there is no memory for it.
 fn ends_text(alloc: Global, source: &[u8], limits: Limits, history: &History) -> Option<String>
     ensures { IfSome result (λ text. AreEndsExplainedFor source.now limits (zip (events_of history.now.entries) (reports_of history.now.entries)) (string_bytes text)) }
 {
     let Ok(mut machine) = machine_of(alloc, source, limits) else {
         return None;
     };
-    match explain_ends(alloc, &mut machine, limits.budget, history) {
+    match explain_ends(alloc, &mut machine, limits.budget, source, history) {
         Ok(text) => Some(text),
         Err(_) => None,
     }

@@ -12,17 +12,17 @@ use Rattle.shared_machine.specs.declared.history.Run.{Run}
 use Rattle.end_explanations.specs.Replays.{AreReplayed, IsReplayed, Known, pair_of}
 
 -- one list of events after another
-pub replayed_both : (c : Content) (k : Known) (es : List (Event × Report)) (d : Content) (l : Known) (fs : List (Event × Report)) (last : Content) (after : Known)
-    → AreReplayed c k es d l → AreReplayed d l fs last after → AreReplayed c k (es ++ fs) last after
-replayed_both c k [] d l fs last after (same, still) more = subst (λ x. AreReplayed x k fs last after) same (subst (λ x. AreReplayed d x fs last after) still more)
-replayed_both c k (e ∷ es) d l fs last after (next, known, one, rest) more = (next, known, one, replayed_both next known es d l fs last after rest more)
+pub replayed_both : (source : List ℕ) (c : Content) (k : Known) (es : List (Event × Report)) (d : Content) (l : Known) (fs : List (Event × Report)) (last : Content) (after : Known)
+    → AreReplayed source c k es d l → AreReplayed source d l fs last after → AreReplayed source c k (es ++ fs) last after
+replayed_both source c k [] d l fs last after (same, still) more = subst (λ x. AreReplayed source x k fs last after) same (subst (λ x. AreReplayed source d x fs last after) still more)
+replayed_both source c k (e ∷ es) d l fs last after (next, known, one, rest) more = (next, known, one, replayed_both source next known es d l fs last after rest more)
 
 -- the event of an entry once more
-pub replayed_again : (n : ℕ) (e : Entry) (c : Content) (k : Known) (d : Content) (l : Known) (last : Content) (after : Known)
-    → AreReplayed c k (map pair_of (replicate n e)) d l → IsReplayed d l (pair_of e) last after → AreReplayed c k (map pair_of (replicate (suc n) e)) last after
-replayed_again zero e c k d l last after (same, still) one =
-    (last, after, subst (λ x. IsReplayed x k (pair_of e) last after) same (subst (λ x. IsReplayed d x (pair_of e) last after) still one), (refl, refl))
-replayed_again (suc n) e c k d l last after (next, known, first, rest) one = (next, known, first, replayed_again n e next known d l last after rest one)
+pub replayed_again : (source : List ℕ) (n : ℕ) (e : Entry) (c : Content) (k : Known) (d : Content) (l : Known) (last : Content) (after : Known)
+    → AreReplayed source c k (map pair_of (replicate n e)) d l → IsReplayed source d l (pair_of e) last after → AreReplayed source c k (map pair_of (replicate (suc n) e)) last after
+replayed_again source zero e c k d l last after (same, still) one =
+    (last, after, subst (λ x. IsReplayed source x k (pair_of e) last after) same (subst (λ x. IsReplayed source d x (pair_of e) last after) still one), (refl, refl))
+replayed_again source (suc n) e c k d l last after (next, known, first, rest) one = (next, known, first, replayed_again source n e next known d l last after rest one)
 
 plain-append : (xs ys : List Run) → plain (xs ++ ys) ≡ plain xs ++ plain ys
 plain-append [] ys = refl
@@ -35,13 +35,13 @@ plain_more runs i d below =
     ap plain (take_more runs i d below) ∙ plain-append (take i runs) (r ∷ []) ∙ ap (λ (l : List Entry). plain (take i runs) ++ l) (append-nil (replicate r.times r.entry))
 
 -- one run more
-pub replayed_run : (runs : List Run) (i : ℕ) (x : Run) (c : Content) (k : Known) (d : Content) (l : Known) (last : Content) (after : Known) → i < length runs
-    → AreReplayed c k (map pair_of (plain (take i runs))) d l → AreReplayed d l (map pair_of (replicate (get_or runs i x).times (get_or runs i x).entry)) last after
-    → AreReplayed c k (map pair_of (plain (take (i + 1) runs))) last after
-replayed_run runs i x c k d l last after below before more =
+pub replayed_run : (source : List ℕ) (runs : List Run) (i : ℕ) (x : Run) (c : Content) (k : Known) (d : Content) (l : Known) (last : Content) (after : Known) → i < length runs
+    → AreReplayed source c k (map pair_of (plain (take i runs))) d l → AreReplayed source d l (map pair_of (replicate (get_or runs i x).times (get_or runs i x).entry)) last after
+    → AreReplayed source c k (map pair_of (plain (take (i + 1) runs))) last after
+replayed_run source runs i x c k d l last after below before more =
     let r : Run = get_or runs i x in
-    subst (λ es. AreReplayed c k es last after) (sym (ap (map pair_of) (plain_more runs i x below) ∙ map-append pair_of (plain (take i runs)) (replicate r.times r.entry)))
-    (replayed_both c k (map pair_of (plain (take i runs))) d l (map pair_of (replicate r.times r.entry)) last after before more)
+    subst (λ es. AreReplayed source c k es last after) (sym (ap (map pair_of) (plain_more runs i x below) ∙ map-append pair_of (plain (take i runs)) (replicate r.times r.entry)))
+    (replayed_both source c k (map pair_of (plain (take i runs))) d l (map pair_of (replicate r.times r.entry)) last after before more)
 
 -- the events of a history beside their reports
 pub pairs_zipped : (h : List Entry) → map pair_of h ≡ zip (events_of h) (reports_of h)

@@ -13,8 +13,9 @@ use Rattle.event_trace.specs.interleaving_core.simulation.MachineContents.{Conte
 use Rattle.event_trace.specs.interleaving_core.Positions.{position_at}
 use Rattle.event_trace.specs.interleaving_core.Waits.{wait_at}
 use Rattle.event_trace.specs.interleaving_core.declared.positions.Position.{Position}
-use Rattle.event_trace.specs.Columns.{found_at, instruction_column}
+use Rattle.event_trace.specs.Columns.{found_at}
 use Rattle.event_trace.specs.Texts.{wait_text}
+use Rattle.end_explanations.specs.Located.{line_of, located_text}
 use Rattle.end_explanations.specs.declared.ends.Cause.{Cause}
 use Rattle.end_explanations.specs.declared.ends.Cause.TheVariants.{Budget as BudgetCause, Fault as FaultCause}
 use Rattle.end_explanations.specs.declared.ends.EarlyEnd.{EarlyEnd}
@@ -40,29 +41,31 @@ abbrev pub cause_text : Cause → List ℕ
 cause_text (BudgetCause steps) = codes "budget after " ++ decimal steps ++ codes " steps (--budget allows 1000000)"
 cause_text (FaultCause fault) = name_of fault
 
--- why a thread ended, where it was, and what it waited for
-abbrev pub end_lines : ℕ → Cause → Option ((ClassName × Method) × ℕ) → Option (List ℕ) → List ℕ
-end_lines t why at None = codes "thread " ++ decimal t ++ codes ": " ++ cause_text why ++ 10 ∷ codes "  at " ++ instruction_column at ++ 10 ∷ []
-end_lines t why at (Some awaited) =
-    codes "thread " ++ decimal t ++ codes ": " ++ cause_text why ++ 10 ∷ codes "  at " ++ instruction_column at ++ codes ", waits for " ++ awaited ++ 10 ∷ []
+-- why a thread ended, where it was, by its position and its line, and what it waited for
+abbrev pub end_lines : ℕ → Cause → Option ((ClassName × Method) × ℕ) → Option ℕ → Option (List ℕ) → List ℕ
+end_lines t why at line None = codes "thread " ++ decimal t ++ codes ": " ++ cause_text why ++ 10 ∷ codes "  at " ++ located_text at line ++ 10 ∷ []
+end_lines t why at line (Some awaited) =
+    codes "thread " ++ decimal t ++ codes ": " ++ cause_text why ++ 10 ∷ codes "  at " ++ located_text at line ++ codes ", waits for " ++ awaited ++ 10 ∷ []
 
--- the same, of a content before the thread's last step
-abbrev pub end_text : Content → EarlyEnd → List ℕ
-end_text c e = end_lines e.thread e.cause (option_and_then (found_at c.tree) (position_at c.threads e.thread)) (option_map (wait_text c) (wait_at c e.thread))
+-- the same, of a content before the thread's last step, where this is the source
+abbrev pub end_text : List ℕ → Content → EarlyEnd → List ℕ
+end_text source c e =
+    let at = position_at c.threads e.thread in
+    end_lines e.thread e.cause (option_and_then (found_at c.tree) at) (option_and_then (line_of source) at) (option_map (wait_text c) (wait_at c e.thread))
 
 -- the line of a caller
-abbrev pub caller_text : Content → Position → List ℕ
-caller_text c p = codes "  called from " ++ instruction_column (found_at c.tree p) ++ 10 ∷ []
+abbrev pub caller_text : List ℕ → Content → Position → List ℕ
+caller_text source c p = codes "  called from " ++ located_text (found_at c.tree p) (line_of source p) ++ 10 ∷ []
 
 -- the lines of so many innermost callers, of which the innermost is the first
-abbrev pub caller_lines : Content → List Position → ℕ → List ℕ
-caller_lines c callers zero = []
-caller_lines c callers (suc n) = caller_lines c callers n ++ option_map_or (caller_text c) (slice_get callers (length callers - 1 - n)) []
+abbrev pub caller_lines : List ℕ → Content → List Position → ℕ → List ℕ
+caller_lines source c callers zero = []
+caller_lines source c callers (suc n) = caller_lines source c callers n ++ option_map_or (caller_text source c) (slice_get callers (length callers - 1 - n)) []
 
 -- how many more callers there are
 abbrev pub more_text : ℕ → List ℕ
 more_text n = if nat_lt 0 n then codes "  and " ++ decimal n ++ codes " more callers" ++ 10 ∷ [] else []
 
 -- the innermost callers, and how many more there are
-abbrev pub callers_text : Content → List Position → List ℕ
-callers_text c callers = caller_lines c callers (min (length callers) MOST_CALLERS) ++ more_text (length callers - MOST_CALLERS)
+abbrev pub callers_text : List ℕ → Content → List Position → List ℕ
+callers_text source c callers = caller_lines source c callers (min (length callers) MOST_CALLERS) ++ more_text (length callers - MOST_CALLERS)

@@ -10,24 +10,28 @@ use cil_model::sequences::Sequence;
 use cil_model::trees::Tree;
 use event_trace::MethodPlaces;
 use name_tables::built_in::BuiltInClass;
+use source_lines::SourceLines;
 use std::alloc::Global;
 
-/// Where the methods of a program are declared, and the built-in classes.
+/// Where the methods of a program are declared, the built-in classes, and the lines of its source.
 #[derive(Drop)]
-pub(crate) struct Names {
+pub(crate) struct Names<'s> {
     pub(crate) methods: MethodPlaces,
     pub(crate) classes: Sequence<BuiltInClass>,
+    pub(crate) lines: SourceLines<'s>,
 }
 
-impl Names {
-    /// The names of a program. Only want of memory is an error.
-    pub(crate) fn new(alloc: Global, tree: &Tree) -> Result<Names, NoMemory>
+impl<'s> Names<'s> {
+    /// The names of a program, by its tree and its source. Only want of memory is an error.
+    pub(crate) fn new(alloc: Global, tree: &Tree, source: &'s [u8]) -> Result<Names<'s>, NoMemory>
         ensures places { IfOk result (λ names. ArePlacesOf tree.now names.methods) }
         ensures classes { IfOk result (λ names. map built_in_entry names.classes ≡ built_ins) }
+        ensures lines { IfOk result (λ names. names.lines ≡ source.now) }
     {
         Ok(Names {
             methods: MethodPlaces::new(alloc, tree)?,
             classes: BuiltInClass::all(alloc)?,
+            lines: SourceLines::new(alloc, source)?,
         })
     }
 }

@@ -78,12 +78,12 @@ impl Progress {
         &mut self,
         alloc: Global,
         machine: &Machine,
-        names: &Names,
+        names: &Names<'_>,
         end: EarlyEnd,
     ) -> Result<(), NoMemory>
         requires places { ArePlacesOf machine.now.tree names.now.methods }
         requires classes { map built_in_entry names.now.classes ≡ built_ins }
-        ensures explained { OnOk result (IsEndExplained machine.now self.old end self.new) }
+        ensures explained { OnOk result (IsEndExplained names.now.lines machine.now self.old end self.new) }
         ensures same { OnOk result (self.new.callers ≡ self.old.callers) }
     {
         add_end(&mut self.text, machine, names, end)?;

@@ -46,19 +46,19 @@ impl From<AllocError> for ReplayError {
     }
 }
 
-/// Performs the events of a history on a machine in the state in which the history began, and returns a text on the threads that ended in it by a fault or by
+/// Performs the events of a history on a machine of a source, in the state in which the history began, and returns a text on the threads that ended in it by a fault or by
 /// their budget, of `budget` steps, in the order in which they ended:
 ///
 /// ```text
 /// thread 1: System.NullReferenceException
-///   at Worker::Run+6  ldfld int32 Node::value
-///   called from Worker::Main+3  call void Worker::Run()
+///   at Worker::Value+1 (line 17)  ldfld int32 Node::value
+///   called from Worker::Run+6 (line 26)  call int32 Worker::Value(class Node)
 /// thread 2: budget after 100000 steps (--budget allows 1000000)
-///   at Bank::Transfer+3  call void [mscorlib]System.Threading.Monitor::Enter(object), waits for the monitor of an object of Account, held by thread 0
+///   at Bank::Transfer+3 (line 31)  call void [mscorlib]System.Threading.Monitor::Enter(object), waits for the monitor of an object of Account, held by thread 0
 /// deadlock: threads 0, 2
 /// ```
 ///
-/// `at` is the instruction of the thread's last step, and what follows is its state before that step: the calls that have not returned, the innermost first,
+/// `at` is the instruction of the thread's last step, with its line of the source, and what follows is the thread's state before that step: the calls that have not returned, the innermost first,
 /// 10 of them and then the number of the others; and what it waited for. If it was deadlocked then, a line as that of `event_trace::explain_threads` follows, unless an
 /// earlier thread has printed it.
 ///
@@ -69,12 +69,13 @@ pub fn explain_ends(
     alloc: Global,
     machine: &mut Machine,
     budget: u32,
+    source: &[u8],
     history: &History,
 ) -> Result<String, ReplayError>
     requires { machine.old.limits.budget ≡ budget }
-    ensures { IfOk result (λ text. AreEndsExplained machine.old (zip (events_of history.now.entries) (reports_of history.now.entries)) (string_bytes text)) }
+    ensures { IfOk result (λ text. AreEndsExplained source.now machine.old (zip (events_of history.now.entries) (reports_of history.now.entries)) (string_bytes text)) }
 {
-    let names = Names::new(alloc, machine.tree())?;
+    let names = Names::new(alloc, machine.tree(), source)?;
     let mut progress = Progress::new(alloc)?;
     let runs = history.runs();
     for run in runs {
@@ -87,7 +88,7 @@ pub fn explain_ends(
 fn replay_run(
     alloc: Global,
     machine: &mut Machine,
-    names: &Names,
+    names: &Names<'_>,
     budget: u32,
     run: &Run,
     progress: &mut Progress,
@@ -95,7 +96,7 @@ fn replay_run(
     requires places { ArePlacesOf machine.old.tree names.now.methods }
     requires classes { map built_in_entry names.now.classes ≡ built_ins }
     requires budget { machine.old.limits.budget ≡ budget }
-    ensures replayed { OnOk result (AreReplayed machine.old progress.old (map pair_of (replicate run.now.times run.now.entry)) machine.new progress.new) }
+    ensures replayed { OnOk result (AreReplayed names.now.lines machine.old progress.old (map pair_of (replicate run.now.times run.now.entry)) machine.new progress.new) }
     ensures same { OnOk result ((machine.new.tree ≡ machine.old.tree) × (machine.new.limits ≡ machine.old.limits)) }
 {
     for _time in 0..run.times {
@@ -108,7 +109,7 @@ fn replay_run(
 fn replay_event(
     alloc: Global,
     machine: &mut Machine,
-    names: &Names,
+    names: &Names<'_>,
     budget: u32,
     entry: &Entry,
     progress: &mut Progress,
@@ -116,7 +117,7 @@ fn replay_event(
     requires places { ArePlacesOf machine.old.tree names.now.methods }
     requires classes { map built_in_entry names.now.classes ≡ built_ins }
     requires budget { machine.old.limits.budget ≡ budget }
-    ensures replayed { OnOk result (IsReplayed machine.old progress.old (pair_of entry.now) machine.new progress.new) }
+    ensures replayed { OnOk result (IsReplayed names.now.lines machine.old progress.old (pair_of entry.now) machine.new progress.new) }
     ensures same { OnOk result ((machine.new.tree ≡ machine.old.tree) × (machine.new.limits ≡ machine.old.limits)) }
 {
     if let Some(end) = early_end(entry.event, entry.report, budget) {

@@ -8,11 +8,10 @@ ghost use Rattle.name_tables.specs.BuiltInTable.{built_in_entry};
 ghost use Rattle.end_explanations.specs.Ends.{caller_text, callers_text, end_text, more_text};
 
 use crate::ends::{Cause, EarlyEnd};
+use crate::located::{Located, locate};
 use crate::names::Names;
 use cil_model::memory::NoMemory;
-use event_trace::{
-    AwaitedText, InstructionColumn, InstructionPlace, Machine, Position, awaited_by, instruction_at,
-};
+use event_trace::{AwaitedText, Machine, Position, awaited_by};
 use std::fmt;
 
 /// How many callers are printed of a thread, the innermost ones.
@@ -23,7 +22,7 @@ const MOST_CALLERS: usize = 10;
 struct EndText<'a> {
     thread: u8,
     cause: Cause,
-    at: Option<InstructionPlace<'a>>,
+    at: Located<'a>,
     awaited: Option<AwaitedText<'a>>,
 }
 
@@ -33,11 +32,15 @@ impl<'a> fmt::Display for EndText<'a> {
     ghost use Rattle.event_trace.specs.Texts.{awaited_text};
     ghost use Rattle.end_explanations.specs.Ends.{end_lines};
 
-    ghost output = { λ text. Some (end_lines text.thread text.cause (option_map place_of text.at) (option_map awaited_text text.awaited)) };
+    ghost output = { λ text. Some (end_lines text.thread text.cause (option_map place_of text.at.at) text.at.line (option_map awaited_text text.awaited)) };
 
     fn fmt<W: fmt::Write>(&self, f: &mut fmt::Formatter<W>) -> fmt::Result {
-        let EndText { thread, cause, .. } = self;
-        let at = InstructionColumn(self.at);
+        let EndText {
+            thread,
+            cause,
+            at,
+            ..
+        } = self;
         match self.awaited {
             None => writeln!(f, "thread {thread}: {cause}\n  at {at}"),
             Some(awaited) => {
@@ -54,18 +57,18 @@ impl<'a> fmt::Display for EndText<'a> {
 pub(crate) fn add_end(
     text: &mut String,
     machine: &Machine,
-    names: &Names,
+    names: &Names<'_>,
     end: EarlyEnd,
 ) -> Result<(), NoMemory>
     requires places { ArePlacesOf machine.now.tree names.now.methods }
     requires classes { map built_in_entry names.now.classes ≡ built_ins }
-    ensures { OnOk result (string_bytes text.new ≡ string_bytes text.old ++ end_text machine.now end) }
+    ensures { OnOk result (string_bytes text.new ≡ string_bytes text.old ++ end_text names.now.lines machine.now end) }
 {
     let EarlyEnd { thread, cause } = end;
     let lines = EndText {
         thread,
         cause,
-        at: instruction_at(machine, &names.methods, machine.position_of(thread)),
+        at: locate(machine, names, machine.position_of(thread))?,
         awaited: awaited_by(machine, names.classes.as_slice(), thread),
     };
     write!(text, "{lines}")?;
@@ -76,11 +79,12 @@ pub(crate) fn add_end(
 pub(crate) fn add_callers(
     text: &mut String,
     machine: &Machine,
-    names: &Names,
+    names: &Names<'_>,
     callers: &[Position],
 ) -> Result<(), NoMemory>
     requires places { ArePlacesOf machine.now.tree names.now.methods }
-    ensures { OnOk result (string_bytes text.new ≡ string_bytes text.old ++ callers_text machine.now callers.now) }
+    requires classes { map built_in_entry names.now.classes ≡ built_ins }
+    ensures { OnOk result (string_bytes text.new ≡ string_bytes text.old ++ callers_text names.now.lines machine.now callers.now) }
 {
     let printed = callers.len().min(MOST_CALLERS);
     for inner in 0..printed {
@@ -93,13 +97,14 @@ pub(crate) fn add_callers(
 fn add_caller_at(
     text: &mut String,
     machine: &Machine,
-    names: &Names,
+    names: &Names<'_>,
     callers: &[Position],
     inner: usize,
 ) -> Result<(), NoMemory>
     requires places { ArePlacesOf machine.now.tree names.now.methods }
+    requires classes { map built_in_entry names.now.classes ≡ built_ins }
     requires within { inner < length callers.now }
-    ensures { OnOk result (string_bytes text.new ≡ string_bytes text.old ++ option_map_or (caller_text machine.now) (slice_get callers.now (length callers.now - 1 - inner)) []) }
+    ensures { OnOk result (string_bytes text.new ≡ string_bytes text.old ++ option_map_or (caller_text names.now.lines machine.now) (slice_get callers.now (length callers.now - 1 - inner)) []) }
 {
     match callers.get(callers.len() - 1 - inner) {
         Some(caller) => add_caller(text, machine, names, *caller),
@@ -121,13 +126,14 @@ fn add_more(text: &mut String, more: usize) -> Result<(), NoMemory>
 fn add_caller(
     text: &mut String,
     machine: &Machine,
-    names: &Names,
+    names: &Names<'_>,
     caller: Position,
 ) -> Result<(), NoMemory>
     requires places { ArePlacesOf machine.now.tree names.now.methods }
-    ensures { OnOk result (string_bytes text.new ≡ string_bytes text.old ++ caller_text machine.now caller) }
+    requires classes { map built_in_entry names.now.classes ≡ built_ins }
+    ensures { OnOk result (string_bytes text.new ≡ string_bytes text.old ++ caller_text names.now.lines machine.now caller) }
 {
-    let at = InstructionColumn(instruction_at(machine, &names.methods, Some(caller)));
+    let at = locate(machine, names, Some(caller))?;
     writeln!(text, "  called from {at}")?;
     Ok(())
 }

@@ -1,4 +1,4 @@
--- The limits that a command line gives, and those of a replay (this profile).
+-- The limits that a command line gives, and those of a replay, a trace or a picture (this profile).
 use Rattle.std.specs.Prelude.{Option, Some, None, unwrap_or}
 use Rattle.cil_model.specs.declared.limits.Limits.{Limits}
 use Rattle.orders.specs.declared.given_limits.GivenLimits.{GivenLimits}
@@ -18,7 +18,7 @@ limits_over given others = record {
 abbrev pub default_limits : Limits
 default_limits = record { words = DEFAULT_WORDS; max_words = DEFAULT_WORDS; budget = DEFAULT_BUDGET; depth = DEFAULT_DEPTH }
 
--- the limits of a replay: those of the recorded run, or the defaults where nothing is known of it, in the place of limits that are not given
+-- the limits of a replay, a trace or a picture: those of the recorded run, or the defaults where nothing is known of it, in the place of limits that are not given
 abbrev pub limits_for : GivenLimits → Option RunFile → Limits
 limits_for given None = limits_over given default_limits
 limits_for given (Some file) = limits_over given file.limits

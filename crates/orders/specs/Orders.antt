@@ -12,8 +12,8 @@ abbrev pub file_of : Order → Option (List ℕ)
 file_of (Check file explain) = Some file.now
 file_of (Run file schedule most_printed limits explain stats) = Some file.now
 file_of (Replay file schedule most_printed limits expected explain stats) = Some file.now
-file_of (Trace file schedule limits explain) = Some file.now
-file_of (Picture file schedule part limits explain) = Some file.now
+file_of (Trace file schedule limits expected explain) = Some file.now
+file_of (Picture file schedule part limits expected explain) = Some file.now
 file_of (Threads file workers kept stop_at most_printed limits explain stats) = Some file.now
 file_of (Explore file extent kept limits explain) = Some file.now
 file_of (Flip sizes) = None
@@ -21,18 +21,22 @@ file_of (Flip sizes) = None
 -- the name of the file that holds the schedule's text, where one does
 abbrev pub schedule_file_of : Order → Option (List ℕ)
 schedule_file_of (Replay file schedule most_printed limits expected explain stats) = Some schedule.now
-schedule_file_of (Trace file schedule limits explain) = Some schedule.now
-schedule_file_of (Picture file schedule part limits explain) = Some schedule.now
+schedule_file_of (Trace file schedule limits expected explain) = Some schedule.now
+schedule_file_of (Picture file schedule part limits expected explain) = Some schedule.now
 schedule_file_of _ = None
 
--- the name of the file with the schedule of a replay
-abbrev pub replayed_file_of : Order → Option (List ℕ)
-replayed_file_of (Replay file schedule most_printed limits expected explain stats) = Some schedule.now
-replayed_file_of _ = None
+-- the numbers of a run are printed at its end
+abbrev pub counts : Order → Bool
+counts (Run file schedule most_printed limits explain stats) = stats
+counts (Replay file schedule most_printed limits expected explain stats) = stats
+counts (Threads file workers kept stop_at most_printed limits explain stats) = stats
+counts _ = false
 
--- a replay of which it is known what the `.run` file says; another order stays
+-- a replay, a trace or a picture of which it is known what the `.run` file says; another order stays
 abbrev pub with_run_file : Order → RunFile → Order
 with_run_file (Replay file schedule most_printed limits expected explain stats) run = Replay file schedule most_printed limits (Some run) explain stats
+with_run_file (Trace file schedule limits expected explain) run = Trace file schedule limits (Some run) explain
+with_run_file (Picture file schedule part limits expected explain) run = Picture file schedule part limits (Some run) explain
 with_run_file order run = order
 
 -- the name of the file that the record of a run or the schedule of an outcome is to be written to, where one is asked for
@@ -46,8 +50,8 @@ abbrev pub is_explained : Order → Bool
 is_explained (Check file explain) = explain
 is_explained (Run file schedule most_printed limits explain stats) = explain
 is_explained (Replay file schedule most_printed limits expected explain stats) = explain
-is_explained (Trace file schedule limits explain) = explain
-is_explained (Picture file schedule part limits explain) = explain
+is_explained (Trace file schedule limits expected explain) = explain
+is_explained (Picture file schedule part limits expected explain) = explain
 is_explained (Threads file workers kept stop_at most_printed limits explain stats) = explain
 is_explained (Explore file extent kept limits explain) = explain
 is_explained (Flip sizes) = false

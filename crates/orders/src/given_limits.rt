@@ -29,7 +29,7 @@ pub struct GivenLimits {
 }
 
 impl GivenLimits {
-    /// The limits of a replay: each that is not given is that of the recorded run, or the default where nothing is known of that run. Where
+    /// The limits of a replay, a trace or a picture: each that is not given is that of the recorded run, or the default where nothing is known of that run. Where
     /// the words of the first space are given and the most words of a space are not, these are the same.
     pub fn limits_for(self, expected: Option<RunFile>) -> Limits
         ensures { result ≡ limits_for self expected }

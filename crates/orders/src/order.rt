@@ -1,6 +1,6 @@
 //! What a command line asks for.
 ghost use Rattle.std.specs.Prelude.{◌≡◌, option_map};
-ghost use Rattle.orders.specs.Orders.{file_of, is_explained, record_file_of, replayed_file_of, schedule_file_of, with_run_file};
+ghost use Rattle.orders.specs.Orders.{counts, file_of, is_explained, record_file_of, schedule_file_of, with_run_file};
 
 use crate::extents::Extent;
 use crate::given_limits::GivenLimits;
@@ -46,19 +46,22 @@ pub enum Order<'a> {
         explain: bool,
         stats: bool,
     },
-    /// Runs it as a replay does, and prints a line of each event before what the run leaves.
+    /// Runs it as a replay does, within the same limits, and prints a line of each event before what the run leaves. The run is not compared.
     Trace {
         file: &'a str,
         schedule: &'a str,
-        limits: Limits,
+        limits: GivenLimits,
+        expected: Option<RunFile>,
         explain: bool,
     },
-    /// Runs it as a replay does, and draws a part of its events in the place of what the run has printed.
+    /// Runs it as a replay does, within the same limits, and draws a part of its events in the place of what the run has printed. The run is not
+    /// compared.
     Picture {
         file: &'a str,
         schedule: &'a str,
         part: Part,
-        limits: Limits,
+        limits: GivenLimits,
+        expected: Option<RunFile>,
         explain: bool,
     },
     /// Runs the source of this file by workers, each in a thread of its own, until no thread of the program is live, or until `stop_at` says.
@@ -119,7 +122,7 @@ impl<'a> Order<'a> {
         }
     }
 
-    /// The file that holds the schedule's text, where one does.
+    /// The file that holds the schedule's text, where one does. If it has a `.run` file, that is to be read too.
     pub fn schedule_file(&self) -> Option<&'a str>
         ensures { option_map (λ file. file.now) result ≡ schedule_file_of self.now }
     {
@@ -135,17 +138,22 @@ impl<'a> Order<'a> {
         }
     }
 
-    /// The file with the schedule of a replay, whose `.run` file is to be read where there is one.
-    pub fn replayed_file(&self) -> Option<&'a str>
-        ensures { option_map (λ file. file.now) result ≡ replayed_file_of self.now }
+    /// Whether the numbers of a run are printed at its end.
+    pub fn counts(&self) -> bool
+        ensures { result ≡ counts self.now }
     {
         match *self {
-            Order::Replay { schedule, .. } => Some(schedule),
-            _ => None,
+            Order::Run { stats, .. } | Order::Replay { stats, .. } | Order::Threads { stats, .. } =>
+                stats,
+            Order::Check { .. }
+            | Order::Trace { .. }
+            | Order::Picture { .. }
+            | Order::Explore { .. }
+            | Order::Flip(_) => false,
         }
     }
 
-    /// A replay of which it is known what the `.run` file says. Another command stays as it is.
+    /// A replay, a trace or a picture of which it is known what the `.run` file says. Another command stays as it is.
     pub fn with_run_file(self, run: RunFile) -> Order<'a>
         ensures { result ≡ with_run_file self.entry run }
     {
@@ -166,6 +174,34 @@ impl<'a> Order<'a> {
                 expected: Some(run),
                 explain,
                 stats,
+            },
+            Order::Trace {
+                file,
+                schedule,
+                limits,
+                explain,
+                ..
+            } => Order::Trace {
+                file,
+                schedule,
+                limits,
+                expected: Some(run),
+                explain,
+            },
+            Order::Picture {
+                file,
+                schedule,
+                part,
+                limits,
+                explain,
+                ..
+            } => Order::Picture {
+                file,
+                schedule,
+                part,
+                limits,
+                expected: Some(run),
+                explain,
             },
             other => other,
         }

@@ -1,17 +1,16 @@
 -- The rows of a picture, event by event.
-use Rattle.std.proofs.Common.{◌≡◌, ◌≢◌, ◌==◌, ◌&&◌, ◌+◌, ◌*◌, ◌<◌, ℕ, suc, Bool, true, false, All, List, [], ◌∷◌, ◌++◌, length, get_or, if◌then◌else◌, replicate, refl, sym, ap, ◌∙◌, arith, append-nil, append_assoc}
+use Rattle.std.proofs.Common.{◌≡◌, ◌≢◌, ◌==◌, ◌&&◌, ◌+◌, ◌<◌, ℕ, suc, Bool, true, false, List, [], ◌∷◌, ◌++◌, length, get_or, if◌then◌else◌, replicate, refl, sym, ap, ◌∙◌, arith, append-nil, append_assoc}
 use Rattle.std.proofs.lemmas.List.{get_or-replicate, get_or-set_other, get_or-set_same, length-set}
 use Rattle.std.specs.Prelude.{nat_lt, set}
 use Rattle.std.proofs.lemmas.Bool.Decides.{nat_tests}
 use Rattle.cil_model.specs.declared.events.Event.{Event}
 use Rattle.cil_model.specs.declared.events.Event.TheVariants.{Step, Ack, Gc}
-use Rattle.cil_model.specs.declared.limits.TheConstants.{MOST_THREADS}
 use Rattle.cil_model.specs.declared.reports.End.TheVariants.{Done, Budget, Fault}
 use Rattle.cil_model.specs.declared.reports.Report.{Report}
 use Rattle.cil_model.specs.declared.reports.Report.TheVariants.{Ran, Blocked, Ended, Absent, Acked, NothingPosted, Worked, Waiting, CycleDone}
-use Rattle.run_picture.specs.Rows.{drawn_rows, number_in, numbers_of, row_of, thread_row, collector_row}
+use Rattle.run_picture.specs.Rows.{drawn_rows, number_in, numbers_of, row_of, thread_row}
 use Rattle.run_picture.specs.Windows.{is_in_window}
-use Rattle.run_picture.specs.declared.rows.TheConstants.{ROWS, NO_THREAD}
+use Rattle.run_picture.specs.declared.rows.TheConstants.{ROWS}
 use Rattle.run_picture.specs.declared.windows.Window.{Window}
 
 -- ---- each event has a row

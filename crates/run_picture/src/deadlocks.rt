@@ -4,10 +4,11 @@ ghost use Rattle.std.specs.Prelude.{◌≡◌, Bool, IfOk, List, string_bytes};
 ghost use Rattle.event_trace.specs.Deadlocks.{IsDeadlockOf};
 ghost use Rattle.run_picture.specs.Sentences.{deadlock_sentence};
 
-use crate::monitors::{MonitorLetter, Monitors};
+use crate::monitors::Monitors;
 use cil_model::limits::MOST_THREADS;
 use cil_model::memory::NoMemory;
 use event_trace::{Machine, OwnerText, Wait, add_thread_numbers, deadlocked_threads};
+use picture_scene::letter_of;
 use std::alloc::{AllocError, Global};
 use std::fmt::{Display, Write};
 
@@ -30,26 +31,27 @@ pub(crate) fn deadlock_sentence(alloc: Global, machine: &Machine) -> Result<Stri
 /// The largest number of threads whose waits are reported, so that the sentence fits the picture.
 const MOST_NAMED: usize = 4;
 
-/// What each of the first deadlocked threads waits for. Empty if no thread is deadlocked.
-pub(crate) fn waits_of(
-    alloc: Global,
+/// Appends what each of the first deadlocked threads waits for. Nothing if no thread is deadlocked.
+pub(crate) fn add_waits(
+    text: &mut String,
     machine: &Machine,
     monitors: &Monitors,
     deadlocked: &[bool],
-) -> Result<String, AllocError> {
-    let mut text = String::new(alloc);
+) -> Result<(), AllocError> {
     let mut named = 0usize;
     for thread in 0..deadlocked.len().min(MOST_THREADS) {
         if deadlocked[thread] {
             if named == MOST_NAMED {
-                text.push_str(", ..")?;
-                break;
+                return text.push_str(", ..");
             }
-            add_wait(&mut text, machine, monitors, thread as u8)?;
+            if named > 0 {
+                text.push_str(", ")?;
+            }
+            add_wait(text, machine, monitors, thread as u8)?;
             named = named.saturating_add(1);
         }
     }
-    Ok(text)
+    Ok(())
 }
 
 /// Appends what a thread waits for.
@@ -59,9 +61,6 @@ fn add_wait(
     monitors: &Monitors,
     thread: u8,
 ) -> Result<(), AllocError> {
-    if !text.as_str().is_empty() {
-        text.push_str(", ")?;
-    }
     match machine.wait_of(thread) {
         Some(Wait::Monitor { owner, .. }) => {
             write!(text, "thread {thread} waits for ")?;
@@ -86,15 +85,12 @@ fn add_monitor(
     monitors: &Monitors,
     thread: u8,
 ) -> Result<(), AllocError> {
-    let monitor = match machine.monitor_of(thread) {
-        Some(address) => monitors.number(machine, address),
-        None => None,
-    };
-    match monitor {
-        Some(number) => write!(text, "{}, held by ", MonitorLetter(number)),
-        None => {
-            text.push_str("a monitor of ")?;
-            Ok(())
+    if let Some(address) = machine.monitor_of(thread) {
+        if let Some(number) = monitors.number(machine, address) {
+            let first = if number < 26 { "" } else { "A" };
+            let last = letter_of(number);
+            return write!(text, "{first}{last}, held by ");
         }
     }
+    text.push_str("a monitor of ")
 }

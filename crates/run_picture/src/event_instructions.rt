@@ -14,21 +14,14 @@ pub(crate) fn instruction_of(at: Option<InstructionPlace<'_>>) -> Option<&Instru
     Some(&line.instruction)
 }
 
-/// A call of the class `Monitor`.
-#[derive(Clone, Copy)]
-pub(crate) enum MonitorCall {
-    Enter,
-    Exit,
-}
-
-/// Which call of the class `Monitor` an instruction is, given that it is one of the two.
-pub(crate) fn monitor_call(instruction: &Instruction) -> MonitorCall {
+/// Whether an instruction enters a monitor, given that it is a call of the class `Monitor`.
+pub(crate) fn is_entry(instruction: &Instruction) -> bool {
     match instruction {
         Instruction::Call { method, .. } => match &method.name {
-            MethodName::Named(name) if name.as_str() == "Enter" => MonitorCall::Enter,
-            _ => MonitorCall::Exit,
+            MethodName::Named(name) => name.as_str() == "Enter",
+            _ => false,
         },
-        _ => MonitorCall::Exit,
+        _ => false,
     }
 }
 
@@ -38,22 +31,21 @@ pub(crate) struct ShortInstruction<'a>(pub(crate) &'a Instruction);
 
 impl<'a> fmt::Display for ShortInstruction<'a> {
     fn fmt<W: fmt::Write>(&self, f: &mut fmt::Formatter<W>) -> fmt::Result {
-        match self.0 {
-            Instruction::Call { method, .. } => write!(f, "{}()", MethodNameText(&method.name)),
-            Instruction::CallVirtual { name, .. } => write!(f, "{}()", CharactersText(name)),
+        let (word, name) = match self.0 {
+            Instruction::Call { method, .. } => {
+                return write!(f, "{}()", MethodNameText(&method.name));
+            }
+            Instruction::CallVirtual { name, .. } => return write!(f, "{}()", CharactersText(name)),
             Instruction::NewObject(owner, _) if owner.name.as_str() == "System.Object" => {
-                f.write_str("new Object")
+                return f.write_str("new Object");
             }
-            Instruction::NewObject(owner, _) => write!(f, "new {}", CharactersText(&owner.name)),
-            Instruction::LoadField(field) => write!(f, "ldfld {}", CharactersText(&field.name)),
-            Instruction::StoreField(field) => write!(f, "stfld {}", CharactersText(&field.name)),
-            Instruction::LoadStaticField(field) => {
-                write!(f, "ldsfld {}", CharactersText(&field.name))
-            }
-            Instruction::StoreStaticField(field) => {
-                write!(f, "stsfld {}", CharactersText(&field.name))
-            }
-            other => InstructionText(other).fmt(f),
-        }
+            Instruction::NewObject(owner, _) => ("new", &owner.name),
+            Instruction::LoadField(field) => ("ldfld", &field.name),
+            Instruction::StoreField(field) => ("stfld", &field.name),
+            Instruction::LoadStaticField(field) => ("ldsfld", &field.name),
+            Instruction::StoreStaticField(field) => ("stsfld", &field.name),
+            other => return InstructionText(other).fmt(f),
+        };
+        write!(f, "{word} {}", CharactersText(name))
     }
 }

@@ -4,29 +4,17 @@
 //! Colors, letters, labels, arrows, lines of fields, tooltips and other sentences are only tested.
 #![tactic(auto)]
 
-mod arrows;
-mod changes;
 mod deadlocks;
 mod document;
 mod errors;
 mod event_instructions;
-mod field_lines;
 mod fields;
-mod instruction_names;
-mod lanes;
 pub mod laws;
-mod layout;
-mod legend;
-mod machine_lanes;
 mod monitors;
 mod picturing;
 mod plots;
 mod rows;
-mod scene;
 mod seeing;
-mod stripes;
-mod style;
-mod tips;
 mod windows;
 
 pub use errors::PictureError;

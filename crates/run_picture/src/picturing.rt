@@ -16,16 +16,15 @@ ghost use Rattle.run_picture.specs.declared.rows.TheConstants.{ROWS};
 use crate::deadlocks::deadlock_sentence;
 use crate::document::document;
 use crate::errors::PictureError;
-use crate::layout::Layout;
 use crate::rows::{Rows, row_of};
-use crate::scene::Scene;
-use crate::seeing::{Before, Done};
+use crate::seeing::{Before, Done, Gathering};
 use crate::windows::Window;
 use cil_model::events::Event;
 use cil_model::memory::NoMemory;
 use cil_model::reports::Report;
 use event_trace::{Machine, MethodPlaces};
 use outputs::Out;
+use picture_scene::Layout;
 use schedule_text::Item;
 use std::alloc::{AllocError, Global};
 
@@ -75,11 +74,21 @@ fn next_number(number: usize) -> Result<usize, PictureError>
 }
 
 /// What is gathered for a picture.
-#[derive(Drop)]
 struct Sketch {
     window: Window,
     rows: Rows,
-    scene: Scene,
+    seen: Gathering,
+}
+
+/// Each part gives back its own.
+impl Drop for Sketch {
+    fn drop(self) {
+        let Sketch {
+            window: _window,
+            rows: _rows,
+            seen: _seen,
+        } = self;
+    }
 }
 
 impl Sketch {
@@ -88,12 +97,8 @@ impl Sketch {
         ensures { IfOk result (λ sketch. (sketch.window ≡ window) × (sketch.rows.rows.items ≡ replicate ROWS [])) }
     {
         let rows = Rows::new(alloc)?;
-        let scene = Scene::before(alloc, machine, window.first.saturating_sub(1))?;
-        Ok(Sketch {
-            window,
-            rows,
-            scene,
-        })
+        let seen = Gathering::new(alloc, machine, window.first.saturating_sub(1));
+        Ok(Sketch { window, rows, seen })
     }
 
     /// Does the event of this number, from 0, and draws it.
@@ -115,14 +120,8 @@ impl Sketch {
         let report = machine.step(alloc, event)?;
         self.draw(number, event, report)?;
         if number < self.window.last {
-            let done = Done {
-                at: number.max(self.window.first.saturating_sub(1)),
-                is_drawn: self.window.has(number),
-                event,
-                report,
-                before,
-            };
-            self.scene.see(alloc, machine, methods, done)?;
+            let done = Done::new(self.window, number, event, report, before);
+            self.seen.see(alloc, machine, methods, &done)?;
         }
         Ok(())
     }
@@ -147,10 +146,27 @@ impl Sketch {
     ) -> Result<String, NoMemory>
         ensures { IfOk result (λ text. (deadlocked : List Bool) × IsDeadlockOf machine.now deadlocked × IsDrawn (string_bytes text) self.old.rows.rows.items (deadlock_sentence deadlocked)) }
     {
-        let deadlocked = deadlock_sentence(alloc, machine)?;
-        self.scene.deadlocked = deadlocked;
-        let layout = Layout::new(self.window, events, &self.scene);
-        let text = document(alloc, machine, &layout, &self.scene, &self.rows)?;
+        let sentence = deadlock_sentence(alloc, machine)?;
+        self.seen.scene.finish();
+        if !self.seen.scene.is_whole() {
+            return Err(NoMemory);
+        }
+        let Window { first, last } = self.window;
+        let layout = Layout::new(
+            first,
+            last,
+            events,
+            &self.seen.scene,
+            !sentence.as_str().is_empty(),
+        );
+        let text = document(
+            alloc,
+            machine.console(),
+            &layout,
+            &self.seen.scene,
+            &self.rows,
+            sentence.as_str(),
+        )?;
         Ok(text)
     }
 }

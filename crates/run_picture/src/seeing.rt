@@ -2,20 +2,22 @@
 
 ghost use Rattle.event_trace.specs.Places.{ArePlacesOf};
 
-use crate::changes::HeapChange;
-use crate::deadlocks::waits_of;
-use crate::event_instructions::{MonitorCall, instruction_of, monitor_call};
-use crate::scene::{Acknowledgement, Deadlock, Lane, LaneEnd, Print, Scene};
-use crate::tips::TipText;
+use crate::deadlocks::add_waits;
+use crate::event_instructions::{ShortInstruction, instruction_of, is_entry};
+use crate::fields::see_access;
+use crate::monitors::Monitors;
+use crate::windows::Window;
 use cil_model::events::Event;
 use cil_model::memory::NoMemory;
 use cil_model::phases::Phase;
 use cil_model::reports::{End, Report};
 use event_trace::{
-    InstructionPlace, Machine, MethodPlaces, Position, deadlocked_threads, instruction_at,
+    EventText, InstructionColumn, InstructionPlace, Machine, MethodPlaces, Position, ReportText,
+    Wait, deadlocked_threads, instruction_at,
 };
 use instruction_text::MethodNameText;
 use object_memory::Addr;
+use picture_scene::{COLLECTOR, Deadlock, Kind, Lane, MOST_TIPS, Mark, Part, Scene};
 use std::alloc::{AllocError, Global};
 use std::fmt::{Display, Write};
 
@@ -36,22 +38,23 @@ pub(crate) struct Before {
 
 impl Before {
     pub(crate) fn new(machine: &Machine, event: Event) -> Before {
-        let (position, monitor, is_blocked) = match event {
-            Event::Step(thread) => {
-                let monitor = machine.monitor_of(thread);
-                let is_blocked = monitor.is_some() && machine.wait_of(thread).is_some();
-                (machine.position_of(thread), monitor, is_blocked)
-            }
-            Event::Ack(thread) => (machine.position_of(thread), None, false),
-            Event::Gc => (None, None, false),
-        };
-        Before {
-            position,
-            monitor,
-            is_blocked,
+        let mut before = Before {
+            position: None,
+            monitor: None,
+            is_blocked: false,
             posted: machine.posted(),
             printed: machine.console().len(),
+        };
+        match event {
+            Event::Step(thread) => {
+                before.position = machine.position_of(thread);
+                before.monitor = machine.monitor_of(thread);
+                before.is_blocked = before.monitor.is_some() && machine.wait_of(thread).is_some();
+            }
+            Event::Ack(thread) => before.position = machine.position_of(thread),
+            Event::Gc => {}
         }
+        before
     }
 }
 
@@ -60,48 +63,75 @@ impl Before {
 pub(crate) struct Done {
     /// Its number from 0, or that of the first one that is drawn, if it is before that.
     pub(crate) at: usize,
+    /// The number of the event from which on its effects are seen.
+    pub(crate) after: usize,
     /// Whether it is drawn.
     pub(crate) is_drawn: bool,
+    /// Whether it has a tooltip.
+    pub(crate) has_tip: bool,
     pub(crate) event: Event,
     pub(crate) report: Report,
     pub(crate) before: Before,
 }
 
 impl Done {
+    /// The event of this number, from 0, given the events that are drawn.
+    pub(crate) fn new(
+        window: Window,
+        number: usize,
+        event: Event,
+        report: Report,
+        before: Before,
+    ) -> Done {
+        let first = window.first.saturating_sub(1);
+        let at = number.max(first);
+        let is_drawn = window.has(number);
+        Done {
+            at,
+            after: if is_drawn { at.saturating_add(1) } else { at },
+            is_drawn,
+            has_tip: is_drawn && at < first.saturating_add(MOST_TIPS),
+            event,
+            report,
+            before,
+        }
+    }
+
     /// Whether it is a step that has executed its instruction. The step that uses up the budget of its thread may be a blocked one.
-    fn has_executed(self) -> bool {
+    fn has_executed(&self) -> bool {
         match self.report {
             Report::Ran => true,
             Report::Ended(End::Budget) => !self.before.is_blocked,
             _ => false,
         }
     }
+}
 
-    /// The thread whose step it is, where it is drawn.
-    fn starter(self) -> Option<u8> {
-        match self.event {
-            Event::Step(thread) if self.is_drawn => Some(thread),
-            _ => None,
-        }
-    }
+/// What is gathered of a run.
+pub(crate) struct Gathering {
+    pub(crate) scene: Scene,
+    monitors: Monitors,
+}
 
-    /// The number of the event from which on its effects are seen.
-    fn after(self) -> usize {
-        if self.is_drawn {
-            self.at.saturating_add(1)
-        } else {
-            self.at
-        }
+/// Each part gives back its own.
+impl Drop for Gathering {
+    fn drop(self) {
+        let Gathering {
+            scene: _scene,
+            monitors: _monitors,
+        } = self;
     }
 }
 
-impl Scene {
+impl Gathering {
     /// What is to be seen of a machine before the first event that is drawn, which has this number.
-    pub(crate) fn before(alloc: Global, machine: &Machine, at: usize) -> Result<Scene, NoMemory> {
+    pub(crate) fn new(alloc: Global, machine: &Machine, at: usize) -> Gathering {
         let mut scene = Scene::new(alloc);
-        scene.see_threads(alloc, machine, at, None)?;
-        scene.see_machine(machine, at)?;
-        Ok(scene)
+        see_machine(&mut scene, machine, at, None);
+        Gathering {
+            scene,
+            monitors: Monitors::new(alloc),
+        }
     }
 
     /// Gathers what is to be seen of an event that is done.
@@ -110,194 +140,128 @@ impl Scene {
         alloc: Global,
         machine: &Machine,
         methods: &MethodPlaces,
-        done: Done,
+        done: &Done,
     ) -> Result<(), NoMemory>
         requires { ArePlacesOf machine.now.tree methods.now }
     {
-        self.see_threads(alloc, machine, done.after(), done.starter())?;
-        self.see_machine(machine, done.after())?;
+        let place = instruction_at(machine, methods, done.before.position);
+        let starter = match done.event {
+            Event::Step(thread) if done.is_drawn => Some(thread),
+            _ => None,
+        };
+        see_machine(&mut self.scene, machine, done.after, starter);
         match done.event {
-            Event::Step(thread) => {
-                if done.has_executed() {
-                    self.see_instruction(alloc, machine, methods, thread, done)?;
-                }
-                if self.see_step(machine, methods, thread, done)? {
-                    self.see_deadlock(alloc, machine, done.at)?;
-                }
-                self.see_print(machine, thread, done)?;
-            }
-            Event::Ack(thread) => self.see_acknowledgement(machine, thread, done)?,
+            Event::Step(thread) => self.see_step(alloc, machine, thread, place, done)?,
+            Event::Ack(thread) => see_acknowledgement(&mut self.scene, machine, thread, done),
             Event::Gc => self.see_collector(alloc, machine, done)?,
         }
-        if done.is_drawn {
-            self.tips.add(
-                done.at,
-                TipText {
-                    number: done.at.saturating_add(1),
-                    event: done.event,
-                    report: done.report,
-                    before: instruction_at(machine, methods, done.before.position),
-                },
-            )?;
+        if done.has_tip {
+            add_tip(&mut self.scene, place, done)?;
         }
-        Ok(())
+        if self.scene.is_whole() {
+            Ok(())
+        } else {
+            Err(NoMemory)
+        }
     }
 
-    /// The threads that were started by now, the last ones by this thread.
-    fn see_threads(
+    /// A step of a thread.
+    fn see_step(
         &mut self,
         alloc: Global,
         machine: &Machine,
-        at: usize,
-        starter: Option<u8>,
-    ) -> Result<(), AllocError> {
-        for number in self.lanes.len()..machine.started() {
-            let mut lane = Lane::new(alloc, at, starter);
-            if let Some(phase) = machine.phase_of(number as u8) {
-                lane.phases.set(at, phase)?;
-            }
-            self.lanes.push(lane)?;
-        }
-        Ok(())
-    }
-
-    /// The heap, and the phase that is posted.
-    fn see_machine(&mut self, machine: &Machine, at: usize) -> Result<(), NoMemory> {
-        self.posted.set(at, machine.posted())?;
-        let (old_words, new_words) = machine.used();
-        self.heap.set(HeapChange {
-            at,
-            old_words,
-            new_words,
-        })?;
-        Ok(())
-    }
-
-    /// A step of a thread. Returns whether the thread waits from this step on.
-    fn see_step(
-        &mut self,
-        machine: &Machine,
-        methods: &MethodPlaces,
         thread: u8,
-        done: Done,
-    ) -> Result<bool, NoMemory>
-        requires { ArePlacesOf machine.now.tree methods.now }
-    {
-        let Some(lane) = self.lanes.as_mut_slice().get_mut(usize::from(thread)) else {
-            return Ok(false);
-        };
-        if lane.method.as_str().is_empty() {
-            let at = instruction_at(machine, methods, done.before.position);
-            name_method(&mut lane.method, at)?;
+        place: Option<InstructionPlace>,
+        done: &Done,
+    ) -> Result<(), NoMemory> {
+        let lane = usize::from(thread);
+        if done.has_executed() {
+            self.see_instruction(machine, lane, place, done)?;
         }
-        if let Report::Ended(end) = done.report {
-            lane.end = Some(LaneEnd { at: done.at, end });
-        }
+        name_lane(&mut self.scene, lane, place)?;
         match done.report {
-            Report::Blocked => return Ok(lane.block(done.at, machine.wait_of(thread))?),
-            Report::Ended(End::Budget) => lane.go_on(done.after()),
-            _ => lane.go_on(done.at),
+            Report::Blocked => self.see_wait(alloc, machine, thread, done.at)?,
+            Report::Ended(End::Budget) => self.scene.stop(lane, End::Budget, done.at, done.after),
+            Report::Ended(end) => self.scene.stop(lane, end, done.at, done.at),
+            _ => self.scene.go_on(lane, done.at),
         }
-        Ok(false)
+        let printed = machine.console().len();
+        if done.is_drawn && printed > done.before.printed {
+            let line = Mark::at(Kind::Print, lane, done.at, done.before.printed, printed - 1);
+            self.scene.add(line);
+        }
+        Ok(())
     }
 
     /// The instruction that a step of a thread has executed.
     fn see_instruction(
         &mut self,
-        alloc: Global,
         machine: &Machine,
-        methods: &MethodPlaces,
-        thread: u8,
-        done: Done,
-    ) -> Result<(), AllocError>
-        requires { ArePlacesOf machine.now.tree methods.now }
-    {
-        let at = instruction_at(machine, methods, done.before.position);
-        let Some(instruction) = instruction_of(at) else {
+        lane: usize,
+        place: Option<InstructionPlace>,
+        done: &Done,
+    ) -> Result<(), AllocError> {
+        let Some(instruction) = instruction_of(place) else {
             return Ok(());
         };
         if let Some(address) = done.before.monitor {
-            self.see_monitor(machine, thread, monitor_call(instruction), address, done)?;
+            if is_entry(instruction) {
+                self.enter(machine, address, lane, done.at)?;
+            } else if let Some(monitor) = self.monitors.number(machine, address) {
+                self.scene.end(Kind::Held, lane, Some(monitor), done.after);
+            }
         }
         if done.is_drawn {
-            self.fields
-                .see(alloc, machine.tree(), instruction, thread, done.at)?;
+            see_access(&mut self.scene, machine.tree(), instruction, lane, done.at)?;
         }
         Ok(())
     }
 
-    /// A thread has entered or exited the monitor of an object.
-    fn see_monitor(
+    /// A thread has entered the monitor of an object.
+    fn enter(
         &mut self,
         machine: &Machine,
-        thread: u8,
-        call: MonitorCall,
         address: Addr,
-        done: Done,
+        lane: usize,
+        at: usize,
     ) -> Result<(), AllocError> {
-        let Some(lane) = self.lanes.as_mut_slice().get_mut(usize::from(thread)) else {
-            return Ok(());
-        };
-        match call {
-            MonitorCall::Enter => {
-                lane.holdings
-                    .enter(machine, &mut self.monitors, address, done.at)
-            }
-            MonitorCall::Exit => match self.monitors.number(machine, address) {
-                Some(monitor) => lane.holdings.exit(monitor, done.after()),
-                None => Ok(()),
-            },
-        }
-    }
-
-    /// What a step has printed.
-    fn see_print(&mut self, machine: &Machine, thread: u8, done: Done) -> Result<(), AllocError> {
-        let to = machine.console().len();
-        if done.is_drawn && to > done.before.printed {
-            self.prints.push(Print {
-                at: done.at,
-                thread,
-                from: done.before.printed,
-                to: to - 1,
-            })?;
+        if let Some(monitor) = self.monitors.enter(machine, address)? {
+            self.scene.enter(lane, monitor, at);
+            self.scene.monitors = self.monitors.count;
         }
         Ok(())
     }
 
-    /// Keeps the deadlock that this event closes, if it is the first one.
-    fn see_deadlock(
+    /// A step of a thread was blocked. The first one of a time of waiting may close a deadlock, of which the first one is kept.
+    fn see_wait(
         &mut self,
         alloc: Global,
         machine: &Machine,
+        thread: u8,
         at: usize,
     ) -> Result<(), NoMemory> {
-        if self.deadlock.is_some() {
-            return Ok(());
-        }
-        let deadlocked = deadlocked_threads(alloc, machine)?;
-        let sentence = waits_of(alloc, machine, &self.monitors, deadlocked.as_slice())?;
-        if !sentence.as_str().is_empty() {
-            self.deadlock = Some(Deadlock { at, sentence });
-        }
-        Ok(())
-    }
-
-    /// An acknowledgement of a thread.
-    fn see_acknowledgement(
-        &mut self,
-        machine: &Machine,
-        thread: u8,
-        done: Done,
-    ) -> Result<(), NoMemory> {
-        let lane = self.lanes.as_mut_slice().get_mut(usize::from(thread));
-        if let (Some(lane), Some(phase)) = (lane, machine.phase_of(thread)) {
-            lane.phases.set(done.after(), phase)?;
-        }
-        if done.is_drawn && done.report == Report::Acked {
-            self.acknowledgements.push(Acknowledgement {
-                at: done.at,
-                thread,
-            })?;
+        let (kind, value) = match machine.wait_of(thread) {
+            Some(Wait::Monitor { owner, .. }) => (Kind::Wait, usize::from(owner)),
+            Some(Wait::Join { thread: joined }) => (Kind::Join, usize::from(joined)),
+            None => (Kind::Join, COLLECTOR),
+        };
+        let is_new = self.scene.block(usize::from(thread), at, kind, value);
+        if is_new && self.scene.deadlock.is_none() {
+            let deadlocked = deadlocked_threads(alloc, machine)?;
+            let from = self.scene.text.len();
+            add_waits(
+                &mut self.scene.text,
+                machine,
+                &self.monitors,
+                deadlocked.as_slice(),
+            )?;
+            let sentence = Part {
+                from,
+                to: self.scene.text.len(),
+            };
+            if from < sentence.to {
+                self.scene.deadlock = Some(Deadlock { at, sentence });
+            }
         }
         Ok(())
     }
@@ -307,28 +271,104 @@ impl Scene {
         &mut self,
         alloc: Global,
         machine: &Machine,
-        done: Done,
+        done: &Done,
     ) -> Result<(), AllocError> {
         let posted = machine.posted();
         if posted == Phase::ThreadFlip && posted != done.before.posted {
             self.monitors.forward(alloc, machine)?;
         }
         if done.is_drawn {
-            self.has_collector = true;
+            self.scene.has_collector = true;
             if done.report == Report::CycleDone {
-                self.cycles = self.cycles.saturating_add(1);
+                self.scene.cycles = self.scene.cycles.saturating_add(1);
             }
         }
         Ok(())
     }
 }
 
-/// Writes the name of a method with its class.
-fn name_method(text: &mut String, at: Option<InstructionPlace>) -> Result<(), AllocError> {
-    let Some(at) = at else {
+/// The threads that were started by now, the last ones by this thread, the phase that is posted, and the words in use.
+fn see_machine(scene: &mut Scene, machine: &Machine, at: usize, starter: Option<u8>) {
+    for lane in scene.lanes.len()..machine.started() {
+        scene.start(Lane::new(at, starter));
+        see_phase(scene, lane, at, machine.phase_of(lane as u8));
+    }
+    see_phase(scene, COLLECTOR, at, Some(machine.posted()));
+    let (old, new) = machine.used();
+    scene.change(Kind::Words, COLLECTOR, at, old as usize, new as usize);
+}
+
+/// From this event on a lane has this phase.
+fn see_phase(scene: &mut Scene, lane: usize, at: usize, phase: Option<Phase>) {
+    let place = match phase {
+        None => return,
+        Some(Phase::Idle) => 0,
+        Some(Phase::Mark) => 1,
+        Some(Phase::Allocate) => 2,
+        Some(Phase::Copy) => 3,
+        Some(Phase::PreFlip) => 4,
+        Some(Phase::HeapFlip) => 5,
+        Some(Phase::ThreadFlip) => 6,
+        Some(Phase::Reclaim) => 7,
+    };
+    scene.change(Kind::Phase, lane, at, place, 0);
+}
+
+/// An acknowledgement of a thread.
+fn see_acknowledgement(scene: &mut Scene, machine: &Machine, thread: u8, done: &Done) {
+    let lane = usize::from(thread);
+    see_phase(scene, lane, done.after, machine.phase_of(thread));
+    if done.is_drawn && done.report == Report::Acked {
+        scene.add(Mark::at(Kind::Ack, lane, done.at, 0, 0));
+    }
+}
+
+/// Names a lane by the method of the thread's first step.
+fn name_lane(
+    scene: &mut Scene,
+    lane: usize,
+    place: Option<InstructionPlace>,
+) -> Result<(), AllocError> {
+    let Some(lane) = scene.lanes.as_mut_slice().get_mut(lane) else {
         return Ok(());
     };
-    let owner = at.found.owner;
-    let name = MethodNameText(&at.found.method.name);
-    write!(text, "{owner}::{name}")
+    if let Some(at) = place {
+        if lane.method.from == lane.method.to {
+            let from = scene.text.len();
+            let owner = at.found.owner;
+            let name = MethodNameText(&at.found.method.name);
+            write!(scene.text, "{owner}::{name}")?;
+            let to = scene.text.len();
+            lane.method = Part { from, to };
+        }
+    }
+    Ok(())
+}
+
+/// Adds the tooltip of an event, as in its line of a trace: its number from 1, the event, its report, and the instruction. A step has the short name of
+/// its instruction too.
+fn add_tip(
+    scene: &mut Scene,
+    place: Option<InstructionPlace>,
+    done: &Done,
+) -> Result<(), AllocError> {
+    let (lane, named) = match done.event {
+        Event::Step(thread) => (usize::from(thread), instruction_of(place)),
+        Event::Ack(thread) => (usize::from(thread), None),
+        Event::Gc => (COLLECTOR, None),
+    };
+    let from = scene.text.len();
+    let number = done.at.saturating_add(1);
+    let event = EventText(done.event);
+    let report = ReportText(done.report);
+    let instruction = InstructionColumn(place);
+    write!(scene.text, "{number} {event} {report}: {instruction}")?;
+    let to = scene.text.len();
+    scene.add(Mark::at(Kind::Tip, lane, done.at, from, to));
+    if let Some(named) = named {
+        write!(scene.text, "{}", ShortInstruction(named))?;
+        let name_to = scene.text.len();
+        scene.add(Mark::at(Kind::Name, lane, done.at, to, name_to));
+    }
+    Ok(())
 }

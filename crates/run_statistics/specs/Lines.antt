@@ -7,7 +7,7 @@ use Rattle.run_statistics.specs.Counts.{number_of}
 use Rattle.run_statistics.specs.declared.quantity.Quantity.TheVariants.{Events, Steps, BlockedSteps, Cycles, RefusedAllocations}
 use Rattle.shared_machine.specs.simulation.MachineContents.{Content}
 use Rattle.shared_machine.specs.simulation.object_memory.Cells.{used_words}
-use Rattle.shared_machine.specs.simulation.object_memory.Objects.{used_space}
+use Rattle.shared_machine.specs.simulation.object_memory.Objects.{used_space, whole_space}
 
 -- a name and its number
 abbrev pub line_of : List ℕ → ℕ → List ℕ
@@ -27,13 +27,18 @@ steps_text events reports (suc thread) = steps_text events reports thread ++ thr
 abbrev pub words_in_use : Content → ℕ
 words_in_use c = used_space c.objects + used_words c.objects.spaces.new.cells
 
+-- the words of the old space, or the only one, and of the new one
+abbrev pub heap_words : Content → ℕ
+heap_words c = whole_space c.objects + c.objects.spaces.new.words
+
 -- the lines of what is not of one thread
-abbrev pub total_text : List Event → List Report → ℕ → List ℕ
-total_text events reports words = line_of (codes "events") (number_of Events events reports)
+abbrev pub total_text : List Event → List Report → ℕ → ℕ → List ℕ
+total_text events reports words heap = line_of (codes "events") (number_of Events events reports)
     ++ line_of (codes "collector cycles") (number_of Cycles events reports)
     ++ line_of (codes "words in use") words
+    ++ line_of (codes "heap words") heap
     ++ line_of (codes "refused allocations") (number_of RefusedAllocations events reports)
 
 -- all lines of a run by these events with these reports, which leaves this content
 abbrev pub statistics_text : List Event → List Report → Content → List ℕ
-statistics_text events reports c = steps_text events reports (length c.threads) ++ total_text events reports (words_in_use c)
+statistics_text events reports c = steps_text events reports (length c.threads) ++ total_text events reports (words_in_use c) (heap_words c)

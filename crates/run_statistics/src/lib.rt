@@ -1,4 +1,4 @@
-//! Numbers of a run: the steps of its threads, its events, the cycles of the collector, the words in use at its end and its refused allocations.
+//! Numbers of a run: the steps of its threads, its events, the cycles of the collector, the words in use and of the heap at its end, and its refused allocations.
 //! `count` counts them in a history, and `write_statistics` writes all of them, a line for each.
 #![tactic(auto)]
 

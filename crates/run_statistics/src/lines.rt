@@ -3,7 +3,7 @@
 ghost use Rattle.std.specs.Prelude.{◌≡◌, ◌≤◌, OnErr, OnOk};
 ghost use Rattle.cil_model.specs.declared.limits.TheConstants.{MOST_THREADS};
 ghost use Rattle.outputs.specs.Taken.{Fails, Takes};
-ghost use Rattle.run_statistics.specs.Lines.{statistics_text, steps_text, thread_text, total_text, words_in_use};
+ghost use Rattle.run_statistics.specs.Lines.{heap_words, statistics_text, steps_text, thread_text, total_text, words_in_use};
 ghost use Rattle.shared_machine.specs.Histories.{events_of, reports_of};
 
 use crate::counting::count;
@@ -13,8 +13,8 @@ use outputs::{Device, Out};
 use shared_machine::{History, Machine, Outcome};
 
 /// Writes the numbers of a run, each in a line `NAME: NUMBER`: for each thread that was started its steps and those of them that were
-/// blocked, then the events, the cycles of the collector that ended, the words in use at the end and the refused allocations. A number
-/// above 2^64 - 1 is written as that. It takes no memory. After a failed write a prefix of these lines is written.
+/// blocked, then the events, the cycles of the collector that ended, the words in use at the end, those of the heap then, and the refused
+/// allocations. A number above 2^64 - 1 is written as that. It takes no memory. After a failed write a prefix of these lines is written.
 pub fn write_statistics<E: Out>(outcome: &Outcome, err: &mut E) -> Result<(), Device>
     ensures whole { OnOk result (Takes (E.taken err.old) (E.taken err.new)
         (statistics_text (events_of outcome.now.history.entries) (reports_of outcome.now.history.entries) outcome.now.machine)) }
@@ -22,7 +22,12 @@ pub fn write_statistics<E: Out>(outcome: &Outcome, err: &mut E) -> Result<(), De
         (statistics_text (events_of outcome.now.history.entries) (reports_of outcome.now.history.entries) outcome.now.machine)) }
 {
     write_steps(&outcome.history, outcome.machine.started(), err)?;
-    write_totals(&outcome.history, words_in_use(&outcome.machine), err)
+    write_totals(
+        &outcome.history,
+        words_in_use(&outcome.machine),
+        heap_words(&outcome.machine),
+        err,
+    )
 }
 
 /// The words that objects take in all spaces of a machine.
@@ -30,6 +35,14 @@ fn words_in_use(machine: &Machine) -> u64
     ensures { result ≡ words_in_use machine.now }
 {
     let (old, new) = machine.used();
+    u64::from(old) + u64::from(new)
+}
+
+/// The words of all spaces of a machine.
+fn heap_words(machine: &Machine) -> u64
+    ensures { result ≡ heap_words machine.now }
+{
+    let (old, new) = machine.sizes();
     u64::from(old) + u64::from(new)
 }
 
@@ -76,11 +89,11 @@ fn write_thread<E: Out>(history: &History, thread: u8, err: &mut E) -> Result<()
 }
 
 /// Writes the lines of the numbers that are not of one thread.
-fn write_totals<E: Out>(history: &History, words: u64, err: &mut E) -> Result<(), Device>
+fn write_totals<E: Out>(history: &History, words: u64, heap: u64, err: &mut E) -> Result<(), Device>
     ensures whole { OnOk result (Takes (E.taken err.old) (E.taken err.new)
-        (total_text (events_of history.now.entries) (reports_of history.now.entries) words)) }
+        (total_text (events_of history.now.entries) (reports_of history.now.entries) words heap)) }
     ensures cut { OnErr result (Fails (E.taken err.old) (E.taken err.new)
-        (total_text (events_of history.now.entries) (reports_of history.now.entries) words)) }
+        (total_text (events_of history.now.entries) (reports_of history.now.entries) words heap)) }
 {
     let events = count(history, Quantity::Events);
     let cycles = count(history, Quantity::Cycles);
@@ -88,10 +101,12 @@ fn write_totals<E: Out>(history: &History, words: u64, err: &mut E) -> Result<()
     let mut event_digits = Buffer::new();
     let mut cycle_digits = Buffer::new();
     let mut word_digits = Buffer::new();
+    let mut heap_digits = Buffer::new();
     let mut refused_digits = Buffer::new();
     let event_text = event_digits.format(events);
     let cycle_text = cycle_digits.format(cycles);
     let word_text = word_digits.format(words);
+    let heap_text = heap_digits.format(heap);
     let refused_text = refused_digits.format(refused);
     err.write_texts(&[
         "events: ",
@@ -100,6 +115,8 @@ fn write_totals<E: Out>(history: &History, words: u64, err: &mut E) -> Result<()
         cycle_text,
         "\nwords in use: ",
         word_text,
+        "\nheap words: ",
+        heap_text,
         "\nrefused allocations: ",
         refused_text,
         "\n",

@@ -9,23 +9,10 @@ use crate::markup::{Attribute, Escaped, Name, Start, Tag};
 use std::alloc::{AllocError, Global};
 use std::fmt::{Display, Write};
 use std::marker::Model;
+use std::mem;
 
-/// How something is drawn: by its class in the style, and in a color where the class has none.
-#[derive(Clone, Copy)]
-pub struct Ink {
-    pub class: &'static str,
-    pub color: &'static str,
-}
-
-impl Ink {
-    /// In the color of the class, or of what it stands in.
-    pub fn of(class: &'static str) -> Ink {
-        Ink {
-            class,
-            color: "inherit",
-        }
-    }
-}
+/// The color of what is drawn without one of its own: that of its class, or of what it stands in.
+pub const INHERIT: &str = "inherit";
 
 /// A part of a picture: its upper left corner and its size.
 #[derive(Clone, Copy)]
@@ -42,6 +29,8 @@ pub struct Area {
 pub struct Content {
     alloc: Global,
     text: String,
+    /// What has been put of the next path or label.
+    pending: String,
     is_whole: bool,
 }
 
@@ -64,6 +53,7 @@ impl Content {
         Content {
             alloc,
             text: String::new(alloc),
+            pending: String::new(alloc),
             is_whole: true,
         }
     }
@@ -157,7 +147,7 @@ impl Content {
     }
 }
 
-/// Shapes and labels.
+/// Shapes and labels, each drawn by its class in the style, and in a color.
 impl Content {
     /// Appends a rectangle.
     pub fn rect(&mut self, class: &str, area: Area) {
@@ -174,34 +164,26 @@ impl Content {
     }
 
     /// Appends a path of these data.
-    pub fn path_of(&mut self, ink: Ink, data: &str)
+    pub fn path_of(&mut self, class: &str, color: &str, data: &str)
         ensures { (before : List ℕ) × (after : List ℕ) × Adds self.old self.new (before ++ escaped data.now ++ after) }
     {
         self.empty(
             Tag::Path,
             &[
-                Attribute::words(Name::Class, ink.class),
-                Attribute::words(Name::Stroke, ink.color),
+                Attribute::words(Name::Class, class),
+                Attribute::words(Name::Stroke, color),
                 Attribute::words(Name::Data, data),
             ],
         );
     }
 
-    /// Appends a path whose data were written to memory, or were not for want of it.
-    pub fn path(&mut self, ink: Ink, data: Result<String, AllocError>) {
-        match data {
-            Ok(data) => self.path_of(ink, data.as_str()),
-            Err(_) => self.lose(),
-        }
-    }
-
     /// Appends a circle.
-    pub fn circle(&mut self, ink: Ink, x: usize, y: usize, radius: usize) {
+    pub fn circle(&mut self, class: &str, color: &str, x: usize, y: usize, radius: usize) {
         self.empty(
             Tag::Circle,
             &[
-                Attribute::words(Name::Class, ink.class),
-                Attribute::words(Name::Stroke, ink.color),
+                Attribute::words(Name::Class, class),
+                Attribute::words(Name::Stroke, color),
                 Attribute::number(Name::CenterX, x),
                 Attribute::number(Name::CenterY, y),
                 Attribute::number(Name::Radius, radius),
@@ -210,12 +192,12 @@ impl Content {
     }
 
     /// Appends a label at this place.
-    pub fn label(&mut self, ink: Ink, x: usize, y: usize, words: &[u8]) {
+    pub fn label(&mut self, class: &str, color: &str, x: usize, y: usize, words: &[u8]) {
         self.words(
             Tag::Text,
             &[
-                Attribute::words(Name::Class, ink.class),
-                Attribute::words(Name::Fill, ink.color),
+                Attribute::words(Name::Class, class),
+                Attribute::words(Name::Fill, color),
                 Attribute::number(Name::X, x),
                 Attribute::number(Name::Y, y),
             ],
@@ -223,11 +205,73 @@ impl Content {
         );
     }
 
-    /// Appends a label that was written to memory, or was not for want of it.
-    pub fn text(&mut self, ink: Ink, x: usize, y: usize, text: Result<String, AllocError>) {
-        match text {
-            Ok(text) => self.label(ink, x, y, text.as_str().as_bytes()),
-            Err(_) => self.lose(),
+    /// Appends a label that is turned by 90 degrees at this place, to be read upwards.
+    pub fn label_up(&mut self, class: &str, x: usize, y: usize, words: &[u8]) {
+        self.put_point("translate(", x, y);
+        self.put(") rotate(-90)");
+        let place = self.take_pending();
+        self.words(
+            Tag::Text,
+            &[
+                Attribute::words(Name::Class, class),
+                Attribute::words(Name::Transform, place.as_str()),
+            ],
+            words,
+        );
+    }
+}
+
+/// Paths and labels that are put together from pieces.
+impl Content {
+    /// Puts words behind what has been put of the next path or label.
+    pub fn put(&mut self, words: &str) {
+        if self.pending.push_str(words).is_err() {
+            self.lose();
         }
+    }
+
+    /// Puts words, and a number in decimal digits.
+    pub fn put_number(&mut self, words: &str, number: usize) {
+        let put = write!(self.pending, "{words}{number}");
+        if put.is_err() {
+            self.lose();
+        }
+    }
+
+    /// Puts a command of a path, and the point that it goes to.
+    pub fn put_point(&mut self, command: &str, x: usize, y: usize) {
+        self.put_number(command, x);
+        self.put_number(" ", y);
+    }
+
+    /// Appends a path of what has been put.
+    pub fn path(&mut self, class: &str, color: &str) {
+        let data = self.take_pending();
+        self.path_of(class, color, data.as_str());
+    }
+
+    /// Appends a label of what has been put, at this place.
+    pub fn text(&mut self, class: &str, color: &str, x: usize, y: usize) {
+        let words = self.take_pending();
+        self.label(class, color, x, y, words.as_str().as_bytes());
+    }
+
+    /// Appends a path from a point, by these commands.
+    pub fn shape(&mut self, class: &str, color: &str, x: usize, y: usize, commands: &str) {
+        self.put_point("M", x, y);
+        self.put(commands);
+        self.path(class, color);
+    }
+
+    /// Appends a line from a point: a command, `H` or `V`, to this place.
+    pub fn line(&mut self, class: &str, color: &str, x: usize, y: usize, command: &str, to: usize) {
+        self.put_point("M", x, y);
+        self.put_number(command, to);
+        self.path(class, color);
+    }
+
+    /// What has been put. Nothing is put then.
+    fn take_pending(&mut self) -> String {
+        mem::replace(&mut self.pending, String::new(self.alloc))
     }
 }

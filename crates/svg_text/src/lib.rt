@@ -5,5 +5,5 @@
 mod content;
 mod markup;
 
-pub use content::{Area, Content, Ink};
+pub use content::{Area, Content, INHERIT};
 pub use markup::{Attribute, Name, Tag, Value};

@@ -1,5 +1,6 @@
 //! Calls that no command makes: those of the libraries `call_trials` and `run_trials`, and orders whose outputs fail.
 
+use crate::records::NO_LIMITS;
 use driver::{WriterOut, drive};
 use orders::{Order, Part};
 use run_trials::{Call, LIMITS, SUM, calls, run_calls};
@@ -49,7 +50,8 @@ fn tells_of_outputs(threads: &(impl Threads + Wait + Sync), alloc: Global) -> bo
     let trace = Order::Trace {
         file: "",
         schedule: "",
-        limits: LIMITS,
+        limits: NO_LIMITS,
+        expected: None,
         explain: false,
     };
     let mut page = WriterOut::new(Cursor::new([0; 52]));
@@ -92,7 +94,8 @@ fn leaves_a_beginning(threads: &(impl Threads + Wait + Sync), alloc: Global) -> 
         file: "",
         schedule: "",
         part: Part::new(1, None),
-        limits: LIMITS,
+        limits: NO_LIMITS,
+        expected: None,
         explain: false,
     };
     let mut page = WriterOut::new(Cursor::new([0; 60]));

@@ -158,7 +158,7 @@ fn with_run_file<'a>(
 
 /// Adds what is reported of a file that is not a `.run` file.
 fn add_malformed(rt: &HostRuntime, order: &Order<'_>, out: &mut Vec<u8>) -> io::Result<()> {
-    let name = run_file_name(rt.alloc(), order.replayed_file().unwrap_or(""))?;
+    let name = run_file_name(rt.alloc(), order.schedule_file().unwrap_or(""))?;
     let malformed = Malformed {
         file: name.as_str(),
     };

@@ -9,7 +9,7 @@ use std::sync::Wait;
 use std::thread::Threads;
 
 /// No limits, so that those of the `.run` file are used.
-const NO_LIMITS: GivenLimits = GivenLimits {
+pub const NO_LIMITS: GivenLimits = GivenLimits {
     words: None,
     max_words: None,
     budget: None,

@@ -50,11 +50,17 @@ fn run_of<'a>(order: &Order<'a>, files: &'a Files) -> Option<(Limits, &'a [u8])>
             limits,
             expected,
             ..
-        } => Some((limits.limits_for(expected), files.schedule.as_slice())),
-        Order::Trace { limits, .. } | Order::Picture { limits, .. } => Some((
+        }
+        | Order::Trace {
             limits,
-            files.schedule.as_slice(),
-        )),
+            expected,
+            ..
+        }
+        | Order::Picture {
+            limits,
+            expected,
+            ..
+        } => Some((limits.limits_for(expected), files.schedule.as_slice())),
         _ => None,
     }
 }

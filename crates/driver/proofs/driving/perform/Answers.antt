@@ -3,7 +3,7 @@ use Rattle.std.specs.Prelude.{◌≡◌, ◌⊎◌, IfErr, IfOk, None, OnErr}
 use Rattle.source_runs.proofs.acceptance.SourceLemmas.{if_err, if_ok, on_err, on_err_of}
 use Rattle.driver.specs.Explorations.{HasExplored}
 use Rattle.driver.specs.Records.{texts_of}
-use Rattle.driver.specs.Outcomes.{HasNotRun, HasRun, HasRunThreads, IsRunByWorkersInPart, IsRunInPart}
+use Rattle.driver.specs.Outcomes.{HasDrawn, HasNotRun, HasNotTraced, HasRun, HasRunThreads, HasTooMany, HasTraced, IsDrawnInPart, IsRunByWorkersInPart, IsRunInPart, IsTraceInPart, IsTracedThenInPart}
 use Rattle.driver.proofs.OutcomeLemmas.{by_either, no_refusal}
 use Rattle.driver.proofs.driving.perform.Goals as goal
 
@@ -74,10 +74,14 @@ returns-in-Replay-clause-in_part g c =
     ⊎ IsRunInPart c.args.source.now limits c.args.schedule.now c.in-Replay.most_printed c.in-Replay.expected c.in-Replay.explain c.in-Replay.stats c.in-Replay.explain out out' err err')) c.limits_for-limits.ensures c.show_run-in-Replay.ensures.in_part)
 
 pub returns-in-Trace-clause-done : goal.returns-in-Trace-clause-done
-returns-in-Trace-clause-done g c = rw c.in-Trace.is (if_ok c.show_trace.result c.show_trace.ensures.done (λ _ done. (done, refl)))
+returns-in-Trace-clause-done g c =
+    let done = subst (λ limits. IfOk c.show_trace.result (HasTraced c.args.source.now limits c.args.schedule.now c.in-Trace.explain (g.W.Out.taken c.args.out.now) (g.W.Out.taken c.show_trace.new.out)
+    (g.E.Out.taken c.args.err.now) (g.E.Out.taken c.show_trace.new.err))) c.limits_for.ensures c.show_trace.ensures.done in
+    rw c.in-Trace.is (if_ok c.show_trace.result done (λ _ done. (done, refl)))
 
 pub returns-in-Trace-clause-failed : goal.returns-in-Trace-clause-failed
-returns-in-Trace-clause-failed g c = rw c.in-Trace.is c.show_trace.ensures.failed
+returns-in-Trace-clause-failed g c =
+    rw c.in-Trace.is (subst (λ limits. IfErr c.show_trace.result (HasNotTraced c.args.source.now limits c.args.schedule.now)) c.limits_for.ensures c.show_trace.ensures.failed)
 
 pub returns-in-Trace-clause-same : goal.returns-in-Trace-clause-same
 returns-in-Trace-clause-same g c = on_err c.show_trace.result refl
@@ -86,13 +90,27 @@ pub returns-in-Trace-clause-untouched : goal.returns-in-Trace-clause-untouched
 returns-in-Trace-clause-untouched g c = c.show_trace.ensures.untouched
 
 pub returns-in-Trace-clause-in_part : goal.returns-in-Trace-clause-in_part
-returns-in-Trace-clause-in_part g c = rw c.in-Trace.is c.show_trace.ensures.in_part
+returns-in-Trace-clause-in_part g c =
+    let out = g.W.Out.taken c.args.out.now in
+    let out' = g.W.Out.taken c.show_trace.new.out in
+    let err = g.E.Out.taken c.args.err.now in
+    let err' = g.E.Out.taken c.show_trace.new.err in
+    rw c.in-Trace.is (subst (λ limits. OnErr c.show_trace.result (((out' ≡ out) × (err' ≡ err)) ⊎ ((IsTraceInPart c.args.source.now limits c.args.schedule.now out out' × (err' ≡ err))
+    ⊎ IsTracedThenInPart c.args.source.now limits c.args.schedule.now c.in-Trace.explain out out' err err'))) c.limits_for.ensures c.show_trace.ensures.in_part)
 
 pub returns-in-Picture-clause-done : goal.returns-in-Picture-clause-done
-returns-in-Picture-clause-done g c = rw c.in-Picture.is (if_ok c.show_picture.result c.show_picture.ensures.done (λ _ done. (done, refl)))
+returns-in-Picture-clause-done g c =
+    let out = g.W.Out.taken c.args.out.now in
+    let out' = g.W.Out.taken c.show_picture.new.out in
+    let err = g.E.Out.taken c.args.err.now in
+    let err' = g.E.Out.taken c.show_picture.new.err in
+    let done = subst (λ limits. IfOk c.show_picture.result (λ status. HasDrawn c.args.source.now limits c.args.schedule.now c.in-Picture.part c.in-Picture.explain out out' err err' status
+    ⊎ HasTooMany c.args.source.now limits c.args.schedule.now c.in-Picture.part out out' err err' status)) c.limits_for-in-Picture.ensures c.show_picture.ensures.done in
+    rw c.in-Picture.is (if_ok c.show_picture.result done (λ _ done. (done, refl)))
 
 pub returns-in-Picture-clause-failed : goal.returns-in-Picture-clause-failed
-returns-in-Picture-clause-failed g c = rw c.in-Picture.is c.show_picture.ensures.failed
+returns-in-Picture-clause-failed g c =
+    rw c.in-Picture.is (subst (λ limits. IfErr c.show_picture.result (HasNotTraced c.args.source.now limits c.args.schedule.now)) c.limits_for-in-Picture.ensures c.show_picture.ensures.failed)
 
 pub returns-in-Picture-clause-same : goal.returns-in-Picture-clause-same
 returns-in-Picture-clause-same g c = on_err c.show_picture.result refl
@@ -101,7 +119,13 @@ pub returns-in-Picture-clause-untouched : goal.returns-in-Picture-clause-untouch
 returns-in-Picture-clause-untouched g c = c.show_picture.ensures.untouched
 
 pub returns-in-Picture-clause-in_part : goal.returns-in-Picture-clause-in_part
-returns-in-Picture-clause-in_part g c = rw c.in-Picture.is c.show_picture.ensures.in_part
+returns-in-Picture-clause-in_part g c =
+    let out = g.W.Out.taken c.args.out.now in
+    let out' = g.W.Out.taken c.show_picture.new.out in
+    let err = g.E.Out.taken c.args.err.now in
+    let err' = g.E.Out.taken c.show_picture.new.err in
+    rw c.in-Picture.is (subst (λ limits. OnErr c.show_picture.result (((out' ≡ out) × (err' ≡ err))
+    ⊎ IsDrawnInPart c.args.source.now limits c.args.schedule.now c.in-Picture.part c.in-Picture.explain out out' err err')) c.limits_for-in-Picture.ensures c.show_picture.ensures.in_part)
 
 pub returns-in-Threads-clause-done : goal.returns-in-Threads-clause-done
 returns-in-Threads-clause-done g c =

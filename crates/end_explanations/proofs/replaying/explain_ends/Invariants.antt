@@ -9,7 +9,7 @@ use Rattle.end_explanations.proofs.replaying.explain_ends.Given as goal
 -- the events of the runs so far were performed
 abbrev pub invariant-loop-run : goal.invariant-loop-run
 invariant-loop-run l = record {
-  replayed : AreReplayed l.fn.machine beginning (map pair_of (plain (take l.run-index l.runs))) l.machine l.progress;
+  replayed : AreReplayed l.names.lines l.fn.machine beginning (map pair_of (plain (take l.run-index l.runs))) l.machine l.progress;
   places : ArePlacesOf l.machine.tree l.names.methods;
   classes : map built_in_entry l.names.classes ≡ built_ins;
   limits : l.machine.limits ≡ l.fn.machine.limits;

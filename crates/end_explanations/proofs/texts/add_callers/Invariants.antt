@@ -5,4 +5,4 @@ use Rattle.end_explanations.proofs.texts.add_callers.Given as goal
 
 -- the lines of so many callers were added
 abbrev pub invariant-loop-inner : goal.invariant-loop-inner
-invariant-loop-inner l = string_bytes l.text ≡ string_bytes l.fn.text ++ caller_lines l.machine l.callers l.inner
+invariant-loop-inner l = string_bytes l.text ≡ string_bytes l.fn.text ++ caller_lines l.names.lines l.machine l.callers l.inner

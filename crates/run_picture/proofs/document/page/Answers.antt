@@ -1,5 +1,3 @@
-use Rattle.std.proofs.Common.{subst}
-use Rattle.run_picture.specs.Paths.{HasWords}
 use Rattle.run_picture.proofs.PathLaws.{paths_before, words_after}
 use Rattle.run_picture.proofs.document.page.Goals as goal
 
@@ -10,6 +8,4 @@ returns-clause-paths c =
     (paths_before c.add_plot-2.new.page c.append-2.new.self c.front.result rows c.append-2.ensures (c.add_plot-2.ensures rows c.rows.ensures))
 
 pub returns-clause-sentence : goal.returns-clause-sentence
-returns-clause-sentence c =
-    subst (HasWords c.append-4.new.self) c.as_str.ensures.value
-    (words_after c.append-2.new.self c.append-4.new.self c.deadlocked.result c.as_str.result.now c.append-4.ensures c.deadlocked.ensures)
+returns-clause-sentence c = words_after c.append-2.new.self c.append-4.new.self c.deadlocked.result c.args.sentence.now c.append-4.ensures c.deadlocked.ensures

@@ -8,7 +8,7 @@ use Rattle.event_trace.proofs.interleaving_core.Threads.RefusedMemory.{on_err}
 use Rattle.outputs.specs.Beginnings.{AppendsBeginning}
 use Rattle.event_trace.specs.Places.{ArePlacesOf}
 use Rattle.run_picture.specs.Windows.{clamped}
-use Rattle.run_picture.proofs.PictureLaws.{SketchedSoFar, all_drawn, item_cut, nothing_done, number_item, number_none, number_time, same_so_far, sketch_begun}
+use Rattle.run_picture.proofs.PictureLaws.{SketchedSoFar, all_drawn, item_cut, number_item, number_none, number_time, same_so_far, sketch_begun}
 use Rattle.run_picture.proofs.PictureLaws.{sketched_item, sketched_none, sketched_time, stopped_before, write_cut}
 use Rattle.run_picture.proofs.picturing.picture.Goals as goal
 

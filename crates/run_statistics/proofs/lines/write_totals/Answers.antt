@@ -7,11 +7,11 @@ use Rattle.run_statistics.proofs.lines.write_totals.Goals as goal
 pub returns-clause-whole : goal.returns-clause-whole
 returns-clause-whole g c =
     let text = total_pieces (c.format-event_text.ensures.text ∙ ap decimal c.count-events.ensures) (c.format-cycle_text.ensures.text ∙ ap decimal c.count-cycles.ensures)
-    c.format-word_text.ensures.text (c.format-refused_text.ensures.text ∙ ap decimal c.count-refused.ensures) in
+    c.format-word_text.ensures.text c.format-heap_text.ensures.text (c.format-refused_text.ensures.text ∙ ap decimal c.count-refused.ensures) in
     on_ok_weaker c.write_texts.result (λ shown. subst (Takes (g.E.Out.taken c.args.err.now) (g.E.Out.taken c.write_texts.new.self)) text shown) c.write_texts.ensures.whole
 
 pub returns-clause-cut : goal.returns-clause-cut
 returns-clause-cut g c =
     let text = total_pieces (c.format-event_text.ensures.text ∙ ap decimal c.count-events.ensures) (c.format-cycle_text.ensures.text ∙ ap decimal c.count-cycles.ensures)
-    c.format-word_text.ensures.text (c.format-refused_text.ensures.text ∙ ap decimal c.count-refused.ensures) in
+    c.format-word_text.ensures.text c.format-heap_text.ensures.text (c.format-refused_text.ensures.text ∙ ap decimal c.count-refused.ensures) in
     on_err_weaker c.write_texts.result (λ cut. subst (Fails (g.E.Out.taken c.args.err.now) (g.E.Out.taken c.write_texts.new.self)) text cut) c.write_texts.ensures.cut

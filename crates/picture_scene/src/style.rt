@@ -1,9 +1,7 @@
 //! Colors and strokes.
 
-use cil_model::phases::Phase;
-
 /// The style of a picture, light or dark as the reader has it.
-pub(crate) const STYLE: &str = "\
+pub const STYLE: &str = "\
 svg{font-family:DejaVu Sans,Verdana,sans-serif;fill:#1f2933}\
 text{font-size:11px}\
 .back{fill:#fff}.lane{fill:#f6f7f9}\
@@ -38,49 +36,33 @@ svg{fill:#d7dde4}.back{fill:#14181d}.lane{fill:#1e242b}.quiet,.code{fill:#8b96a3
 .diamond{fill:#f1f3f5;stroke:#14181d}.ring,.load{fill:#14181d}.mark{fill:#d7dde4}.hatch{stroke:#8a3b3b}.work{stroke:#ced4da}.pause{stroke:#5c6773}}";
 
 /// The color of a thread. Readers who see few colors can tell them apart.
-pub(crate) fn color_of(thread: usize) -> &'static str {
-    match thread % 16 {
-        0 => "#0072B2",
-        1 => "#D55E00",
-        2 => "#009E73",
-        3 => "#CC79A7",
-        4 => "#7A5195",
-        5 => "#8C6D31",
-        6 => "#3B8EA5",
-        7 => "#A23B3B",
-        8 => "#4C6EF5",
-        9 => "#E8890C",
-        10 => "#2B8A3E",
-        11 => "#C2255C",
-        12 => "#6741D9",
-        13 => "#5C940D",
-        14 => "#1098AD",
-        _ => "#862E2E",
-    }
+pub fn color_of(thread: usize) -> &'static str {
+    const COLORS: [&str; 16] = [
+        "#0072B2", "#D55E00", "#009E73", "#CC79A7", "#7A5195", "#8C6D31", "#3B8EA5", "#A23B3B",
+        "#4C6EF5", "#E8890C", "#2B8A3E", "#C2255C", "#6741D9", "#5C940D", "#1098AD", "#862E2E",
+    ];
+    COLORS[thread % 16]
 }
 
 /// The color of the stripes of a monitor, by its number.
 pub(crate) fn color_of_monitor(monitor: usize) -> &'static str {
-    match monitor % 6 {
-        0 => "#E69F00",
-        1 => "#56B4E9",
-        2 => "#6BBF59",
-        3 => "#C77CFF",
-        4 => "#F06595",
-        _ => "#94A3B8",
-    }
+    const COLORS: [&str; 6] = [
+        "#E69F00", "#56B4E9", "#6BBF59", "#C77CFF", "#F06595", "#94A3B8",
+    ];
+    COLORS[monitor % 6]
 }
 
-/// The class of a phase in the style. None between cycles.
-pub(crate) fn phase_class(phase: Phase) -> Option<&'static str> {
-    match phase {
-        Phase::Idle => None,
-        Phase::Mark => Some("p1"),
-        Phase::Allocate => Some("p2"),
-        Phase::Copy => Some("p3"),
-        Phase::PreFlip => Some("p4"),
-        Phase::HeapFlip => Some("p5"),
-        Phase::ThreadFlip => Some("p6"),
-        Phase::Reclaim => Some("p7"),
-    }
+/// The class of a phase in the style, and the name of the phase, by its place in a cycle. Both are empty between cycles.
+pub(crate) fn phase_style(place: usize) -> (&'static str, &'static str) {
+    const PHASES: [(&str, &str); 8] = [
+        ("", ""),
+        ("p1", "mark"),
+        ("p2", "allocate"),
+        ("p3", "copy"),
+        ("p4", "pre-flip"),
+        ("p5", "heap-flip"),
+        ("p6", "thread-flip"),
+        ("p7", "reclaim"),
+    ];
+    PHASES[place % 8]
 }

@@ -1,0 +1,132 @@
+//! Instructions with their lines of the source.
+
+ghost use Rattle.std.specs.Prelude.{◌≡◌, IfOk, map, option_and_then, option_map, slice_get};
+ghost use Rattle.cil_model.specs.Bodies.{lines_of};
+ghost use Rattle.cil_model.specs.Declarations.{built_ins};
+ghost use Rattle.event_trace.specs.Columns.{found_at};
+ghost use Rattle.event_trace.specs.Lines.{place_of};
+ghost use Rattle.event_trace.specs.Places.{ArePlacesOf};
+ghost use Rattle.name_tables.specs.BuiltInTable.{built_in_entry};
+ghost use Rattle.end_explanations.specs.Located.{method_after, line_of};
+
+use crate::names::Names;
+use cil_model::memory::NoMemory;
+use cil_model::trees::{Line, Method};
+use event_trace::{InstructionPlace, Machine, Position, instruction_at};
+use instruction_text::{InstructionText, MethodNameText};
+use name_tables::bodies::lines_of;
+use name_tables::built_in::BuiltInClass;
+use std::fmt;
+
+/// An instruction by its position, and its line of the source, where that is known.
+#[derive(Clone, Copy)]
+pub(crate) struct Located<'a> {
+    pub(crate) at: Option<InstructionPlace<'a>>,
+    /// The line, from 1.
+    pub(crate) line: Option<usize>,
+}
+
+/// `Class::Method+N (line L)  instruction`, or a hyphen.
+impl<'a> fmt::Display for Located<'a> {
+    ghost use Rattle.std.specs.Prelude.{Some, option_map};
+    ghost use Rattle.event_trace.specs.Lines.{place_of};
+    ghost use Rattle.end_explanations.specs.Located.{located_text};
+
+    ghost output = { λ l. Some (located_text (option_map place_of l.at) l.line) };
+
+    fn fmt<W: fmt::Write>(&self, f: &mut fmt::Formatter<W>) -> fmt::Result {
+        let Some(InstructionPlace { found, place }) = self.at else {
+            return f.write_str("-");
+        };
+        let owner = found.owner;
+        let name = MethodNameText(&found.method.name);
+        let line = LineNote(self.line);
+        let instruction = OfLine(line_at(found.method, place as usize));
+        write!(f, "{owner}::{name}+{place}{line}{instruction}")
+    }
+}
+
+/// The line of the source in brackets. Nothing if it is not known.
+#[derive(Clone, Copy)]
+struct LineNote(Option<usize>);
+
+impl fmt::Display for LineNote {
+    ghost use Rattle.std.specs.Prelude.{Some};
+    ghost use Rattle.end_explanations.specs.Located.{line_note};
+
+    ghost output = { λ note. Some (line_note note.0) };
+
+    fn fmt<W: fmt::Write>(&self, f: &mut fmt::Formatter<W>) -> fmt::Result {
+        match self.0 {
+            None => Ok(()),
+            Some(line) => write!(f, " (line {line})"),
+        }
+    }
+}
+
+/// Two spaces and the instruction of a line of code. Nothing if there is none.
+#[derive(Clone, Copy)]
+struct OfLine<'a>(Option<&'a Line>);
+
+impl<'a> fmt::Display for OfLine<'a> {
+    ghost use Rattle.std.specs.Prelude.{Some, option_map};
+    ghost use Rattle.event_trace.specs.Columns.{line_text};
+
+    ghost output = { λ text. Some (line_text (option_map (λ line. line.now) text.0)) };
+
+    fn fmt<W: fmt::Write>(&self, f: &mut fmt::Formatter<W>) -> fmt::Result {
+        match self.0 {
+            None => Ok(()),
+            Some(line) => write!(f, "  {}", InstructionText(&line.instruction)),
+        }
+    }
+}
+
+/// The line of a method's code at an index. None if there is none.
+fn line_at(method: &Method, index: usize) -> Option<&Line>
+    ensures { option_map (λ l. l.now) result ≡ slice_get (lines_of method.now) index }
+{
+    lines_of(method).get(index)
+}
+
+/// The instruction at a position of the program that a machine runs, with its line. Only want of memory is an error.
+pub(crate) fn locate<'a>(
+    machine: &'a Machine,
+    names: &'a Names<'_>,
+    position: Option<Position>,
+) -> Result<Located<'a>, NoMemory>
+    requires places { ArePlacesOf machine.now.tree names.now.methods }
+    requires classes { map built_in_entry names.now.classes ≡ built_ins }
+    ensures at { IfOk result (λ l. option_map place_of l.at ≡ option_and_then (found_at machine.now.tree) position) }
+    ensures line { IfOk result (λ l. l.line ≡ option_and_then (line_of names.now.lines) position) }
+{
+    Ok(Located {
+        line: line_of(names, position)?,
+        at: instruction_at(machine, &names.methods, position),
+    })
+}
+
+/// The line of the instruction at a position.
+fn line_of(names: &Names<'_>, position: Option<Position>) -> Result<Option<usize>, NoMemory>
+    requires { map built_in_entry names.now.classes ≡ built_ins }
+    ensures { IfOk result (λ line. line ≡ option_and_then (line_of names.now.lines) position) }
+{
+    let Some(position) = position else {
+        return Ok(None);
+    };
+    match method_after(names.classes.as_slice(), position.method as usize) {
+        None => Ok(None),
+        Some(method) => names.lines.line(method, position.place as usize),
+    }
+}
+
+/// The index among the methods of the source of a method by its number among all: those of the built-in classes come first. None of one of these.
+fn method_after(classes: &[BuiltInClass], number: usize) -> Option<usize>
+    ensures { result ≡ method_after (map built_in_entry classes.now) number }
+{
+    let mut left = number;
+    for class in classes {
+        left = left.checked_sub(class.methods.as_slice().len())?;
+    }
+    Some(left)
+}

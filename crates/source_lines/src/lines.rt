@@ -1,0 +1,99 @@
+//! Lines of a source.
+
+ghost use Rattle.std.specs.Prelude.{◌≡◌, IfOk};
+ghost use Rattle.source_lines.specs.Lines.{instruction_line, instruction_token, line_of_byte, line_of_token, tokens_of};
+
+use crate::finding::{Part, index_from};
+use cil_model::memory::NoMemory;
+use cil_model::sequences::Sequence;
+use ilasm_tokens::failure::Failure;
+use ilasm_tokens::source::{token_offset, tokens};
+use ilasm_tokens::source_tokens::SourceToken;
+use std::alloc::Global;
+use std::marker::Model;
+
+/// A source in which lines are looked up. Contracts see it as the source.
+#[derive(Drop)]
+pub struct SourceLines<'s> {
+    source: &'s [u8],
+    tokens: Sequence<SourceToken<'s>>,
+}
+
+impl<'s> Model for SourceLines<'s> {
+    ghost use Rattle.std.specs.Prelude.{◌≡◌, List, ℕ};
+    ghost use Rattle.source_lines.specs.Lines.{tokens_of};
+
+    ghost Value = { List ℕ };
+
+    ghost view = { λ l. l.source.now };
+
+    ghost invariant = { λ l. l.tokens ≡ tokens_of l.source.now };
+}
+
+impl<'s> SourceLines<'s> {
+    /// The lines of a source. Takes memory for its tokens; only want of it is an error.
+    pub fn new(alloc: Global, source: &'s [u8]) -> Result<SourceLines<'s>, NoMemory>
+        ensures { IfOk result (λ lines. lines ≡ source.now) }
+    {
+        Ok(SourceLines {
+            source,
+            tokens: source_tokens(alloc, source)?,
+        })
+    }
+
+    /// The line, from 1, of an instruction of a method. Methods count from 0 in source order, abstract ones too, and instructions from 0 in their method. None if the
+    /// source has no such instruction. Only want of memory is an error.
+    pub fn line(&self, method: usize, instruction: usize) -> Result<Option<usize>, NoMemory>
+        ensures { IfOk result (λ line. line ≡ instruction_line self.now method instruction) }
+    {
+        match self.token(method, instruction) {
+            None => Ok(None),
+            Some(token) => line_of_token(self.source, token),
+        }
+    }
+
+    /// The index of the token that names an instruction of a method.
+    fn token(&self, method: usize, instruction: usize) -> Option<usize>
+        ensures { result ≡ instruction_token (tokens_of self.now) method instruction }
+    {
+        let tokens = self.tokens.as_slice();
+        let start = index_from(tokens, 0, Part::Method, method)?;
+        index_from(tokens, start, Part::Instruction, instruction)
+    }
+}
+
+/// The tokens of a source. None if it is refused.
+fn source_tokens(alloc: Global, source: &[u8]) -> Result<Sequence<SourceToken<'_>>, NoMemory>
+    ensures { IfOk result (λ tokens. tokens ≡ tokens_of source.now) }
+{
+    match tokens(alloc, source) {
+        Ok(tokens) => Ok(tokens),
+        Err(Failure::Refused { .. }) => Ok(Sequence::new(Vec::new(alloc))),
+        Err(Failure::OutOfMemory) => Err(NoMemory),
+    }
+}
+
+/// The line of the token of a number. None if a source has no such token.
+fn line_of_token(source: &[u8], token: usize) -> Result<Option<usize>, NoMemory>
+    ensures { IfOk result (λ line. line ≡ line_of_token source.now token) }
+{
+    match token_offset(source, token) {
+        Ok(offset) => Ok(Some(line_of_byte(source, offset))),
+        Err(Failure::Refused { .. }) => Ok(None),
+        Err(Failure::OutOfMemory) => Err(NoMemory),
+    }
+}
+
+/// The line, from 1, of the byte at an offset: one more than the line feeds before it.
+fn line_of_byte(source: &[u8], offset: usize) -> usize
+    ensures { result ≡ line_of_byte source.now offset }
+{
+    let mut line = 1;
+    let before = offset.min(source.len());
+    for index in 0..before {
+        if source[index] == b'\n' {
+            line += 1;
+        }
+    }
+    line
+}
