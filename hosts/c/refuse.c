@@ -1,5 +1,5 @@
-/* Refuses each allocation of a run in turn: every call answers CILVM_NO_MEMORY or its usual code, changes nothing where it answers that, and
-   does its work when it is made again. Link with -Wl,--wrap=malloc,--wrap=realloc.
+/* Refuses each allocation of a run in turn: every call returns CILVM_NO_MEMORY or its usual code, changes nothing where it returns
+   CILVM_NO_MEMORY, and does its work when it is made again. Link with -Wl,--wrap=malloc,--wrap=realloc.
 
    usage: refuse SOURCE SCHEDULE */
 #include <cilvm.h>

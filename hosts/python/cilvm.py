@@ -1,9 +1,9 @@
 """cilvm as a library: a proved machine for a subset of the Common Intermediate Language, over libcilvm.so.0 by ctypes.
 
     machine = cilvm.Machine(source, budget=1_000_000)
-    while machine.step(0) in (Code.RAN, Code.BLOCKED):
+    while machine.step(0) in (cilvm.Code.RAN, cilvm.Code.BLOCKED):
         pass
-    print(machine.printed().decode(), machine.end_of(0))
+    print(machine.printed().decode(), machine.end_of(0).name)
 
 A machine is used by one thread at a time. The library is looked for by its name, or at the path that CILVM_LIBRARY holds.
 """
@@ -19,7 +19,7 @@ PIECE = 1 << 16
 
 
 class Code(enum.IntEnum):
-    """What calls answer."""
+    """What calls return."""
 
     # tools/host_codes: begin
     #: A step: the instruction was done. A run: all events were done. A thread: it is live. Any other call: it was done.
@@ -28,45 +28,45 @@ class Code(enum.IntEnum):
     BLOCKED = 1
     #: No such thread is live, and nothing changed. A thread: it was never started.
     ABSENT = 2
-    #: An acknowledgement: the thread answered the posted phase or round.
+    #: An acknowledgement: the thread acknowledged the posted phase or round.
     ACKED = 3
-    #: An acknowledgement: the thread had answered already.
+    #: An acknowledgement: the thread had nothing to acknowledge.
     NOTHING_POSTED = 4
     #: The collector: some work was done.
     WORKED = 5
     #: The collector: it waits for a thread's acknowledgement.
     WAITING = 6
-    #: The collector: the old space was given back.
+    #: The collector: the cycle is done, and its old space was freed.
     CYCLE_DONE = 7
     #: The thread ended: its first method returned.
     DONE = 16
     #: The thread ended: its budget of steps was used up.
     BUDGET = 17
-    #: The thread ended: a member of null.
+    #: The thread ended: a field, an element, the length or a method of null.
     NULL_REFERENCE = 32
-    #: The thread ended: a place that an array doesn't have.
+    #: The thread ended: an index out of the range of an array.
     INDEX_OUT_OF_RANGE = 33
-    #: The thread ended: a store of an object whose class the array's own elements don't admit.
+    #: The thread ended: a store of an object into an array whose element type it doesn't fit.
     ARRAY_TYPE_MISMATCH = 34
-    #: The thread ended: a cast of an object to a type that its class doesn't fit.
+    #: The thread ended: a cast of an object to a type that it doesn't fit.
     INVALID_CAST = 35
-    #: The thread ended: a division by 0, or its remainder.
+    #: The thread ended: a division or remainder by 0.
     DIVIDE_BY_ZERO = 36
-    #: The thread ended: the least integer divided by -1, or its remainder.
+    #: The thread ended: a division or remainder of the least integer by -1.
     ARITHMETIC = 37
-    #: The thread ended: a result that doesn't fit, or a negative length.
+    #: The thread ended: a checked sum, difference or product that doesn't fit, or an array of a negative length.
     OVERFLOW = 38
-    #: The thread ended: a birth that was refused.
+    #: The thread ended: an object that its heap has no room for.
     OUT_OF_MEMORY = 39
     #: The thread ended: a start of a seventeenth thread.
     TOO_MANY_THREADS = 40
-    #: The thread ended: a frame beyond the depth limit.
+    #: The thread ended: a call beyond the limit of frames.
     STACK_OVERFLOW = 41
-    #: The thread ended: a monitor of null.
+    #: The thread ended: an enter or exit of the monitor of null.
     ARGUMENT_NULL = 42
-    #: The thread ended: a monitor that is left by a thread that doesn't hold it.
+    #: The thread ended: an exit of a monitor that it doesn't hold.
     SYNCHRONIZATION_LOCK = 43
-    #: The thread ended: a thread that is started twice, or joined before it is started.
+    #: The thread ended: a start of a thread that was started before, or a join of one that was not started.
     THREAD_STATE = 44
     #: The program has printed more bytes than it may, and nothing changed.
     FULL = 253
@@ -133,6 +133,13 @@ def _load():
     return library
 
 
+def _unsigned(number, bits):
+    """The number, which has to fit: ctypes would pass on its lowest bits."""
+    if not 0 <= number < 1 << bits:
+        raise OverflowError(f"{number} is not a number of {bits} bits")
+    return number
+
+
 _LIBRARY = _load()
 _CLOSED = []
 _LOCK = threading.Lock()
@@ -158,12 +165,16 @@ def check(source):
 
 
 class Machine:
-    """The machine of a source, which is bytes. `printed` is how many bytes the program may print; `max_words` is `words` where it is left out."""
+    """The machine of a source, which is bytes. `printed` is how many bytes the program may print; `max_words` is `words` where it is left out.
+
+    A source or limits that are refused raise Refused, a number that does not fit its type OverflowError.
+    """
 
     def __init__(self, source, words=65_536, max_words=None, budget=100_000, depth=64, printed=ctypes.c_size_t(-1).value):
         self._at = None
+        numbers = [_unsigned(it, 32) for it in (words, words if max_words is None else max_words, budget, depth)]
+        limits = _Limits(*numbers, _unsigned(printed, 8 * ctypes.sizeof(ctypes.c_size_t)))
         session = _new_session()
-        limits = _Limits(words, words if max_words is None else max_words, budget, depth, printed)
         number = _LIBRARY.cilvm_open(session, source, len(source), ctypes.byref(limits))
         self._at = session
         if number == Code.NO_MEMORY:
@@ -214,18 +225,19 @@ class Machine:
         return Code(number)
 
     def step(self, thread=0):
-        """Has a thread make a step, and returns the code of its report."""
-        return self._done(_LIBRARY.cilvm_step(self._session(), thread))
+        """Has a thread make a step, and returns the code of its report. MemoryError or Full: it was not made."""
+        return self._done(_LIBRARY.cilvm_step(self._session(), _unsigned(thread, 8)))
 
     def steps(self, most, thread=0):
-        """Has a thread make steps until one does not report that it ran, at most this many. Returns how many were made, and the last code."""
+        """Has a thread make steps until one does not report that it ran, at most this many. Returns how many were made, and
+        the last code: FULL and NO_MEMORY are of a step that was not made."""
         count = ctypes.c_uint32()
-        number = _LIBRARY.cilvm_steps(self._session(), thread, most, ctypes.byref(count))
+        number = _LIBRARY.cilvm_steps(self._session(), _unsigned(thread, 8), _unsigned(most, 32), ctypes.byref(count))
         return count.value, Code(number)
 
     def ack(self, thread):
         """Has a thread acknowledge what the collector posted, and returns the code of the report."""
-        return self._done(_LIBRARY.cilvm_ack(self._session(), thread))
+        return self._done(_LIBRARY.cilvm_ack(self._session(), _unsigned(thread, 8)))
 
     def gc(self):
         """Has the collector do an event, and returns the code of its report."""
@@ -245,7 +257,7 @@ class Machine:
 
     def end_of(self, thread):
         """Returns the code of a thread's end; RAN where it is live, and ABSENT where it was never started."""
-        return Code(_LIBRARY.cilvm_end_of(self._session(), thread))
+        return Code(_LIBRARY.cilvm_end_of(self._session(), _unsigned(thread, 8)))
 
     def live(self):
         """Returns how many threads are live."""
@@ -258,5 +270,5 @@ class Machine:
 
     def waits(self, thread):
         """Returns whom a thread waits for, or None."""
-        number = _LIBRARY.cilvm_waits(self._session(), thread)
+        number = _LIBRARY.cilvm_waits(self._session(), _unsigned(thread, 8))
         return Wait(number < 512, number % 256) if number >= 256 else None

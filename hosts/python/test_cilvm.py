@@ -70,6 +70,14 @@ class Calls(unittest.TestCase):
             self.assertEqual(refused.exception.number, 502)
             self.assertEqual(machine.step(), Code.RAN)
 
+    def test_numbers_that_do_not_fit(self):
+        for words in (-1, 1 << 32):
+            self.assertRaises(OverflowError, Machine, read("add.il"), words=words)
+        with Machine(read("add.il")) as machine:
+            self.assertRaises(OverflowError, machine.step, 256)
+            self.assertRaises(OverflowError, machine.steps, -1)
+            self.assertEqual(machine.step(255), Code.ABSENT)
+
     def test_what_may_be_printed(self):
         with Machine(read("add.il"), printed=1) as machine:
             self.assertEqual(machine.run(b"s0*5"), (4, Code.FULL))

@@ -1,10 +1,13 @@
 -- Events that a machine has done, one behind another.
 use Rattle.std.proofs.Common.{◌≡◌, ◌+◌, ◌<◌, ◌≤◌, ◌∙◌, ℕ, true, false, List, [], ◌∷◌, ◌++◌, Some, length, take, drop, get_or, replicate, refl, sym, ap, subst, arith, slice_get, inl, inr}
+use Rattle.std.proofs.lemmas.Bool.{false≢true}
 use Rattle.std.proofs.lemmas.List.{drop_more, get_or-append-add, get_or-replicate, get_or_append_left, length-append, length-replicate, replicate_more, take-append-drop, take-append-le, take-replicate}
 use Rattle.std.proofs.lemmas.Option.{get_or_from_slice_get, slice_get-get_or, slice_get_within}
 use Rattle.std.proofs.Math.Seq.{take-append-add}
 use Rattle.cil_model.specs.declared.events.Event.{Event}
 use Rattle.cil_model.specs.declared.events.Event.TheVariants.{Step}
+use Rattle.cil_model.specs.declared.reports.End.TheVariants.{Done as DoneOf, Budget as BudgetOf, Fault as FaultOf}
+use Rattle.cil_model.specs.declared.reports.Fault.{Fault}
 use Rattle.cil_model.specs.declared.reports.Report.{Report}
 use Rattle.cil_model.specs.declared.reports.Report.TheVariants as reports
 use Rattle.interleaving_core.specs.simulation.MachineContents.{Content}
@@ -15,15 +18,67 @@ use Rattle.interleaving_core.proofs.Runs.FollowedRuns.{turns_more}
 use Rattle.schedule_text.specs.Items.{events_of}
 use Rattle.schedule_text.specs.declared.items.Item.{Item}
 use Rattle.schedule_text.proofs.SoFar.{events_of-append, so_far_all}
-use Rattle.cilvm_c.specs.Codes.{has_ran, report_code}
-use Rattle.cilvm_c.specs.Steps.{HasDoneAll, IsNotDone, IsRunOn, IsStopped, MakesSteps}
+use Rattle.cilvm_c.specs.Codes.{fault_code, has_ran, is_not_done, is_ran, number_of, reason_not_done, report_code}
+use Rattle.cilvm_c.specs.Steps.{ActsBy, HasDoneAll, IsDone, IsNotDone, IsRunOn, IsStopped, MakesSteps, MakesStepsBy}
 use Rattle.cilvm_c.specs.declared.codes.Code.{Code}
 use Rattle.cilvm_c.specs.declared.codes.Code.TheVariants.{Ran}
 use Rattle.cilvm_c.specs.declared.running.Stop.{Stop}
 
+-- ---- what a number says of an event
+
+fault_is_done : (f : Fault) → is_not_done (number_of (fault_code f)) ≡ false
+fault_is_done f = grind (arith)
+
+fault_is_no_run : (f : Fault) → is_ran (number_of (fault_code f)) ≡ false
+fault_is_no_run f = grind (arith)
+
+-- that of a report says that the event was done
+report_is_done : (r : Report) → is_not_done (number_of (report_code r)) ≡ false
+report_is_done reports.Ran = refl
+report_is_done reports.Blocked = refl
+report_is_done (reports.Ended DoneOf) = refl
+report_is_done (reports.Ended BudgetOf) = refl
+report_is_done (reports.Ended (FaultOf fault)) = fault_is_done fault
+report_is_done reports.Absent = refl
+report_is_done reports.Acked = refl
+report_is_done reports.NothingPosted = refl
+report_is_done reports.Worked = refl
+report_is_done reports.Waiting = refl
+report_is_done reports.CycleDone = refl
+
+-- and whether it is a step that ran
+report_ran : (r : Report) → is_ran (number_of (report_code r)) ≡ has_ran r
+report_ran reports.Ran = refl
+report_ran reports.Blocked = refl
+report_ran (reports.Ended DoneOf) = refl
+report_ran (reports.Ended BudgetOf) = refl
+report_ran (reports.Ended (FaultOf fault)) = fault_is_no_run fault
+report_ran reports.Absent = refl
+report_ran reports.Acked = refl
+report_ran reports.NothingPosted = refl
+report_ran reports.Worked = refl
+report_ran reports.Waiting = refl
+report_ran reports.CycleDone = refl
+
+module _ (c now : Content) (most : ℕ) (e : Event) (n : ℕ) where
+  pub act_done : (acts : ActsBy c most e n now) → is_not_done n ≡ false → IsDone c most e acts.0 now
+  act_done (code, is, inl done) not = done
+  act_done (code, is, inr (same, inl full)) not = absurd (false≢true (sym not ∙ ap is_not_done (is ∙ ap number_of full.0)))
+  act_done (code, is, inr (same, inr memory)) not = absurd (false≢true (sym not ∙ ap is_not_done (is ∙ ap number_of memory.0)))
+
+  pub act_not_done : ActsBy c most e n now → is_not_done n ≡ true → (now ≡ c) × IsNotDone c most e (reason_not_done n)
+  act_not_done (code, is, inl (r, within, report, turn, more)) held = absurd (false≢true (sym (report_is_done r) ∙ (ap is_not_done (sym (is ∙ ap number_of report)) ∙ held)))
+  act_not_done (code, is, inr (same, inl full)) held = (same, inl (ap reason_not_done (is ∙ ap number_of full.0), full.1))
+  act_not_done (code, is, inr (same, inr memory)) held = (same, inr (ap reason_not_done (is ∙ ap number_of memory.0), memory.1, memory.2))
+
+  -- the code of the number
+  pub code_not_done : (acts : ActsBy c most e n now) → is_not_done n ≡ true → IsNotDone c most e acts.0
+  code_not_done (code, is, inl (r, within, report, turn, more)) held = absurd (false≢true (sym (report_is_done r) ∙ (ap is_not_done (sym (is ∙ ap number_of report)) ∙ held)))
+  code_not_done (code, is, inr (same, why)) held = why
+
 -- ---- steps that run
 
-pub ran_is : (r : Report) → has_ran r ≡ true → r ≡ reports.Ran
+ran_is : (r : Report) → has_ran r ≡ true → r ≡ reports.Ran
 ran_is r h = grind (arith, h)
 
 -- so many steps of a thread are made, and all ran
@@ -31,21 +86,34 @@ abbrev pub HaveRun : Content → ℕ → ℕ → Content → Type 0
 HaveRun c t n now = AreTurns c (replicate n (Step t)) now (replicate n reports.Ran)
 
 -- and one more, with its report
-pub step_more : (c d now : Content) (t n : ℕ) (r : Report) → HaveRun c t n d → IsTurn d (Step t) (now, r) → AreTurns c (replicate (n + 1) (Step t)) now (replicate n reports.Ran ++ r ∷ [])
+step_more : (c d now : Content) (t n : ℕ) (r : Report) → HaveRun c t n d → IsTurn d (Step t) (now, r) → AreTurns c (replicate (n + 1) (Step t)) now (replicate n reports.Ran ++ r ∷ [])
 step_more c d now t n r h turn =
     subst (λ es. AreTurns c es now (replicate n reports.Ran ++ r ∷ [])) (replicate_more n (Step t)) (turns_more c d now (replicate n (Step t)) (replicate n reports.Ran) (Step t) r h turn)
 
 -- which ran too
-pub ran_more : (c d now : Content) (t n : ℕ) (r : Report) → has_ran r ≡ true → HaveRun c t n d → IsTurn d (Step t) (now, r) → HaveRun c t (n + 1) now
+ran_more : (c d now : Content) (t n : ℕ) (r : Report) → has_ran r ≡ true → HaveRun c t n d → IsTurn d (Step t) (now, r) → HaveRun c t (n + 1) now
 ran_more c d now t n r ran h turn =
     subst (AreTurns c (replicate (n + 1) (Step t)) now) (ap (λ x. replicate n reports.Ran ++ x ∷ []) (ran_is r ran) ∙ replicate_more n reports.Ran) (step_more c d now t n r h turn)
 
 -- the steps end by one that reports something else
-pub steps_ended : (c d now : Content) (printed t most n : ℕ) (r : Report) → n < most → HaveRun c t n d → IsTurn d (Step t) (now, r) → has_ran r ≡ false →
+steps_ended : (c d now : Content) (printed t most n : ℕ) (r : Report) → n < most → HaveRun c t n d → IsTurn d (Step t) (now, r) → has_ran r ≡ false →
     MakesSteps c printed t most (n + 1) (report_code r) now
 steps_ended c d now printed t most n r few h turn not_ran =
     let turns = step_more c d now t n r h turn in
     (replicate n reports.Ran ++ r ∷ [], turns, does_more c now (replicate (n + 1) (Step t)) (replicate n reports.Ran ++ r ∷ []) turns, inr (inl (n, r, few, refl, refl, not_ran, refl)))
+
+module _ (c d now : Content) (printed t n : ℕ) (code : Code) (number : ℕ) (named : number ≡ number_of code) (h : HaveRun c t n d) where
+  -- a step ran
+  pub step_ran : IsDone d printed (Step t) code now → is_ran number ≡ true → HaveRun c t (n + 1) now
+  step_ran (r, within, is, turn, more) ran = ran_more c d now t n r (sym (report_ran r) ∙ (ap is_ran (sym (named ∙ ap number_of is)) ∙ ran)) h turn
+
+  -- a step did something else
+  pub step_ended : (most : ℕ) → n < most → IsDone d printed (Step t) code now → is_ran number ≡ false → MakesStepsBy c printed t most (n + 1) number now
+  step_ended most few (r, within, is, turn, more) not = (
+    code,
+    named,
+    subst (λ x. MakesSteps c printed t most (n + 1) x now) (sym is) (steps_ended c d now printed t most n r few h turn (sym (report_ran r) ∙ (ap is_ran (sym (named ∙ ap number_of is)) ∙ not))),
+  )
 
 -- the next one is not made
 pub steps_held : (c d now : Content) (printed t most n : ℕ) (code : Code) → n < most → HaveRun c t n d → now ≡ d → IsNotDone d printed (Step t) code → MakesSteps c printed t most n code now

@@ -1,5 +1,5 @@
--- What a host is told, as numbers (this profile).
-use Rattle.std.specs.Prelude.{◌+◌, ℕ, Option, Some, None, Bool, true, false}
+-- What calls return, as numbers (this profile).
+use Rattle.std.specs.Prelude.{◌+◌, ◌||◌, ℕ, Option, Some, None, Bool, true, false, nat_eq}
 use Rattle.cil_model.specs.declared.reports.End.{End}
 use Rattle.cil_model.specs.declared.reports.End.TheVariants.{Done as DoneOf, Budget as BudgetOf, Fault as FaultOf}
 use Rattle.cil_model.specs.declared.reports.Fault.{Fault}
@@ -79,6 +79,22 @@ abbrev pub has_ran : Report → Bool
 has_ran reports.Ran = true
 has_ran _ = false
 
+-- the number of a step that ran
+abbrev pub is_ran : ℕ → Bool
+is_ran n = nat_eq n (number_of Ran)
+
+-- a number of an event that was not done
+abbrev pub is_not_done : ℕ → Bool
+is_not_done n = nat_eq n (number_of Full) || nat_eq n (number_of NoMemory)
+
+-- and why it was not
+abbrev pub reason_not_done : ℕ → Code
+reason_not_done n = by_full (nat_eq n (number_of Full))
+  where
+    by_full : Bool → Code
+    by_full true = Full
+    by_full false = NoMemory
+
 -- of a thread: the code of its end, Ran of a live one, Absent of one that was never started
 abbrev pub standing_code : Option End → Bool → Code
 standing_code (Some end) live = end_code end
@@ -91,14 +107,14 @@ wait_code None = 0
 wait_code (Some (Monitor class owner)) = 256 + owner
 wait_code (Some (Join thread)) = 512 + thread
 
--- the number of a refusal; that of want of memory as of an event
+-- the number of a refusal; out of memory has the number that it has of an event
 abbrev pub failure_code : Failure → ℕ
 failure_code (Refused number) = number
 failure_code (OutOfRange number) = number
 failure_code Memory = number_of NoMemory
 failure_code Device = number_of NoMemory
 
--- the number of a schedule's fault; that of want of memory as of an event
+-- the number of a schedule's fault; out of memory has the number that it has of an event
 abbrev pub schedule_code : ScheduleError → ℕ
 schedule_code UnscheduledForMemory = number_of NoMemory
 schedule_code error = schedule_number_of error

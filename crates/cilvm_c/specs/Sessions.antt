@@ -71,6 +71,6 @@ AreUsed h old_words new_words after = (after ≡ h) × ((old_words, new_words) �
 
 -- ---- the end
 
--- it is closed, and has nothing to tell
+-- it is closed, with no refusal to explain
 abbrev pub IsClosing : ℕ → Held → Type 0
 IsClosing code after = (code ≡ 0) × (after.machine ≡ None) × (after.reason ≡ [])

@@ -19,7 +19,7 @@ use Rattle.cilvm_c.specs.declared.running.Stop.{Stop}
 
 -- ---- one event
 
--- why an event is not done: more is printed than may be; or memory is wanted, which this event takes
+-- why an event is not done: more is printed than may be; or memory ran out, and this event takes some
 abbrev pub IsNotDone : Content → ℕ → Event → Code → Type 0
 IsNotDone c most e code = ((code ≡ Full) × (most < length c.printed)) ⊎ ((code ≡ NoMemory) × (length c.printed ≤ most) × TakesMemory c e)
 
@@ -30,6 +30,10 @@ IsDone c most e code new = (r : Report) × (length c.printed ≤ most) × (code 
 -- the machine does an event; or nothing is changed
 abbrev pub Acts : Content → ℕ → Event → Code → Content → Type 0
 Acts c most e code new = IsDone c most e code new ⊎ ((new ≡ c) × IsNotDone c most e code)
+
+-- the same with the number of the code
+abbrev pub ActsBy : Content → ℕ → Event → ℕ → Content → Type 0
+ActsBy c most e number new = (code : Code) × (number ≡ number_of code) × Acts c most e code new
 
 abbrev pub HasDoneOneBy : Event → Held → Option Content → ℕ → Held → Type 0
 HasDoneOneBy e h None code new = (code ≡ number_of Closed) × (new ≡ h)
@@ -52,6 +56,10 @@ IsLastStep after printed t most done reports code =
 abbrev pub MakesSteps : Content → ℕ → ℕ → ℕ → ℕ → Code → Content → Type 0
 MakesSteps c printed t most done code after =
     (reports : List Report) × AreTurns c (replicate done (Step t)) after reports × DoesMore c (replicate done (Step t)) reports after × IsLastStep after printed t most done reports code
+
+-- the same with the number of the code
+abbrev pub MakesStepsBy : Content → ℕ → ℕ → ℕ → ℕ → ℕ → Content → Type 0
+MakesStepsBy c printed t most done number after = (code : Code) × (number ≡ number_of code) × MakesSteps c printed t most done code after
 
 abbrev pub HasSteppedBy : ℕ → Held → Option Content → ℕ → ℕ → ℕ → Held → Type 0
 HasSteppedBy t h None most done code new = (code ≡ number_of Closed) × (done ≡ 0) × (new ≡ h)
@@ -79,7 +87,7 @@ IsRunOn c printed events done code after =
     ((done ≡ length events) × (code ≡ Ran) × HasDoneAll c events after)
     ⊎ IsStopped c printed events (record { done = done; code = code }) after
 
--- the text has a fault: its number is told, or that of want of memory, and nothing is done
+-- the text has a fault: the code is its number, or that of out of memory, and nothing is done
 abbrev pub IsUnread : List ℕ → Held → ℕ → ℕ → Held → Type 0
 IsUnread text h done code new =
     (error : ScheduleError) × IsFirstFault (words text) error × (code ≡ schedule_code error) × (done ≡ 0) × (new.machine ≡ h.machine) × (new.most_printed ≡ h.most_printed)

@@ -1,15 +1,15 @@
-//! What calls answer, as numbers.
+//! What calls return, as numbers.
 
 ghost use Rattle.std.specs.Prelude.{◌≡◌};
-ghost use Rattle.cilvm_c.specs.Codes.{end_code, failure_code, fault_code, has_ran, number_of, report_code, schedule_code, standing_code, wait_code};
+ghost use Rattle.cilvm_c.specs.Codes.{end_code, failure_code, fault_code, is_not_done, is_ran, number_of, reason_not_done, report_code, schedule_code, standing_code, wait_code};
 
 use acceptance::Failure;
 use cil_model::reports::{End, Fault, Report};
 use interleaving_core::Wait;
 use schedule_text::ScheduleError;
 
-/// What a call answers, or else the number of a refusal, from 101 on and apart from these. A number keeps its meaning from version to version;
-/// others may be added.
+/// What a call returns, if it is not the number of a refusal (101 to 104, 201 to 207, 301, 401, 501 to 503). A number keeps its meaning from
+/// version to version; others may be added.
 #[derive(Clone, Copy, PartialEq, Eq)]
 pub enum Code {
     /// A step: the instruction was done. A run: all events were done. A thread: it is live. Any other call: it was done.
@@ -18,45 +18,45 @@ pub enum Code {
     Blocked = 1,
     /// No such thread is live, and nothing changed. A thread: it was never started.
     Absent = 2,
-    /// An acknowledgement: the thread answered the posted phase or round.
+    /// An acknowledgement: the thread acknowledged the posted phase or round.
     Acked = 3,
-    /// An acknowledgement: the thread had answered already.
+    /// An acknowledgement: the thread had nothing to acknowledge.
     NothingPosted = 4,
     /// The collector: some work was done.
     Worked = 5,
     /// The collector: it waits for a thread's acknowledgement.
     Waiting = 6,
-    /// The collector: the old space was given back.
+    /// The collector: the cycle is done, and its old space was freed.
     CycleDone = 7,
     /// The thread ended: its first method returned.
     Done = 16,
     /// The thread ended: its budget of steps was used up.
     Budget = 17,
-    /// The thread ended: a member of null.
+    /// The thread ended: a field, an element, the length or a method of null.
     NullReference = 32,
-    /// The thread ended: a place that an array doesn't have.
+    /// The thread ended: an index out of the range of an array.
     IndexOutOfRange = 33,
-    /// The thread ended: a store of an object whose class the array's own elements don't admit.
+    /// The thread ended: a store of an object into an array whose element type it doesn't fit.
     ArrayTypeMismatch = 34,
-    /// The thread ended: a cast of an object to a type that its class doesn't fit.
+    /// The thread ended: a cast of an object to a type that it doesn't fit.
     InvalidCast = 35,
-    /// The thread ended: a division by 0, or its remainder.
+    /// The thread ended: a division or remainder by 0.
     DivideByZero = 36,
-    /// The thread ended: the least integer divided by -1, or its remainder.
+    /// The thread ended: a division or remainder of the least integer by -1.
     Arithmetic = 37,
-    /// The thread ended: a result that doesn't fit, or a negative length.
+    /// The thread ended: a checked sum, difference or product that doesn't fit, or an array of a negative length.
     Overflow = 38,
-    /// The thread ended: a birth that was refused.
+    /// The thread ended: an object that its heap has no room for.
     OutOfMemory = 39,
     /// The thread ended: a start of a seventeenth thread.
     TooManyThreads = 40,
-    /// The thread ended: a frame beyond the depth limit.
+    /// The thread ended: a call beyond the limit of frames.
     StackOverflow = 41,
-    /// The thread ended: a monitor of null.
+    /// The thread ended: an enter or exit of the monitor of null.
     ArgumentNull = 42,
-    /// The thread ended: a monitor that is left by a thread that doesn't hold it.
+    /// The thread ended: an exit of a monitor that it doesn't hold.
     SynchronizationLock = 43,
-    /// The thread ended: a thread that is started twice, or joined before it is started.
+    /// The thread ended: a start of a thread that was started before, or a join of one that was not started.
     ThreadState = 44,
     /// The program has printed more bytes than it may, and nothing changed.
     Full = 253,
@@ -134,14 +134,32 @@ fn any_report_code(report: Report) -> Code
     }
 }
 
-/// Whether a step is reported to have run.
-pub(crate) fn has_ran(report: Report) -> bool
-    ensures { result ≡ has_ran report }
+/// Whether a number is that of a step that ran.
+pub(crate) fn is_ran(number: u32) -> bool
+    ensures { result ≡ is_ran number }
 {
-    matches!(report, Report::Ran)
+    number == 0
 }
 
-/// The code of a thread that ended in this way, or that has not ended, and is live or not.
+/// Whether a number says why an event was not done.
+pub(crate) fn is_not_done(number: u32) -> bool
+    ensures { result ≡ is_not_done number }
+{
+    number == 253 || number == 255
+}
+
+/// Why an event was not done, by the number that says so.
+pub(crate) fn reason_not_done(number: u32) -> Code
+    ensures { result ≡ reason_not_done number }
+{
+    if number == 253 {
+        Code::Full
+    } else {
+        Code::NoMemory
+    }
+}
+
+/// The code of a thread: of its end, or if it has not ended, whether it is live.
 pub(crate) fn standing_code(end: Option<End>, is_live: bool) -> Code
     ensures { result ≡ standing_code end is_live }
 {

@@ -27,7 +27,7 @@ pub extern "C" fn cilvm_version() -> u32
     VERSION
 }
 
-/// Says whether a source is accepted: 0, or why not.
+/// Whether a source is accepted: 0, or the number of the refusal, or 255 where memory ran out.
 #[unsafe(no_mangle)]
 pub extern "C" fn cilvm_check(alloc: Global, source: &[u8]) -> u32
     ensures { IsChecked source.now result }
@@ -38,7 +38,7 @@ pub extern "C" fn cilvm_check(alloc: Global, source: &[u8]) -> u32
     }
 }
 
-/// Makes a closed session, and answers 0, or 255 for want of memory.
+/// Makes a closed session, and returns 0, or 255 where memory ran out.
 #[unsafe(no_mangle)]
 pub extern "C" fn cilvm_new(alloc: Global, out: &mut *mut u8) -> u32 {
     match Box::new(alloc, Session::new(alloc)) {
@@ -56,8 +56,8 @@ fn open(session: &mut Session, source: &[u8], limits: &HostLimits) -> u32
     session.open(source, run_limits(limits), limits.printed)
 }
 
-/// Opens a session with the machine of a source, before its first event, and answers 0. Otherwise the session is closed, and the answer says
-/// why: 255 for want of memory, or the number of the refusal.
+/// Opens a session with the machine of a source, before its first event, and returns 0. Otherwise the session is closed, and the result says
+/// why: 255 where memory ran out, or the number of the refusal.
 #[unsafe(no_mangle)]
 pub unsafe extern "C" fn cilvm_open(at: *mut u8, source: &[u8], limits: &HostLimits) -> u32
     ghost held: { Held }
@@ -74,7 +74,7 @@ fn why(session: &mut Session, from: usize, to: &mut [u8]) -> usize
     session.why(from, to)
 }
 
-/// Copies the text that explains the last refusal, from this byte on, as much as the buffer takes, and answers how much that is.
+/// Copies the text that explains the last refusal, from this byte on, as much as the buffer takes, and returns how much that is.
 #[unsafe(no_mangle)]
 pub unsafe extern "C" fn cilvm_why(at: *mut u8, from: usize, to: &mut [u8]) -> usize
     ghost held: { Held }
@@ -91,7 +91,7 @@ fn step(session: &mut Session, thread: u8) -> u32
     session.event(Event::Step(thread))
 }
 
-/// Has a thread make a step, and answers the code of its report.
+/// Has a thread make a step, and returns the code of its report.
 #[unsafe(no_mangle)]
 pub unsafe extern "C" fn cilvm_step(at: *mut u8, thread: u8) -> u32
     ghost held: { Held }
@@ -108,7 +108,7 @@ fn steps(session: &mut Session, thread: u8, most: u32, done: &mut u32) -> u32
     session.steps(thread, most, done)
 }
 
-/// Has a thread make steps until one does not report that it ran, at most so many, and answers the last code. `done` says how many were made.
+/// Has a thread make steps until one does not report that it ran, at most so many, and returns the last code. `done` says how many were made.
 #[unsafe(no_mangle)]
 pub unsafe extern "C" fn cilvm_steps(at: *mut u8, thread: u8, most: u32, done: &mut u32) -> u32
     ghost held: { Held }
@@ -125,7 +125,7 @@ fn ack(session: &mut Session, thread: u8) -> u32
     session.event(Event::Ack(thread))
 }
 
-/// Has a thread acknowledge what the collector posted, and answers the code of the report.
+/// Has a thread acknowledge what the collector posted, and returns the code of the report.
 #[unsafe(no_mangle)]
 pub unsafe extern "C" fn cilvm_ack(at: *mut u8, thread: u8) -> u32
     ghost held: { Held }
@@ -142,7 +142,7 @@ fn gc(session: &mut Session) -> u32
     session.event(Event::Gc)
 }
 
-/// Has the collector do an event, and answers the code of its report.
+/// Has the collector do an event, and returns the code of its report.
 #[unsafe(no_mangle)]
 pub unsafe extern "C" fn cilvm_gc(at: *mut u8) -> u32
     ghost held: { Held }
@@ -159,7 +159,7 @@ fn run(session: &mut Session, text: &[u8], done: &mut u64) -> u32
     session.run(text, done)
 }
 
-/// Does the events of a schedule's text, and answers 0, or why it stopped. `done` says how many were done: none where the text is refused.
+/// Does the events of a schedule's text, and returns 0, or why it stopped. `done` says how many were done: none where the text is refused.
 #[unsafe(no_mangle)]
 pub unsafe extern "C" fn cilvm_run(at: *mut u8, text: &[u8], done: &mut u64) -> u32
     ghost held: { Held }
@@ -176,7 +176,7 @@ fn read(session: &mut Session, from: usize, to: &mut [u8]) -> usize
     session.read(from, to)
 }
 
-/// Copies what was printed, from this byte on, as much as the buffer takes, and answers how much that is.
+/// Copies what was printed, from this byte on, as much as the buffer takes, and returns how much that is.
 #[unsafe(no_mangle)]
 pub unsafe extern "C" fn cilvm_read(at: *mut u8, from: usize, to: &mut [u8]) -> usize
     ghost held: { Held }
@@ -264,7 +264,7 @@ fn close(session: &mut Session) -> u32
     0
 }
 
-/// Gives back all memory of a session but its own block, and answers 0. It may be opened again.
+/// Frees all memory of a session but its own block, and returns 0. It may be opened again.
 #[unsafe(no_mangle)]
 pub unsafe extern "C" fn cilvm_close(at: *mut u8) -> u32
     ghost held: { Held }

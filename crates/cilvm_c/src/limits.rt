@@ -5,7 +5,7 @@ ghost use Rattle.cilvm_c.specs.Openings.{run_limits};
 
 use cil_model::limits::Limits;
 
-/// The limits of a session. The machine's own have the ranges that it tells (number 401); what may be printed has none.
+/// The limits of a session. Those of the machine have ranges (outside them: 401); what may be printed has none.
 #[repr(C)]
 #[derive(Clone, Copy)]
 pub struct HostLimits {

@@ -6,9 +6,9 @@ ghost use Rattle.interleaving_core.specs.simulation.Turns.{IsTurn};
 ghost use Rattle.schedule_text.specs.Items.{events_of, words};
 ghost use Rattle.schedule_text.specs.Readings.{IsFirstFault};
 ghost use Rattle.schedule_text.specs.declared.errors.TheConstants.{MOST_EVENTS};
-ghost use Rattle.cilvm_c.specs.Steps.{Acts, HasDoneAll, IsNotDone, IsStopped, IsTextRun, MakesSteps};
+ghost use Rattle.cilvm_c.specs.Steps.{Acts, ActsBy, HasDoneAll, IsNotDone, IsStopped, IsTextRun, MakesStepsBy};
 
-use crate::codes::{Code, has_ran, report_code};
+use crate::codes::{Code, is_not_done, is_ran, number_of, reason_not_done, report_code};
 use cil_model::events::Event;
 use cil_model::reports::Report;
 use interleaving_core::Machine;
@@ -45,20 +45,29 @@ fn act(
     }
 }
 
-/// Does an event, and answers the code of its report, or why it was not done.
+/// Does an event, and returns the code of its report, or why it was not done.
 #[inline(always)]
-pub(crate) fn act_by_code(
-    machine: &mut Machine,
-    alloc: Global,
-    most_printed: usize,
-    event: Event,
-) -> Code
+fn act_by_code(machine: &mut Machine, alloc: Global, most_printed: usize, event: Event) -> Code
     ensures { Acts machine.old most_printed event result machine.new }
 {
     match act(machine, alloc, most_printed, event) {
         Ok(report) => report_code(report),
         Err(code) => code,
     }
+}
+
+/// Does an event, and returns the number of its report, or of why it was not done. All events of all sessions are done here, so the machine's
+/// code for an event is compiled once, and a call of a host for one event ends by a jump to it.
+#[inline(never)]
+pub(crate) fn act_by_number(
+    machine: &mut Machine,
+    alloc: Global,
+    most_printed: usize,
+    event: Event,
+) -> u32
+    ensures { ActsBy machine.old most_printed event result machine.new }
+{
+    number_of(act_by_code(machine, alloc, most_printed, event))
 }
 
 /// Has a thread make at most so many steps, until one does not report that it ran. `done` says how many were made.
@@ -69,25 +78,22 @@ pub(crate) fn make_steps(
     thread: u8,
     most: u32,
     done: &mut u32,
-) -> Code
-    ensures { MakesSteps machine.old most_printed thread most done.new result machine.new }
+) -> u32
+    ensures { MakesStepsBy machine.old most_printed thread most done.new result machine.new }
 {
     for time in 0..most {
-        match act(machine, alloc, most_printed, Event::Step(thread)) {
-            Ok(report) => {
-                if !has_ran(report) {
-                    *done = time + 1;
-                    return report_code(report);
-                }
-            }
-            Err(code) => {
-                *done = time;
-                return code;
-            }
+        let number = act_by_number(machine, alloc, most_printed, Event::Step(thread));
+        if is_not_done(number) {
+            *done = time;
+            return number;
+        }
+        if !is_ran(number) {
+            *done = time + 1;
+            return number;
         }
     }
     *done = most;
-    Code::Ran
+    number_of(Code::Ran)
 }
 
 /// Does the event of an item as often as it says.
@@ -96,9 +102,12 @@ fn repeat(machine: &mut Machine, alloc: Global, most_printed: usize, item: Item)
     ensures stopped { IfErr result (λ stop. IsStopped machine.old most_printed (replicate item.count item.event) stop machine.new) }
 {
     for time in 0..item.count {
-        match act(machine, alloc, most_printed, item.event) {
-            Ok(_) => {}
-            Err(code) => return Err(Stop { done: time, code }),
+        let number = act_by_number(machine, alloc, most_printed, item.event);
+        if is_not_done(number) {
+            return Err(Stop {
+                done: time,
+                code: reason_not_done(number),
+            });
         }
     }
     Ok(())

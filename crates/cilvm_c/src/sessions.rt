@@ -6,7 +6,7 @@ ghost use Rattle.cilvm_c.specs.Sessions.{AreUsed, IsRead, live_in, printed_by, s
 ghost use Rattle.cilvm_c.specs.Steps.{HasDoneOne, HasRun, HasStepped};
 
 use crate::codes::{Code, failure_code, number_of, schedule_code, standing_code, wait_code};
-use crate::running::{act_by_code, make_steps, run_text};
+use crate::running::{act_by_number, make_steps, run_text};
 use acceptance::{Failure, machine_of};
 use cil_model::events::Event;
 use cil_model::limits::Limits;
@@ -49,7 +49,7 @@ impl Session {
     }
 
     /// Opens the session with the machine of a source, before its first event. Where there is none, it is closed, and its reason explains
-    /// why, unless memory is wanted.
+    /// why, unless memory ran out.
     pub(crate) fn open(&mut self, source: &[u8], limits: Limits, most_printed: usize) -> u32
         ensures { IsOpening source.now limits most_printed result self.new }
     {
@@ -74,7 +74,7 @@ impl Session {
     {
         match &mut self.machine {
             None => number_of(Code::Closed),
-            Some(machine) => number_of(act_by_code(machine, self.alloc, self.most_printed, event)),
+            Some(machine) => act_by_number(machine, self.alloc, self.most_printed, event),
         }
     }
 
@@ -87,14 +87,7 @@ impl Session {
                 *done = 0;
                 number_of(Code::Closed)
             }
-            Some(machine) => number_of(make_steps(
-                machine,
-                self.alloc,
-                self.most_printed,
-                thread,
-                most,
-                done,
-            )),
+            Some(machine) => make_steps(machine, self.alloc, self.most_printed, thread, most, done),
         }
     }
 
@@ -214,7 +207,7 @@ const SOURCE_NAME: &str = "source";
 /// The name that explanations have for a schedule.
 const SCHEDULE_NAME: &str = "schedule";
 
-/// What explains that a source or its limits are refused. Empty where memory is wanted.
+/// What explains that a source or its limits are refused. Empty where memory ran out.
 fn reason_of(alloc: Global, source: &[u8], limits: Limits, failure: Failure) -> String {
     if failure.is_refusal() {
         explanation(alloc, source, limits).unwrap_or(String::new(alloc))
@@ -231,7 +224,7 @@ fn explanation(alloc: Global, source: &[u8], limits: Limits) -> Result<String, N
     }
 }
 
-/// What explains that a schedule is refused. Empty where memory is wanted.
+/// What explains that a schedule is refused. Empty where memory ran out.
 fn schedule_reason(alloc: Global, text: &[u8], error: ScheduleError) -> String {
     explain_schedule(alloc, SCHEDULE_NAME, text, error).unwrap_or(String::new(alloc))
 }

@@ -1,4 +1,4 @@
-//! What the machine answers.
+//! What calls return.
 
 use crate::codes;
 use std::fmt;
@@ -42,7 +42,7 @@ pub enum Standing {
     Ended(End),
 }
 
-/// What a step of a thread came to.
+/// The report of a step.
 #[derive(Clone, Copy, Debug, PartialEq, Eq, Hash)]
 pub enum Step {
     /// The instruction was done.
@@ -55,18 +55,18 @@ pub enum Step {
     Absent,
 }
 
-/// What an acknowledgement came to.
+/// The report of an acknowledgement.
 #[derive(Clone, Copy, Debug, PartialEq, Eq, Hash)]
 pub enum Ack {
-    /// The thread answered what the collector has posted.
+    /// The thread acknowledged what the collector has posted.
     Acked,
-    /// It had answered already.
+    /// It had acknowledged already.
     NothingPosted,
     /// No such thread is live, and nothing changed.
     Absent,
 }
 
-/// What an event of the collector came to.
+/// The report of an event of the collector.
 #[derive(Clone, Copy, Debug, PartialEq, Eq, Hash)]
 pub enum Gc {
     /// Some work was done.
@@ -77,7 +77,7 @@ pub enum Gc {
     CycleDone,
 }
 
-/// What an event came to.
+/// The report of an event.
 #[derive(Clone, Copy, Debug, PartialEq, Eq, Hash)]
 pub enum Report {
     Step(Step),
@@ -161,7 +161,7 @@ fn done<T>(code: u32, found: Option<T>) -> Result<T, NotDone> {
         (codes::FULL, _) => Err(NotDone::Full),
         (codes::NO_MEMORY, _) => Err(NotDone::NoMemory),
         (_, Some(it)) => Ok(it),
-        (code, None) => unreachable!("libcilvm answered {code}"),
+        (code, None) => unreachable!("libcilvm returned {code}"),
     }
 }
 

@@ -37,10 +37,10 @@ pub struct RoundRobin {
 }
 
 impl RoundRobin {
-    /// Steps of this number of threads.
+    /// Steps of this number of threads, from 1 to `MOST_THREADS`.
     pub fn new(threads: u8) -> RoundRobin {
         RoundRobin {
-            threads: threads.max(1),
+            threads: threads.clamp(1, MOST_THREADS),
             collects: false,
             place: 0,
         }
@@ -83,11 +83,11 @@ pub struct Random {
 }
 
 impl Random {
-    /// By a seed, of the threads below this number.
+    /// By a seed, of the threads below this number, from 1 to `MOST_THREADS`.
     pub fn new(seed: u64, threads: u8) -> Random {
         Random {
             state: seed,
-            threads: u64::from(threads.max(1)),
+            threads: u64::from(threads.clamp(1, MOST_THREADS)),
         }
     }
 
@@ -130,7 +130,7 @@ impl fmt::Display for BadItem {
     fn fmt(&self, f: &mut fmt::Formatter<'_>) -> fmt::Result {
         write!(
             f,
-            "`{}` is no item: an item is g, sN or aN, with *COUNT behind it or without",
+            "`{}` is no item: an item is g, sN or aN, alone or with *COUNT after it",
             self.0
         )
     }

@@ -144,6 +144,16 @@ fn schedulers_run_a_program_to_its_end() {
 }
 
 #[test]
+fn schedulers_have_as_many_threads_as_a_program_may() {
+    let steps: Vec<Event> = cilvm::RoundRobin::new(255).take(32).collect();
+    assert_eq!(steps[15], Event::Step(15));
+    assert_eq!(steps[16], Event::Step(0));
+    let mut round = cilvm::RoundRobin::with_collector(255);
+    assert_eq!(round.nth(32), Some(Event::Gc));
+    assert_eq!(round.next(), Some(Event::Step(0)));
+}
+
+#[test]
 fn refusals_have_a_number_and_a_text() {
     let Err(Refused::Number(number, text)) = Machine::open(b"x", Limits::default()) else {
         panic!()

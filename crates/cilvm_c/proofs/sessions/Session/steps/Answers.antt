@@ -11,6 +11,7 @@ returns c =
     subst (λ h. HasStepped c.args.thread h c.args.most c.match-self.done c.match-self.result (the_view c.match-self.self-inside)) c.self.view_is
     (elim c.match-self.branch [
       | in-None w ↦ steps_closed (the_view inside) _ _ w.in-None.is (w.result-is ∙ w.number_of.ensures) (ap the_view w.self-inside-is) c.args.thread c.args.most c.match-self.done w.done-is
-      | in-Some w ↦ steps_open (the_view inside) _ _ w.in-Some.machine w.make_steps.new.machine w.make_steps.result w.in-Some.is (w.result-is ∙ w.number_of-in-Some.ensures) (ap the_view w.self-inside-is) c.args.thread c.args.most c.match-self.done
-          (subst (λ n. MakesSteps w.in-Some.machine inside.most_printed c.args.thread c.args.most n w.make_steps.result w.make_steps.new.machine) (sym w.done-is) w.make_steps.ensures)
+      | in-Some w ↦ let makes = w.make_steps.ensures in
+          steps_open (the_view inside) _ _ w.in-Some.machine w.make_steps.new.machine makes.0 w.in-Some.is (w.result-is ∙ makes.1) (ap the_view w.self-inside-is) c.args.thread c.args.most c.match-self.done
+          (subst (λ n. MakesSteps w.in-Some.machine inside.most_printed c.args.thread c.args.most n makes.0 w.make_steps.new.machine) (sym w.done-is) makes.2)
     ])
