@@ -1,5 +1,5 @@
 #!/bin/sh
-# Measures: `bench/measure.sh NAME..` builds each of these programs of bench/programs, runs it, and prints a table of what it tells.
+# Measures: `bench/measure.sh NAME..` builds each of these programs of bench/programs, runs it, and prints a table of its figures.
 # bench/README.md says what they measure.
 #
 # A program is copied to a temporary folder, where `tools/build --program` proves it on this repository's own crates, which it names in its
@@ -7,7 +7,7 @@
 # repository is there for them alone. Crates that `./cilvm --prove` has proved are not proved again. The program's files end in `.txt` here,
 # since the gate asks that every source belongs to a crate.
 #
-# What a program prints is lines `NAME: FIGURE UNIT (WHAT WAS DONE)`, the last part where there is something to tell.
+# What a program prints is lines `NAME: FIGURE UNIT (WHAT WAS DONE)`, the last part where there is something to say.
 #
 # Beside some programs stands a `baseline.rs`, a plain program in Rust that does the same and prints the same lines. It is built by
 # `rustc -O`, and both run in turns, five times each, so that other work on the machine slows both alike. The table has the best
@@ -39,7 +39,7 @@ run() {
 }
 
 # Prints the rows of a program by the lines in `ours` and `theirs`.
-tell() {
+print_rows() {
     awk '
         # The better of two figures, the first of which may be missing.
         function better(one, other, is_time) {
@@ -52,15 +52,15 @@ tell() {
             rest = substr($0, place + 2)
             space = index(rest, " ")
             figure = substr(rest, 1, space - 1)
-            told = substr(rest, space + 1)
+            rest_of_line = substr(rest, space + 1)
             if (!place || figure !~ /^[0-9]+(\.[0-9]+)?$/) {
                 print "  " $0
                 is_bad = 1
                 next
             }
-            if (!(name in done)) { names[++count] = name; done[name] = told }
-            if (done[name] != told) { print "  " name ": " done[name] ", and " told; is_bad = 1 }
-            is_time[name] = told ~ /^(micro|milli)seconds/
+            if (!(name in done)) { names[++count] = name; done[name] = rest_of_line }
+            if (done[name] != rest_of_line) { print "  " name ": " done[name] ", and " rest_of_line; is_bad = 1 }
+            is_time[name] = rest_of_line ~ /^(micro|milli)seconds/
             if (FILENAME ~ /ours$/) ours[name] = better(ours[name], figure, is_time[name])
             else theirs[name] = better(theirs[name], figure, is_time[name])
         }
@@ -84,5 +84,5 @@ printf "%-40s %9s %9s %6s\n" "" ours baseline ratio
 for name in "$@"; do
     run "$top/bench/programs/$name"
     echo "$name"
-    tell
+    print_rows
 done
