@@ -1,7 +1,6 @@
 -- What an error that a `?` hands on is, and why a source or its limits are refused.
-use Rattle.std.proofs.Common.{◌≡◌, ℕ, Bool, true, false, List, Result, Ok, Err, refl, sym, ◌∙◌, subst, inl, inr}
+use Rattle.std.proofs.Common.{◌≡◌, ℕ, Bool, true, false, List, Result, Ok, Err, refl, sym, subst, inl, inr}
 use Rattle.std.specs.Prelude.{◌↔◌, IfErr, IfOk, IsErrAnd, OnErr}
-use Rattle.cil_model.specs.Legality.{IsLegal}
 use Rattle.cil_model.specs.Ranges.{are_in_range}
 use Rattle.cil_model.specs.Sources.{HasTree, IsAnswer}
 use Rattle.cil_model.specs.Typings.{IsAccepted}
@@ -9,10 +8,12 @@ use Rattle.cil_model.specs.declared.limits.Limits.{Limits}
 use Rattle.cil_model.specs.declared.trees.Tree.{Tree}
 use Rattle.interleaving_core.specs.declared.machine.Refused.{Refused as NotMade}
 use Rattle.interleaving_core.specs.declared.machine.Refused.TheVariants.{Limits as BadLimits, OutOfMemory as NotMadeForMemory}
-use Rattle.verifier.specs.Verdicts.{IsVerdict}
-use Rattle.verifier.specs.declared.refusals.VerifyError.{VerifyError}
-use Rattle.acceptance.specs.Failures.{failure_of_making, failure_of_verifying}
-use Rattle.acceptance.specs.Sources.{IsAcceptedSource, IsNotAccepted, IsNotRunWithin}
+use Rattle.ilasm_reader.specs.Answers.{IsReadAnswer}
+use Rattle.ilasm_reader.specs.declared.reading.ReadError.{ReadError}
+use Rattle.ilasm_reader.specs.declared.reading.ReadError.TheVariants.{TooLong, NotAscii, NoToken, NoTree, OutOfMemory}
+use Rattle.acceptance.specs.Errors.{IsErrorOf, error_of_reading}
+use Rattle.acceptance.specs.Failures.{failure_of_making}
+use Rattle.acceptance.specs.Sources.{IsAcceptedSource, IsNotRunWithin}
 use Rattle.acceptance.specs.declared.failure.Failure.{Failure}
 
 pub handed_on : {T E : Type 0} {P gives : E → Type 0} (r : Result T E) → IsErrAnd r gives → ((e : E) → gives e → P e) → IfErr r P
@@ -35,16 +36,17 @@ pub on_err_of : {T E : Type 0} {P Q : Type 0} (r : Result T E) → OnErr r P →
 on_err_of (Ok x) p f = tt
 on_err_of (Err e) p f = f p
 
--- a program that was verified
-pub accepted_source : (source : List ℕ) (tree program verified : Tree) → IsAnswer source (HasTree tree) → program ≡ tree → IsVerdict program (Ok verified) → IsAcceptedSource source verified
-accepted_source source tree program verified read same verdict =
-    subst (IsAcceptedSource source) (sym (verdict.0 ∙ same)) (record { read = read; accepted = subst IsAccepted same verdict.1 })
+-- an accepted tree that the source has
+pub accepted_source : (source : List ℕ) (tree verified : Tree) → IsAnswer source (HasTree tree) → verified ≡ tree → IsAccepted tree → IsAcceptedSource source verified
+accepted_source source tree verified read same accepted = subst (IsAcceptedSource source) (sym same) (record { read = read; accepted = accepted })
 
--- a program that was not
-pub untyped_source : (source : List ℕ) (tree program : Tree) (error : VerifyError) (failure : Failure) → IsAnswer source (HasTree tree) → program ≡ tree → IsLegal tree
-    → IsVerdict program (Err error) → failure ≡ failure_of_verifying error → IsNotAccepted source failure
-untyped_source source tree program error failure read same legal verdict told =
-    inr (tree, read, inr (inl (legal, (error, subst (λ (t : Tree). IsVerdict t (Err error)) same verdict, told))))
+-- a source that the reader refuses
+pub read_error : (source : List ℕ) (error : ReadError) → IsReadAnswer source (Err error) → IsErrorOf source (error_of_reading error)
+read_error source TooLong answer = (answer, λ same. absurd (cc same))
+read_error source (NotAscii offset) answer = (answer, λ same. absurd (cc same))
+read_error source (NoToken offset) answer = (answer, λ same. absurd (cc same))
+read_error source (NoTree offset expected) answer = (answer, λ same. absurd (cc same))
+read_error source OutOfMemory answer = answer
 
 -- a machine that was not made: its limits, or else memory
 pub not_made : {T : Type 0} (limits : Limits) (error : NotMade) (failure : Failure) → (◌≡◌ {A = Result T NotMade} (Err error) (Err BadLimits)) ↔ (are_in_range limits ≡ false) → failure ≡ failure_of_making error

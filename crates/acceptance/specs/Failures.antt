@@ -1,19 +1,10 @@
--- Why an order is not carried out, and what is told of it (this profile).
+-- Why an order is not carried out, and what is reported of it (this profile).
 use Rattle.std.specs.Fmt.{decimal}
 use Rattle.std.specs.IoError.{error_kind}
 use Rattle.std.specs.Prelude.{◌≡◌, ◌≢◌, ◌⊎◌, ◌++◌, ◌∷◌, [], ℕ, Bool, true, false, List, codes}
 use Rattle.outputs.specs.Taken.{Fails, Taken, Takes}
 use Rattle.std.specs.declared.io.Error.{Error}
 use Rattle.std.specs.declared.io.ErrorKind.TheVariants.{OutOfMemory}
-use Rattle.ilasm_reader.specs.Answers.{numbered as reading_number_of}
-use Rattle.ilasm_reader.specs.declared.reading.ReadError.{ReadError}
-use Rattle.ilasm_reader.specs.declared.reading.ReadError.TheVariants.{OutOfMemory as UnreadForMemory}
-use Rattle.metadata.specs.RuleNumbers.{number_of as legality_number_of}
-use Rattle.metadata.specs.declared.program.MetaError.{MetaError}
-use Rattle.metadata.specs.declared.program.MetaError.TheVariants.{OutOfMemory as UnresolvedForMemory}
-use Rattle.verifier.specs.Numbers.{typing_number_of}
-use Rattle.verifier.specs.declared.refusals.VerifyError.{VerifyError}
-use Rattle.verifier.specs.declared.refusals.VerifyError.TheVariants.{OutOfMemory as UnverifiedForMemory}
 use Rattle.interleaving_core.specs.Refusals.{number_of as making_number_of}
 use Rattle.interleaving_core.specs.declared.machine.Refused.{Refused as NotMade}
 use Rattle.interleaving_core.specs.declared.machine.Refused.TheVariants.{OutOfMemory as NotMadeForMemory}
@@ -23,19 +14,7 @@ use Rattle.schedule_text.specs.declared.errors.ScheduleError.TheVariants.{OutOfM
 use Rattle.acceptance.specs.declared.failure.Failure.{Failure}
 use Rattle.acceptance.specs.declared.failure.Failure.TheVariants.{Refused, OutOfRange, Memory, Device}
 
--- ---- what the error of a layer becomes: its number, but for want of memory
-
-abbrev pub failure_of_reading : ReadError → Failure
-failure_of_reading UnreadForMemory = Memory
-failure_of_reading error = Refused (reading_number_of error)
-
-abbrev pub failure_of_resolving : MetaError → Failure
-failure_of_resolving UnresolvedForMemory = Memory
-failure_of_resolving error = Refused (legality_number_of error)
-
-abbrev pub failure_of_verifying : VerifyError → Failure
-failure_of_verifying UnverifiedForMemory = Memory
-failure_of_verifying error = Refused (typing_number_of error)
+-- ---- what the error of a layer becomes: its number, or out of memory
 
 -- limits belong to the command line
 abbrev pub failure_of_making : NotMade → Failure
@@ -46,7 +25,7 @@ abbrev pub failure_of_schedule : ScheduleError → Failure
 failure_of_schedule UnscheduledForMemory = Memory
 failure_of_schedule error = Refused (schedule_number_of error)
 
--- what a failed read or write becomes: want of memory may come by a reader or a writer too
+-- what a failed read or write becomes: a reader or a writer may run out of memory too
 abbrev pub IsFailureOfDevice : Error → Failure → Type 0
 IsFailureOfDevice error failure = (error_kind error ≡ OutOfMemory → failure ≡ Memory)
     × (error_kind error ≢ OutOfMemory → failure ≡ Device)
@@ -55,7 +34,7 @@ IsFailureOfDevice error failure = (error_kind error ≡ OutOfMemory → failure 
 abbrev pub IsOfWriting : Failure → Type 0
 IsOfWriting failure = (failure ≡ Memory) ⊎ (failure ≡ Device)
 
--- ---- what is told of a failure
+-- ---- what is reported of a failure
 
 -- of the source, the limits or the schedule
 abbrev pub is_refusal : Failure → Bool

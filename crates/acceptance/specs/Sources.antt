@@ -1,6 +1,5 @@
 -- What comes of a source and its limits before the first event: the machine of an accepted program, or why there is none (this profile).
-use Rattle.std.specs.Prelude.{◌≡◌, ◌≢◌, ◌⊎◌, [], ℕ, true, false, List, Some, Err}
-use Rattle.cil_model.specs.Legality.{IsLegal, least_broken}
+use Rattle.std.specs.Prelude.{◌≡◌, ◌⊎◌, [], ℕ, true, false, List, Some}
 use Rattle.cil_model.specs.Ranges.{are_in_range}
 use Rattle.cil_model.specs.Sources.{HasTree, IsAnswer}
 use Rattle.cil_model.specs.Typings.{IsAccepted}
@@ -8,13 +7,6 @@ use Rattle.cil_model.specs.declared.events.Event.{Event}
 use Rattle.cil_model.specs.declared.limits.Limits.{Limits}
 use Rattle.cil_model.specs.declared.reports.Report.{Report}
 use Rattle.cil_model.specs.declared.trees.Tree.{Tree}
-use Rattle.ilasm_reader.specs.Answers.{IsReadAnswer}
-use Rattle.ilasm_reader.specs.declared.reading.ReadError.{ReadError}
-use Rattle.metadata.specs.RuleNumbers.{number_of as legality_number_of}
-use Rattle.metadata.specs.declared.program.MetaError.{MetaError}
-use Rattle.metadata.specs.declared.program.MetaError.TheVariants.{OutOfMemory as NoMemoryForNames}
-use Rattle.verifier.specs.Verdicts.{IsVerdict}
-use Rattle.verifier.specs.declared.refusals.VerifyError.{VerifyError}
 use Rattle.interleaving_core.specs.Histories.{HasDone}
 use Rattle.interleaving_core.specs.simulation.MachineContents.{Content}
 use Rattle.interleaving_core.specs.simulation.StandsFor.{Represents}
@@ -22,7 +14,9 @@ use Rattle.interleaving_core.specs.simulation.Turns.{opening_content}
 use Rattle.interleaving_core.specs.simulation.reference_machine.Runs.{opening}
 use Rattle.interleaving_core.specs.simulation.reference_machine.States.{State}
 use Rattle.interleaving_core.specs.declared.machine.Refused.TheVariants.{Limits as BadLimits}
-use Rattle.acceptance.specs.Failures.{failure_of_making, failure_of_reading, failure_of_resolving, failure_of_verifying}
+use Rattle.acceptance.specs.Errors.{IsErrorOf, failure_of_source}
+use Rattle.acceptance.specs.Failures.{failure_of_making}
+use Rattle.acceptance.specs.declared.errors.SourceError.{SourceError}
 use Rattle.acceptance.specs.declared.failure.Failure.{Failure}
 use Rattle.acceptance.specs.declared.failure.Failure.TheVariants.{Memory}
 
@@ -37,19 +31,9 @@ pub record IsAcceptedSource (source : List ℕ) (tree : Tree) : Type 0 where
 abbrev pub IsLetIn : List ℕ → Type 0
 IsLetIn source = (tree : Tree) × IsAcceptedSource source tree
 
--- a tree is no legal program: the least rule that it breaks has the number that is told, but for want of memory
-abbrev pub IsIllegal : Tree → Failure → Type 0
-IsIllegal tree failure = (error : MetaError) × (error ≢ NoMemoryForNames → least_broken tree ≡ Some (legality_number_of error)) × (failure ≡ failure_of_resolving error)
-
--- a legal program is not accepted: this is the first method without a typing, but for want of memory
-abbrev pub IsUntyped : Tree → Failure → Type 0
-IsUntyped tree failure = IsLegal tree × ((error : VerifyError) × IsVerdict tree (Err error) × (failure ≡ failure_of_verifying error))
-
--- why a source is not accepted: its bytes have no tree, or the tree is no legal program, or a method of it has no typing; or memory is wanted
+-- why a source is not accepted: one of its errors, reported as this failure
 abbrev pub IsNotAccepted : List ℕ → Failure → Type 0
-IsNotAccepted source failure =
-    ((error : ReadError) × IsReadAnswer source (Err error) × (failure ≡ failure_of_reading error))
-    ⊎ ((tree : Tree) × IsAnswer source (HasTree tree) × (IsIllegal tree failure ⊎ (IsUntyped tree failure ⊎ (failure ≡ Memory))))
+IsNotAccepted source failure = (error : SourceError) × IsErrorOf source error × (failure ≡ failure_of_source error)
 
 -- ---- the machine
 

@@ -1,24 +1,20 @@
-//! Why a source is not run, or an order not carried out, and what is told of it.
+//! Why a source is not run, or an order not carried out, and what is reported of it.
 
 ghost use Rattle.std.specs.Prelude.{◌≡◌, OnErr, OnOk};
 ghost use Rattle.outputs.specs.Taken.{Fails, Takes};
 ghost use Rattle.acceptance.specs.Failures.{IsFailureOfDevice, IsReported, failure_of_making};
-ghost use Rattle.acceptance.specs.Failures.{failure_of_reading, failure_of_resolving};
-ghost use Rattle.acceptance.specs.Failures.{failure_of_schedule, failure_of_verifying};
+ghost use Rattle.acceptance.specs.Failures.{failure_of_schedule};
 ghost use Rattle.acceptance.specs.Failures.{is_refusal, message_of, number_line, status_of_failure};
 ghost use Rattle.acceptance.specs.declared.failure.Failure.TheVariants.{Device as BrokenDevice, Memory};
 
 use cil_model::memory::NoMemory;
-use ilasm_reader::ReadError;
 use interleaving_core::Refused;
 use itoa::Buffer;
-use metadata::MetaError;
 use outputs::{Device, Out};
 use schedule_text::ScheduleError;
 use std::alloc::AllocError;
 use std::io;
 use std::io::ErrorKind;
-use verifier::VerifyError;
 
 /// Why an order was not carried out.
 #[derive(Clone, Copy, Debug, PartialEq, Eq)]
@@ -81,39 +77,6 @@ impl From<Device> for Failure {
     }
 }
 
-impl From<ReadError> for Failure {
-    ghost from_gives = { λ error failure. failure ≡ failure_of_reading error };
-
-    fn from(error: ReadError) -> Failure {
-        match error {
-            ReadError::OutOfMemory => Failure::Memory,
-            _ => Failure::Refused(error.number()),
-        }
-    }
-}
-
-impl From<MetaError> for Failure {
-    ghost from_gives = { λ error failure. failure ≡ failure_of_resolving error };
-
-    fn from(error: MetaError) -> Failure {
-        match error {
-            MetaError::OutOfMemory => Failure::Memory,
-            _ => Failure::Refused(error.number()),
-        }
-    }
-}
-
-impl From<VerifyError> for Failure {
-    ghost from_gives = { λ error failure. failure ≡ failure_of_verifying error };
-
-    fn from(error: VerifyError) -> Failure {
-        match error {
-            VerifyError::OutOfMemory => Failure::Memory,
-            _ => Failure::Refused(error.number()),
-        }
-    }
-}
-
 impl From<Refused> for Failure {
     ghost from_gives = { λ error failure. failure ≡ failure_of_making error };
 
@@ -153,14 +116,14 @@ pub fn tell<E: Out>(failure: Failure, err: &mut E) -> Result<(), Device>
     ensures cut { OnErr result (Fails (E.taken err.old) (E.taken err.new) (message_of failure)) }
 {
     match failure {
-        Failure::Refused(number) | Failure::OutOfRange(number) => tell_number(number, err),
+        Failure::Refused(number) | Failure::OutOfRange(number) => write_number(number, err),
         Failure::Memory => err.write_whole(b"memory\n"),
         Failure::Device => err.write_whole(b"device\n"),
     }
 }
 
 /// Writes the line of a refusal's number.
-fn tell_number<E: Out>(number: u16, err: &mut E) -> Result<(), Device>
+fn write_number<E: Out>(number: u16, err: &mut E) -> Result<(), Device>
     ensures whole { OnOk result (Takes (E.taken err.old) (E.taken err.new) (number_line number)) }
     ensures cut { OnErr result (Fails (E.taken err.old) (E.taken err.new) (number_line number)) }
 {
@@ -168,7 +131,7 @@ fn tell_number<E: Out>(number: u16, err: &mut E) -> Result<(), Device>
     err.write_texts(&["error ", digits.format(number), "\n"])
 }
 
-/// The status that the program ends with where it is told of this failure: 1 for a source or a schedule that is refused, 2 for limits, and
+/// The status that the program ends with on this failure: 1 for a source or a schedule that is refused, 2 for limits, and
 /// 5 for memory and devices.
 pub fn status_of_failure(failure: Failure) -> u8
     ensures { result ≡ status_of_failure failure }

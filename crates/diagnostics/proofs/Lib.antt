@@ -1,1 +1,1 @@
-pub mod VerdictLemmas
+mod RefusalLemmas

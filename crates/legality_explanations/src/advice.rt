@@ -1,6 +1,6 @@
 //! What to write in the place of names that this profile lacks.
 
-use crate::sentences::{tell_one, tell_two};
+use crate::sentences::{write_one, write_two};
 use crate::sites::key_of;
 use crate::unknown::{Role, Unknown, library_of};
 use metadata::violations::ClassFault;
@@ -30,15 +30,15 @@ impl fmt::Display for Advice<'_> {
         match *self {
             Advice::Sentence(sentence) => f.write_str(sentence),
             Advice::Extern(library) => {
-                let behind = " {}` before the classes";
-                tell_one(f, "write `.assembly extern ", &library, behind)
+                let after = " {}` before the classes";
+                write_one(f, "write `.assembly extern ", &library, after)
             }
             Advice::Name(name) => {
                 let after = "`: names are case-sensitive";
-                tell_one(f, "write `", &name, after)
+                write_one(f, "write `", &name, after)
             }
             Advice::BuiltIn { library, class } => {
-                tell_two(f, "write `[", &library, "]", &class, "`")
+                write_two(f, "write `[", &library, "]", &class, "`")
             }
         }
     }
@@ -193,7 +193,7 @@ fn advice_on_member_near<'a>(unknown: &Unknown<'a>) -> Option<&'static str> {
     }
 }
 
-/// What to write in the place of a name that stands for nothing of the kind needed.
+/// What to write in the place of a name that denotes nothing of the kind needed.
 pub(crate) fn advice_on<'a>(unknown: &Unknown<'a>) -> Option<Advice<'a>> {
     match unknown {
         Unknown::Extern(_) => Some(Advice::Extern("mscorlib")),

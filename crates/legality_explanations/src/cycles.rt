@@ -1,7 +1,10 @@
 //! Classes that stand in the chain of their own base (number 203).
 
+ghost use Rattle.std.specs.Prelude.{IfSome};
+ghost use Rattle.legality_explanations.specs.Places.{IsOfClass};
+
 use crate::breaches::{Breach, Found};
-use crate::sentences::{tell_one, tell_two};
+use crate::sentences::{write_one, write_two};
 use crate::sites::{Sites, class_key};
 use source_positions::name_tables::keys::ClassKey;
 use source_positions::name_tables::lookups::NameTables;
@@ -23,7 +26,7 @@ pub struct OwnBase<'a> {
 impl fmt::Display for OwnBase<'_> {
     fn fmt<W: fmt::Write>(&self, f: &mut fmt::Formatter<W>) -> fmt::Result {
         let class = ClassText(self.class);
-        tell_two(
+        write_two(
             f,
             "the class `",
             &class,
@@ -31,7 +34,7 @@ impl fmt::Display for OwnBase<'_> {
             &class,
             "`",
         )?;
-        tell_bases(f, self)
+        write_bases(f, self)
     }
 }
 
@@ -43,7 +46,7 @@ fn base_of<'a>(names: &NameTables<'a>, class: usize) -> Option<(usize, ClassKey<
     Some((base, class_key(names, base)?))
 }
 
-fn tell_bases<W: fmt::Write>(f: &mut fmt::Formatter<W>, own_base: &OwnBase) -> fmt::Result {
+fn write_bases<W: fmt::Write>(f: &mut fmt::Formatter<W>, own_base: &OwnBase) -> fmt::Result {
     let mut class = own_base.number;
     for _ in 0..MOST_NAMED {
         let Some((base, key)) = base_of(own_base.names, class) else {
@@ -51,7 +54,7 @@ fn tell_bases<W: fmt::Write>(f: &mut fmt::Formatter<W>, own_base: &OwnBase) -> f
         };
         class = base;
         let text = ClassText(key);
-        tell_one(f, " extends `", &text, "`")?;
+        write_one(f, " extends `", &text, "`")?;
         if key == own_base.class {
             return Ok(());
         }
@@ -60,7 +63,9 @@ fn tell_bases<W: fmt::Write>(f: &mut fmt::Formatter<W>, own_base: &OwnBase) -> f
 }
 
 /// A class that is its own base. None where the tree has no such class.
-pub(crate) fn own_base<'a>(names: &'a NameTables<'a>, class: usize) -> Option<Found<OwnBase<'a>>> {
+pub(crate) fn own_base<'a>(names: &'a NameTables<'a>, class: usize) -> Option<Found<OwnBase<'a>>>
+    ensures { IfSome result (λ found. IfSome found.1.place (IsOfClass class)) }
+{
     let declared = names.classes.tree.classes.as_slice().get(class)?;
     let key = ClassKey::of_source(declared);
     let own_base = OwnBase {

@@ -1,7 +1,7 @@
 //! Names that stand twice (number 201).
 
 use crate::breaches::{Breach, Found};
-use crate::sentences::{tell_one, tell_two};
+use crate::sentences::{write_one, write_two};
 use crate::sites::{MemberSpot, Sites, class_name, key_of, listed_interface, located_method};
 use metadata::violations;
 use metadata::violations::{DoubledInClass, Repeat, SourceMember};
@@ -38,22 +38,22 @@ pub enum Doubled<'a> {
 impl fmt::Display for Doubled<'_> {
     fn fmt<W: fmt::Write>(&self, f: &mut fmt::Formatter<W>) -> fmt::Result {
         match self {
-            Doubled::Extern(name) => tell_name(f, "the extern `", *name, "` is declared twice"),
-            Doubled::Class(name) => tell_name(f, "two classes have the name `", *name, "`"),
+            Doubled::Extern(name) => write_name(f, "the extern `", *name, "` is declared twice"),
+            Doubled::Class(name) => write_name(f, "two classes have the name `", *name, "`"),
             Doubled::Interface { class, interface } => {
                 let interface = ClassText(*interface);
-                tell_of_class(f, *class, "` lists `", &interface, "` twice")
+                write_of_class(f, *class, "` lists `", &interface, "` twice")
             }
             Doubled::Field { class, field } => {
                 let field = field.as_str();
-                tell_of_class(f, *class, "` has two fields `", &field, "`")
+                write_of_class(f, *class, "` has two fields `", &field, "`")
             }
             Doubled::Method { class, method } => {
                 let method = MethodText(*method);
-                tell_of_class(f, *class, "` has two methods `", &method, "`")
+                write_of_class(f, *class, "` has two methods `", &method, "`")
             }
             Doubled::Label(name) => {
-                tell_name(f, "the label `", *name, "` is defined twice in the method")
+                write_name(f, "the label `", *name, "` is defined twice in the method")
             }
         }
     }
@@ -65,24 +65,24 @@ impl Breach for Doubled<'_> {
     }
 }
 
-fn tell_name<W: fmt::Write>(
+fn write_name<W: fmt::Write>(
     f: &mut fmt::Formatter<W>,
     before: &str,
     name: &Text,
-    behind: &str,
+    after: &str,
 ) -> fmt::Result {
-    tell_one(f, before, &name.as_str(), behind)
+    write_one(f, before, &name.as_str(), after)
 }
 
 /// What a class has twice.
-fn tell_of_class<W: fmt::Write, N: fmt::Display>(
+fn write_of_class<W: fmt::Write, N: fmt::Display>(
     f: &mut fmt::Formatter<W>,
     class: &Text,
     verb: &str,
     name: &N,
-    behind: &str,
+    after: &str,
 ) -> fmt::Result {
-    tell_two(f, "the class `", &class.as_str(), verb, name, behind)
+    write_two(f, "the class `", &class.as_str(), verb, name, after)
 }
 
 /// A name that stands twice, at the second of its places.
@@ -164,8 +164,8 @@ fn label_at(spot: MemberSpot, method: &Method, place: usize) -> Option<(&Text, P
     for (number, line) in lines_of(method).iter().enumerate() {
         let labels = line.labels.as_slice();
         if let Some(label) = labels.get(left) {
-            let behind = labels.len().saturating_sub(left);
-            return Some((label, spot.line(number, LinePart::Label(behind))));
+            let after = labels.len().saturating_sub(left);
+            return Some((label, spot.line(number, LinePart::Label(after))));
         }
         left = left.saturating_sub(labels.len());
     }

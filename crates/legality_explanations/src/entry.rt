@@ -1,8 +1,11 @@
 //! The entry point (number 206).
 
+ghost use Rattle.std.specs.Prelude.{◌≡◌, IfSome};
+ghost use Rattle.legality_explanations.specs.Places.{IsOfClass};
+
 use crate::advice::Advice;
 use crate::breaches::{Breach, Found};
-use crate::sentences::{tell_one, tell_two};
+use crate::sentences::{write_one, write_two};
 use crate::sites::{Sites, key_of, located_method};
 use metadata::violations;
 use metadata::violations::SourceMember;
@@ -35,19 +38,21 @@ impl fmt::Display for BadEntry<'_> {
             BadEntry::Returns(declared) => {
                 let declared = TypeText(*declared);
                 let before = "the method with `.entrypoint` returns `";
-                tell_one(f, before, &declared, "`, and not `void`")
+                write_one(f, before, &declared, "`, and not `void`")
             }
             BadEntry::Unfit { method, fault } => {
                 let method = MethodText(*method);
                 let between = "` has `.entrypoint`, but ";
-                tell_two(f, "the method `", &method, between, fault, "")
+                write_two(f, "the method `", &method, between, fault, "")
             }
         }
     }
 }
 
 /// The place of a method's entry point, and the method.
-fn entry_at(tree: &Tree, method: SourceMember) -> Option<(Place, &Method)> {
+fn entry_at(tree: &Tree, method: SourceMember) -> Option<(Place, &Method)>
+    ensures { IfSome result (λ found. IsOfClass method.class found.0) }
+{
     let (spot, declared) = located_method(tree, method)?;
     Some((spot.part(MemberPart::EntryPoint), declared))
 }
@@ -66,7 +71,9 @@ impl Breach for BadEntry<'_> {
     }
 }
 
-fn found(entry: BadEntry<'_>, sites: Sites) -> Option<Found<BadEntry<'_>>> {
+fn found(entry: BadEntry<'_>, sites: Sites) -> Option<Found<BadEntry<'_>>>
+    ensures { IfSome result (λ found. found.1 ≡ sites) }
+{
     Some((entry, sites))
 }
 
@@ -74,7 +81,10 @@ fn second_entry(
     tree: &Tree,
     first: SourceMember,
     second: SourceMember,
-) -> Option<Found<BadEntry<'_>>> {
+) -> Option<Found<BadEntry<'_>>>
+    ensures again { IfSome result (λ found. IfSome found.1.place (IsOfClass second.class)) }
+    ensures first { IfSome result (λ found. IfSome found.1.other (IsOfClass first.class)) }
+{
     let (first, _) = entry_at(tree, first)?;
     let (second, _) = entry_at(tree, second)?;
     found(BadEntry::Second, Sites::beside(second, Some(first)))

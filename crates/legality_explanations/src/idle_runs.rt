@@ -113,7 +113,7 @@ fn push_idle_run(
         class: class.name.as_str(),
         method: MethodKey::new(&method.name, &method.signature),
     };
-    let offset = offset_of(alloc, named.text, spot.name())?;
+    let offset = offset_of(named.text, spot.name());
     let sentence = run.to_string(alloc)?;
     named.push_where(notes, offset, sentence.as_str())?;
     writeln!(
@@ -124,7 +124,7 @@ fn push_idle_run(
 }
 
 /// A note on each class of a tree that extends `Cilvm.Thread` and has methods `Run`, none of which overrides that of `Cilvm.Thread`, at the
-/// last of them; an empty text where there is no such class. Fails for want of memory alone.
+/// last of them; an empty text where there is no such class. Fails only when out of memory.
 pub fn notes_on_runs(alloc: Global, named: Named, tree: &Tree) -> Result<String, NoMemory> {
     let table = BuiltInClass::all(alloc)?;
     let names = NameTables::new(alloc, tree, table.as_slice())?;

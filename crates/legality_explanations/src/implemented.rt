@@ -1,5 +1,8 @@
 //! Methods of listed interfaces that are absent (number 204).
 
+ghost use Rattle.std.specs.Prelude.{IfSome};
+ghost use Rattle.legality_explanations.specs.Places.{IsOfClass};
+
 use crate::breaches::{Breach, Found};
 use crate::sites::{Sites, class_key, listed_interface, method_key, method_place};
 use metadata::violations;
@@ -58,7 +61,9 @@ fn owner_along<'a>(names: &NameTables<'a>, first: &Class, key: MethodKey) -> Opt
 pub(crate) fn not_implemented<'a>(
     names: &NameTables<'a>,
     absent: violations::NotImplemented,
-) -> Option<Found<NotImplemented<'a>>> {
+) -> Option<Found<NotImplemented<'a>>>
+    ensures { IfSome result (λ found. IfSome found.1.place (IsOfClass absent.class)) }
+{
     let violations::NotImplemented { class, listed } = absent;
     let declared = names.classes.tree.classes.as_slice().get(class)?;
     let interface = listed_interface(declared, listed.interface)?;

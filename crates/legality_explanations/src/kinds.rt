@@ -1,7 +1,7 @@
 //! Methods whose kinds do not fit (number 205).
 
 use crate::breaches::{Breach, Found};
-use crate::sentences::{tell_one, tell_two};
+use crate::sentences::{write_one, write_two};
 use crate::sites::{
     MemberSpot, Sites, class_key, class_name, key_of, method_key, method_place, source_number,
 };
@@ -48,7 +48,7 @@ impl fmt::Display for Misfit<'_> {
             Misfit::InInterface { interface, method } => {
                 let interface = interface.as_str();
                 let method = MethodText(*method);
-                tell_two(
+                write_two(
                     f,
                     "the method `",
                     &method,
@@ -60,7 +60,7 @@ impl fmt::Display for Misfit<'_> {
             Misfit::Abstract { class, method } => {
                 let class = class.as_str();
                 let method = MethodText(*method);
-                tell_two(
+                write_two(
                     f,
                     "the class `",
                     &class,
@@ -74,7 +74,7 @@ impl fmt::Display for Misfit<'_> {
                 owner,
                 method,
                 hidden_by,
-            } => tell_left_open(f, *class, *owner, *method, *hidden_by),
+            } => write_left_open(f, *class, *owner, *method, *hidden_by),
             Misfit::OverPlain {
                 class,
                 method,
@@ -82,7 +82,7 @@ impl fmt::Display for Misfit<'_> {
             } => {
                 let class = class.as_str();
                 let method = MethodText(*method);
-                tell_two(
+                write_two(
                     f,
                     "the method `",
                     &method,
@@ -91,13 +91,13 @@ impl fmt::Display for Misfit<'_> {
                     "` is virtual without newslot, but that of `",
                 )?;
                 let owner = ClassText(*owner);
-                tell_one(f, "", &owner, "`, which it would override, is not virtual")
+                write_one(f, "", &owner, "`, which it would override, is not virtual")
             }
         }
     }
 }
 
-fn tell_left_open<W: fmt::Write>(
+fn write_left_open<W: fmt::Write>(
     f: &mut fmt::Formatter<W>,
     class: &Text,
     owner: ClassKey,
@@ -106,7 +106,7 @@ fn tell_left_open<W: fmt::Write>(
 ) -> fmt::Result {
     let class = class.as_str();
     let method = MethodText(method);
-    tell_two(
+    write_two(
         f,
         "the class `",
         &class,
@@ -115,13 +115,13 @@ fn tell_left_open<W: fmt::Write>(
         "` of `",
     )?;
     let owner = ClassText(owner);
-    tell_one(f, "", &owner, "` is not overridden in it")?;
+    write_one(f, "", &owner, "` is not overridden in it")?;
     match hidden_by {
         None => Ok(()),
         Some(hiding) => {
             let hiding = ClassText(hiding);
-            let behind = "` is another, since it has newslot or is not virtual";
-            tell_one(f, ": that of `", &hiding, behind)
+            let after = "` is another, since it has newslot or is not virtual";
+            write_one(f, ": that of `", &hiding, after)
         }
     }
 }

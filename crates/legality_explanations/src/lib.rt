@@ -20,4 +20,4 @@ mod unknown;
 
 pub use idle_runs::notes_on_runs;
 pub use metadata;
-pub use rules::{broken, explain_rule};
+pub use rules::explain_rule;

@@ -94,7 +94,7 @@ fn count_classes(types: NamedTypes) -> usize {
 }
 
 /// How many types that name a class stand in the text of a member or a line before one: a result before its parameters, and locals
-/// behind the signature.
+/// after the signature.
 fn classes_before(tree: &Tree, site: TypeSite) -> Option<usize> {
     let types = types_of(tree, site.part)?;
     if site.place >= types.parameters.len() {

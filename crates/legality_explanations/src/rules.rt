@@ -16,11 +16,8 @@ use source_positions::name_tables::lookups::NameTables;
 use source_positions::{Named, Place, offset_of};
 use std::alloc::Global;
 
-fn offset_at(alloc: Global, text: &[u8], place: Option<Place>) -> Result<Option<usize>, NoMemory> {
-    match place {
-        None => Ok(None),
-        Some(place) => offset_of(alloc, text, place),
-    }
+fn offset_at(text: &[u8], place: Option<Place>) -> Option<usize> {
+    offset_of(text, place?)
 }
 
 /// The sentence of a breach at its place.
@@ -30,20 +27,19 @@ fn sentence_at<B: Breach>(
     breach: &B,
     place: Option<Place>,
 ) -> Result<String, NoMemory> {
-    let offset = offset_at(alloc, named.text, place)?;
+    let offset = offset_at(named.text, place);
     let sentence = breach.to_string(alloc)?;
     named.message(alloc, offset, sentence.as_str())
 }
 
 /// Adds what stands at the place with which a breach does not agree, if there is one.
 fn push_note<B: Breach>(
-    alloc: Global,
     message: &mut String,
     named: Named,
     breach: &B,
     other: Option<Place>,
 ) -> Result<(), NoMemory> {
-    match offset_at(alloc, named.text, other)? {
+    match offset_at(named.text, other) {
         None => Ok(()),
         offset => named.push_where(message, offset, breach.note()),
     }
@@ -51,61 +47,73 @@ fn push_note<B: Breach>(
 
 /// A source that breaks a rule, to a person.
 #[derive(Clone, Copy)]
-struct Telling<'a> {
+struct Explanation<'a> {
     alloc: Global,
     named: Named<'a>,
     violation: Violation,
 }
 
-impl Telling<'_> {
+impl Explanation<'_> {
     /// What was found of the rule that is broken, in words; the rule's own sentence where nothing was.
-    fn told<B: Breach + Copy + Drop>(&self, found: Option<Found<B>>) -> Result<String, NoMemory> {
+    fn of_breach<B: Breach + Copy + Drop>(
+        &self,
+        found: Option<Found<B>>,
+    ) -> Result<String, NoMemory> {
         let Some((breach, sites)) = found else {
             return broken(self.alloc, self.named, self.violation);
         };
         let mut message = sentence_at(self.alloc, self.named, &breach, sites.place)?;
-        push_note(self.alloc, &mut message, self.named, &breach, sites.other)?;
+        push_note(&mut message, self.named, &breach, sites.other)?;
         if let Some(advice) = breach.advice() {
             writeln!(message, "help: {advice}")?;
         }
         Ok(message)
     }
 
-    fn told_violation(&self, names: &NameTables) -> Result<String, NoMemory> {
-        let tree = names.classes.tree;
+    /// What was found of a rule that is broken, by the names of the tree where it needs them.
+    fn of_violation(&self, tree: &Tree) -> Result<String, NoMemory> {
         match self.violation {
-            Violation::Doubled(doubled) => self.told(doubled_name(tree, doubled)),
-            Violation::Unknown(unknown) => self.told(unknown_name(names, unknown)),
-            Violation::OwnBase { class } => self.told(own_base(names, class)),
-            Violation::NotImplemented(absent) => self.told(not_implemented(names, absent)),
-            Violation::Misfit(misfit) => self.told(misfit_of(names, misfit)),
-            Violation::BadEntry(entry) => self.told(bad_entry(tree, entry)),
-            Violation::Passed(passed) => self.told(passed_limit(names, passed)),
+            Violation::Doubled(doubled) => self.of_breach(doubled_name(tree, doubled)),
+            Violation::BadEntry(entry) => self.of_breach(bad_entry(tree, entry)),
+            _ => {
+                let table = BuiltInClass::all(self.alloc)?;
+                let names = NameTables::new(self.alloc, tree, table.as_slice())?;
+                self.by_names(&names)
+            }
+        }
+    }
+
+    fn by_names(&self, names: &NameTables) -> Result<String, NoMemory> {
+        match self.violation {
+            Violation::Unknown(unknown) => self.of_breach(unknown_name(names, unknown)),
+            Violation::OwnBase { class } => self.of_breach(own_base(names, class)),
+            Violation::NotImplemented(absent) => self.of_breach(not_implemented(names, absent)),
+            Violation::Misfit(misfit) => self.of_breach(misfit_of(names, misfit)),
+            Violation::Passed(passed) => self.of_breach(passed_limit(names, passed)),
+            _ => broken(self.alloc, self.named, self.violation),
         }
     }
 }
 
 /// Why a tree breaks a rule, in words; the rule's own sentence where the tree has no such place. Where that does not agree with something
 /// else, as with the first of two names, a second part of the text shows it; of a name that this profile lacks the last line says what to
-/// write instead. Fails for want of memory alone.
+/// write instead. Fails only when out of memory.
 pub fn explain_rule(
     alloc: Global,
     named: Named,
     tree: &Tree,
     violation: Violation,
 ) -> Result<String, NoMemory> {
-    let table = BuiltInClass::all(alloc)?;
-    let names = NameTables::new(alloc, tree, table.as_slice())?;
-    let telling = Telling {
+    let explanation = Explanation {
         alloc,
         named,
         violation,
     };
-    telling.told_violation(&names)
+    explanation.of_violation(tree)
 }
 
-/// The sentence of the rule that is broken. Fails for want of memory alone.
-pub fn broken(alloc: Global, named: Named, violation: Violation) -> Result<String, NoMemory> {
+/// The sentence of the rule that is broken. Fails only when out of memory.
+fn broken(alloc: Global, named: Named, violation: Violation) -> Result<String, NoMemory> {
     let sentence = violation.to_string(alloc)?;
     named.message(alloc, None, sentence.as_str())
 }

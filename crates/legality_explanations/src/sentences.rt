@@ -1,23 +1,23 @@
-//! Sentences of one shape, each proved once: names, with what stands before, between and behind them.
+//! Sentences of one shape, each proved once: names, with what stands before, between and after them.
 
 use std::fmt;
 
-pub(crate) fn tell_one<W: fmt::Write, N: fmt::Display>(
+pub(crate) fn write_one<W: fmt::Write, N: fmt::Display>(
     f: &mut fmt::Formatter<W>,
     before: &str,
     name: &N,
-    behind: &str,
+    after: &str,
 ) -> fmt::Result {
-    write!(f, "{before}{name}{behind}")
+    write!(f, "{before}{name}{after}")
 }
 
-pub(crate) fn tell_two<W: fmt::Write, N: fmt::Display, O: fmt::Display>(
+pub(crate) fn write_two<W: fmt::Write, N: fmt::Display, O: fmt::Display>(
     f: &mut fmt::Formatter<W>,
     before: &str,
     name: &N,
     between: &str,
     other: &O,
-    behind: &str,
+    after: &str,
 ) -> fmt::Result {
-    write!(f, "{before}{name}{between}{other}{behind}")
+    write!(f, "{before}{name}{between}{other}{after}")
 }

@@ -1,5 +1,8 @@
 //! Where rules are broken.
 
+ghost use Rattle.std.specs.Prelude.{◌≡◌, IfSome, None, Some};
+ghost use Rattle.legality_explanations.specs.Places.{IsOfClass};
+
 use metadata::violations::SourceMember;
 use source_positions::cil_model::trees::{Class, ClassKind, Field, Member, Method, Tree};
 use source_positions::name_tables::keys::{ClassKey, MethodKey};
@@ -23,7 +26,9 @@ impl Sites {
     };
 
     /// One place.
-    pub fn at(place: Place) -> Self {
+    pub fn at(place: Place) -> Self
+        ensures { (result.place ≡ Some place) × (result.other ≡ None) }
+    {
         Sites {
             place: Some(place),
             other: None,
@@ -31,7 +36,9 @@ impl Sites {
     }
 
     /// A place that does not agree with another.
-    pub fn beside(place: Place, other: Option<Place>) -> Self {
+    pub fn beside(place: Place, other: Option<Place>) -> Self
+        ensures { (result.place ≡ Some place) × (result.other ≡ other) }
+    {
         Sites {
             place: Some(place),
             other,
@@ -48,7 +55,9 @@ pub struct MemberSpot {
 
 impl MemberSpot {
     /// A part of the member before its first instruction.
-    pub fn part(self, part: MemberPart) -> Place {
+    pub fn part(self, part: MemberPart) -> Place
+        ensures { IsOfClass self.class result }
+    {
         Place::InMember {
             class: self.class,
             member: self.member,
@@ -57,12 +66,16 @@ impl MemberSpot {
     }
 
     /// The member's name.
-    pub fn name(self) -> Place {
+    pub fn name(self) -> Place
+        ensures { IsOfClass self.class result }
+    {
         self.part(MemberPart::Name)
     }
 
     /// A part of an instruction of the member.
-    pub fn line(self, line: usize, part: LinePart) -> Place {
+    pub fn line(self, line: usize, part: LinePart) -> Place
+        ensures { IsOfClass self.class result }
+    {
         Place::InLine {
             class: self.class,
             member: self.member,
@@ -73,7 +86,9 @@ impl MemberSpot {
 }
 
 /// The name of the class of a number in the source.
-pub fn class_name(class: usize) -> Place {
+pub fn class_name(class: usize) -> Place
+    ensures { IsOfClass class result }
+{
     Place::InClass {
         class,
         part: ClassPart::Name,
@@ -86,14 +101,18 @@ pub fn key_of(method: &Method) -> MethodKey<'_> {
 }
 
 /// A method of the source, and its number among the members of its class.
-pub fn located_method(tree: &Tree, number: SourceMember) -> Option<(MemberSpot, &Method)> {
+pub fn located_method(tree: &Tree, number: SourceMember) -> Option<(MemberSpot, &Method)>
+    ensures { IfSome result (λ found. found.0.class ≡ number.class) }
+{
     let SourceMember { class, place } = number;
     let (member, method) = nth_method(tree.classes.as_slice().get(class)?, place)?;
     Some((MemberSpot { class, member }, method))
 }
 
 /// A field of the source, and its number among the members of its class.
-pub fn located_field(tree: &Tree, number: SourceMember) -> Option<(MemberSpot, &Field)> {
+pub fn located_field(tree: &Tree, number: SourceMember) -> Option<(MemberSpot, &Field)>
+    ensures { IfSome result (λ found. found.0.class ≡ number.class) }
+{
     let SourceMember { class, place } = number;
     let (member, field) = nth_field(tree.classes.as_slice().get(class)?, place)?;
     Some((MemberSpot { class, member }, field))

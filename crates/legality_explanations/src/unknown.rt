@@ -1,9 +1,9 @@
-//! Names that stand for nothing of the kind needed (number 202).
+//! Names that denote nothing of the kind needed (number 202).
 
 use crate::advice::{Advice, advice_on};
 use crate::breaches::{Breach, Found};
 use crate::references::{MemberKey, class_of, class_place, line_at, member_of, type_at};
-use crate::sentences::tell_two;
+use crate::sentences::write_two;
 use crate::sites::{Sites, key_of, listed_interface, located_method};
 use metadata::mentions::labels_of;
 use metadata::violations;
@@ -31,7 +31,7 @@ pub enum Role {
     Owner,
 }
 
-/// A name that stands for nothing of the kind needed.
+/// A name that denotes nothing of the kind needed.
 #[derive(Clone, Copy)]
 pub enum Unknown<'a> {
     /// An extern that is no library.
@@ -87,14 +87,14 @@ impl fmt::Display for Unknown<'_> {
                 role,
                 fault,
                 ..
-            } => tell_class(f, class, role, fault),
+            } => write_class(f, class, role, fault),
             Unknown::Label { label, .. } => {
                 let name = label.as_str();
                 write!(f, "no instruction of the method has the label `{name}`")
             }
             Unknown::Field { owner, field, near } => {
-                tell_absent_field(f, owner, field)?;
-                tell_near_field(f, near)
+                write_absent_field(f, owner, field)?;
+                write_near_field(f, near)
             }
             Unknown::Method {
                 owner,
@@ -102,8 +102,8 @@ impl fmt::Display for Unknown<'_> {
                 is_static,
                 near,
             } => {
-                tell_absent_method(f, owner, method, is_static)?;
-                tell_near_method(f, near)
+                write_absent_method(f, owner, method, is_static)?;
+                write_near_method(f, near)
             }
         }
     }
@@ -115,7 +115,7 @@ impl Breach for Unknown<'_> {
     }
 }
 
-fn tell_absent_field<W: fmt::Write>(
+fn write_absent_field<W: fmt::Write>(
     f: &mut fmt::Formatter<W>,
     owner: ClassKey,
     field: FieldKey,
@@ -141,7 +141,7 @@ fn lack_of(method: MethodKey, is_static: bool) -> (&'static str, &'static str) {
     }
 }
 
-fn tell_absent_method<W: fmt::Write>(
+fn write_absent_method<W: fmt::Write>(
     f: &mut fmt::Formatter<W>,
     owner: ClassKey,
     method: MethodKey,
@@ -153,7 +153,7 @@ fn tell_absent_method<W: fmt::Write>(
     write!(f, "`{owner}` has no {kind} `{method}`{after}")
 }
 
-/// What stands before the name of a class that may not be named so, and behind it.
+/// What stands before the name of a class that may not be named so, and after it.
 fn fault_of_class(class: ClassKey, role: Role, fault: ClassFault) -> (&'static str, &'static str) {
     match fault {
         ClassFault::NoExtern => ("no `.assembly extern` declares the assembly of ", ""),
@@ -187,17 +187,17 @@ fn fault_of_built_in(class: ClassKey, role: Role) -> (&'static str, &'static str
 }
 
 /// Why a class may not be named so.
-fn tell_class<W: fmt::Write>(
+fn write_class<W: fmt::Write>(
     f: &mut fmt::Formatter<W>,
     class: ClassKey,
     role: Role,
     fault: ClassFault,
 ) -> fmt::Result {
     let name = ClassText(class);
-    let (before, behind) = fault_of_class(class, role, fault);
-    write!(f, "{before}`{name}`{behind}")?;
+    let (before, after) = fault_of_class(class, role, fault);
+    write!(f, "{before}`{name}`{after}")?;
     match fault {
-        ClassFault::Absent if class.assembly.is_none() => tell_assembly(f, class.name.as_str()),
+        ClassFault::Absent if class.assembly.is_none() => write_assembly(f, class.name.as_str()),
         _ => Ok(()),
     }
 }
@@ -214,14 +214,14 @@ pub(crate) fn library_of(name: &str) -> Option<&'static str> {
 }
 
 /// The built-in class that a name without an assembly may mean.
-fn tell_assembly<W: fmt::Write>(f: &mut fmt::Formatter<W>, name: &str) -> fmt::Result {
+fn write_assembly<W: fmt::Write>(f: &mut fmt::Formatter<W>, name: &str) -> fmt::Result {
     let Some(library) = library_of(name) else {
         return Ok(());
     };
-    tell_two(f, ", but `[", &library, "]", &name, "` is built in")
+    write_two(f, ", but `[", &library, "]", &name, "` is built in")
 }
 
-fn tell_near_field<W: fmt::Write>(f: &mut fmt::Formatter<W>, near: Option<&Field>) -> fmt::Result {
+fn write_near_field<W: fmt::Write>(f: &mut fmt::Formatter<W>, near: Option<&Field>) -> fmt::Result {
     let Some(field) = near else {
         return Ok(());
     };
@@ -243,7 +243,7 @@ fn kind_of_method(method: &Method) -> &'static str {
     }
 }
 
-fn tell_near_method<W: fmt::Write>(
+fn write_near_method<W: fmt::Write>(
     f: &mut fmt::Formatter<W>,
     near: Option<&Method>,
 ) -> fmt::Result {
@@ -489,7 +489,7 @@ fn unknown_extern(tree: &Tree, number: usize) -> Option<Found<Unknown<'_>>> {
     found(Unknown::Extern(name), Place::Extern(number))
 }
 
-/// A name that stands for nothing of the kind needed (number 202), and its place. None where the tree has no such place.
+/// A name that denotes nothing of the kind needed (number 202), and its place. None where the tree has no such place.
 pub fn unknown_name<'a>(
     names: &NameTables<'a>,
     unknown: violations::Unknown,

@@ -1,4 +1,4 @@
--- A class is below itself where its number stands in the chain of its base.
+-- A class is below itself where its number is in the chain of its base.
 use Rattle.std.proofs.Common.{◌≡◌, ◌==◌, ℕ, zero, suc, Bool, true, false, ◌||◌, List, [], ◌∷◌, Option, Some, None, option_and_then, slice_get, refl, sym, ap, ◌∙◌}
 use Rattle.std.specs.List.{list_any}
 use Rattle.cil_model.specs.declared.types.ClassName.{ClassName}
@@ -34,7 +34,7 @@ module _ (tree : Tree) where
       let found : FoundAt tree c n = found_at tree c n e in
       ap (option_and_then (λ (d : Declaration). d.base)) found.1 ∙ sym (ap (option_and_then (λ (y : ClassName × Declaration). y.1.base)) found.2)
 
-  -- a name that stands for nothing has no base
+  -- a name that refers to nothing has no base
   pub base_unknown : (c : ClassName) → class_number tree c ≡ None → base_of tree c ≡ None
   base_unknown c e = ap (option_and_then (λ (d : Declaration). d.base)) (not_declared tree c e)
 

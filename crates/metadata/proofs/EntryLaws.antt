@@ -1,4 +1,4 @@
--- One entry point, told by counting.
+-- One entry point, by counting.
 use Rattle.std.proofs.Common.{◌≡◌, ◌<◌, ◌+◌, ◌==◌, ℕ, suc, Bool, true, false, ◌&&◌, ◌||◌, cond, List, [], ◌∷◌, ◌++◌, length, map, drop, slice_get, Some, None, refl, sym, ap, subst, ◌∙◌, arith}
 use Rattle.std.specs.Prelude.{filter, flat_map, count_by}
 use Rattle.std.specs.List.{list_any, position_from}
@@ -65,9 +65,9 @@ one_entry tree =
     ap (λ b. (count_by is_entry_point (map second (source_methods tree)) == 1) && b) (among (source_methods tree)) ∙
     ap (λ ms. (count_by is_entry_point ms == 1) && list_any (λ m. is_entry_point m && is_entry_method m) ms) (flat_map_seconds tree.classes)
 
--- ---- the first that passes, and those behind it
+-- ---- the first that passes, and those after it
 
--- what a count and a test of a list come to by the first item that passes
+-- a count and a test of a list by the first item that passes
 record IsFirst {X : Type 0} (p q : X → Bool) (xs : List X) (place : ℕ) : Type 0 where
   within : place < length xs
   count : count_by p xs ≡ 1 + count_by p (drop (suc place) xs)

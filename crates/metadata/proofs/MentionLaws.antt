@@ -17,7 +17,7 @@ pub append_nothing : {X : Type 0} (xs : List X) → xs ++ [] ≡ xs
 append_nothing [] = refl
 append_nothing (x ∷ xs) = ap (λ ys. x ∷ ys) (append_nothing xs)
 
--- what a list's items name, where those of one more are added behind the others
+-- what a list's items name, where those of one more are added after the others
 pub more_named : {X Y : Type 0} (g : X → List Y) (xs : List X) (i : ℕ) (x : X) (old before now : List Y) → i < length xs → x ≡ get_or xs i x →
     before ≡ old ++ flat_map g (take i xs) → now ≡ before ++ g x → now ≡ old ++ flat_map g (take (i + 1) xs)
 more_named g xs i x old before now l e b n =
@@ -26,7 +26,7 @@ more_named g xs i x old before now l e b n =
     let more : flat_map g (take (i + 1) xs) ≡ first ++ g x = ap (flat_map g) taken ∙ flat_map-append g (take i xs) (x ∷ []) ∙ ap (λ ys. first ++ ys) (append_nothing (g x)) in
     n ∙ ap (λ ys. ys ++ g x) b ∙ append_assoc old first (g x) ∙ ap (λ ys. old ++ ys) (sym more)
 
--- the same of what the items stand for
+-- the same of what the items represent
 pub more_named_in : {X Z Y : Type 0} (f : X → Z) (g : Z → List Y) (xs : List X) (i : ℕ) (x : X) (old before now : List Y) → i < length xs → x ≡ get_or xs i x →
     before ≡ old ++ flat_map g (map f (take i xs)) → now ≡ before ++ g (f x) → now ≡ old ++ flat_map g (map f (take (i + 1) xs))
 more_named_in f g xs i x old before now l e b n =

@@ -45,16 +45,16 @@ found_fails {X} test p (y ∷ ys) x e h = by_test (found_fails test p ys x) (tes
         sym (ap p same) ∙ (or_parts _ _ h).0
     by_test further false k = further (sym (ap (λ b. cond b (Some y) (find test ys)) k) ∙ e) (or_parts _ _ h).1
 
--- ---- answers by numbers of classes
+-- ---- results by numbers of classes
 
--- one more answer behind others
+-- one more result after others
 pub yes_more : (P : ℕ → Type 0) (xs : List Bool) (b : Bool) → ((k : ℕ) → slice_get xs k ≡ Some true → P k) → (b ≡ true → P (length xs)) → (k : ℕ) → slice_get (xs ++ b ∷ []) k ≡ Some true → P k
 yes_more P [] b h here zero e = here (same_Some b true e)
 yes_more P [] b h here (suc k) e = absurd (none-some true e)
 yes_more P (x ∷ xs) b h here zero e = h zero e
 yes_more P (x ∷ xs) b h here (suc k) e = yes_more (λ j. P (suc j)) xs b (λ j. h (suc j)) here k e
 
--- one answer turned to no
+-- one result changed to false
 pub no_set : (P : ℕ → Type 0) (xs : List Bool) (i : ℕ) → ((n : ℕ) → slice_get xs n ≡ Some false → P n) → P i → (n : ℕ) → slice_get (slice_set xs i false) n ≡ Some false → P n
 no_set P [] i h here n e = h n e
 no_set P (x ∷ xs) zero h here zero e = here
@@ -82,7 +82,7 @@ pub of_pair : (g : ℕ → Bool) (o : Option MemberNumber) → option_map_or (λ
 of_pair g None = refl
 of_pair g (Some m) = refl
 
--- what the class that a name stands for declares
+-- what the class that a name refers to declares
 pub methods_of_number : (tree : Tree) (c : ClassName) (n : ℕ) → class_number tree c ≡ Some n → methods_declared tree c ≡ methods_at tree n
 methods_of_number tree c n e =
     let found : FoundAt tree c n = found_at tree c n e in

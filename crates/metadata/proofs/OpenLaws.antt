@@ -24,7 +24,7 @@ same_arms : (b o : Bool) → cond b o o ≡ true → o ≡ true
 same_arms true o h = h
 same_arms false o h = h
 
--- an abstract method behind one that is no override is hidden, so this one is an override
+-- an abstract method after one that is no override is hidden, so this one is an override
 overrides_it : (v w : Bool) → not (v && not w) && true ≡ false → (v ≡ true) × (w ≡ false)
 overrides_it true false h = (refl, refl)
 overrides_it true true h = absurd (not_both h)

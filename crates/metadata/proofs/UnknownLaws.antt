@@ -1,4 +1,4 @@
--- The parts of the rule on names that stand for nothing, as the code looks at them.
+-- The parts of the rule on names that refer to nothing, as the code looks at them.
 use Rattle.std.proofs.Common.{◌≡◌, ℕ, Bool, true, false, cond, not, ◌&&◌, List, [], ◌∷◌, ◌++◌, Option, Some, None, is_some, option_map, refl, sym, ap, ◌∙◌}
 use Rattle.std.specs.Prelude.{flat_map, find}
 use Rattle.std.specs.List.{list_any, list_all}
@@ -151,7 +151,7 @@ module _ (tree : Tree) where
 
 -- ---- labels
 
--- a label stands before some line
+-- a label is before some line
 pub placed : (m : Method) (label : List ℕ) → list_any (same_text label) (labels_before m) ≡ is_some (place_of label (lines_of m))
 placed m label = list_any-flat_map (same_text label) (λ (l : Line). l.labels) (lines_of m) ∙ sym (is_some-position_from (λ (l : Line). list_any (same_text label) l.labels) 0 (lines_of m))
 

@@ -22,7 +22,7 @@ any_found p xs i x l e h = ap (list_any p) (left xs i x l e) ∙ ap (λ b. b || 
 pub any_after : {X : Type 0} (p : X → Bool) (xs : List X) (i : ℕ) (x : X) → i < length xs → x ≡ get_or xs i x → p x ≡ false → list_any p (drop (i + 1) xs) ≡ list_any p (drop i xs)
 any_after p xs i x l e h = sym (ap (list_any p) (left xs i x l e) ∙ ap (λ b. b || list_any p (drop (i + 1) xs)) h)
 
--- the same of what a list's items stand for
+-- the same of what a list's items represent
 module _ {X Y : Type 0} (f : X → Y) where
   pub all_fail_in : (p : Y → Bool) (xs : List X) (i : ℕ) (x : X) → i < length xs → x ≡ get_or xs i x → p (f x) ≡ false → list_all p (map f (drop i xs)) ≡ false
   all_fail_in p xs i x l e h = ap (λ ys. list_all p (map f ys)) (left xs i x l e) ∙ ap (λ b. b && list_all p (map f (drop (i + 1) xs))) h

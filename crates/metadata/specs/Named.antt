@@ -1,4 +1,4 @@
--- What stands in the text: types together as a list, and whether the names in a method stand for something.
+-- What the text contains: types together as a list, and whether the names in a method refer to something.
 use Rattle.std.specs.Prelude.{Bool, ◌&&◌, List, ◌++◌, option_map, option_to_list}
 use Rattle.cil_model.specs.declared.types.DeclaredType.{DeclaredType}
 use Rattle.std.specs.List.{list_all}
@@ -8,7 +8,7 @@ use Rattle.cil_model.specs.Mentions.{owners_of_instruction, instructions_of}
 use Rattle.cil_model.specs.Legality.{is_resolved, finds_member, finds_labels}
 use Rattle.metadata.specs.declared.mentions.NamedTypes.{NamedTypes}
 
--- the parameters, and then the one behind them (II.15.3)
+-- the parameters, and then the one after them (II.15.3)
 abbrev pub types_named : NamedTypes → List DeclaredType
 types_named n = n.parameters.now ++ option_to_list (option_map (λ t. t.now) n.last)
 

@@ -18,10 +18,10 @@ marks_in tree = map (λ (e : ClassName × Declaration). map (λ (m : Method). is
 abbrev pub hides_one : Tree → List ℕ → Method → Bool
 hides_one tree ns m = not (is_override m) && top_open tree (identity_of m) ns
 
--- of each class that is told as false, no abstract method is hidden along its bases
+-- of each class that is marked false, no abstract method is hidden along its bases
 abbrev pub AreClear : Tree → List Bool → Type 0
 AreClear tree may_hide = (class : ℕ) (k : MethodIdentity) → slice_get may_hide class ≡ Some false → hidden_open tree k (line_of tree (Some class)) ≡ false
 
--- of each class that is told as true, each abstract method along its bases is overridden
+-- of each class that is marked true, each abstract method along its bases is overridden
 abbrev pub AreSettled : Tree → List Bool → Type 0
 AreSettled tree settled = (class : ℕ) → slice_get settled class ≡ Some true → IsSettled tree (line_of tree (Some class))

@@ -1,4 +1,4 @@
-//! Bases that lead round.
+//! Cyclic inheritance.
 
 ghost use Rattle.std.specs.Prelude.{◌≡◌, ◌==◌, IfOk, is_some};
 ghost use Rattle.std.specs.List.{list_any};
@@ -32,7 +32,7 @@ fn is_along(names: &NameTables, first: Option<usize>, wanted: usize) -> bool
     false
 }
 
-/// Whether a class stands in the chain of its base. Most are seen at once to have bases that end.
+/// Whether a class is in the chain of its base. Most are seen at once to have bases that end.
 fn is_own_base(names: &NameTables, class: &Class) -> bool
     ensures { result ≡ is_own_base names.now.classes.tree.now (source_name class.now) }
 {
@@ -45,7 +45,7 @@ fn is_own_base(names: &NameTables, class: &Class) -> bool
     is_along(names, names.base(number), number)
 }
 
-/// The place in the source of the least class that bases seem to lead back to. Fails for want of memory alone.
+/// The place in the source of the least class that bases seem to lead back to. The only error is out of memory.
 fn suspect(alloc: Global, names: &NameTables) -> Result<Option<usize>, NoMemory> {
     let sources = names.classes.tree.classes.as_slice().len();
     let built_in = names.classes.names().len().saturating_sub(sources);
@@ -55,7 +55,7 @@ fn suspect(alloc: Global, names: &NameTables) -> Result<Option<usize>, NoMemory>
     }
 }
 
-/// The first of these classes that stands twice in its own chain.
+/// The first of these classes that is in its own chain twice.
 fn first_own_base(names: &NameTables, classes: &[Class]) -> Option<usize>
     ensures { is_some result ≡ list_any (λ c. is_own_base names.now.classes.tree.now (source_name c)) classes.now }
 {
@@ -67,8 +67,8 @@ fn first_own_base(names: &NameTables, classes: &[Class]) -> Option<usize>
     None
 }
 
-/// The first class that stands twice in its own chain; none where there is none (number 203). It is tried first where a walk along all
-/// bases met itself, so that no more than a few chains are gone along. Fails for want of memory alone.
+/// The first class that is in its own chain twice; none where there is none (number 203). It is tested first where a walk along all
+/// bases met itself, so that no more than a few chains are followed. The only error is out of memory.
 pub fn own_base(alloc: Global, names: &NameTables) -> Result<Option<usize>, NoMemory>
     ensures { IfOk result (λ c. is_some c ≡ has_cycle names.now.classes.tree.now) }
 {

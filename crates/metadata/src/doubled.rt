@@ -1,4 +1,4 @@
-//! Names that stand twice where they must stand once.
+//! Names that occur twice where they must occur once.
 
 ghost use Rattle.std.specs.Prelude.{◌≡◌, IfOk, is_some, map};
 ghost use Rattle.std.specs.List.{list_any};
@@ -20,7 +20,7 @@ use std::alloc::Global;
 use std::cmp::Eq;
 use std::hash::Hash;
 
-/// What stands under a name, before which an assembly may stand.
+/// What has a name, before which an assembly may be written.
 trait Named {
     ghost use Rattle.cil_model.specs.declared.types.ClassName.{ClassName};
     ghost use Rattle.name_tables.specs.Keys.{class_of_key};
@@ -76,7 +76,7 @@ impl Named for ClassName {
     }
 }
 
-/// The next place behind the first one with that number.
+/// The next place after the first one with that number.
 fn place_again(numbers: &[usize], first: usize) -> usize {
     for (place, number) in numbers.iter().enumerate() {
         if place > first && *number == first {
@@ -86,7 +86,7 @@ fn place_again(numbers: &[usize], first: usize) -> usize {
     first
 }
 
-/// Where the first key that stands again further on does so.
+/// Where the first key that occurs again further on does so.
 fn repeat_among<K: Eq + Hash + Copy + Drop>(places: &Places<K>) -> Option<Repeat>
     ensures { is_some result ≡ has_repeat K.eq places.now }
 {
@@ -149,7 +149,7 @@ fn repeated_label(alloc: Global, method: &Method) -> Result<Option<Repeat>, NoMe
     repeated_key(alloc, labels)
 }
 
-/// The first of these methods with a label that stands twice, and its places among the labels of the method.
+/// The first of these methods with a label that occurs twice, and its places among the labels of the method.
 fn first_with_repeated_label(
     alloc: Global,
     methods: &[&Method],
@@ -164,7 +164,7 @@ fn first_with_repeated_label(
     Ok(None)
 }
 
-/// What stands twice in a method of a class: a label.
+/// What occurs twice in a method of a class: a label.
 fn doubled_in_methods(alloc: Global, class: &Class) -> Result<Option<DoubledInClass>, NoMemory>
     ensures { IfOk result (λ d. is_some d ≡ list_any (λ m. has_repeat same_text (labels_before m)) (method_members class.now)) }
 {
@@ -172,7 +172,7 @@ fn doubled_in_methods(alloc: Global, class: &Class) -> Result<Option<DoubledInCl
     first_with_repeated_label(alloc, methods.as_slice())
 }
 
-/// What stands twice in a class: a field, a method, an interface that it lists, or a label.
+/// What occurs twice in a class: a field, a method, an interface that it lists, or a label.
 fn doubled_in_class(alloc: Global, class: &Class) -> Result<Option<DoubledInClass>, NoMemory>
     ensures { IfOk result (λ d. is_some d ≡ class_doubles class.now) }
 {
@@ -200,7 +200,7 @@ fn doubled_in_classes(alloc: Global, classes: &[Class]) -> Result<Option<Doubled
 }
 
 /// The first name that is doubled among the externs, the classes, the fields, the methods with their signatures, the listed
-/// interfaces or the labels; none where there is none (number 201). Fails for want of memory alone.
+/// interfaces or the labels; none where there is none (number 201). The only error is out of memory.
 pub fn doubled_name(alloc: Global, tree: &Tree) -> Result<Option<Doubled>, NoMemory>
     ensures { IfOk result (λ d. is_some d ≡ doubles_name tree.now) }
 {

@@ -54,7 +54,7 @@ fn fault_of(site: SourceMember, method: &Method) -> Option<BadEntry>
     Some(BadEntry::Takes(site))
 }
 
-/// Why the first entry point, which stands at this place among the methods of a source, is not fit or not the only one; none where it is.
+/// Why the first entry point, which is at this place among the methods of a source, is not fit or not the only one; none where it is.
 fn first_fault(tree: &Tree, methods: &[&Method], first: usize) -> Option<BadEntry>
     requires within { first < length methods.now }
     requires first { position_from is_entry_point 0 (map (λ m. m.now) methods.now) ≡ Some first }
@@ -82,7 +82,7 @@ fn entry_fault(tree: &Tree, methods: &[&Method]) -> Option<BadEntry>
 }
 
 /// Why the source has not exactly one entry point, in a method that is static, void and without parameters; none where it has
-/// (number 206). Fails for want of memory alone.
+/// (number 206). The only error is out of memory.
 pub fn bad_entry(alloc: Global, tree: &Tree) -> Result<Option<BadEntry>, NoMemory>
     ensures { IfOk result (λ e. is_some e ≡ lacks_entry tree.now) }
 {

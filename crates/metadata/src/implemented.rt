@@ -53,7 +53,7 @@ fn has_virtual_along(names: &NameTables, first: usize, key: MethodKey) -> bool
 }
 
 /// Whether some class from one on along its bases has a virtual method of this name and signature (ECMA-335 II.12.2). Only where the
-/// bases do not end are they gone along.
+/// bases do not end are they followed.
 fn implements_method(methods: &MethodTables, class: Option<usize>, key: MethodKey) -> bool
     ensures { result ≡ list_any (is_virtual_found methods.now.names.now.classes.tree.now (method_of_key key.entry)) (line_of methods.now.names.now.classes.tree.now class) }
 {
@@ -165,8 +165,8 @@ fn absent_in_class(
     absent_in_list(methods, tables, own, interfaces_named(&class.kind))
 }
 
-/// The first class that lacks a method of an interface that it lists; none where there is none (number 204). Fails for want of memory
-/// alone.
+/// The first class that lacks a method of an interface that it lists; none where there is none (number 204). The only error is out of
+/// memory.
 pub fn not_implemented(
     alloc: Global,
     methods: &MethodTables,

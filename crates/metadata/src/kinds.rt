@@ -74,7 +74,7 @@ fn is_slot(slot: Option<usize>, wanted: usize) -> bool
     }
 }
 
-/// Whether an abstract method fills a slot as seen from a class, where it is known as seen from its base. `fills` tells
+/// Whether an abstract method fills a slot as seen from a class, where it is known as seen from its base. `fills` says
 /// whether the class's method of the slot's name and signature fills that very slot.
 fn open_over(names: &NameTables, key: MethodKey, class: usize, fills: bool, is_open: bool) -> bool
     ensures { result ≡ open_over names.now.classes.tree.now (method_of_key key.entry) class fills is_open }
@@ -180,7 +180,7 @@ fn first_left_open(
     Ok(None)
 }
 
-/// The first method of a class whose slot is filled by an abstract method along a chain; none where the class does not stand in the
+/// The first method of a class whose slot is filled by an abstract method along a chain; none where the class is not in the
 /// chain.
 fn left_open_in(
     alloc: Global,
@@ -226,7 +226,7 @@ fn open_along(
     first_left_open(alloc, slots.methods.names, chain, chain)
 }
 
-/// A method that fills a slot with nothing along the chain of a class that is not known to be settled.
+/// A method that fills a slot with nothing along the chain of a class that is not known to have all abstract methods overridden.
 fn slot_left_open(
     alloc: Global,
     slots: &OpenSlots,
@@ -241,7 +241,7 @@ fn slot_left_open(
 
 /// A method that fills a slot of the class with nothing, since it is abstract (ECMA-335 II.15.4.2). Where each abstract method of the
 /// chain is known to be overridden, there is none, and no slot is looked at: so it is for each class of a legal program that is not
-/// abstract. Fails for want of memory alone.
+/// abstract. The only error is out of memory.
 fn abstract_slot(
     alloc: Global,
     slots: &OpenSlots,
@@ -320,7 +320,7 @@ fn plain_found(names: &NameTables, key: MethodKey, found: Option<MemberNumber>) 
 }
 
 /// The class from one on along its bases with the nearest method of this name and signature, where that is not virtual. Only where the
-/// bases do not end are they gone along.
+/// bases do not end are they followed.
 fn plain_base(methods: &MethodTables, key: MethodKey, base: Option<usize>) -> Option<usize>
     ensures { is_some result ≡ plain_numbered methods.now.names.now.classes.tree.now (method_of_key key.entry) (line_of methods.now.names.now.classes.tree.now base) }
 {
@@ -333,7 +333,7 @@ fn plain_base(methods: &MethodTables, key: MethodKey, base: Option<usize>) -> Op
     }
 }
 
-/// The class whose method, which is not virtual, a virtual one without newslot stands over (ECMA-335 II.10.3.1, this profile).
+/// The class whose method, which is not virtual, a virtual one without newslot would override (ECMA-335 II.10.3.1, this profile).
 fn plain_below(methods: &MethodTables, class: &Class, method: &Method) -> Option<usize>
     ensures { is_some result ≡ overrides_no_virtual methods.now.names.now.classes.tree.now (source_name class.now) method.now }
 {
@@ -427,7 +427,7 @@ fn class_fault(
     Ok(over_plain(slots.methods, class, methods))
 }
 
-/// The first method whose kind does not fit its class or what that inherits (ECMA-335 II.15.4.2). Fails for want of memory alone.
+/// The first method whose kind does not fit its class or what that inherits (ECMA-335 II.15.4.2). The only error is out of memory.
 fn kind_fault(
     alloc: Global,
     slots: &OpenSlots,
@@ -460,8 +460,8 @@ fn first_misfit(
     Ok(None)
 }
 
-/// The first method whose kind does not fit its class or what that inherits; none where there is none (number 205). Fails for want
-/// of memory alone.
+/// The first method whose kind does not fit its class or what that inherits; none where there is none (number 205). The only error
+/// is out of memory.
 pub fn misfit<'a>(alloc: Global, methods: &'a MethodTables<'a>) -> Result<Option<Misfit>, NoMemory>
     ensures { IfOk result (λ m. is_some m ≡ misfits_kind methods.now.names.now.classes.tree.now) }
 {

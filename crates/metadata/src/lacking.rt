@@ -38,7 +38,7 @@ fn method_count(class: Option<&DeclaredClass>) -> usize {
 }
 
 impl Listings {
-    /// Fails for want of memory alone.
+    /// The only error is out of memory.
     fn new(alloc: Global, names: &NameTables) -> Result<Self, NoMemory> {
         let count = names.bases().len();
         let mut times = vec![in alloc; 0; count]?;
@@ -66,8 +66,8 @@ impl Listings {
     }
 }
 
-/// Of each class, whether it may lack a method of an interface that many list. The table of another interface tells of no class. Fails for
-/// want of memory alone.
+/// Of each class, whether it may lack a method of an interface that many list. The table of another interface marks no class. The only
+/// error is out of memory.
 fn table_of(
     alloc: Global,
     methods: &MethodTables,
@@ -97,8 +97,8 @@ fn tables_of(
     Ok(tables)
 }
 
-/// The same for a whole tree. So it takes no time with both the classes that list an interface and its methods. Fails for want of memory
-/// alone.
+/// The same for a whole tree. So it takes no time with both the classes that list an interface and its methods. The only error is out of
+/// memory.
 pub(crate) fn lacking_tables(
     alloc: Global,
     methods: &MethodTables,

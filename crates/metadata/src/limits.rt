@@ -193,7 +193,7 @@ fn static_field_beyond(names: &NameTables, classes: &[Class]) -> Option<Passed>
 
 // ---- the whole tree
 
-/// What a class passes: the limit of the fields of its objects, or one of a method. Fails for want of memory alone.
+/// What a class passes: the limit of the fields of its objects, or one of a method. The only error is out of memory.
 fn passed_by_class(
     alloc: Global,
     names: &NameTables,
@@ -234,7 +234,7 @@ fn passed_by_all_types(alloc: Global, names: &NameTables) -> Result<Option<Passe
     Ok(passed_by_types(types.as_slice()))
 }
 
-/// The first limit that the source passes; none where there is none (number 207). Fails for want of memory alone.
+/// The first limit that the source passes; none where there is none (number 207). The only error is out of memory.
 pub fn passed_limit(alloc: Global, names: &NameTables) -> Result<Option<Passed>, NoMemory>
     ensures { IfOk result (λ p. is_some p ≡ passes_limit names.now.classes.tree.now) }
 {

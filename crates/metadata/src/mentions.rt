@@ -16,14 +16,14 @@ use name_tables::classes::{field_members, method_members};
 use std::alloc::Global;
 use std::slice::from_ref;
 
-/// A type, and where it stands.
+/// A type, and where it is written.
 #[derive(Clone, Copy)]
 pub struct SitedType<'a> {
     pub declared: &'a DeclaredType,
     pub site: TypeSite,
 }
 
-/// Types that stand together in the text: a list of parameters, and one more type behind it.
+/// Types that are written together in the text: a list of parameters, and one more type after it.
 #[derive(Clone, Copy)]
 pub struct NamedTypes<'a> {
     pub parameters: &'a [DeclaredType],
@@ -83,7 +83,7 @@ impl<'a> NamedTypes<'a> {
         }
     }
 
-    /// Adds them to a list. On want of memory the list may hold some of them.
+    /// Adds them to a list. When memory runs out, the list may hold some of them.
     fn add_to(self, types: &mut Vec<SitedType<'a>>, part: TypesPart) -> Result<(), NoMemory>
         ensures { IfOk result (λ _. map (λ t. t.declared.now) types.new.items ≡ map (λ t. t.declared.now) types.old.items ++ types_named self.entry) }
     {
@@ -184,7 +184,7 @@ fn add_types_of_fields<'a>(
     Ok(())
 }
 
-/// Every type that stands in the tree, those of fields first. Fails for want of memory alone.
+/// Every type that occurs in the tree, those of fields first. The only error is out of memory.
 pub fn types_of_tree(alloc: Global, tree: &Tree) -> Result<Vec<SitedType<'_>>, NoMemory>
     ensures { IfOk result (λ v. map (λ t. t.declared.now) v.items ≡ types_of_tree tree.now) }
 {

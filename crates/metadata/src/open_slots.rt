@@ -28,7 +28,7 @@ pub struct OpenSlots<'a> {
     ghost are_settled: { AreSettled methods.now.names.now.classes.tree.now settled.items },
 }
 
-/// Whether a virtual method is without newslot, so that it fills the slot of the next virtual one behind it (ECMA-335 II.10.3.1).
+/// Whether a virtual method is without newslot, so that it fills the slot of the next virtual one after it (ECMA-335 II.10.3.1).
 fn is_override(method: &Method) -> bool
     ensures { result ≡ is_override method.now }
 {
@@ -105,7 +105,7 @@ fn may_hide_one(methods: &MethodTables, base: Option<usize>, own: &[&Method]) ->
     false
 }
 
-/// Whether a class is told of as false.
+/// Whether a class is marked false.
 fn is_told_false(told: &[bool], class: usize) -> bool
     ensures { result ≡ true → slice_get told.now class ≡ Some false }
 {
@@ -115,7 +115,7 @@ fn is_told_false(told: &[bool], class: usize) -> bool
     }
 }
 
-/// Whether a class, where there is one, is told to hide nothing.
+/// Whether a class, where there is one, is marked as hiding nothing.
 fn is_clear(may_hide: &[bool], class: Option<usize>) -> bool
     ensures { result ≡ true → (n : ℕ) → class ≡ Some n → slice_get may_hide.now n ≡ Some false }
 {
@@ -144,7 +144,7 @@ fn stays_clear(methods: &MethodTables, may_hide: &[bool], class: usize) -> bool
     }
 }
 
-/// Of each class, whether it may hide an abstract method along its bases. Fails for want of memory alone.
+/// Of each class, whether it may hide an abstract method along its bases. The only error is out of memory.
 fn hiding_classes(alloc: Global, methods: &MethodTables) -> Result<Vec<bool>, NoMemory>
     ensures { IfOk result (λ v. AreClear methods.now.names.now.classes.tree.now v.items) }
 {
@@ -165,7 +165,7 @@ fn hiding_classes(alloc: Global, methods: &MethodTables) -> Result<Vec<bool>, No
     Ok(may_hide)
 }
 
-/// Whether a class is told of as false twice.
+/// Whether a class is marked false in both.
 fn is_neither(first: &[bool], second: &[bool], class: usize) -> bool
     ensures first { result ≡ true → slice_get first.now class ≡ Some false }
     ensures second { result ≡ true → slice_get second.now class ≡ Some false }
@@ -173,7 +173,7 @@ fn is_neither(first: &[bool], second: &[bool], class: usize) -> bool
     is_told_false(first, class) && is_told_false(second, class)
 }
 
-/// Of each class, whether it is known that no slot is left open along its bases. Fails for want of memory alone.
+/// Of each class, whether it is known that no slot is left open along its bases. The only error is out of memory.
 fn settled_classes(alloc: Global, methods: &MethodTables) -> Result<Vec<bool>, NoMemory>
     ensures { IfOk result (λ v. AreSettled methods.now.names.now.classes.tree.now v.items) }
 {
@@ -188,7 +188,7 @@ fn settled_classes(alloc: Global, methods: &MethodTables) -> Result<Vec<bool>, N
 }
 
 impl<'a> OpenSlots<'a> {
-    /// Looks at all classes. Takes time with the number of classes and methods, but for logarithms. Fails for want of memory alone.
+    /// Looks at all classes. Takes time with the number of classes and methods, but for logarithms. The only error is out of memory.
     pub fn new(alloc: Global, methods: &'a MethodTables<'a>) -> Result<Self, NoMemory>
         ensures { IfOk result (λ s. s.methods.now.names.now.classes.tree.now ≡ methods.now.names.now.classes.tree.now) }
     {
@@ -279,8 +279,8 @@ impl<'a> OpenSlots<'a> {
         None
     }
 
-    /// The class that seems to leave a slot open along these classes: the nearest with an abstract method that is not overridden, or else
-    /// one with an abstract method that is hidden. Its contract says nothing: whoever asks tries the methods of the class.
+    /// The class that seems to leave a slot open along these classes: the nearest with an abstract method that is not overridden, or otherwise
+    /// one with an abstract method that is hidden. Its contract says nothing: the caller tests the methods of the class.
     pub fn suspect(&self, chain: &[usize]) -> Option<usize> {
         match self.first_top(chain) {
             None => self.first_hidden(chain),

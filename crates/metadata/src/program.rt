@@ -29,7 +29,7 @@ pub enum MetaError {
 }
 
 impl MetaError {
-    /// The number that the program prints: 201 to 207, or 208 for want of memory.
+    /// The number that the program prints: 201 to 207, or 208 for out of memory.
     pub fn number(&self) -> u16
         ensures { result ≡ number_of self.now }
     {
@@ -69,8 +69,9 @@ fn checked(alloc: Global, tree: &Tree, table: &[BuiltInClass]) -> Result<Content
     contents_of(alloc, &names)
 }
 
-/// The same of a tree alone.
-fn contents(alloc: Global, tree: &Tree) -> Result<Contents, MetaError>
+/// What a legal tree is by numbers: with it, it is a `Program`. Of another tree the error has what breaks the least rule that is broken. Out of
+/// memory may be returned in place of either.
+pub fn contents(alloc: Global, tree: &Tree) -> Result<Contents, MetaError>
     ensures legal { IfOk result (λ c. IsLegal tree.now × IsContents tree.now c) }
     ensures broken { IfErr result (λ e. e ≢ OutOfMemory → least_broken tree.now ≡ Some (number_of e)) }
 {
@@ -78,8 +79,8 @@ fn contents(alloc: Global, tree: &Tree) -> Result<Contents, MetaError>
     checked(alloc, tree, table.as_slice())
 }
 
-/// The program of a legal tree. Another tree is dropped, and the error has the least number of a rule that it breaks. Want of
-/// memory may be answered in place of either, and drops the tree too.
+/// The program of a legal tree. Another tree is dropped, and the error has the least number of a rule that it breaks. Out of
+/// memory may be returned in place of either, and drops the tree too.
 pub fn resolve(alloc: Global, tree: Tree) -> Result<Program, MetaError>
     ensures legal { IfOk result (λ p. (p ≡ tree) × IsLegal tree) }
     ensures broken { IfErr result (λ e. e ≢ OutOfMemory → least_broken tree ≡ Some (number_of e)) }

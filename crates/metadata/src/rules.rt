@@ -18,14 +18,14 @@ use name_tables::methods::MethodTables;
 use std::alloc::Global;
 use std::fmt;
 
-/// A rule that each legal program keeps. The number of each stands beside it.
+/// A rule that each legal program keeps. The number of each is beside it.
 #[derive(Clone, Copy)]
 pub enum Rule {
-    /// 201: names that have to stand once do so.
+    /// 201: names that have to occur once do so.
     NamesStandOnce,
-    /// 202: each name stands for something of the kind needed.
+    /// 202: each name refers to something of the kind needed.
     NamesAreKnown,
-    /// 203: no class stands twice in its own chain of bases.
+    /// 203: no class is twice in its own chain of bases.
     BasesEnd,
     /// 204: each method of a listed interface is there.
     InterfacesAreImplemented,
@@ -54,7 +54,7 @@ impl Rule {
     }
 }
 
-/// What is so where the rule is broken.
+/// What holds where the rule is broken.
 impl fmt::Display for Rule {
     fn fmt<W: fmt::Write>(&self, f: &mut fmt::Formatter<W>) -> fmt::Result {
         f.write_str(match self {
@@ -115,7 +115,7 @@ fn broken_further(alloc: Global, names: &NameTables) -> Result<Option<Violation>
     broken_by_methods(alloc, &methods)
 }
 
-/// What breaks the rule with the least number that the tree breaks; none where the tree is legal. Fails for want of memory alone.
+/// What breaks the rule with the least number that the tree breaks; none where the tree is legal. The only error is out of memory.
 pub fn least_broken(alloc: Global, names: &NameTables) -> Result<Option<Violation>, NoMemory>
     ensures { IfOk result (λ v. option_map violation_number v ≡ least_broken names.now.classes.tree.now) }
 {

@@ -1,4 +1,4 @@
-//! Names that stand for nothing of the kind needed.
+//! Names that refer to nothing of the kind needed.
 
 ghost use Rattle.std.specs.Prelude.{◌≡◌, ◌&&◌, ◌++◌, IfOk, Some, is_none, is_some, map, option_map, true};
 ghost use Rattle.std.specs.List.{list_any, list_all};
@@ -55,7 +55,7 @@ fn unknown_extern(externs: &[Text]) -> Option<usize>
     None
 }
 
-/// Whether an extern of this name is declared. There are two at most where each is known and stands once.
+/// Whether an extern of this name is declared. There are two at most where each is known and occurs once.
 fn is_declared(externs: &[Text], assembly: &Text) -> bool
     ensures { result ≡ list_any (same_text assembly.now) externs.now }
 {
@@ -150,7 +150,7 @@ fn is_possible_type(names: &NameTables, name: &ClassName) -> bool
 
 // ---- bases and interfaces
 
-/// Why a class may not stand behind `extends`.
+/// Why a class may not be written after `extends`.
 fn base_fault(names: &NameTables, base: &ClassName) -> Option<ClassFault>
     ensures { is_none result ≡ (is_resolved names.now.classes.tree.now base.now && is_possible_base names.now.classes.tree.now base.now) }
 {
@@ -169,7 +169,7 @@ fn base_fault(names: &NameTables, base: &ClassName) -> Option<ClassFault>
     }
 }
 
-/// Why a class may not stand behind `implements`.
+/// Why a class may not be written after `implements`.
 fn interface_fault(names: &NameTables, interface: &ClassName) -> Option<ClassFault>
     ensures { is_none result ≡ (is_resolved names.now.classes.tree.now interface.now && is_source_interface names.now.classes.tree.now interface.now) }
 {
@@ -212,7 +212,7 @@ fn unknown_in_heading(
     unknown_interface(names, class, interfaces)
 }
 
-/// The base of a class, or the first interface that it lists, that may not stand there.
+/// The base of a class, or the first interface that it lists, that may not be written there.
 fn unknown_by_class(names: &NameTables, class: usize, declared: &Class) -> Option<Unknown>
     ensures { is_none result ≡ (list_all (is_resolved names.now.classes.tree.now) (bases_named declared.now.kind ++ interfaces_named declared.now.kind) && class_finds names.now.classes.tree.now declared.now) }
 {
@@ -239,7 +239,7 @@ fn unknown_in_headings(names: &NameTables) -> Option<Unknown>
 
 // ---- types
 
-/// Why the class that a type names, where it names one, may not stand there.
+/// Why the class that a type names, where it names one, may not be written there.
 fn type_fault(names: &NameTables, declared: &DeclaredType) -> Option<ClassFault>
     ensures { is_none result ≡ option_map_or (λ c. is_resolved names.now.classes.tree.now c && is_possible_type names.now.classes.tree.now c) (class_of_element declared.now.element) true }
 {
@@ -432,7 +432,7 @@ fn unknown_by_lines<'a>(
     None
 }
 
-/// What the code of a method names that is not there, types apart. Fails for want of memory alone.
+/// What the code of a method names that is not there, types apart. The only error is out of memory.
 fn unknown_by_method(
     alloc: Global,
     names: &NameTables,
@@ -495,8 +495,8 @@ fn unknown_in_code(alloc: Global, names: &NameTables) -> Result<Option<Unknown>,
     Ok(None)
 }
 
-/// The first name of the tree that stands for nothing of the kind needed there; none where there is none (number 202). Fails for
-/// want of memory alone.
+/// The first name of the tree that refers to nothing of the kind needed there; none where there is none (number 202). The only
+/// error is out of memory.
 pub fn unknown_name(alloc: Global, names: &NameTables) -> Result<Option<Unknown>, NoMemory>
     ensures { IfOk result (λ u. is_some u ≡ lacks_name names.now.classes.tree.now) }
 {

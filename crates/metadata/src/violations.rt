@@ -13,14 +13,14 @@ pub struct SourceMember {
     pub place: usize,
 }
 
-/// Two places of a list at which the same name stands.
+/// Two places of a list that have the same name.
 #[derive(Clone, Copy)]
 pub struct Repeat {
     pub first: usize,
     pub again: usize,
 }
 
-/// A name that stands twice where it must stand once (number 201).
+/// A name that occurs twice where it must occur once (number 201).
 #[derive(Clone, Copy)]
 pub enum Doubled {
     Externs(Repeat),
@@ -31,7 +31,7 @@ pub enum Doubled {
     },
 }
 
-/// A name that stands twice in a class.
+/// A name that occurs twice in a class.
 #[derive(Clone, Copy)]
 pub enum DoubledInClass {
     /// Among its fields.
@@ -51,20 +51,20 @@ pub enum ClassFault {
     NoExtern,
     /// There is no such class.
     Absent,
-    /// It is an interface, and a class is wanted.
+    /// It is an interface, and a class is required.
     IsInterface,
-    /// It is a class, and an interface is wanted.
+    /// It is a class, and an interface is required.
     IsClass,
-    /// It is a built-in class that may not stand there.
+    /// It is a built-in class that may not be written there.
     IsBuiltIn,
 }
 
 /// A class that the first line of a class names.
 #[derive(Clone, Copy)]
 pub enum HeadingName {
-    /// Behind `extends`.
+    /// After `extends`.
     Base,
-    /// Behind `implements`, by its place in the list.
+    /// After `implements`, by its place in the list.
     Interface(usize),
 }
 
@@ -77,15 +77,15 @@ pub enum TypesPart {
     Line { method: SourceMember, line: usize },
 }
 
-/// Where a type stands.
+/// Where a type is written.
 #[derive(Clone, Copy)]
 pub struct TypeSite {
     pub part: TypesPart,
-    /// Among the types of that part: parameters or locals from 0, and a result or another type behind them.
+    /// Among the types of that part: parameters or locals from 0, and a result or another type after them.
     pub place: usize,
 }
 
-/// A name that stands for nothing of the kind needed (number 202).
+/// A name that refers to nothing of the kind needed (number 202).
 #[derive(Clone, Copy)]
 pub enum Unknown {
     /// An extern that is no library.
@@ -165,11 +165,11 @@ pub enum BadEntry {
         first: SourceMember,
         second: SourceMember,
     },
-    /// It stands in a method that is not static.
+    /// It is in a method that is not static.
     NotStatic(SourceMember),
-    /// It stands in a method that returns a value.
+    /// It is in a method that returns a value.
     Returns(SourceMember),
-    /// It stands in a method with parameters.
+    /// It is in a method with parameters.
     Takes(SourceMember),
 }
 
@@ -211,7 +211,7 @@ pub enum Passed {
 pub enum Violation {
     Doubled(Doubled),
     Unknown(Unknown),
-    /// The class that stands in the chain of its base (number 203).
+    /// The class that is in the chain of its base (number 203).
     OwnBase { class: usize },
     NotImplemented(NotImplemented),
     Misfit(Misfit),

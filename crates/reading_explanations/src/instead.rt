@@ -15,9 +15,9 @@ use std::fmt;
 pub(crate) enum Instead<'a> {
     /// This sentence.
     Advice(&'static str),
-    /// What is to be done, and a name behind it.
+    /// What is to be done, and a name after it.
     Named { before: &'static str, name: &'a str },
-    /// A member behind the name of its class.
+    /// A member after the name of its class.
     Member { class: &'a str, member: &'a str },
     /// The constructor of this class.
     Constructor(&'a str),
@@ -184,7 +184,7 @@ pub(crate) fn instead_of_bytes(bytes: &str) -> Option<Instead<'_>> {
     }
 }
 
-/// What to write in the place of a member that stands behind no `::`.
+/// What to write in the place of a member without `::` before it.
 fn instead_of_member(name: &str) -> Instead<'_> {
     match name.rsplit_once('.') {
         Some((class, member)) => Instead::Member { class, member },

@@ -268,7 +268,7 @@ fn advice_on_form(expected: Expected, spot: Spot) -> Option<&'static str> {
 
 // ---- by the token before, and by the place alone
 
-fn advice_behind(expected: Expected, spot: Spot) -> Option<&'static str> {
+fn advice_after(expected: Expected, spot: Spot) -> Option<&'static str> {
     match expected {
         Expected::Type if spot.before == "(" && spot.found == ")" => {
             Some("leave out `.locals init ()`")
@@ -360,5 +360,5 @@ pub(crate) fn advice_at(expected: Expected, spot: Spot) -> Option<&'static str> 
     advice_anyway(expected, spot)
         .or(advice_on_word(expected, spot.found))
         .or(advice_on_form(expected, spot))
-        .or(advice_behind(expected, spot))
+        .or(advice_after(expected, spot))
 }

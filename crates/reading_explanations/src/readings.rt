@@ -3,13 +3,13 @@
 use crate::file_kinds::explain_source_kind;
 use crate::hints::ExpectedText;
 use crate::instead::{Instead, instead_at, instead_of_bytes};
-use crate::spots::{Spot, offset_before, spot_at, word_at};
+use crate::spots::{Spot, spot_at, word_at};
 use ilasm_reader::ReadError;
 use source_positions::cil_model::limits::MOST_SOURCE_BYTES;
 use source_positions::cil_model::memory::NoMemory;
 use source_positions::ilasm_tokens::expected::Expected;
 use source_positions::ilasm_tokens::words::{WordUse, use_of};
-use source_positions::{Named, position_of, token_at};
+use source_positions::{Named, position_of, token_at, token_before};
 use std::alloc::Global;
 use std::fmt;
 
@@ -92,7 +92,7 @@ impl fmt::Display for Unread<'_> {
                 let byte = ByteText(*byte);
                 write!(f, "{byte} is above 127, and a source is ASCII text")
             }
-            Unread::NoToken { rest, token } => tell_no_token(f, rest, token),
+            Unread::NoToken { rest, token } => write_no_token(f, rest, token),
             Unread::NoInstruction(name) => {
                 let name = text_of(name);
                 write!(
@@ -132,7 +132,7 @@ fn form_of_first(first: u8) -> Option<&'static str> {
 }
 
 /// Why no token begins with these bytes, the first of which is no quote.
-fn tell_no_word<W: fmt::Write>(f: &mut fmt::Formatter<W>, first: u8, token: &[u8]) -> fmt::Result {
+fn write_no_word<W: fmt::Write>(f: &mut fmt::Formatter<W>, first: u8, token: &[u8]) -> fmt::Result {
     match form_of_first(first) {
         None => {
             let byte = ByteText(first);
@@ -146,7 +146,7 @@ fn tell_no_word<W: fmt::Write>(f: &mut fmt::Formatter<W>, first: u8, token: &[u8
 }
 
 /// Why no token begins with these bytes.
-fn tell_no_token<W: fmt::Write>(
+fn write_no_token<W: fmt::Write>(
     f: &mut fmt::Formatter<W>,
     rest: &[u8],
     token: &[u8],
@@ -155,11 +155,11 @@ fn tell_no_token<W: fmt::Write>(
         [] => f.write_str("no token begins here"),
         [b'/', b'*', ..] => f.write_str("the comment that begins here has no end"),
         [b'"', ..] => f.write_str(fault_of_literal(token)),
-        [first, ..] => tell_no_word(f, *first, token),
+        [first, ..] => write_no_word(f, *first, token),
     }
 }
 
-/// The end of the last token, for an offset behind it.
+/// The end of the last token, for an offset after it.
 fn end_of_tokens(text: &[u8]) -> usize {
     let blanks = text
         .iter()
@@ -191,7 +191,7 @@ fn sentence_of(
 }
 
 /// The message of what is wrong at an offset, or of the whole source; what to write instead is the last line.
-fn told(
+fn message_of(
     alloc: Global,
     named: Named,
     offset: Option<usize>,
@@ -207,10 +207,10 @@ fn told(
 
 /// Without the `:` of a label, it is the name before it that is at fault.
 fn no_instruction(alloc: Global, named: Named, offset: usize) -> Result<String, NoMemory> {
-    let name = offset_before(alloc, named.text, offset)?;
-    let instead = instead_at(Expected::LabelColon, spot_at(alloc, named.text, name)?);
+    let name = token_before(named.text, offset).unwrap_or(offset);
+    let instead = instead_at(Expected::LabelColon, spot_at(named.text, name));
     let unread = Unread::NoInstruction(token_at(named.text, name));
-    told(alloc, named, Some(name), unread, instead)
+    message_of(alloc, named, Some(name), unread, instead)
 }
 
 /// Whether a member stands after the end of a class.
@@ -221,13 +221,9 @@ fn is_outside_of_class(expected: Expected, spot: Spot) -> bool {
 }
 
 /// What to write of a member that stands right after the end of a class.
-fn before_class_end<'a>(
-    alloc: Global,
-    text: &[u8],
-    offset: usize,
-) -> Result<Instead<'a>, NoMemory> {
-    let end = offset_before(alloc, text, offset)?;
-    Ok(Instead::InClass(position_of(text, end)))
+fn before_class_end(text: &[u8], offset: usize) -> Instead<'_> {
+    let end = token_before(text, offset).unwrap_or(offset);
+    Instead::InClass(position_of(text, end))
 }
 
 fn no_tree(
@@ -241,21 +237,21 @@ fn no_tree(
     }
     let token = token_at(named.text, offset);
     let shown = offset.min(end_of_tokens(named.text));
-    let spot = spot_at(alloc, named.text, offset)?;
+    let spot = spot_at(named.text, offset);
     let instead = if is_outside_of_class(expected, spot) {
-        Some(before_class_end(alloc, named.text, offset)?)
+        Some(before_class_end(named.text, offset))
     } else {
         instead_at(expected, spot)
     };
     let unread = Unread::NoTree { token, expected };
-    told(alloc, named, Some(shown), unread, instead)
+    message_of(alloc, named, Some(shown), unread, instead)
 }
 
 /// A byte above 127 stands at an offset.
 fn not_ascii(alloc: Global, named: Named, offset: usize) -> Result<String, NoMemory> {
     let byte = named.text.get(offset).copied().unwrap_or(0);
     let instead = instead_of_mark(named.text);
-    told(alloc, named, Some(offset), Unread::Foreign(byte), instead)
+    message_of(alloc, named, Some(offset), Unread::Foreign(byte), instead)
 }
 
 fn no_token(alloc: Global, named: Named, offset: usize) -> Result<String, NoMemory> {
@@ -266,7 +262,7 @@ fn no_token(alloc: Global, named: Named, offset: usize) -> Result<String, NoMemo
         _ => instead_of_bytes(word_at(named.text, offset)),
     };
     let unread = Unread::NoToken { rest, token };
-    told(alloc, named, Some(offset), unread, instead)
+    message_of(alloc, named, Some(offset), unread, instead)
 }
 
 /// Why a source has no tree: the file is of another kind, or the error at its place. The last line says what to write instead, where that
@@ -282,7 +278,7 @@ fn explain_error(alloc: Global, named: Named, error: ReadError) -> Result<String
     match error {
         ReadError::TooLong => {
             let unread = Unread::TooLong(named.text.len());
-            told(alloc, named, None, unread, None)
+            message_of(alloc, named, None, unread, None)
         }
         ReadError::NotAscii { offset } => not_ascii(alloc, named, offset),
         ReadError::NoToken { offset } => no_token(alloc, named, offset),

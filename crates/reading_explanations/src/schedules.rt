@@ -22,7 +22,7 @@ struct Item<'a> {
     word: &'a [u8],
 }
 
-/// How many events an item writes; None where it can't be read. Fails for want of memory alone.
+/// How many events an item writes; None where it can't be read. Fails only when out of memory.
 fn count_events(alloc: Global, word: &[u8]) -> Result<Option<usize>, NoMemory> {
     match read_schedule(alloc, word) {
         Ok(items) => Ok(Some(items.first().map_or(0, |item| item.count))),
@@ -31,7 +31,7 @@ fn count_events(alloc: Global, word: &[u8]) -> Result<Option<usize>, NoMemory> {
     }
 }
 
-/// The first item that can't be read behind those before it, read one by one. Fails for want of memory alone.
+/// The first item that can't be read after those before it, read one by one. Fails only when out of memory.
 fn first_bad(alloc: Global, text: &[u8]) -> Result<Option<Item<'_>>, NoMemory> {
     let mut left = MOST_EVENTS;
     let mut start = 0usize;
@@ -94,8 +94,8 @@ impl fmt::Display for BadItem<'_> {
     }
 }
 
-/// Why a text is no schedule: the sentence of the error that `read_schedule` answered of it, at its first bad item, with the line and
-/// carets below the item. Each line ends with a line feed; lines and columns are counted from 1. Fails for want of memory alone.
+/// Why a text is no schedule: the sentence of the error that `read_schedule` returned of it, at its first bad item, with the line and
+/// carets below the item. Each line ends with a line feed; lines and columns are counted from 1. Fails only when out of memory.
 pub fn explain_schedule(
     alloc: Global,
     file: &str,

@@ -24,7 +24,7 @@ abbrev pub begins : Part → Token → Bool
 begins part (Reserved word) = is_first_word part word
 begins part _ = false
 
--- the index of the token that begins such a part after so many others, in tokens whose first one has this index
+-- the index of the token that begins such a part after this number of others, in tokens whose first one has this index
 abbrev pub index_from : Part → ℕ → ℕ → List Token → Option ℕ
 index_from part others at [] = None
 index_from part zero at (t ∷ ts) = if begins part t then Some at else index_from part zero (at + 1) ts

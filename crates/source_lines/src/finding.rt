@@ -39,7 +39,7 @@ fn names_instruction(used: Option<WordUse>) -> bool
     matches!(used, Some(WordUse::Instruction(_)))
 }
 
-/// The index of the first token, of those from an index on, that begins such a part after so many others that do. None if they do not begin so many.
+/// The index of the first token, of those from an index on, that begins such a part after the given number of others that do. None if fewer do.
 pub(crate) fn index_from(tokens: Tokens, from: usize, part: Part, others: usize) -> Option<usize>
     ensures { result ≡ index_from part others from (drop from tokens.now) }
 {

@@ -1,6 +1,7 @@
 //! Lines of a source.
 
-ghost use Rattle.std.specs.Prelude.{◌≡◌, IfOk};
+ghost use Rattle.std.specs.Prelude.{◌≡◌, ◌≤◌, ◌==◌, IfOk, length};
+ghost use Rattle.std.specs.List.{count_by};
 ghost use Rattle.source_lines.specs.Lines.{instruction_line, instruction_token, line_of_byte, line_of_token, tokens_of};
 
 use crate::finding::{Part, index_from};
@@ -31,7 +32,7 @@ impl<'s> Model for SourceLines<'s> {
 }
 
 impl<'s> SourceLines<'s> {
-    /// The lines of a source. Takes memory for its tokens; only want of it is an error.
+    /// The lines of a source. Takes memory for its tokens; the only error is out of memory.
     pub fn new(alloc: Global, source: &'s [u8]) -> Result<SourceLines<'s>, NoMemory>
         ensures { IfOk result (λ lines. lines ≡ source.now) }
     {
@@ -41,8 +42,8 @@ impl<'s> SourceLines<'s> {
         })
     }
 
-    /// The line, from 1, of an instruction of a method. Methods count from 0 in source order, abstract ones too, and instructions from 0 in their method. None if the
-    /// source has no such instruction. Only want of memory is an error.
+    /// The line, from 1, of an instruction of a method. Methods count from 0 in source order, abstract ones too, and instructions from 0 in their
+    /// method. None if the source has no such instruction. The only error is out of memory.
     pub fn line(&self, method: usize, instruction: usize) -> Result<Option<usize>, NoMemory>
         ensures { IfOk result (λ line. line ≡ instruction_line self.now method instruction) }
     {
@@ -84,16 +85,42 @@ fn line_of_token(source: &[u8], token: usize) -> Result<Option<usize>, NoMemory>
     }
 }
 
-/// The line, from 1, of the byte at an offset: one more than the line feeds before it.
-fn line_of_byte(source: &[u8], offset: usize) -> usize
+/// The line, from 1, of the byte at an offset: one more than the line feeds before it. For an offset after the end it is the last line.
+pub fn line_of_byte(source: &[u8], offset: usize) -> usize
     ensures { result ≡ line_of_byte source.now offset }
 {
-    let mut line = 1;
     let before = offset.min(source.len());
-    for index in 0..before {
-        if source[index] == b'\n' {
-            line += 1;
+    line_feeds(&source[..before]) + 1
+}
+
+/// The most bytes that are counted together: a byte holds their count, so that many are compared at once.
+const CHUNK: usize = 128;
+
+/// How many line feeds these bytes have.
+fn line_feeds(bytes: &[u8]) -> usize
+    ensures within { result ≤ length bytes.now }
+    ensures value { result ≡ count_by (λ byte. byte == 10) bytes.now }
+{
+    let mut feeds = 0;
+    let mut rest = bytes;
+    while rest.len() > CHUNK {
+        let (chunk, after) = rest.split_at(CHUNK);
+        feeds += usize::from(feeds_in_chunk(chunk));
+        rest = after;
+    }
+    feeds + usize::from(feeds_in_chunk(rest))
+}
+
+/// How many line feeds a chunk has.
+fn feeds_in_chunk(chunk: &[u8]) -> u8
+    requires { length chunk.now ≤ 128 }
+    ensures { result ≡ count_by (λ byte. byte == 10) chunk.now }
+{
+    let mut feeds = 0;
+    for byte in chunk {
+        if *byte == b'\n' {
+            feeds += 1;
         }
     }
-    line
+    feeds
 }

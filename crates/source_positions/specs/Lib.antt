@@ -1,1 +1,3 @@
 pub use Rattle.cil_model.specs as cil_model
+pub use Rattle.source_lines.specs as source_lines
+pub mod Positions

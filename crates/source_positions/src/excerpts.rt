@@ -1,6 +1,6 @@
 //! A line of a text with carets below a part of it.
 
-use crate::lines::line_at;
+use crate::lines::TextLine;
 use cil_model::memory::NoMemory;
 
 /// The most columns of a line that are shown.
@@ -39,7 +39,7 @@ fn shown_byte(byte: u8) -> char {
     }
 }
 
-/// What stands in the line of carets below a byte: a tab below a tab, so that both lines keep step.
+/// What stands in the line of carets below a byte: a tab below a tab, so that both lines align.
 fn below_byte(byte: u8) -> char {
     if byte == b'\t' { '\t' } else { ' ' }
 }
@@ -51,7 +51,7 @@ fn push_times(text: &mut String, character: char, times: usize) -> Result<(), No
     Ok(())
 }
 
-/// Adds the margin of a line, and answers how wide it is.
+/// Adds the margin of a line, and returns how wide it is.
 fn push_number(text: &mut String, number: usize) -> Result<usize, NoMemory> {
     let before = text.len();
     write!(text, "  {number} | ")?;
@@ -89,17 +89,16 @@ fn push_carets(
     push_times(text, '^', length.clamp(1, most))
 }
 
-/// Adds the line in which an offset of a text stands, with its number before it, and below it carets under so many bytes from the offset
+/// Adds the line of a text in which an offset stands, with its number before it, and below it `length` carets from the offset
 /// on, but one at least and none beyond the line. Each of the two lines ends with a line feed. A longer line is cut to 120 columns round
 /// the offset, with dots where it is cut; tabs stay tabs in both lines, and bytes that are no visible characters are shown as `?`. Fails
-/// for want of memory alone.
+/// only when out of memory.
 pub(crate) fn push_excerpt(
     shown: &mut String,
-    text: &[u8],
+    line: TextLine,
     offset: usize,
     length: usize,
 ) -> Result<(), NoMemory> {
-    let line = line_at(text, offset);
     let column = offset.saturating_sub(line.start).min(line.bytes.len());
     let window = Window::round(column, line.bytes.len());
     let width = push_number(shown, line.number)?;

@@ -1,8 +1,8 @@
-//! The token at an offset, as it stands in the text.
+//! The bytes of the token at an offset.
 
 /// Letters, digits, `_` and `.`.
-fn is_word_byte(byte: u8) -> bool {
-    byte.is_ascii_alphanumeric() || byte == b'_' || byte == b'.'
+pub(crate) fn is_word_byte(byte: u8) -> bool {
+    matches!(byte, b'A'..=b'Z' | b'a'..=b'z' | b'0'..=b'9' | b'_' | b'.')
 }
 
 /// How many letters, digits, `_` and `.` stand together where these bytes begin.
@@ -41,7 +41,7 @@ fn token_length(bytes: &[u8]) -> usize {
     }
 }
 
-/// The bytes of the token that begins at an offset of a text; one byte where none begins there, and none behind the end.
+/// The bytes of the token that begins at an offset of a text; one byte where none begins there, and none at the end.
 pub fn token_at(text: &[u8], offset: usize) -> &[u8] {
     let rest = text.get(offset..).unwrap_or(&[]);
     rest.get(..token_length(rest)).unwrap_or(rest)

@@ -13,6 +13,7 @@ mod messages;
 mod name_texts;
 mod outlines;
 mod places;
+mod tokens;
 
 pub use cil_model;
 pub use ilasm_tokens;
@@ -22,5 +23,6 @@ pub use members::{MethodPlace, method_of_number, nth_field, nth_method};
 pub use messages::Named;
 pub use name_tables;
 pub use name_texts::{ClassText, MethodText, TypeText};
-pub use outlines::offset_of;
+pub use outlines::{FoundMember, offset_of};
 pub use places::{ClassPart, LinePart, MemberPart, Place};
+pub use tokens::{token_after, token_before};

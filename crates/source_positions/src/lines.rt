@@ -1,5 +1,12 @@
 //! Lines and columns of a text.
 
+ghost use Rattle.std.specs.Prelude.{◌≡◌, ◌≤◌, ◌<◌, ◌+◌, ◌-◌, ◌^◌, length, take};
+ghost use Rattle.std.specs.List.{suffix_len};
+ghost use Rattle.source_lines.specs.Lines.{line_of_byte};
+ghost use Rattle.source_positions.specs.Positions.{column_of_byte, is_in_line};
+
+use source_lines::line_of_byte;
+
 /// A place of a text as a person counts it, line and column from 1. Each byte is one column, a tab too.
 #[derive(Clone, Copy)]
 pub struct Position {
@@ -28,29 +35,47 @@ fn first_line(text: &[u8]) -> &[u8] {
     text
 }
 
-/// The line in which the byte at an offset stands; for an offset behind the end it is the last line.
-pub(crate) fn line_at(text: &[u8], offset: usize) -> TextLine<'_> {
-    let mut number = 1usize;
-    let mut start = 0usize;
-    let before = text.get(..offset).unwrap_or(text);
-    for (place, byte) in before.iter().enumerate() {
-        if *byte == b'\n' {
-            number = number.saturating_add(1);
-            start = place.saturating_add(1);
-        }
+/// The offset of the first byte of the line in which an offset stands.
+pub(crate) fn line_start(text: &[u8], offset: usize) -> usize
+    ensures { let before = take offset text.now in result + suffix_len is_in_line before ≡ length before }
+{
+    let mut start = offset.min(text.len());
+    while start > 0 && text[start - 1] != b'\n' {
+        start -= 1;
     }
+    start
+}
+
+/// The line in which the byte at an offset stands; for an offset after the end it is the last line.
+pub(crate) fn line_at(text: &[u8], offset: usize) -> TextLine<'_>
+    ensures number { result.number ≡ line_of_byte text.now offset }
+    ensures start { let before = take offset text.now in result.start + suffix_len is_in_line before ≡ length before }
+{
+    let start = line_start(text, offset);
     TextLine {
-        number,
+        number: line_of_byte(text, offset),
         start,
         bytes: first_line(text.get(start..).unwrap_or(&[])),
     }
 }
 
-/// The line and the column of the byte at an offset of a text, which is counted in bytes from 0.
-pub fn position_of(text: &[u8], offset: usize) -> Position {
-    let line = line_at(text, offset);
-    Position {
-        line: line.number,
-        column: offset.saturating_sub(line.start).saturating_add(1),
+impl TextLine<'_> {
+    /// The position of an offset in it.
+    pub fn position_of(self, offset: usize) -> Position
+        ensures line { result.line ≡ self.entry.number }
+        ensures column { offset + 1 < 2 ^ 64 → result.column ≡ (offset - self.entry.start) + 1 }
+    {
+        Position {
+            line: self.number,
+            column: offset.saturating_sub(self.start).saturating_add(1),
+        }
     }
+}
+
+/// The line and the column of the byte at an offset of a text, which is counted in bytes from 0. After the end of the text, the last line.
+pub fn position_of(text: &[u8], offset: usize) -> Position
+    ensures line { result.line ≡ line_of_byte text.now offset }
+    ensures column { offset ≤ length text.now → result.column ≡ column_of_byte text.now offset }
+{
+    line_at(text, offset).position_of(offset)
 }

@@ -1,134 +1,167 @@
 //! The tokens by which parts of a source are found. Each of these words stands at one place of the grammar alone, so to count them is to
 //! count the parts that they begin.
 
-use cil_model::tokens::Symbol;
-use ilasm_tokens::source_tokens::{SourceToken, Tokens};
+use crate::lexemes::token_at;
+use crate::tokens::{directive_from, token_after, token_from};
 use ilasm_tokens::words::{WordUse, use_of};
 
 /// What a token is looked for as.
 #[derive(Clone, Copy)]
-pub(crate) enum Mark<'a> {
-    /// This reserved word.
-    Word(&'a [u8]),
-    /// This mark.
-    Symbol(Symbol),
+pub(crate) enum Mark {
+    /// This reserved word or symbol.
+    Token(&'static [u8]),
     /// Any name.
     Name,
     /// `.field` or `.method`, with which a member begins.
     Member,
-    /// What stands behind a field: the next member, or the end of the class.
+    /// What follows a field: the next member, or the end of the class.
     FieldEnd,
     /// The name of an instruction, in a long form or a short one.
     Instruction,
 }
 
-fn is_word(token: &SourceToken, word: &[u8]) -> bool {
-    match token.reserved() {
-        None => false,
-        Some(found) => found == word,
+fn is_text(token: &[u8], text: &[u8]) -> bool {
+    token == text
+}
+
+fn is_member(token: &[u8]) -> bool {
+    is_text(token, b".field") || is_text(token, b".method")
+}
+
+/// Whether a token is a word that is not reserved.
+fn is_name(token: &[u8]) -> bool {
+    match token {
+        [b'A'..=b'Z' | b'a'..=b'z' | b'_', ..] => use_of(token).is_none(),
+        _ => false,
     }
 }
 
-fn is_symbol(token: &SourceToken, symbol: Symbol) -> bool {
-    match token.symbol() {
-        None => false,
-        Some(found) => found == symbol,
-    }
-}
-
-fn is_member(token: &SourceToken) -> bool {
-    is_word(token, b".field") || is_word(token, b".method")
-}
-
-fn is_instruction(token: &SourceToken) -> bool {
-    match token.reserved() {
-        None => false,
-        Some(word) => matches!(use_of(word), Some(WordUse::Instruction(_))),
-    }
-}
-
-fn is_marked(token: &SourceToken, mark: Mark) -> bool {
+fn is_marked(token: &[u8], mark: Mark) -> bool {
     match mark {
-        Mark::Word(word) => is_word(token, word),
-        Mark::Symbol(symbol) => is_symbol(token, symbol),
-        Mark::Name => token.is_name(),
+        Mark::Token(text) => is_text(token, text),
+        Mark::Name => is_name(token),
         Mark::Member => is_member(token),
-        Mark::FieldEnd => is_member(token) || is_symbol(token, Symbol::CloseBrace),
-        Mark::Instruction => is_instruction(token),
+        Mark::FieldEnd => is_member(token) || is_text(token, b"}"),
+        Mark::Instruction => matches!(use_of(token), Some(WordUse::Instruction(_))),
     }
-}
-
-/// The number of a token with a mark, of those from a number on, where so many others with the mark stand before it.
-fn marked(tokens: Tokens, from: usize, mark: Mark, others: usize) -> Option<usize> {
-    let mut left = others;
-    let rest = tokens.get(from..).unwrap_or(&[]);
-    for (place, token) in rest.iter().enumerate() {
-        if is_marked(token, mark) {
-            if left == 0 {
-                return from.checked_add(place);
-            }
-            left -= 1;
-        }
-    }
-    None
 }
 
 /// A token of a source, from which others are found; none where a step before found none.
 #[derive(Clone, Copy)]
 pub(crate) struct Walk<'t> {
-    tokens: Tokens<'t>,
+    text: &'t [u8],
     at: Option<usize>,
+    /// The token to which a look back goes at most, and how many tokens there are from it on before this one.
+    first: usize,
+    distance: usize,
 }
 
 impl<'t> Walk<'t> {
-    /// The first token of a source.
-    pub fn at_first(tokens: Tokens<'t>) -> Self {
+    /// The token at an offset of a source.
+    pub fn at(text: &'t [u8], offset: usize) -> Self {
         Walk {
-            tokens,
-            at: Some(0),
+            text,
+            at: Some(offset),
+            first: offset,
+            distance: 0,
         }
     }
 
-    /// The number of the token in the source.
-    pub fn number(self) -> Option<usize> {
+    /// The first token of a source.
+    pub fn at_first(text: &'t [u8]) -> Self {
+        Walk::at(text, token_from(text, 0))
+    }
+
+    /// The offset of the token in the source.
+    pub fn offset(self) -> Option<usize> {
         self.at
     }
 
-    /// The token with a mark, from this one on, behind so many others with the mark.
+    /// No token.
+    fn nowhere(self) -> Self {
+        Walk { at: None, ..self }
+    }
+
+    /// The token with a mark, from this one on, after `others` more with the mark.
     pub fn to(self, mark: Mark, others: usize) -> Self {
-        let at = match self.at {
-            None => None,
-            Some(from) => marked(self.tokens, from, mark, others),
+        let Some(from) = self.at else {
+            return self;
         };
-        Walk { at, ..self }
+        let mut at = from;
+        let mut left = others;
+        for passed in 0..self.text.len() {
+            let token = token_at(self.text, at);
+            if token.is_empty() {
+                return self.nowhere();
+            }
+            if is_marked(token, mark) {
+                if left == 0 {
+                    return self.further(at, passed);
+                }
+                left -= 1;
+            }
+            at = token_from(self.text, at.saturating_add(token.len()));
+        }
+        self.nowhere()
     }
 
-    /// The token so many places further on.
+    /// The directive with a mark, at this token or after it, after `others` more with the mark. A look back from there goes to it at most.
+    pub fn to_directive(self, mark: Mark, others: usize) -> Self {
+        let Some(from) = self.at else {
+            return self;
+        };
+        let mut at = from;
+        let mut left = others;
+        for _ in 0..self.text.len() {
+            let Some(found) = directive_from(self.text, at) else {
+                return self.nowhere();
+            };
+            let token = token_at(self.text, found);
+            if is_marked(token, mark) {
+                if left == 0 {
+                    return Walk::at(self.text, found);
+                }
+                left -= 1;
+            }
+            at = found.saturating_add(token.len());
+        }
+        self.nowhere()
+    }
+
+    /// The token at an offset, `passed` tokens further on.
+    fn further(self, at: usize, passed: usize) -> Self {
+        Walk {
+            at: Some(at),
+            distance: self.distance.saturating_add(passed),
+            ..self
+        }
+    }
+
+    /// The token `distance` tokens further on.
     pub fn forward(self, distance: usize) -> Self {
-        let at = match self.at {
-            None => None,
-            Some(number) => number.checked_add(distance),
+        let Some(from) = self.at else {
+            return self;
         };
-        Walk { at, ..self }
+        let mut at = from;
+        for _ in 0..distance.min(self.text.len()) {
+            at = token_after(self.text, at);
+        }
+        self.further(at, distance)
     }
 
-    /// The token so many places before.
+    /// The token `distance` tokens before, by those from the one on that a walk began at. None where it began further on.
     pub fn back(self, distance: usize) -> Self {
-        let at = match self.at {
-            None => None,
-            Some(number) => number.checked_sub(distance),
-        };
-        Walk { at, ..self }
+        match self.distance.checked_sub(distance) {
+            None => self.nowhere(),
+            Some(left) => Walk::at(self.text, self.first).forward(left),
+        }
     }
 
     /// Whether the token has a mark.
     pub fn is(self, mark: Mark) -> bool {
         match self.at {
             None => false,
-            Some(number) => match self.tokens.get(number) {
-                None => false,
-                Some(token) => is_marked(token, mark),
-            },
+            Some(at) => is_marked(token_at(self.text, at), mark),
         }
     }
 }

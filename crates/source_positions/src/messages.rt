@@ -2,7 +2,7 @@
 
 use crate::excerpts::push_excerpt;
 use crate::lexemes::token_at;
-use crate::lines::{Position, position_of};
+use crate::lines::{Position, line_at};
 use cil_model::memory::NoMemory;
 use std::alloc::Global;
 
@@ -14,7 +14,7 @@ pub struct Named<'a> {
 }
 
 impl Named<'_> {
-    /// Adds a sentence of so many bytes at an offset, with the line and carets below them. Fails for want of memory alone.
+    /// Adds a sentence on `length` bytes at an offset, with the line and carets below them. Fails only when out of memory.
     pub fn push_on(
         self,
         message: &mut String,
@@ -23,12 +23,13 @@ impl Named<'_> {
         sentence: &str,
     ) -> Result<(), NoMemory> {
         let file = self.file;
-        let Position { line, column } = position_of(self.text, offset);
+        let shown = line_at(self.text, offset);
+        let Position { line, column } = shown.position_of(offset);
         writeln!(message, "{file}:{line}:{column}: {sentence}")?;
-        push_excerpt(message, self.text, offset, length)
+        push_excerpt(message, shown, offset, length)
     }
 
-    /// Adds a sentence of the token at an offset, if there is one, and else of the whole file. Fails for want of memory alone.
+    /// Adds a sentence of the token at an offset, if there is one, and else of the whole file. Fails only when out of memory.
     pub fn push_where(
         self,
         message: &mut String,
@@ -44,7 +45,7 @@ impl Named<'_> {
         Ok(())
     }
 
-    /// A sentence of the token at an offset, if there is one, and else of the whole file. Fails for want of memory alone.
+    /// A sentence of the token at an offset, if there is one, and else of the whole file. Fails only when out of memory.
     pub fn message(
         self,
         alloc: Global,

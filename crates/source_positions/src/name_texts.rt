@@ -27,7 +27,7 @@ pub struct TypeText<'a>(pub &'a DeclaredType);
 
 impl fmt::Display for TypeText<'_> {
     fn fmt<W: fmt::Write>(&self, f: &mut fmt::Formatter<W>) -> fmt::Result {
-        tell_element(f, &self.0.element)?;
+        write_element(f, &self.0.element)?;
         for _ in 0..self.0.brackets {
             f.write_str("[]")?;
         }
@@ -35,7 +35,7 @@ impl fmt::Display for TypeText<'_> {
     }
 }
 
-fn tell_element<W: fmt::Write>(f: &mut fmt::Formatter<W>, element: &Element) -> fmt::Result {
+fn write_element<W: fmt::Write>(f: &mut fmt::Formatter<W>, element: &Element) -> fmt::Result {
     let word = match element {
         Element::Int32 => "int32",
         Element::Int64 => "int64",
@@ -55,19 +55,19 @@ pub struct MethodText<'a>(pub MethodKey<'a>);
 
 impl fmt::Display for MethodText<'_> {
     fn fmt<W: fmt::Write>(&self, f: &mut fmt::Formatter<W>) -> fmt::Result {
-        tell_return(f, self.0.return_type)?;
+        write_return(f, self.0.return_type)?;
         let name = match self.0.name {
             None => ".ctor",
             Some(name) => name.as_str(),
         };
         write!(f, " {name}(")?;
-        tell_parameters(f, self.0.parameters)?;
+        write_parameters(f, self.0.parameters)?;
         f.write_str(")")
     }
 }
 
 /// The type of a result, or `void`.
-fn tell_return<W: fmt::Write>(
+fn write_return<W: fmt::Write>(
     f: &mut fmt::Formatter<W>,
     declared: Option<&DeclaredType>,
 ) -> fmt::Result {
@@ -80,7 +80,7 @@ fn tell_return<W: fmt::Write>(
     }
 }
 
-fn tell_parameters<W: fmt::Write>(
+fn write_parameters<W: fmt::Write>(
     f: &mut fmt::Formatter<W>,
     parameters: &[DeclaredType],
 ) -> fmt::Result {

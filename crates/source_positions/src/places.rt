@@ -41,7 +41,7 @@ pub enum MemberPart {
     ClassOfType(usize),
     /// `.entrypoint`
     EntryPoint,
-    /// The number behind `.maxstack`.
+    /// The number after `.maxstack`.
     MaxStack,
     /// `.locals`
     Locals,

@@ -1,7 +1,8 @@
 -- What comes of a source by a list of events (this profile).
-use Rattle.std.specs.Prelude.{◌≡◌, ◌⊎◌, ℕ, ◌≤◌, Bool, true, List, length, Option, IfSome}
+use Rattle.std.specs.Prelude.{◌≡◌, ◌⊎◌, [], ℕ, ◌≤◌, Bool, true, List, length, Option, IfSome}
 use Rattle.std.specs.List.{zip}
 use Rattle.shared_machine.specs.Worlds.{AreDoneOf}
+use Rattle.shared_machine.specs.interleaving_core.Histories.{HasDone}
 use Rattle.shared_machine.specs.simulation.Budgets.{AreWithinBudget}
 use Rattle.cil_model.specs.Ranges.{are_in_range}
 use Rattle.cil_model.specs.declared.events.Event.{Event}
@@ -60,5 +61,6 @@ pub record IsReady (source : List ℕ) (limits : Limits) (text : List ℕ) (even
   pub tree : Tree
   pub is_accepted : IsAcceptedSource source tree
   pub in_range : are_in_range limits ≡ true
+  pub done : HasDone tree limits [] [] machine
   pub opened : IsOpened tree limits machine
   pub are_read : AreRead (words text) events

@@ -11,8 +11,8 @@ ghost use Rattle.source_runs.specs.Runs.{ComesTo, ComesToBy};
 use ilasm_reader::laws::answers_are_unique;
 use schedule_text::laws::{one_answer, written_text_is_read};
 
-/// A source, a schedule's text and limits have one run: the events are the same, and so are all reports and the state that
-/// it comes to, with all that was printed and how each thread stands.
+/// A source, a schedule's text and limits have one run: the events are the same, and so are all reports and the state
+/// after it, with all that was printed and the status of each thread.
 pub fn a_run_is_one()
     ensures { (source : List ℕ) (limits : Limits) (text : List ℕ) (events events' : List Event) (reports reports' : List Report) (s s' : State) →
         ComesTo source limits text events reports s → ComesTo source limits text events' reports' s' →
@@ -22,7 +22,7 @@ pub fn a_run_is_one()
     one_answer();
 }
 
-/// Whoever replays the record of a run has the same run: the text that its events are written as comes to the same state, by the same
+/// Whoever replays the record of a run has the same run: the text of its events leads to the same state, by the same
 /// reports.
 pub fn a_record_repeats_its_run()
     ensures { (source : List ℕ) (limits : Limits) (text : List ℕ) (events : List Event) (reports : List Report) (s : State) →

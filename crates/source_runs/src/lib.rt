@@ -7,7 +7,9 @@ pub mod laws;
 mod running;
 mod threads;
 
-pub use acceptance::{Failure, accept, machine_of, report, status_of_failure, tell};
+pub use acceptance::{
+    Failure, SourceError, accept, examine, machine_of, report, status_of_failure, tell,
+};
 pub use running::{open, run_events, run_source};
 pub use shared_machine::{
     Answer, Gate, History, Machine, OpenGate, Opening, Outcome, Run, Shared, stop, write_record,

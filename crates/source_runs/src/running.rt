@@ -1,21 +1,24 @@
 //! From the bytes of a source to what its run leaves.
 
-ghost use Rattle.std.specs.Prelude.{◌≡◌, IfErr, IfOk};
+ghost use Rattle.std.specs.Prelude.{◌≡◌, [], IfErr, IfOk, Some};
+ghost use Rattle.cil_model.specs.declared.limits.Limits.{Limits as RunLimits};
+ghost use Rattle.cil_model.specs.declared.trees.Tree.{Tree};
 ghost use Rattle.schedule_text.specs.Items.{events_of as events_in};
 ghost use Rattle.shared_machine.specs.Histories.{events_of, reports_of};
 ghost use Rattle.shared_machine.specs.Worlds.{AreDoneOf};
 ghost use Rattle.shared_machine.specs.interleaving_core.Histories.{HasDone};
-ghost use Rattle.acceptance.specs.Sources.{HasRunTo, IsNotRun, IsNotRunWithin};
+ghost use Rattle.shared_machine.specs.simulation.Turns.{opening_content};
+ghost use Rattle.acceptance.specs.Sources.{HasRunTo, IsNotRun};
 ghost use Rattle.source_runs.specs.Runs.{IsNotRunBy, IsPrintedUpTo, IsReady, IsRunBy};
 
-use acceptance::{Failure, accept, machine_of};
+use acceptance::{Failure, machine_of};
 use cil_model::limits::Limits;
+use cil_model::memory::NoMemory;
 use schedule_text::{Item, read_schedule};
 use shared_machine::{Blank, Machine, Outcome, run_alone};
 use std::alloc::Global;
 use std::marker::Brand;
 use std::sync::Wait;
-use verifier::Verified;
 
 /// Runs a source by the events that a schedule's text writes, as `run_events` runs those of its items. With `most_printed` it prints no more bytes.
 ///
@@ -32,24 +35,18 @@ pub fn run_source(
     ensures ran { IfOk result (λ outcome. IsRunBy source.now limits text.now (events_of outcome.history.entries) (reports_of outcome.history.entries) outcome.is_out_of_memory outcome.machine) }
     ensures refused { IfErr result (IsNotRunBy source.now limits text.now) }
 {
-    match read_schedule(alloc, text) {
-        Ok(items) => run_events(rt, alloc, source, limits, items.as_slice(), most_printed),
-        Err(error) => {
-            // What is wrong with the source or the limits is told first.
-            run_events(rt, alloc, source, limits, &[], most_printed)?;
-            Err(Failure::from(error))
-        }
-    }
+    let (machine, items) = open(alloc, source, limits, text)?;
+    Ok(run(rt, alloc, machine, items.as_slice(), most_printed)?)
 }
 
-/// Runs a source by the events that these items stand for, as many as they are and of any threads, and answers the machine after them with
+/// Runs a source by the events of these items, of any number and of any threads, and returns the machine after them with
 /// the history: each event with its report, in order. One worker performs them, each under the lock of a shared machine, and counts them
 /// with its ticket. Where memory runs out for an event, or for its entry in the history, the run is stopped before that event, and the
 /// outcome says so: the history has the events before it. With `most_printed` it is stopped in the same way before an event by which the program
 /// would have printed more bytes than that.
 ///
-/// The reference machine's run over the steps among the events is never stuck. It gives the steps these reports, and the machine stands
-/// for the state that it comes to: the bytes printed are the same, and each thread stands alike. No thread makes more steps than its
+/// The reference machine's run over the steps among the events is never stuck. It gives the steps these reports, and the machine represents
+/// the state after it: the bytes printed are the same, and each thread has the same status. No thread makes more steps than its
 /// budget has. A step of a thread that isn't live is reported Absent (this profile).
 ///
 /// An acknowledgement and an event of the collector leave that state alone. No cycle of the collector has more working events than its bound, and where the
@@ -69,27 +66,24 @@ pub fn run_events(
     ensures ran { IfOk result (λ outcome. HasRunTo source.now limits (events_of outcome.history.entries) (reports_of outcome.history.entries) outcome.machine) }
     ensures refused { IfErr result (IsNotRun source.now limits) }
 {
-    let verified = accept(alloc, source)?;
-    run(rt, alloc, verified, limits, items, most_printed)
+    let machine = machine_of(alloc, source, limits)?;
+    Ok(run(rt, alloc, machine, items, most_printed)?)
 }
 
-/// The machine of a program after the events of these items, which one worker performs.
+/// A machine before its first event after the events of these items, which one worker performs.
 fn run(
     rt: &impl Wait,
     alloc: Global,
-    program: Verified,
-    limits: Limits,
+    machine: Machine,
     items: &[Item],
     most_printed: Option<u32>,
-) -> Result<Outcome, Failure>
-    ensures printed { IfOk result (λ outcome. IsPrintedUpTo most_printed outcome.machine.printed) }
+) -> Result<Outcome, NoMemory>
+    ensures printed { (tree : Tree) (limits : RunLimits) → opening_content tree limits ≡ Some machine → IfOk result (λ outcome. IsPrintedUpTo most_printed outcome.machine.printed) }
     ensures events { IfOk result (λ outcome. AreDoneOf (events_in items.now) (events_of outcome.history.entries) outcome.is_out_of_memory) }
-    ensures ran { IfOk result (λ outcome. HasDone program limits (events_of outcome.history.entries) (reports_of outcome.history.entries) outcome.machine) }
-    ensures refused { IfErr result (IsNotRunWithin limits) }
+    ensures ran { (tree : Tree) (limits : RunLimits) → HasDone tree limits [] [] machine → IfOk result (λ outcome. HasDone tree limits (events_of outcome.history.entries) (reports_of outcome.history.entries) outcome.machine) }
 {
-    let machine = Machine::new(alloc, program, limits)?;
     let blank = Blank::new(alloc)?;
-    Ok(run_alone::<Brand, _>(rt, alloc, blank, machine, items, most_printed)?)
+    run_alone::<Brand, _>(rt, alloc, blank, machine, items, most_printed)
 }
 
 /// The machine of a source before its first event, and the items that a schedule's text writes.

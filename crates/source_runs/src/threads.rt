@@ -18,13 +18,13 @@ use std::sync::Wait;
 use std::thread::Threads;
 use verifier::Verified;
 
-/// Runs a source by so many workers, 1 to 16, each in a thread of its own, until no thread of the program is live, or with
-/// `StopAt::Deadlock` until each live one waits, as `run_together` does, and answers the machine after that with the history. A pass of a
-/// worker is told to `gate`.
+/// Runs a source by `workers` workers, 1 to 16, each in a thread of its own, until no thread of the program is live, or with
+/// `StopAt::Deadlock` until each live one waits, as `run_together` does, and returns the machine after that with the history. Each pass of a
+/// worker calls `gate`.
 ///
 /// Whatever the order in which the workers got the lock, the run is that of the history's events: as `run_events` runs them, the reference
-/// machine's run over the steps among them is never stuck, with these reports, and the machine stands for the state that it comes to. So
-/// whoever replays them gets the same bytes and ends. Each entry is an event of its worker's own, of a thread that a machine can have. With
+/// machine's run over the steps among them is never stuck, with these reports, and the machine represents the state after it. So
+/// a replay of them prints the same bytes and has the same ends. Each entry is an event of its worker's own, of a thread that a machine can have. With
 /// `StopAt::End` no thread is live at the end. With `StopAt::Deadlock` threads may be: then each of them waits for a monitor that another
 /// thread holds or for the end of a live thread, and the outcome has the stop mark. Where memory ran out before such an end, the outcome
 /// says so. With `most_printed` the run is stopped in the same way before an event by which the program would have printed more bytes than that.

@@ -1,5 +1,7 @@
 //! How many values an instruction pops and pushes, and by that which instruction pushed a value.
 
+ghost use Rattle.std.specs.Prelude.{◌<◌, IfSome};
+
 use crate::expected::Scene;
 use resolved_code::operations::Operation;
 use source_positions::name_tables::lookups::MemberNumber;
@@ -96,7 +98,9 @@ impl Scene<'_> {
 
     /// The index of the instruction that pushed a value of the stack before another instruction, by the number of values above it. It is
     /// looked for along the instructions before that one; None where control does not come from them.
-    pub fn pusher(self, instruction: usize, above: usize) -> Option<usize> {
+    pub fn pusher(self, instruction: usize, above: usize) -> Option<usize>
+        ensures { IfSome result (λ place. place < instruction) }
+    {
         let mut depth = above;
         for distance in 0..instruction {
             let place = instruction.checked_sub(distance)?.checked_sub(1)?;

@@ -1,5 +1,7 @@
 //! The operands that an instruction expects.
 
+ghost use Rattle.std.specs.Prelude.{◌≤◌, length};
+
 use crate::numbered::{ClassNames, TypeOf};
 use flow_rules::type_tree::type_of_class;
 use resolved_code::Program;
@@ -30,7 +32,7 @@ pub(crate) struct Scene<'a> {
 pub(crate) struct Expected<'a>(pub Scene<'a>, pub &'a Operation);
 
 /// Types, with commas between them, and one more before them; `nothing` where there are none.
-fn tell_types<W: fmt::Write>(
+fn write_types<W: fmt::Write>(
     f: &mut fmt::Formatter<W>,
     names: ClassNames,
     first: Option<NumberedType>,
@@ -55,7 +57,9 @@ fn tell_types<W: fmt::Write>(
 
 impl<'a> Scene<'a> {
     /// How many arguments the method has.
-    pub fn count_arguments(self) -> usize {
+    pub fn count_arguments(self) -> usize
+        ensures { length self.entry.parameters.now ≤ result }
+    {
         let parameters = self.parameters.len();
         match self.this {
             None => parameters,
@@ -93,7 +97,7 @@ impl<'a> Scene<'a> {
         }
     }
 
-    /// The operands of an instruction that are declared types, the first by itself; None where they are told otherwise.
+    /// The operands of an instruction that are declared types, the first by itself; None where the sentence has them already.
     pub fn declared(
         self,
         operation: &Operation,
@@ -168,7 +172,7 @@ fn elements_expected(operation: &Operation) -> &'static str {
 impl fmt::Display for Expected<'_> {
     fn fmt<W: fmt::Write>(&self, f: &mut fmt::Formatter<W>) -> fmt::Result {
         match self.0.declared(self.1) {
-            Some((first, others)) => tell_types(f, self.0.names, first, others),
+            Some((first, others)) => write_types(f, self.0.names, first, others),
             None => f.write_str(kinds_expected(self.1)),
         }
     }

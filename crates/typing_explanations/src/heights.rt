@@ -1,57 +1,19 @@
 //! The height of the stack that a method needs.
 
-use crate::methods::SourceMethod;
+ghost use Rattle.std.specs.Prelude.{◌≤◌, IfOk, length};
+
 use flow_rules::type_tree::{TypeTree, type_of_class};
 use resolved_code::Program;
 use resolved_code::classes::{Body, ResolvedKind, ResolvedMethod, body_of};
 use resolved_code::types::NumberedType;
+use source_positions::cil_model::limits::MOST_STACK;
 use source_positions::cil_model::memory::NoMemory;
+use source_positions::method_of_number;
 use source_positions::name_tables::lookups::MemberNumber;
-use source_positions::{MemberPart, offset_of, token_at};
 use std::alloc::Global;
 use verifier::Typing;
 use verifier::failures::TypingError;
-use verifier::search::find_typing;
-
-/// The largest `.maxstack` that a method may have.
-const LARGEST: &[u8] = b"64";
-
-/// The source of a program with the largest `.maxstack` in the place of that of one method, by its number in the source. None where the
-/// source has no such place.
-pub fn with_largest_stack(
-    alloc: Global,
-    source: &[u8],
-    program: &Program,
-    method: usize,
-) -> Result<Option<Vec<u8>>, NoMemory> {
-    let Some(found) = SourceMethod::find(program.tree().classes.as_slice(), method) else {
-        return Ok(None);
-    };
-    let place = found.part(MemberPart::MaxStack);
-    match offset_of(alloc, source, place)? {
-        None => Ok(None),
-        Some(offset) => {
-            let length = token_at(source, offset).len();
-            let changed = with_largest_at(alloc, source, offset, length)?;
-            Ok(Some(changed))
-        }
-    }
-}
-
-/// A source with the largest `.maxstack` in the place of the bytes at an offset.
-fn with_largest_at(
-    alloc: Global,
-    source: &[u8],
-    offset: usize,
-    length: usize,
-) -> Result<Vec<u8>, NoMemory> {
-    let end = offset.saturating_add(length);
-    let mut changed = Vec::new(alloc);
-    changed.extend_from_slice(source.get(..offset).unwrap_or(&[]))?;
-    changed.extend_from_slice(LARGEST)?;
-    changed.extend_from_slice(source.get(end..).unwrap_or(&[]))?;
-    Ok(changed)
-}
+use verifier::search::find_typing_within;
 
 /// The height of the highest stack of a typing.
 fn height_of(typing: &Typing) -> usize {
@@ -67,11 +29,11 @@ fn height_of(typing: &Typing) -> usize {
 /// The number among all classes of a method of a source. None where it has no such method.
 fn member_number(program: &Program, method: usize) -> Option<MemberNumber> {
     let sources = program.tree().classes.as_slice();
-    let found = SourceMethod::find(sources, method)?;
+    let found = method_of_number(sources, method)?;
     let built_in = program.classes().len().checked_sub(sources.len())?;
     Some(MemberNumber {
-        class: found.number.class.checked_add(built_in)?,
-        place: found.number.place,
+        class: found.class.checked_add(built_in)?,
+        place: found.place,
     })
 }
 
@@ -80,7 +42,9 @@ fn arguments_of(
     alloc: Global,
     class: usize,
     method: &ResolvedMethod,
-) -> Result<Vec<NumberedType>, NoMemory> {
+) -> Result<Vec<NumberedType>, NoMemory>
+    ensures { IfOk result (λ arguments. length method.now.parameters ≤ length arguments.items) }
+{
     let mut arguments = Vec::new(alloc);
     if !matches!(method.kind, ResolvedKind::Static(_)) {
         arguments.push(type_of_class(class))?;
@@ -89,7 +53,7 @@ fn arguments_of(
     Ok(arguments)
 }
 
-/// The height of the stack that a method with code needs; an error where it has no typing.
+/// The height of the stack that a method with code needs; an error where it has no typing with the largest `.maxstack` either.
 fn height_of_body(
     alloc: Global,
     program: &Program,
@@ -99,18 +63,19 @@ fn height_of_body(
 ) -> Result<usize, TypingError> {
     let types = TypeTree::new(program.tree(), program.classes(), alloc)?;
     let arguments = arguments_of(alloc, class, method)?;
-    let typing = find_typing(
+    let typing = find_typing_within(
         &types,
         arguments.as_slice(),
         method.return_type,
         body,
+        MOST_STACK as usize,
         alloc,
     )?;
     Ok(height_of(&typing))
 }
 
-/// The height of the stack that a method of a source needs, by the method's number in the source; an error where it has no typing. None
-/// where the program has no code for it.
+/// The height of the stack that a method of a source needs, by the method's number in the source, whatever its `.maxstack` is; an error where it
+/// has no typing with the largest `.maxstack` either. None where the program has no code for it.
 pub fn needed_height(
     alloc: Global,
     program: &Program,

@@ -13,6 +13,6 @@ mod refusals;
 mod remedies;
 mod typings;
 
-pub use heights::{needed_height, with_largest_stack};
+pub use heights::needed_height;
 pub use typings::explain_typing;
 pub use verifier;

@@ -2,7 +2,7 @@
 
 use source_positions::cil_model::instructions::MethodName;
 use source_positions::cil_model::trees::{Class, Method};
-use source_positions::{LinePart, MemberPart, MethodPlace, Place, method_of_number, nth_method};
+use source_positions::{FoundMember, MemberPart, MethodPlace, method_of_number, nth_method};
 
 /// A method of a source, with the name of its class.
 #[derive(Clone, Copy)]
@@ -10,11 +10,13 @@ pub(crate) struct SourceMethod<'a> {
     pub number: MethodPlace,
     pub class_name: &'a str,
     pub method: &'a Method,
+    /// Where it stands in the text; none where it is not found there.
+    text: Option<FoundMember<'a>>,
 }
 
 impl<'a> SourceMethod<'a> {
-    /// The method of a number, counted through the whole source.
-    pub fn find(classes: &'a [Class], number: usize) -> Option<Self> {
+    /// The method of a number, counted through the whole source with this text.
+    pub fn find(text: &'a [u8], classes: &'a [Class], number: usize) -> Option<Self> {
         let number = method_of_number(classes, number)?;
         let class = classes.get(number.class)?;
         let (_, method) = nth_method(class, number.place)?;
@@ -22,6 +24,7 @@ impl<'a> SourceMethod<'a> {
             number,
             class_name: class.name.as_str(),
             method,
+            text: FoundMember::find(text, number.class, number.member),
         })
     }
 
@@ -33,27 +36,18 @@ impl<'a> SourceMethod<'a> {
         }
     }
 
-    /// A part of the method before its first instruction.
-    pub fn part(self, part: MemberPart) -> Place {
-        let MethodPlace { class, member, .. } = self.number;
-        Place::InMember {
-            class,
-            member,
-            part,
+    /// The offset of the name of an instruction, and of that of the method where it has no such instruction.
+    pub fn offset_of(self, instruction: usize, instructions: usize) -> Option<usize> {
+        let text = self.text?;
+        if instruction < instructions {
+            return text.instruction(instruction);
         }
+        text.part(MemberPart::Name)
     }
 
-    /// The name of an instruction, and of the method where it has no such instruction.
-    pub fn line(self, line: usize, lines: usize) -> Place {
-        let MethodPlace { class, member, .. } = self.number;
-        if line < lines {
-            return Place::InLine {
-                class,
-                member,
-                line,
-                part: LinePart::Name,
-            };
-        }
-        self.part(MemberPart::Name)
+    /// The line, from 1, of what `offset_of` finds.
+    pub fn line_of(self, instruction: usize, instructions: usize) -> Option<usize> {
+        let offset = self.offset_of(instruction, instructions)?;
+        Some(self.text?.line_of(offset))
     }
 }

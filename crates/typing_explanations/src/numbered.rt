@@ -44,7 +44,7 @@ pub(crate) struct TypeOf<'a>(pub ClassNames<'a>, pub NumberedType);
 
 impl TypeOf<'_> {
     /// The type without its brackets.
-    fn tell_element<W: fmt::Write>(&self, f: &mut fmt::Formatter<W>) -> fmt::Result {
+    fn write_element<W: fmt::Write>(&self, f: &mut fmt::Formatter<W>) -> fmt::Result {
         match &self.1.element {
             NumberedElement::Int32 => f.write_str("int32"),
             NumberedElement::Int64 => f.write_str("int64"),
@@ -57,7 +57,7 @@ impl TypeOf<'_> {
 
 impl fmt::Display for TypeOf<'_> {
     fn fmt<W: fmt::Write>(&self, f: &mut fmt::Formatter<W>) -> fmt::Result {
-        self.tell_element(f)?;
+        self.write_element(f)?;
         for _ in 0..self.1.brackets {
             f.write_str("[]")?;
         }

@@ -24,7 +24,7 @@ impl fmt::Display for Refusal<'_> {
     fn fmt<W: fmt::Write>(&self, f: &mut fmt::Formatter<W>) -> fmt::Result {
         let names = self.scene.names;
         match &self.reason {
-            Reason::NoResult(mismatch) => self.tell_operands(f, mismatch),
+            Reason::NoResult(mismatch) => self.write_operands(f, mismatch),
             Reason::NoMerge(StackMismatch::Heights(one, other)) => write!(
                 f,
                 "control paths merge here with stack heights {one} and {other}"
@@ -67,30 +67,30 @@ impl Refusal<'_> {
     }
 
     /// The instruction, and what it does with a value on the stack.
-    fn tell_entry<W: fmt::Write>(
+    fn write_entry<W: fmt::Write>(
         &self,
         f: &mut fmt::Formatter<W>,
         verb: &str,
         entry: StackEntry,
-        behind: &str,
+        after: &str,
     ) -> fmt::Result {
         let name = self.name;
         let entry = EntryOf(self.scene.names, entry);
-        write!(f, "`{name}` {verb} {entry}{behind}")
+        write!(f, "`{name}` {verb} {entry}{after}")
     }
 
     /// The instruction expects a reference type, and this one is none.
-    fn tell_no_reference<W: fmt::Write>(
+    fn write_no_reference<W: fmt::Write>(
         &self,
         f: &mut fmt::Formatter<W>,
         declared: NumberedType,
     ) -> fmt::Result {
         let declared = StackEntry::Declared(declared);
-        self.tell_entry(f, "expects a reference type, found", declared, "")
+        self.write_entry(f, "expects a reference type, found", declared, "")
     }
 
     /// The instruction, and what it does with a class that is as it must not be.
-    fn tell_class<W: fmt::Write>(
+    fn write_class<W: fmt::Write>(
         &self,
         f: &mut fmt::Formatter<W>,
         verb: &str,
@@ -103,41 +103,44 @@ impl Refusal<'_> {
     }
 
     /// The instruction, and what it does.
-    fn tell_verb<W: fmt::Write>(&self, f: &mut fmt::Formatter<W>, verb: &str) -> fmt::Result {
+    fn write_verb<W: fmt::Write>(&self, f: &mut fmt::Formatter<W>, verb: &str) -> fmt::Result {
         let name = self.name;
         write!(f, "`{name}` {verb}")
     }
 
     /// A value in the place of one of another type.
-    fn tell_unassignable<W: fmt::Write>(
+    fn write_unassignable<W: fmt::Write>(
         &self,
         f: &mut fmt::Formatter<W>,
         found: StackEntry,
         expected: NumberedType,
     ) -> fmt::Result {
-        self.tell_entry(f, "expects", StackEntry::Declared(expected), ", found ")?;
+        self.write_entry(f, "expects", StackEntry::Declared(expected), ", found ")?;
         EntryOf(self.scene.names, found).fmt(f)
     }
 
     /// Why an instruction has no result on a stack.
-    fn tell_operands<W: fmt::Write>(
+    fn write_operands<W: fmt::Write>(
         &self,
         f: &mut fmt::Formatter<W>,
         mismatch: &Mismatch,
     ) -> fmt::Result {
         match mismatch {
-            Mismatch::OperandMissing => self.tell_verb(f, "takes more values than the stack holds"),
-            Mismatch::OperandType(found) if self.is_cast_of(*found) => self.tell_cast(f),
-            Mismatch::OperandType(found) => self.tell_entry(f, "does not take", *found, ""),
+            Mismatch::OperandMissing => self.write_verb(
+                f,
+                "takes more values than the stack holds",
+            ),
+            Mismatch::OperandType(found) if self.is_cast_of(*found) => self.write_cast(f),
+            Mismatch::OperandType(found) => self.write_entry(f, "does not take", *found, ""),
             Mismatch::OperandTypes(one, other) => {
-                self.tell_entry(f, "does not take", *one, " together with ")?;
+                self.write_entry(f, "does not take", *one, " together with ")?;
                 EntryOf(self.scene.names, *other).fmt(f)
             }
             Mismatch::NotAssignable(found, expected) => {
-                self.tell_unassignable(f, *found, *expected)
+                self.write_unassignable(f, *found, *expected)
             }
-            Mismatch::LeftOnStack(found) => self.tell_entry(f, "leaves", *found, " on the stack"),
-            _ => self.tell_members(f, mismatch),
+            Mismatch::LeftOnStack(found) => self.write_entry(f, "leaves", *found, " on the stack"),
+            _ => self.write_members(f, mismatch),
         }
     }
 
@@ -150,38 +153,38 @@ impl Refusal<'_> {
     }
 
     /// A cast of a reference to a type that is none.
-    fn tell_cast<W: fmt::Write>(&self, f: &mut fmt::Formatter<W>) -> fmt::Result {
+    fn write_cast<W: fmt::Write>(&self, f: &mut fmt::Formatter<W>) -> fmt::Result {
         match self.operation {
             Some(Operation::CastClass(declared) | Operation::IsInstance(declared)) => {
-                self.tell_no_reference(f, *declared)
+                self.write_no_reference(f, *declared)
             }
-            _ => self.tell_verb(f, "expects a reference type"),
+            _ => self.write_verb(f, "expects a reference type"),
         }
     }
 
     /// Why what the instruction itself names has no place here.
-    fn tell_members<W: fmt::Write>(
+    fn write_members<W: fmt::Write>(
         &self,
         f: &mut fmt::Formatter<W>,
         mismatch: &Mismatch,
     ) -> fmt::Result {
         match mismatch {
-            Mismatch::NoSuchPlace(number) => self.tell_place(f, *number),
-            Mismatch::NoReference(declared) => self.tell_no_reference(f, *declared),
-            Mismatch::AbstractMethod(method) => self.tell_class(
+            Mismatch::NoSuchPlace(number) => self.write_place(f, *number),
+            Mismatch::NoReference(declared) => self.write_no_reference(f, *declared),
+            Mismatch::AbstractMethod(method) => self.write_class(
                 f,
                 "names an abstract method of",
                 method.class,
                 "has no code: `callvirt` runs that of the object",
             ),
             Mismatch::AbstractClass(class) => {
-                self.tell_class(f, "makes no object of", *class, "is abstract")
+                self.write_class(f, "makes no object of", *class, "is abstract")
             }
-            _ => self.tell_verb(f, "names a member that is not there"),
+            _ => self.write_verb(f, "names a member that is not there"),
         }
     }
 
-    fn tell_place<W: fmt::Write>(&self, f: &mut fmt::Formatter<W>, number: i64) -> fmt::Result {
+    fn write_place<W: fmt::Write>(&self, f: &mut fmt::Formatter<W>, number: i64) -> fmt::Result {
         let (what, count) = match self.operation {
             Some(Operation::LoadArgument(_) | Operation::StoreArgument(_)) => {
                 ("argument", self.scene.count_arguments())

@@ -11,7 +11,7 @@ use resolved_code::classes::{ResolvedKind, body_of};
 use source_positions::cil_model::memory::NoMemory;
 use source_positions::name_tables::built_in::BuiltInClass;
 use source_positions::name_tables::lookups::MemberNumber;
-use source_positions::{Named, offset_of, position_of, token_at};
+use source_positions::{Named, token_at};
 use std::alloc::Global;
 use std::fmt;
 use verifier::failures::{FailurePoint, IncomingStack};
@@ -49,7 +49,6 @@ const MOST_LINES: usize = 8;
 /// The lines of the instructions that pushed the topmost values of the stack before an instruction, the top first.
 fn lines_of(
     alloc: Global,
-    named: Named,
     found: SourceMethod,
     scene: Scene,
     instruction: usize,
@@ -57,33 +56,14 @@ fn lines_of(
 ) -> Result<Vec<Option<usize>>, NoMemory> {
     let mut lines = Vec::new(alloc);
     for above in 0..height.min(MOST_LINES) {
-        let line = line_of(
-            alloc,
-            named.text,
-            found,
-            scene,
-            scene.pusher(instruction, above),
-        )?;
-        lines.push(line)?;
+        lines.push(line_of(found, scene, scene.pusher(instruction, above)))?;
     }
     Ok(lines)
 }
 
 /// The line of an instruction, from 1.
-fn line_of(
-    alloc: Global,
-    text: &[u8],
-    found: SourceMethod,
-    scene: Scene,
-    instruction: Option<usize>,
-) -> Result<Option<usize>, NoMemory> {
-    let Some(instruction) = instruction else {
-        return Ok(None);
-    };
-    match offset_of(alloc, text, found.line(instruction, scene.operations.len()))? {
-        None => Ok(None),
-        Some(offset) => Ok(Some(position_of(text, offset).line)),
-    }
+fn line_of(found: SourceMethod, scene: Scene, instruction: Option<usize>) -> Option<usize> {
+    found.line_of(instruction?, scene.operations.len())
 }
 
 /// The method, the instruction by its index, and the stacks there.
@@ -145,7 +125,6 @@ impl Stacks<'_> {
 /// The lines of the values that control brings to an instruction, the top first.
 fn incoming_lines(
     alloc: Global,
-    named: Named,
     found: SourceMethod,
     scene: Scene,
     failure: &FailurePoint,
@@ -155,7 +134,7 @@ fn incoming_lines(
         Some(incoming) => {
             let next = incoming.from.saturating_add(1);
             let height = incoming.stack.as_slice().len();
-            lines_of(alloc, named, found, scene, next, height)
+            lines_of(alloc, found, scene, next, height)
         }
     }
 }
@@ -164,7 +143,6 @@ fn incoming_lines(
 fn push_stacks<'a>(
     alloc: Global,
     message: &mut String,
-    named: Named,
     found: SourceMethod<'a>,
     refusal: Refusal<'a>,
     failure: &'a FailurePoint,
@@ -173,8 +151,8 @@ fn push_stacks<'a>(
     let scene = refusal.scene;
     let instruction = failure.instruction;
     let stack = failure.stack.as_slice();
-    let lines = lines_of(alloc, named, found, scene, instruction, stack.len())?;
-    let incoming = incoming_lines(alloc, named, found, scene, failure)?;
+    let lines = lines_of(alloc, found, scene, instruction, stack.len())?;
+    let incoming = incoming_lines(alloc, found, scene, failure)?;
     let stacks = Stacks {
         found,
         refusal,
@@ -208,8 +186,7 @@ fn explain_instruction(
     failure: &FailurePoint,
     height: Option<usize>,
 ) -> Result<String, NoMemory> {
-    let place = found.line(failure.instruction, scene.operations.len());
-    let offset = offset_of(alloc, named.text, place)?;
+    let offset = found.offset_of(failure.instruction, scene.operations.len());
     let token = token_at(named.text, offset.unwrap_or(named.text.len()));
     let refusal = Refusal {
         scene,
@@ -219,7 +196,7 @@ fn explain_instruction(
     };
     let sentence = refusal.to_string(alloc)?;
     let mut message = named.message(alloc, offset, sentence.as_str())?;
-    push_stacks(alloc, &mut message, named, found, refusal, failure, height)?;
+    push_stacks(alloc, &mut message, found, refusal, failure, height)?;
     Ok(message)
 }
 
@@ -227,7 +204,7 @@ fn explain_instruction(
 fn explain_empty(alloc: Global, named: Named, found: SourceMethod) -> Result<String, NoMemory> {
     let class = found.class_name;
     let method = found.name();
-    let offset = offset_of(alloc, named.text, found.line(0, 0))?;
+    let offset = found.offset_of(0, 0);
     let sentence = "the method has no instruction: control runs off its end";
     let mut message = named.message(alloc, offset, sentence)?;
     writeln!(message, "method {class}::{method}")?;
@@ -252,7 +229,7 @@ fn explain_method(
 /// what the verifier reports of its failure: what is wrong with the instruction at fault, that line, and then the method, the instruction's
 /// index from 0 and the stacks there, the deepest value first, each with the line of the instruction that pushed it, where that is known.
 /// The last line says what to write, where that can be said; of a stack that is too high it is the height, if it is given, which the
-/// method needs. None where the program has no method of the number with code. Fails for want of memory alone.
+/// method needs. None where the program has no method of the number with code. Fails only when out of memory.
 pub fn explain_typing(
     alloc: Global,
     named: Named,
@@ -262,7 +239,7 @@ pub fn explain_typing(
     height: Option<usize>,
 ) -> Result<Option<String>, NoMemory> {
     let sources = program.tree().classes.as_slice();
-    let Some(found) = SourceMethod::find(sources, method) else {
+    let Some(found) = SourceMethod::find(named.text, sources, method) else {
         return Ok(None);
     };
     let table = BuiltInClass::all(alloc)?;

@@ -8,6 +8,6 @@ module _ {X : Type 0} (xs : List X) (n : ℕ) (x : X) (there : slice_get xs n �
   pub taken_with : take (n + 1) xs ≡ take n xs ++ x ∷ []
   taken_with = take_more xs n x (slice_get_within xs n x there) ∙ ap (λ (v : X). take n xs ++ v ∷ []) (get_or_from_slice_get xs n x x there)
 
-  -- with the items behind it
+  -- with the items after it
   pub left_with : drop n xs ≡ x ∷ drop (n + 1) xs
   left_with = drop_more xs n x (slice_get_within xs n x there) ∙ ap (λ (v : X). v ∷ drop (n + 1) xs) (get_or_from_slice_get xs n x x there)

@@ -19,7 +19,7 @@ next_of_class tree c class place m here there =
     ap (option_and_then {U = ClassName × Method} (λ (e : ClassName × Declaration). option_map {U = ClassName × Method} (λ x. (e.0, x)) (slice_get e.1.methods place))) here
     ∙ ap (option_map {U = ClassName × Method} (λ x. (source_name c, x))) there
 
--- classes of the source come behind the five built-in ones
+-- classes of the source come after the five built-in ones
 pub source_class : (tree : Tree) (place : ℕ) (c : Class) → slice_get tree.classes place ≡ Some c → slice_get (declarations tree) (place + 5) ≡ Some (source_entry c)
 source_class tree place c there = simp unary_clauses (slice_get-map source_entry tree.classes place ∙ ap (option_map source_entry) there)
 

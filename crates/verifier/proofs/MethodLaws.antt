@@ -26,7 +26,7 @@ use Rattle.verifier.specs.Verdicts.{IsMethodVerdict}
 use Rattle.cil_model.proofs.Lists.{none_is_some}
 
 module _ (tree : Tree) (owner : ClassName) (m : Method) where
-  -- a method that is known by its number stands in a class of that number
+  -- a method that is known by its number is in a class of that number
   pub owner_named : (class place : ℕ) → method_at tree (class, place) ≡ Some (owner, m) → class_name tree class ≡ Some owner
   owner_named class place h = by_entry (slice_get (declarations tree) class) refl h
     where

@@ -115,7 +115,7 @@ module _ (tree : Tree) where
         subst (λ (s : Search). IsRisen tree max_stack after (place ∷ []) old s) (sym unchanged)
         (rise_same tree max_stack (stack_types tree after) (typing_of tree old.rows.items) old.is_pending.items place (stack_types tree known) (row_at old.rows.items place (Some known) at) own, low)
 
-    -- a stack that comes again raises nothing
+    -- a stack that is there already raises nothing
     pub rise_equal : (known : List StackEntry) → slice_get old.rows.items place ≡ Some (Some known) → known ≡ after → IsRisen tree max_stack after (place ∷ []) old old
     rise_equal known at e =
         let own : AreMerged tree (stack_types tree known) (stack_types tree known) (stack_types tree known) =
@@ -134,7 +134,7 @@ module _ (tree : Tree) where
         by_test true h = rise_merging new known merge.stack w at merged (lower h) (rows h) (pending h)
         by_test false h = rise_unchanged new known merge.stack at merged (same h) (unchanged h)
 
-    -- the same where memory may be wanting
+    -- the same where memory may run out
     pub rise_merged_or_not : {T : Type 0} (r : Result T RaiseError) (new : Search) (known : List StackEntry) (merge : StackMerge) → IsWhole old → slice_get old.rows.items place ≡ Some (Some known) →
         AreMerged tree (stack_types tree known) (stack_types tree after) (stack_types tree merge.stack) → (merge.is_higher ≡ false → merge.stack ≡ known) →
         (merge.is_higher ≡ true → stack_rises tree (stack_types tree merge.stack) < stack_rises tree (stack_types tree known)) → (merge.is_higher ≡ false → new ≡ old) →

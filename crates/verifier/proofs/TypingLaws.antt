@@ -40,7 +40,7 @@ method_there tree members n member all below at = by_method (slice_get (source_m
 
 -- ---- typings that are kept
 
--- what stands in a list with one more at its end
+-- what is in a list with one more at its end
 after_end : {X : Type 0} (xs : List X) (x : X) (n : ℕ) → (slice_get (xs ++ x ∷ []) n ≡ slice_get xs n) ⊎ ((n ≡ length xs) × (slice_get (xs ++ x ∷ []) n ≡ Some x))
 after_end [] x zero = inr (refl, refl)
 after_end [] x (suc n) = inl refl
@@ -68,7 +68,7 @@ module _ (tree : Tree) (typings : List (List (Option (List StackEntry)))) (kept 
           let same : (owner, m) ≡ (o, k) = same_Some _ _ (sym there ∙ (ap (slice_get (source_methods tree)) (sym last) ∙ here)) in
           subst (λ (T : Type 0). T) (λ i. let s : ClassName × Method = same i in IsTyping tree s.0 s.1 (typing_of tree (same_rows i))) typed
 
-  -- the first method behind them is the first without a typing, where it has none
+  -- the first method after them is the first without a typing, where it has none
   pub first_untyped : (n : ℕ) (owner : ClassName) (m : Method) → length typings ≡ n → slice_get (source_methods tree) n ≡ Some (owner, m) → ((typing : Typing) → IsTyping tree owner m typing → ⊥) → IsFirstUntyped tree n
   first_untyped n owner m counted there none = record {
     earlier = λ k o x below here. (typing_of tree (get_or typings k []), kept k (get_or typings k []) o x (slice_get-get_or typings k [] (subst (λ (z : ℕ). k < z) (sym counted) below)) here);

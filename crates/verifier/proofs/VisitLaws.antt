@@ -39,7 +39,7 @@ pub work_falls : {T : Type 0} (tree : Tree) (max_stack : ℤ) (after : List Stac
 work_falls tree max_stack after ways old new (Ok done) h = h.1
 work_falls tree max_stack after ways old new (Err e) h = tt
 
--- what is so where a stack was taken on is so where that is answered
+-- what holds where a stack was taken on holds where that is the result
 pub answered_so : {T : Type 0} (P : Type 0) (r : Result T RaiseError) (answer : Result T TypingError) → IsAnsweredBy r answer → OnOk r P → OnOk answer P
 answered_so P (Ok done) (Ok done') told so = so
 answered_so P (Ok done) (Err e) told so = tt
@@ -85,7 +85,7 @@ module _ (m : MethodTypes) (operations : List Operation) (max_stack : ℤ) (code
     named : slice_get (typing_of m.types.now old.rows.items) place ≡ Some (Some (stack_types m.types.now before))
     named = row_at m.types.now old.rows.items place (Some before) held
 
-    -- the rule's answer with the code's own locals
+    -- the rule's result with the code's own locals
     in_code : (answer : StackAfter) (i : Instruction) → flow_of m i before ≡ answer → flow m.types.now arguments code.locals return_type i (stack_types m.types.now before) ≡ answer
     in_code answer i e = subst (λ (ls : List DeclaredType). flow m.types.now arguments ls return_type i (stack_types m.types.now before) ≡ answer) of.locals e
 
@@ -212,7 +212,7 @@ no_natural (negsuc k) n e h = grind (arith, ints, h)
 pub none_is_low : (tree : Tree) (taken_types : List DeclaredType) (given : Option DeclaredType) (code : Code) (z : ℤ) → z ≡ code.max_stack → natural z ≡ None → (typing : Typing) → IsCodeTyping tree taken_types given code typing → ⊥
 none_is_low tree taken_types given code z same e typing t = no_natural z 0 e (subst (λ (k : ℤ). pos 0 ≤ℤ k) (sym same) (t.height 0 [] t.start))
 
--- a failure answers for code without a typing
+-- a failure is returned for code without a typing
 pub has_no_typing : (tree : Tree) (taken_types : List DeclaredType) (given : Option DeclaredType) (code : Code) (e : TypingError) → ((typing : Typing) → IsCodeTyping tree taken_types given code typing → ⊥) → IsTypingAnswer tree taken_types given code (Err e)
 has_no_typing tree taken_types given code (Untyped failure) none = none
 has_no_typing tree taken_types given code OutOfMemory none = tt

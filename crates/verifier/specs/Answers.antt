@@ -1,5 +1,5 @@
--- What the steps of a search answer.
-use Rattle.std.specs.Prelude.{◌≡◌, ◌≤◌, ◌+◌, ◌*◌, ℕ, suc, ℤ, Bool, true, false, List, [], ◌∷◌, length, map, slice_get, Option, Some, None, option_map, Result, Ok, Err}
+-- The results of the steps of a search.
+use Rattle.std.specs.Prelude.{pos, ◌≡◌, ◌≤◌, ◌+◌, ◌*◌, ℕ, suc, ℤ, Bool, true, false, List, [], ◌∷◌, length, map, slice_get, Option, Some, None, option_map, Result, Ok, Err}
 use Rattle.cil_model.specs.declared.types.DeclaredType.{DeclaredType}
 use Rattle.cil_model.specs.declared.trees.Tree.{Tree}
 use Rattle.cil_model.specs.declared.trees.Code.{Code}
@@ -25,19 +25,19 @@ use Rattle.verifier.specs.declared.search.Search.{Search}
 use Rattle.verifier.specs.declared.search.Row.{Row}
 use Rattle.verifier.specs.declared.search.Row.TheVariants.{Absent, Unmapped, Mapped}
 
--- The stack after an instruction is what the rule says; a mismatch comes where the rule has no answer.
+-- The stack after an instruction is what the rule says; a mismatch is returned where the rule has no result.
 abbrev pub IsResult : Tree → Result (List StackEntry) FlowError → StackAfter → Type 0
 IsResult tree (Ok stack) after = after ≡ Some (stack_types tree stack)
 IsResult tree (Err (OfFlow.Mismatch reason)) after = after ≡ None
 IsResult tree (Err OfFlow.OutOfMemory) after = Unit {0}
 
--- the same, where a mismatch was told with its place
+-- the same, where a mismatch was reported with its place
 abbrev pub IsResultAt : Tree → Result (List StackEntry) TypingError → StackAfter → Type 0
 IsResultAt tree (Ok stack) after = after ≡ Some (stack_types tree stack)
 IsResultAt tree (Err (Untyped failure)) after = after ≡ None
 IsResultAt tree (Err OutOfMemory) after = Unit {0}
 
--- The merge of two stacks, or that none is above both. Of want of memory nothing is said.
+-- The merge of two stacks, or that none is above both. Out of memory says nothing of them.
 abbrev pub IsMergeAt : Tree → List StackEntry → List StackEntry → Result StackMerge RaiseError → Type 0
 IsMergeAt tree one other (Ok merge) = AreMerged tree (stack_types tree one) (stack_types tree other) (stack_types tree merge.stack)
 IsMergeAt tree one other (Err (OfRaise.Refused place reason)) = AreApart tree (stack_types tree one) (stack_types tree other)
@@ -76,11 +76,15 @@ IsRisen tree max_stack after ways old new =
 abbrev pub IsRefused : Tree → ℤ → List StackEntry → List ℕ → Search → Type 0
 IsRefused tree max_stack after ways old = CannotRise tree max_stack (stack_types tree after) ways (typing_of tree old.rows.items)
 
--- One or the other. Of want of memory nothing is said.
+-- One or the other. Out of memory says nothing of them.
 abbrev pub IsRise : {T : Type 0} → Tree → ℤ → List StackEntry → List ℕ → Search → Search → Result T RaiseError → Type 0
 IsRise tree max_stack after ways old new (Ok done) = IsRisen tree max_stack after ways old new
 IsRise tree max_stack after ways old new (Err (OfRaise.Refused place reason)) = IsRefused tree max_stack after ways old
 IsRise tree max_stack after ways old new (Err OfRaise.OutOfMemory) = Unit {0}
+
+-- the code with this .maxstack in place of its own
+abbrev pub with_max_stack : ℕ → Code → Code
+with_max_stack most code = record { is_entry_point = code.is_entry_point; max_stack = pos most; locals = code.locals; lines = code.lines }
 
 -- a method's types, its operations and its .maxstack are those of its code
 pub record AreOf (m : MethodTypes) (operations : List Operation) (max_stack : ℤ) (code : Code) : Type 0 where
@@ -96,7 +100,7 @@ IsOnTheWay m code rows pending = IsUnfinished m.types.now (types_named m.types.n
 abbrev pub HasNone : MethodTypes → Code → Type 0
 HasNone m code = (typing : Typing) → IsCodeTyping m.types.now (types_named m.types.now m.arguments.now) (option_map (type_named m.types.now) m.return_type) code typing → ⊥
 
--- a step of a search goes on, or shows that there is no typing
+-- a step of a search continues it, or shows that there is no typing
 abbrev pub IsVisit : {T : Type 0} → MethodTypes → Code → Search → Result T TypingError → Type 0
 IsVisit m code s (Ok done) = IsOnTheWay m code s.rows.items s.is_pending.items
 IsVisit m code s (Err (Untyped failure)) = HasNone m code
@@ -107,7 +111,7 @@ pub record IsLeastTyping (tree : Tree) (arguments : List DeclaredType) (return_t
   pub is_typing : IsCodeTyping tree arguments return_type code found
   pub under : (typing : Typing) → IsCodeTyping tree arguments return_type code typing → IsUnder tree found typing
 
--- The least typing, or that there is none. Of want of memory nothing is said.
+-- The least typing, or that there is none. Out of memory says nothing of it.
 abbrev pub IsTypingAnswer : Tree → List DeclaredType → Option DeclaredType → Code → Result (List (Option (List StackEntry))) TypingError → Type 0
 IsTypingAnswer tree arguments return_type code (Ok rows) = IsLeastTyping tree arguments return_type code (typing_of tree rows)
 IsTypingAnswer tree arguments return_type code (Err (Untyped failure)) = (typing : Typing) → IsCodeTyping tree arguments return_type code typing → ⊥

@@ -1,4 +1,4 @@
--- What a failure of a search tells.
+-- What a failure of a search reports.
 use Rattle.std.specs.Prelude.{◌≡◌, ℕ, List, Option, Some, slice_get, Result, Ok, Err}
 use Rattle.flow_rules.specs.declared.entries.StackEntry.{StackEntry}
 use Rattle.verifier.specs.declared.failures.Reason.{Reason}
@@ -7,7 +7,7 @@ use Rattle.verifier.specs.declared.failures.TypingError.TheVariants.{Untyped, Ou
 use Rattle.verifier.specs.declared.search.RaiseError.{RaiseError}
 use Rattle.verifier.specs.declared.search.RaiseError.TheVariants as OfRaise
 
--- the place and the reason; of want of memory nothing is said
+-- the place and the reason; out of memory says nothing of them
 abbrev pub IsRefusedAt : ℕ → Reason → TypingError → Type 0
 IsRefusedAt place reason (Untyped failure) = (failure.place ≡ place) × (failure.reason ≡ reason)
 IsRefusedAt place reason OutOfMemory = Unit {0}
@@ -18,7 +18,7 @@ IsToldOf (OfRaise.Refused place reason) error = IsRefusedAt place reason error
 IsToldOf OfRaise.OutOfMemory (Untyped failure) = ⊥
 IsToldOf OfRaise.OutOfMemory OutOfMemory = Unit {0}
 
--- an answer for a step's answer: done where it is done, and else the failure of the step
+-- a result for a step's result: done where it is done, and otherwise the failure of the step
 abbrev pub IsAnsweredBy : {T : Type 0} → Result T RaiseError → Result T TypingError → Type 0
 IsAnsweredBy (Ok done) (Ok answer) = Unit {0}
 IsAnsweredBy (Ok done) (Err error) = ⊥

@@ -9,7 +9,7 @@ use Rattle.verifier.specs.declared.kept_stacks.KeptEntry.{KeptEntry}
 use Rattle.verifier.specs.declared.kept_stacks.Form.{Form}
 use Rattle.verifier.specs.declared.kept_stacks.Form.TheVariants.{Narrow, Wide}
 
--- the entry of a kind, with the number of a class and so many brackets where the kind has them
+-- the entry of a kind, with the number of a class and the number of brackets where the kind has them
 abbrev pub entry_by : EntryKind → ℕ → ℕ → StackEntry
 entry_by Int32 class brackets = Entries.Declared (record { element = Elements.Int32; brackets = brackets })
 entry_by Int64 class brackets = Entries.Declared (record { element = Elements.Int64; brackets = brackets })

@@ -6,7 +6,7 @@ use Rattle.cil_model.specs.declared.trees.Tree.{Tree}
 use Rattle.cil_model.specs.Chains.{longest_chain}
 use Rattle.cil_model.specs.TypeTree.{StackType, Declared, NativeInt, Null, parent}
 
--- how many types lie above one, as far as so many parents
+-- how many types lie above one, up to n parents
 unfoldable pub rises_within : Tree → ℕ → DeclaredType → ℕ
 rises_within tree zero t = 0
 rises_within tree (suc n) t = option_map_or (λ p. suc (rises_within tree n p)) (parent tree t) 0
@@ -26,7 +26,7 @@ abbrev pub stack_rises : Tree → List StackType → ℕ
 stack_rises tree [] = 0
 stack_rises tree (a ∷ as') = rises tree a + stack_rises tree as'
 
--- of a place, where a stack holds at most so many
+-- of a place, where a stack holds at most `most` types
 abbrev pub row_rises : Tree → ℕ → Option (List StackType) → ℕ
 row_rises tree most None = suc (most * suc (most_rises tree))
 row_rises tree most (Some stack) = stack_rises tree stack

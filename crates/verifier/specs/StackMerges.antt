@@ -10,7 +10,7 @@ use Rattle.verifier.specs.declared.merging.StackMerge.{StackMerge}
 use Rattle.verifier.specs.declared.merging.MergeError.{MergeError}
 use Rattle.verifier.specs.declared.merging.MergeError.TheVariants.{Apart, OutOfMemory}
 
--- the answer of a merge of two entries
+-- the result of a merge of two entries
 abbrev pub IsEntryMerge : Tree → StackEntry → StackEntry → Result EntryMerge MergeError → Type 0
 IsEntryMerge tree one other (Ok merge) = IsMerge tree (stack_type tree one) (stack_type tree other) (stack_type tree merge.entry)
 IsEntryMerge tree one other (Err (Apart reason)) = (above : StackType) → IsBelow tree (stack_type tree one) above → IsBelow tree (stack_type tree other) above → ⊥
@@ -26,7 +26,7 @@ pub record AreMerged (tree : Tree) (one other merged : List StackType) : Type 0 
 abbrev pub AreApart : Tree → List StackType → List StackType → Type 0
 AreApart tree one other = (above : List StackType) → AreBelow tree one above → AreBelow tree other above → ⊥
 
--- The answer of a merge: the merged stack, or that no stack is above both. Of want of memory nothing is said.
+-- The result of a merge: the merged stack, or that no stack is above both. Out of memory says nothing of them.
 abbrev pub IsStackMerge : Tree → List StackEntry → List StackEntry → Result StackMerge MergeError → Type 0
 IsStackMerge tree one other (Ok merge) = AreMerged tree (stack_types tree one) (stack_types tree other) (stack_types tree merge.stack)
 IsStackMerge tree one other (Err (Apart reason)) = AreApart tree (stack_types tree one) (stack_types tree other)

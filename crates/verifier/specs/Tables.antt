@@ -17,11 +17,11 @@ AreLow max_stack typing = (place : ℕ) (stack : List StackType) → slice_get t
 abbrev pub IsUnder : Tree → Typing → Typing → Type 0
 IsUnder tree found typing = (place : ℕ) (stack : List StackType) → slice_get found place ≡ Some (Some stack) → Reaches tree typing stack place
 
--- a stack goes on to each of these places
+-- a stack reaches each of these places
 abbrev pub ReachesAll : Tree → Typing → List StackType → List ℕ → Type 0
 ReachesAll tree typing after ways = (way : ℕ) → Contains ways way → Reaches tree typing after way
 
--- a place's flag is set: where its stack goes on to is still to be looked at
+-- a place's flag is set: the places that its stack reaches are still to be looked at
 abbrev pub IsPending : List Bool → ℕ → Type 0
 IsPending pending place = slice_get pending place ≡ Some true
 
@@ -37,11 +37,11 @@ pub record HasRisen (tree : Tree) (max_stack : ℤ) (after : List StackType) (wa
   pub least : (typing : Typing) → IsUnder tree found typing → ReachesAll tree typing after ways → IsUnder tree later typing
   pub low : AreLow max_stack found → AreLow max_stack later
 
--- no typing of so many places, of stacks that are no higher, lies above what was found and is reached along these ways
+-- no typing of this number of places, of stacks that are no higher, lies above what was found and is reached along these ways
 abbrev pub CannotRise : Tree → ℤ → List StackType → List ℕ → Typing → Type 0
 CannotRise tree max_stack after ways found = (typing : Typing) → length typing ≡ length found → AreLow max_stack typing → IsUnder tree found typing → ReachesAll tree typing after ways → ⊥
 
--- the places that an instruction may go on to are exactly these
+-- the places at which control may continue after an instruction are exactly these
 pub record AreWays (code : Code) (place : ℕ) (line : Line) (ways : List ℕ) : Type 0 where
   pub falls : IsTrue (falls_through line.instruction) → Contains ways (place + 1)
   pub branches : (label : List ℕ) → Contains (labels_of line.instruction) label → (way : ℕ) × (place_of label code.lines ≡ Some way) × Contains ways way

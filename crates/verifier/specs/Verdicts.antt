@@ -1,4 +1,4 @@
--- What verification answers.
+-- The results of verification.
 use Rattle.std.specs.Prelude.{◌≡◌, ℕ, List, Option, Some, length, slice_get, Result, Ok, Err}
 use Rattle.cil_model.specs.declared.types.ClassName.{ClassName}
 use Rattle.cil_model.specs.declared.trees.Tree.{Tree}
@@ -12,7 +12,7 @@ use Rattle.verifier.specs.declared.failures.TypingError.TheVariants as OfMethod
 use Rattle.verifier.specs.declared.refusals.VerifyError.{VerifyError}
 use Rattle.verifier.specs.declared.refusals.VerifyError.TheVariants.{NoTyping, OutOfMemory}
 
--- a typing of a method, or that it has none; of want of memory nothing is said
+-- a typing of a method, or that it has none; out of memory says nothing of it
 abbrev pub IsMethodVerdict : Tree → ClassName → Method → Result (List (Option (List StackEntry))) TypingError → Type 0
 IsMethodVerdict tree owner m (Ok rows) = IsTyping tree owner m (typing_of tree rows)
 IsMethodVerdict tree owner m (Err (OfMethod.Untyped failure)) = (typing : Typing) → IsTyping tree owner m typing → ⊥
@@ -28,19 +28,19 @@ pub record AreTypings (tree : Tree) (typings : List (List (Option (List StackEnt
   pub whole : length typings ≡ length (source_methods tree)
   pub each : AreOfMethods tree typings
 
--- a typing of each method, or the first method that has none; of want of memory nothing is said
+-- a typing of each method, or the first method that has none; out of memory says nothing of them
 abbrev pub AreVerdicts : Tree → Result (List (List (Option (List StackEntry)))) VerifyError → Type 0
 AreVerdicts tree (Ok typings) = AreTypings tree typings
 AreVerdicts tree (Err (NoTyping method failure)) = IsFirstUntyped tree method
 AreVerdicts tree (Err OutOfMemory) = Unit {0}
 
--- the refusal of a method, with what is known of its failure, or want of memory
+-- the refusal of a method, with what is known of its failure, or out of memory
 abbrev pub IsRefusalOf : ℕ → TypingError → VerifyError → Type 0
 IsRefusalOf number (OfMethod.Untyped told) (NoTyping method failure) = (method ≡ number) × (failure ≡ told)
 IsRefusalOf number OfMethod.OutOfMemory (NoTyping method failure) = ⊥
 IsRefusalOf number error OutOfMemory = Unit {0}
 
--- the program, which is accepted, or the first method without a typing; of want of memory nothing is said (III.1.8)
+-- the program, which is accepted, or the first method without a typing; out of memory says nothing of it (III.1.8)
 abbrev pub IsVerdict : Tree → Result Tree VerifyError → Type 0
 IsVerdict tree (Ok verified) = (verified ≡ tree) × IsAccepted tree
 IsVerdict tree (Err (NoTyping method failure)) = IsFirstUntyped tree method

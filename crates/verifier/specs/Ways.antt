@@ -1,9 +1,9 @@
--- Where control goes on to behind an operation (III.1.7.2).
+-- Where control continues after an operation (III.1.7.2).
 use Rattle.std.specs.Prelude.{ℕ, Bool, true, false, if◌then◌else◌, List, [], ◌∷◌, ◌++◌}
 use Rattle.resolved_code.specs.declared.operations.Operation.{Operation}
 use Rattle.resolved_code.specs.declared.operations.Operation.TheVariants.{Branch, BranchTrue, BranchFalse, BranchCompare, Switch, Return}
 
--- whether it goes on to the next one
+-- whether control may advance to the next one
 abbrev pub falls : Operation → Bool
 falls (Branch place) = false
 falls Return = false

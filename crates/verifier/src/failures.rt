@@ -10,20 +10,20 @@ use flow_rules::entries::StackEntry;
 use flow_rules::mismatches::Mismatch;
 use std::fmt;
 
-/// Why no stack can stand before an instruction.
+/// Why there can be no stack before an instruction.
 #[derive(Clone, Copy)]
 pub enum Reason {
     /// The instruction has no result on the stack that reaches it.
     NoResult(Mismatch),
     /// What reaches it has no stack above it and above what reached it before.
     NoMerge(StackMismatch),
-    /// So many values are more than `.maxstack` allows.
+    /// This number of values is more than `.maxstack` allows.
     TooHigh(usize),
     /// There is no instruction: control would run off the end.
     NoInstruction,
 }
 
-/// The stack of types behind an instruction, the top first.
+/// The stack of types after an instruction, the top first.
 #[derive(Drop)]
 pub struct IncomingStack {
     /// The instruction's place.
@@ -34,7 +34,7 @@ pub struct IncomingStack {
 /// Where the search for a typing fails, why, and with what on the stack. Places are counted from 0.
 #[derive(Drop)]
 pub struct FailurePoint {
-    /// The place before which no stack can stand.
+    /// The place before which there can be no stack.
     pub place: usize,
     pub reason: Reason,
     /// The place of the instruction at fault: the same one, or that from which control goes there, where it runs off the end or brings
@@ -54,7 +54,7 @@ impl fmt::Debug for FailurePoint {
     }
 }
 
-/// Why there is no typing of a method: a search fails; or nothing is known, for want of memory.
+/// Why there is no typing of a method: a search fails; or nothing is known, since memory ran out.
 #[derive(Drop)]
 pub enum TypingError {
     Untyped(FailurePoint),

@@ -98,7 +98,7 @@ fn entry_of(kept: KeptEntry) -> StackEntry
     }
 }
 
-/// The entries in eight bytes each; none where one of them takes more. Fails for want of memory alone.
+/// The entries in eight bytes each; none where one of them takes more. The only error is out of memory.
 fn narrowed(entries: &[StackEntry], alloc: Global) -> Result<Option<Vec<KeptEntry>>, NoMemory>
     ensures { IfOk result (λ found. IfSome found (λ kept. map entry_of kept.items ≡ entries.now)) }
 {
@@ -151,7 +151,7 @@ fn wide_at(entries: &[StackEntry], place: usize) -> StackEntry
 }
 
 impl KeptStack {
-    /// The stack of these entries, the top first. Fails for want of memory alone.
+    /// The stack of these entries, the top first. The only error is out of memory.
     pub fn new(entries: &[StackEntry], alloc: Global) -> Result<Self, NoMemory>
         ensures { IfOk result (λ kept. kept ≡ entries.now) }
     {

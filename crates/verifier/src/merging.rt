@@ -24,7 +24,7 @@ use std::alloc::Global;
 pub enum StackMismatch {
     /// They hold other numbers of values: the first, and the second.
     Heights(usize, usize),
-    /// No type is above these two, which stand at one place.
+    /// No type is above these two, which are at one place.
     Types(StackEntry, StackEntry),
 }
 
@@ -150,7 +150,7 @@ fn merge_entries(
     }
 }
 
-/// Appends an entry. Fails for want of memory alone.
+/// Appends an entry. The only error is out of memory.
 fn append(entry: StackEntry, entries: &mut Vec<StackEntry>) -> Result<(), MergeError>
     ensures appended { OnOk result (entries.new.items ≡ entries.old.items ++ entry ∷ []) }
     ensures err { IfErr result (λ e. e ≡ OutOfMemory) }
@@ -161,7 +161,7 @@ fn append(entry: StackEntry, entries: &mut Vec<StackEntry>) -> Result<(), MergeE
     }
 }
 
-/// Whether one of two is so.
+/// Whether one of two holds.
 fn either(one: bool, other: bool) -> bool
     ensures { result ≡ one || other }
 {
@@ -169,7 +169,7 @@ fn either(one: bool, other: bool) -> bool
 }
 
 /// The closest stack above two others, both with the top first (ECMA-335 III.1.8.1.3): as high as both, and at each place the closest
-/// type above the two there. It is higher where it says less than the first. At `Apart` no stack is above both; else the error is want
+/// type above the two there. It is higher where it says less than the first. At `Apart` no stack is above both; otherwise the error is out
 /// of memory.
 pub fn merge_stacks(
     types: &TypeTree,

@@ -1,5 +1,5 @@
 //! The order in which the places of a method are taken. No contract speaks of it, since what a search finds is the same in every order: it
-//! is found in few rounds where each place comes behind those from which control comes to it, but for the ways back of loops.
+//! is found in few rounds where each place is after those from which control reaches it, but for the ways back of loops.
 
 use crate::ways::ways_on;
 use cil_model::limits::MOST_TARGETS;
@@ -12,12 +12,12 @@ use std::alloc::Global;
 enum Step {
     /// To a place.
     Enter(usize),
-    /// Back from a place, when all that is behind it was walked through.
+    /// Back from a place, when all places that are reached from it were walked through.
     Leave(usize),
 }
 
-/// Comes to a place. What is behind it is walked through before the step back, and what stands further on in the code first, which so
-/// comes last in the order, as what is behind a loop mostly stands behind it in the code too.
+/// Reaches a place. The places that are reached from it are walked through before the step back, those further on in the code first, which so
+/// are last in the order, since what follows a loop mostly follows it in the code too.
 fn enter(
     operations: &[Operation],
     is_entered: &mut [bool],
@@ -41,8 +41,8 @@ fn enter(
     Ok(())
 }
 
-/// The places of a method in the reverse of the order in which a walk from the first place on comes back from them. Fails for want of
-/// memory alone.
+/// The places of a method in the reverse of the order in which a walk from the first place on returns from them. The only error is
+/// out of memory.
 pub(crate) fn places_in_order(
     operations: &[Operation],
     alloc: Global,

@@ -26,7 +26,7 @@ pub enum VerifyError {
 }
 
 impl VerifyError {
-    /// The number that the program prints: 301, or 302 for want of memory.
+    /// The number that the program prints: 301, or 302 for out of memory.
     pub fn number(&self) -> u16
         ensures { result ≡ typing_number_of self.now }
     {

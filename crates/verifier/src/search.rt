@@ -12,7 +12,7 @@ ghost use Rattle.resolved_code.specs.Resolved.{IsBody, IsOperation};
 ghost use Rattle.verifier.specs.Rises.{stack_rises, natural};
 ghost use Rattle.verifier.specs.Ways.{ways_on};
 ghost use Rattle.verifier.specs.Tables.{IsPending};
-ghost use Rattle.verifier.specs.Answers.{IsRow, IsResultAt, IsMergeAt, IsRise, AreOf, IsOnTheWay, IsVisit, IsTypingAnswer, IsWhole, work_left};
+ghost use Rattle.verifier.specs.Answers.{IsRow, IsResultAt, IsMergeAt, IsRise, AreOf, IsOnTheWay, IsVisit, IsTypingAnswer, IsWhole, with_max_stack, work_left};
 ghost use Rattle.verifier.specs.Evidence.{IsRefusedAt, IsToldOf, IsAnsweredBy, IsStackOf, IsShown, IsEvidence};
 ghost use Rattle.verifier.specs.declared.failures.TypingError.TheVariants.{OutOfMemory};
 ghost use Rattle.verifier.specs.declared.search.RaiseError.TheVariants as OfRaise;
@@ -44,7 +44,7 @@ struct Search {
     from: usize,
 }
 
-/// Whether so many values are no more than that.
+/// Whether this number of values is no more than the most.
 fn is_low(height: usize, most: usize) -> bool
     ensures low { result ≡ true → height ≤ most }
     ensures high { result ≡ false → most < height }
@@ -100,7 +100,7 @@ fn operation_at(operations: &[Operation], place: usize) -> Option<&Operation>
     operations.get(place)
 }
 
-/// The place behind an operation.
+/// The place after an operation.
 fn place_behind(operations: &[Operation], place: usize) -> usize
     requires { place < length operations.now }
     ensures { result ≡ place + 1 }
@@ -177,7 +177,7 @@ fn are_same(known: &KeptStack, coming: &[StackEntry]) -> bool
     true
 }
 
-/// The merge of the stack that a place has with one that comes there.
+/// The merge of the stack that a place has with one that reaches it.
 fn merged(
     types: &TypeTree,
     place: usize,
@@ -199,7 +199,7 @@ fn merged(
     }
 }
 
-/// The stack behind the instruction at a place, by the flow rule.
+/// The stack after the instruction at a place, by the flow rule.
 fn result_at(
     method: &MethodTypes,
     operation: &Operation,
@@ -217,7 +217,7 @@ fn result_at(
     }
 }
 
-/// Rows of which nothing is found. Fails for want of memory alone.
+/// Rows of which nothing is found. The only error is out of memory.
 fn unmapped(places: usize, alloc: Global) -> Result<Vec<Option<KeptStack>>, NoMemory>
     ensures { IfOk result (λ rows. rows.items ≡ replicate places None) }
 {
@@ -228,7 +228,7 @@ fn unmapped(places: usize, alloc: Global) -> Result<Vec<Option<KeptStack>>, NoMe
     Ok(rows)
 }
 
-/// Flags of which none is set. Fails for want of memory alone.
+/// Flags of which none is set. The only error is out of memory.
 fn none_pending(places: usize, alloc: Global) -> Result<Vec<bool>, AllocError>
     ensures { IfOk result (λ flags. flags.items ≡ replicate places false) }
 {
@@ -268,7 +268,7 @@ fn pending_in_order(is_pending: &[bool], order: &[usize], from: usize) -> Option
     None
 }
 
-/// The first pending place of an order, or else any.
+/// The first pending place of an order, or otherwise any.
 fn pending_again(is_pending: &[bool], order: &[usize]) -> Option<Pending>
     ensures found { IfSome result (λ pending. IsPending is_pending.now pending.place) }
     ensures none { result ≡ None → (place : ℕ) → IsPending is_pending.now place → ⊥ }
@@ -279,7 +279,7 @@ fn pending_again(is_pending: &[bool], order: &[usize]) -> Option<Pending>
     }
 }
 
-/// The next pending place: the first of the order from a rank on, or else the first of the order, or else any.
+/// The next pending place: the first of the order from a rank on, or otherwise the first of the order, or otherwise any.
 fn pending_after(is_pending: &[bool], order: &[usize], from: usize) -> Option<Pending>
     ensures found { IfSome result (λ pending. IsPending is_pending.now pending.place) }
     ensures none { result ≡ None → (place : ℕ) → IsPending is_pending.now place → ⊥ }
@@ -291,7 +291,7 @@ fn pending_after(is_pending: &[bool], order: &[usize], from: usize) -> Option<Pe
 }
 
 impl Search {
-    /// Nothing is found of the places of these operations. Fails for want of memory alone.
+    /// Nothing is found of the places of these operations. The only error is out of memory.
     fn new(operations: &[Operation], alloc: Global) -> Result<Self, NoMemory>
         ensures rows { IfOk result (λ s. s.rows.items ≡ replicate (length operations.now) None) }
         ensures whole { IfOk result (λ s. IsWhole s) }
@@ -341,7 +341,7 @@ impl Search {
         Err(RaiseError::Refused { place, reason })
     }
 
-    /// Takes a further stack to a place. Fails for want of memory alone.
+    /// Takes a further stack to a place. The only error is out of memory.
     fn merge(&mut self, place: usize, merge: &StackMerge, alloc: Global) -> Result<(), RaiseError>
         requires inside { place < length self.old.rows.items }
         requires whole { IsWhole self.old }
@@ -406,7 +406,7 @@ impl Search {
         Ok(())
     }
 
-    /// A copy of the stack of a place; an empty one where control was not found to go there. Fails for want of memory alone.
+    /// A copy of the stack of a place; an empty one where control was not found to go there. The only error is out of memory.
     fn stack_at(&self, place: usize, alloc: Global) -> Result<Sequence<StackEntry>, FlowError>
         ensures { IfOk result (λ copy. IsShown self.now.rows.items place copy) }
     {
@@ -443,7 +443,7 @@ impl Search {
         }
     }
 
-    /// What is answered where what an instruction leaves was taken on, or could not be.
+    /// The result where what an instruction leaves was taken on, or could not be.
     fn answered(
         &self,
         risen: Result<(), RaiseError>,
@@ -476,7 +476,7 @@ impl Search {
         Some(pending.place)
     }
 
-    /// Takes the stack behind the instruction at a place to where control goes on.
+    /// Takes the stack after the instruction at a place to where control continues.
     fn visit(
         &mut self,
         method: &MethodTypes,
@@ -551,7 +551,7 @@ fn typing_of_body(
 }
 
 /// The least typing of a method's code, the top of each stack first; none at a place that control never reaches. An `Untyped` error
-/// comes exactly where the code has no typing (ECMA-335 III.1.8.1.3), and tells the stacks where the search failed.
+/// is returned exactly where the code has no typing (ECMA-335 III.1.8.1.3), and has the stacks where the search failed.
 pub fn find_typing(
     types: &TypeTree,
     arguments: &[NumberedType],
@@ -568,6 +568,35 @@ pub fn find_typing(
         return_type,
     };
     let typing = typing_of_body(&method, body, alloc);
+    let MethodTypes {
+        types: _,
+        arguments: _,
+        locals: _,
+        return_type: _,
+    } = method;
+    typing
+}
+
+/// As `find_typing`, with stacks of at most the given number of values, whatever the `.maxstack` of the code is.
+pub fn find_typing_within(
+    types: &TypeTree,
+    arguments: &[NumberedType],
+    return_type: Option<NumberedType>,
+    body: &Body,
+    most: usize,
+    alloc: Global,
+) -> Result<Sequence<Option<KeptStack>>, TypingError>
+    ensures { (code : Code) → IsBody types.now code body.now → IsTypingAnswer types.now (types_named types.now arguments.now) (option_map (type_named types.now) return_type) (with_max_stack most code) result }
+{
+    let locals = body.locals.as_slice();
+    let operations = body.operations.as_slice();
+    let method = MethodTypes {
+        types,
+        arguments,
+        locals,
+        return_type,
+    };
+    let typing = least_typing(&method, operations, most, alloc);
     let MethodTypes {
         types: _,
         arguments: _,

@@ -18,7 +18,7 @@ use flow_rules::type_stack::TypeStack;
 use resolved_code::operations::Operation;
 use std::alloc::Global;
 
-/// A stack that is kept, to work on. Fails for want of memory alone.
+/// A stack that is kept, to work on. The only error is out of memory.
 fn stack_of(kept: &KeptStack, alloc: Global) -> Result<TypeStack, FlowError>
     ensures stack { IfOk result (λ stack. stack ≡ kept.now) }
     ensures err { IfErr result (λ e. e ≡ OutOfMemory) }
@@ -30,7 +30,7 @@ fn stack_of(kept: &KeptStack, alloc: Global) -> Result<TypeStack, FlowError>
     Ok(stack)
 }
 
-/// Appends an entry. Fails for want of memory alone.
+/// Appends an entry. The only error is out of memory.
 fn append(entry: StackEntry, entries: &mut Vec<StackEntry>) -> Result<(), FlowError>
     ensures appended { OnOk result (entries.new.items ≡ entries.old.items ++ entry ∷ []) }
     ensures err { IfErr result (λ e. e ≡ OutOfMemory) }
@@ -41,7 +41,7 @@ fn append(entry: StackEntry, entries: &mut Vec<StackEntry>) -> Result<(), FlowEr
     }
 }
 
-/// The entries of a stack, the top first. Fails for want of memory alone.
+/// The entries of a stack, the top first. The only error is out of memory.
 fn entries_of(mut stack: TypeStack, alloc: Global) -> Result<Sequence<StackEntry>, FlowError>
     ensures entries { IfOk result (λ entries. entries ≡ stack) }
     ensures err { IfErr result (λ e. e ≡ OutOfMemory) }
@@ -53,7 +53,7 @@ fn entries_of(mut stack: TypeStack, alloc: Global) -> Result<Sequence<StackEntry
     Ok(Sequence::new(entries))
 }
 
-/// The entries of a stack that is kept, the top first. Fails for want of memory alone.
+/// The entries of a stack that is kept, the top first. The only error is out of memory.
 pub(crate) fn copy_of(kept: &KeptStack, alloc: Global) -> Result<Sequence<StackEntry>, FlowError>
     ensures { IfOk result (λ copy. copy ≡ kept.now) }
 {
@@ -61,8 +61,8 @@ pub(crate) fn copy_of(kept: &KeptStack, alloc: Global) -> Result<Sequence<StackE
     entries_of(stack, alloc)
 }
 
-/// The stack after the instruction that an operation stands for, by the flow rule (ECMA-335 III.1.8), both with the top first. At a
-/// mismatch the rule has no answer.
+/// The stack after the instruction that an operation represents, by the flow rule (ECMA-335 III.1.8), both with the top first. At a
+/// mismatch the rule has no result.
 pub fn stack_after(
     method: &MethodTypes,
     operation: &Operation,

@@ -92,8 +92,9 @@ fn typings_by(
     Ok(Sequence::new(typings))
 }
 
-/// A typing of each method of the source.
-pub(crate) fn typings_of(alloc: Global, program: &Program) -> Result<Sequence<Typing>, VerifyError>
+/// A typing of each method of the source, in source order. The error names the first method that has none, by its number from 0, those without code
+/// counted too. Out of memory may be returned in place of either.
+pub fn typings_of(alloc: Global, program: &Program) -> Result<Sequence<Typing>, VerifyError>
     ensures { AreVerdicts program.now result }
 {
     let members = source_members(alloc, program.tree())?;

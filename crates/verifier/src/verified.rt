@@ -7,7 +7,7 @@ ghost use Rattle.cil_model.specs.Bodies.{source_methods};
 ghost use Rattle.cil_model.specs.Typings.{IsAccepted, IsTyping};
 ghost use Rattle.class_layout.specs.Laid.{IsLayout};
 ghost use Rattle.verifier.specs.Answers.{typing_of};
-ghost use Rattle.verifier.specs.Verdicts.{IsVerdict};
+ghost use Rattle.verifier.specs.Verdicts.{AreTypings, IsVerdict};
 
 use crate::refusals::VerifyError;
 use crate::typings::{Typing, typing_at, typings_of};
@@ -50,6 +50,20 @@ impl Model for Verified {
 }
 
 impl Verified {
+    /// A program with its layout and a typing of each of its methods, which is thereby accepted. Takes no memory.
+    pub fn new(program: Program, layout: Layout, typings: Sequence<Typing>) -> Verified
+        requires layout { IsLayout program layout }
+        requires typings { AreTypings program typings }
+        ensures same { result ≡ program }
+        ensures accepted { IsAccepted program }
+    {
+        Verified {
+            program,
+            layout,
+            typings,
+        }
+    }
+
     /// The program that was verified.
     pub fn program(&self) -> &Program
         ensures same { result.now ≡ self.now }
@@ -92,15 +106,11 @@ impl Verified {
 
 /// Verifies each method of a program (ECMA-335 III.1.8.1): exactly a program whose methods all have a typing is accepted. Of another one
 /// the error names the first method in source order that has none, by its number from 0, those without code counted too. Program and
-/// layout are dropped where it refuses. Want of memory may be answered in place of either.
+/// layout are dropped where it refuses. Out of memory may be returned in place of either.
 pub fn verify(alloc: Global, program: Program, layout: Layout) -> Result<Verified, VerifyError>
     requires { IsLayout program layout }
     ensures { IsVerdict program result }
 {
     let typings = typings_of(alloc, &program)?;
-    Ok(Verified {
-        program,
-        layout,
-        typings,
-    })
+    Ok(Verified::new(program, layout, typings))
 }

@@ -1,4 +1,4 @@
-//! Where control goes on to behind an instruction (ECMA-335 III.1.7.2).
+//! Where control continues after an instruction (ECMA-335 III.1.7.2).
 
 ghost use Rattle.std.specs.Prelude.{◌≡◌, ◌+◌, ◌++◌, ◌∷◌, [], IfOk, OnOk};
 ghost use Rattle.verifier.specs.Ways.{targets, falls, ways_on};
@@ -7,7 +7,7 @@ use cil_model::memory::NoMemory;
 use resolved_code::operations::Operation;
 use std::alloc::Global;
 
-/// Whether control goes on to the next instruction.
+/// Whether control may advance to the next instruction.
 fn falls(operation: &Operation) -> bool
     ensures { result ≡ falls operation.now }
 {
@@ -29,7 +29,7 @@ fn add_targets(operation: &Operation, ways: &mut Vec<usize>) -> Result<(), NoMem
     Ok(())
 }
 
-/// The places to which control may go on from an operation, the next one last.
+/// The places at which control may continue after an operation, the next one last.
 pub fn ways_on(operation: &Operation, next: usize, alloc: Global) -> Result<Vec<usize>, NoMemory>
     ensures { IfOk result (λ ways. ways.items ≡ ways_on operation.now next) }
 {

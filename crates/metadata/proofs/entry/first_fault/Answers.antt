@@ -11,7 +11,7 @@ use Rattle.metadata.proofs.entry.first_fault.Goals as goal
 abbrev current : Bor Method → Method
 current m = m.now
 
--- all that stand behind others
+-- all that are after others
 behind : (xs : List (Bor Method)) (i : ℕ) → take (length xs - i) (drop i xs) ≡ drop i xs
 behind xs i = take_all (length xs - i) (drop i xs) (omega (arith, length-drop i xs))
 

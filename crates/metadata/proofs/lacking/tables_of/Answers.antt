@@ -4,7 +4,7 @@ use Rattle.std.proofs.lemmas.Option.{same_Some, none-some}
 use Rattle.metadata.specs.Implemented.{IsTable}
 use Rattle.metadata.proofs.lacking.tables_of.Goals as goal
 
--- one more behind others
+-- one more after others
 one_more : {X : Type 0} (P : ℕ → X → Type 0) (xs : List X) (y : X) → ((i : ℕ) (x : X) → slice_get xs i ≡ Some x → P i x) → P (length xs) y → (i : ℕ) (x : X) → slice_get (xs ++ y ∷ []) i ≡ Some x → P i x
 one_more P [] y h here zero x e = subst (P zero) (same_Some y x e) here
 one_more P [] y h here (suc i) x e = absurd (none-some x e)

@@ -7,7 +7,7 @@ use Rattle.metadata.specs.declared.program.MetaError.{MetaError}
 use Rattle.metadata.specs.declared.program.MetaError.TheVariants.{OutOfMemory}
 use Rattle.metadata.proofs.program.contents_of.Goals as goal
 
--- want of memory breaks no rule
+-- out of memory breaks no rule
 of_memory : {T : Type 0} (tree : Tree) (r : Result T MetaError) → IsErrAnd r (λ e. e ≡ OutOfMemory) → IfErr r (λ e. e ≢ OutOfMemory → least_broken tree ≡ Some (number_of e))
 of_memory tree (Ok x) h = tt
 of_memory tree (Err e) h = λ other. absurd (other h)

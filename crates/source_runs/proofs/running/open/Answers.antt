@@ -26,6 +26,7 @@ returns-clause-opened c =
       tree = c.in_ok-machine.ensures.made.tree;
       is_accepted = c.in_ok-machine.ensures.made.is_accepted;
       in_range = c.in_ok-machine.ensures.made.done.in_range;
+      done = c.in_ok-machine.ensures.made.done;
       opened = c.in_ok-machine.ensures.made.opened;
       are_read = c.in_ok-items.ensures;
     }

@@ -1,10 +1,10 @@
-use Rattle.shared_machine.specs.Histories.{reports_of}
 use Rattle.std.proofs.Common.{[]}
+use Rattle.acceptance.proofs.SourceLemmas.{if_ok}
 use Rattle.source_runs.proofs.RunLemmas.{printed_up_to}
 use Rattle.source_runs.proofs.running.run.Goals as goal
 
 pub returns-clause-ran : goal.returns-clause-ran
-returns-clause-ran g c = c.in_ok-run_alone.ensures.ran.does c.args.program c.args.limits [] [] c.in_ok-machine.ensures.done
+returns-clause-ran g c = λ tree limits done. if_ok c.run_alone.result c.run_alone.ensures.ran (λ outcome ran. ran.does tree limits [] [] done)
 
 pub returns-clause-printed : goal.returns-clause-printed
-returns-clause-printed g c = printed_up_to c.args.program c.args.limits c.args.most_printed _ _ c.in_ok-machine.ensures.begins c.in_ok-run_alone.ensures.printed
+returns-clause-printed g c = λ tree limits begins. if_ok c.run_alone.result c.run_alone.ensures.printed (λ outcome printed. printed_up_to tree limits c.args.most_printed _ _ begins printed)

@@ -1,15 +1,24 @@
-use Rattle.std.proofs.Common.{inl, inr, subst, sym}
+use Rattle.std.proofs.Common.{inr, subst, sym}
 use Rattle.acceptance.specs.Sources.{IsNotRun}
-use Rattle.acceptance.proofs.SourceLemmas.{handed_on, if_ok, if_err}
+use Rattle.acceptance.proofs.SourceLemmas.{handed_on}
 use Rattle.source_runs.proofs.running.run_events.Goals as goal
 
-pub returns-in_err-verified-clause-refused : goal.returns-in_err-verified-clause-refused
-returns-in_err-verified-clause-refused g c =
+pub returns-in_err-machine-clause-refused : goal.returns-in_err-machine-clause-refused
+returns-in_err-machine-clause-refused g c =
     handed_on c.from_residual.result c.from_residual.ensures.1 (λ failure same.
-    subst (IsNotRun c.args.source.now c.args.limits) (sym same) (inl c.in_err-verified.ensures.refused))
+    subst (IsNotRun c.args.source.now c.args.limits) (sym same) c.in_err-machine.ensures.refused)
+
+pub returns-in_err-run-clause-refused : goal.returns-in_err-run-clause-refused
+returns-in_err-run-clause-refused g c =
+    let made = c.in_ok-machine.ensures.made in
+    handed_on c.from_residual-in_err-run.result c.from_residual-in_err-run.ensures.1 (λ failure memory. inr ((made.tree, made.is_accepted), inr (made.done.in_range, memory)))
+
+pub returns-clause-printed : goal.returns-clause-printed
+returns-clause-printed g c =
+    let made = c.in_ok-machine.ensures.made in
+    c.in_ok-run.ensures.printed made.tree c.args.limits made.opened.begins
 
 pub returns-clause-ran : goal.returns-clause-ran
-returns-clause-ran g c = if_ok c.run.result c.run.ensures.ran (λ run ran. (c.in_ok-verified.verified, c.in_ok-verified.ensures.accepted, ran))
-
-pub returns-clause-refused : goal.returns-clause-refused
-returns-clause-refused g c = if_err c.run.result c.run.ensures.refused (λ failure refused. inr ((c.in_ok-verified.verified, c.in_ok-verified.ensures.accepted), refused))
+returns-clause-ran g c =
+    let made = c.in_ok-machine.ensures.made in
+    (made.tree, made.is_accepted, c.in_ok-run.ensures.ran made.tree c.args.limits made.done)
