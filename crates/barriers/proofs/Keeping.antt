@@ -14,7 +14,7 @@ use Rattle.object_memory.specs.Objects.{Objects, object_cell, object_slots, with
 use Rattle.object_memory.proofs.Counts.{change-count, change-there}
 use Rattle.barriers.specs.Barriers.{is_other_alike, is_other_there, with_both, with_both_monitors, with_marked}
 
--- the other copy, as the heap tells it
+-- the other copy, as the heap reports it
 pub other_told : (o : Option Cell) (r : Option Addr) → option_map (λ (c : Cell). c.other) o ≡ Some r → other_of o ≡ r
 other_told None r e = absurd cc
 other_told (Some c) r e = cc

@@ -12,7 +12,7 @@ use Rattle.object_memory.proofs.Blocks.{other_in, unchanged_in}
 use Rattle.object_memory.proofs.TwoBlocks.{apart, new_is_cell, not_new, not_old, old_is_cell, slot_keeps}
 use Rattle.barriers.specs.Barriers.{forwarded, stored_value, with_both}
 
--- the two copies of an object, each of which tells the other's address
+-- the two copies of an object, each of which holds the other's address
 pub record AreTwins (m : Spaces) (a b : Addr) (c d : Cell) : Type 0 where
   pub old : cell_in m.old a ≡ Some c
   pub new : cell_in m.new b ≡ Some d

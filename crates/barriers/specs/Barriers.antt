@@ -101,7 +101,7 @@ reaches_both HeapFlip = true
 reaches_both ThreadFlip = true
 reaches_both Reclaim = false
 
--- a word that is no reference: an integer's, or the one that tells which thread was started on an object
+-- a word that is no reference: an integer's, or the one that identifies the thread that was started on an object
 abbrev pub stored_int : Phase → Objects → Addr → (slot word : ℕ) → Objects
 stored_int phase o a slot word =
     if reaches_both phase then with_both (store_slot slot word) (store_slot slot word) o a else with_slot o a slot word
@@ -145,7 +145,7 @@ is_static_storable Reclaim o v = true
 
 -- ---- births
 
--- the objects with one of so many slots more, and its address; as they were where it exceeds the room
+-- the objects with one more, of this number of slots, and its address; as they were where it exceeds the room
 abbrev pub object_born : Phase → Objects → Kind → ℕ → Objects × Option Addr
 object_born phase o kind slots = with_birth phase o kind slots
 

@@ -6,7 +6,7 @@ ghost use Rattle.barriers.specs.Barriers.{can_bear, object_born};
 use cil_model::phases::Phase;
 use object_memory::{Addr, Heap, Kind};
 
-/// Makes an object with so many slots, which all hold 0 or null, for a thread in this phase, and answers its address: in the old space in
+/// Makes an object with the given number of slots, which all hold 0 or null, for a thread in this phase, and returns its address: in the old space in
 /// `Idle` and `Mark`, in both from `Allocate` to `HeapFlip`, with the address of the old copy, and then in the new one alone. None exactly
 /// where it exceeds the room; nothing is changed then.
 pub fn birth(heap: &mut Heap, phase: Phase, kind: Kind, slots: u64) -> Option<Addr>

@@ -40,7 +40,7 @@ abbrev pub word_stored : Tree → Objects → Attempt → (from : Cell) → (to 
 word_stored tree o t from to zero = with_cell (store_monitor t.monitor) o to
 word_stored tree o t from to (suc slot) = with_cell (store_slot slot (copied_word tree o.spaces from slot t.word)) o to
 
--- how far the collector is behind a word of the object at an address
+-- how far the collector is after a word of the object at an address
 abbrev pub behind_word : Progress → Cells → Addr → Cell → ℕ → Progress
 behind_word p s a c word =
     if nat_lt word (length c.slots) then record p { place = a.number - s.start; copied_words = word + 1; attempt = no_attempt }

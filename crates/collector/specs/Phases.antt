@@ -100,8 +100,8 @@ HasLooked HeapFlip p m a = Unit {0}
 HasLooked ThreadFlip p m a = Unit {0}
 HasLooked Reclaim p m a = Unit {0}
 
--- whether it has copied a word of the old object at an address, its monitor or 1 more than a slot's number; in Copy those before its place, and so many of
--- the object that is there
+-- whether it has copied a word of the old object at an address, its monitor or 1 more than a slot's number; in Copy those before its place, and of the
+-- object that is there those that it has counted as copied
 abbrev pub HasCopied : Phase → Progress → Spaces → Addr → ℕ → Type 0
 HasCopied Idle p m a word = ⊥
 HasCopied Mark p m a word = ⊥

@@ -73,7 +73,7 @@ pub record AreCopied (tree : Tree) (posted : Phase) (p : Progress) (m : Spaces) 
 
 -- ---- the place
 
--- While objects get their copies and their words, the collector is where an old object begins or behind all of them; and only of an object with
+-- While objects get their copies and their words, the collector is where an old object begins or after all of them; and only of an object with
 -- another copy it may have copied a part of the words, or have begun with the next one, which takes few attempts.
 pub record HasPlace (posted : Phase) (p : Progress) (m : Spaces) : Type 0 where
   pub place : (posted ≡ Allocate) ⊎ (posted ≡ Copy) → IsPlace m.old (m.old.start + p.place)
@@ -108,7 +108,7 @@ pub record AreMarked (tree : Tree) (has_round : Bool) (p : Progress) (m : Spaces
 
 -- ---- the end
 
--- While the new block is cleared, the collector is where a new object begins or behind all of them, and the objects before have neither a mark nor
+-- While the new block is cleared, the collector is where a new object begins or after all of them, and the objects before have neither a mark nor
 -- another copy.
 pub record IsCleared (p : Progress) (m : Spaces) : Type 0 where
   pub place : IsPlace m.new (m.new.start + p.place)

@@ -18,7 +18,7 @@ use barriers::forward;
 use class_layout::Layout;
 use object_memory::{Addr, Heap, Monitor, Value, ValueKind};
 
-/// Looks at the next object of the old block: a marked one without another copy gets a shell in the new block, with its kind, as many
+/// Looks at the next object of the old block: a marked one without another copy gets a shell in the new block, with its kind, the same number of
 /// slots, and no word yet. False where each object was looked at; nothing changes then.
 pub fn shell_step(progress: &mut Progress, heap: &mut Heap) -> bool
     requires { IsSoundIn Allocate progress.old heap.old }
@@ -72,7 +72,7 @@ pub fn copy_step(progress: &mut Progress, heap: &mut Heap, layout: &Layout) -> b
     true
 }
 
-/// Loads the next word of an old object; after three failed checks, stores it in the other copy too and goes on to the next word.
+/// Loads the next word of an old object; after three failed checks, stores it in the other copy too and advances to the next word.
 fn begin_word(progress: &mut Progress, heap: &mut Heap, layout: &Layout, next: Found, copy: Addr)
     requires spaces { AreSpaces heap.old.spaces }
     requires there { IsSome (cell_in heap.old.spaces.old next.object) × IsSome (cell_at heap.old.spaces copy) }
@@ -105,7 +105,7 @@ fn load_word(heap: &Heap, object: Addr, word: u32, attempt: &mut Attempt)
     }
 }
 
-/// Goes on to the next word of an old object where the object still has what was loaded; else the next attempt begins, with one more
+/// Advances to the next word of an old object where the object still has what was loaded; else the next attempt begins, with one more
 /// failed check.
 fn check_word(progress: &mut Progress, heap: &Heap, next: Found)
     requires spaces { AreSpaces heap.now.spaces }
@@ -158,7 +158,7 @@ fn is_same_monitor(a: Monitor, b: Monitor) -> bool
     }
 }
 
-/// Goes on to the next word of an old object, or past the object where this was its last word. No attempt at that word is under way.
+/// Advances to the next word of an old object, or past the object where this was its last word. No attempt at that word is under way.
 fn pass_word(progress: &mut Progress, heap: &Heap, next: Found)
     requires spaces { AreSpaces heap.now.spaces }
     requires there { IsSome (cell_in heap.now.spaces.old next.object) }

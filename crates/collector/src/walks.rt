@@ -40,7 +40,7 @@ pub(crate) fn next_copied(heap: &Heap, place: u32) -> Option<Twin>
     None
 }
 
-/// The first object of the new block that has a mark or another copy, at a place or behind it.
+/// The first object of the new block that has a mark or another copy, at a place or after it.
 pub(crate) fn next_noted(heap: &Heap, place: u32) -> Option<Found>
     requires spaces { AreSpaces heap.now.spaces }
     requires place { IsPlace heap.now.spaces.new (heap.now.spaces.new.start + place) }

@@ -42,7 +42,7 @@ apart_from at (x ∷ xs) a b c d e e' less = by_tests (a == at) (b == at) refl r
     by_tests false true test test' rest g g' = let q : b ≡ at = grind (arith, nat_tests) in absurd (omega (arith, q, (range_from (at + size x) xs a c g).0))
     by_tests false false test test' rest g g' = rest g g'
 
--- behind all
+-- after all
 last_from : (at : ℕ) (cs : List Cell) (c : Cell) → cell_from at (cs ++ c ∷ []) (at + used_words cs) ≡ Some c
 last_from at [] c = let test : (at + 0 == at) ≡ true = grind (arith, nat_tests) in rw test refl
 last_from at (d ∷ cs) c =

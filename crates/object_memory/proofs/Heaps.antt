@@ -37,7 +37,7 @@ module _ (start : ℕ) (block : List ℕ) (used : ℕ) (laid : IsLaid block used
   pub free_is : length block - used ≡ free_words (shown start block used)
   free_is = ap (λ n. length block - n) (sym (used_words_held block used laid))
 
-  -- there is room in the block where so many words are free
+  -- there is room in the block where this number of words is free
   pub room_is : (n : ℕ) → 3 + n ≤ free_words (shown start block used) → used + (3 + n) ≤ length block
   room_is n free = omega (arith, free, free_is, laid.inside)
 

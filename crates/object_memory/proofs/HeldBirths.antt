@@ -2,12 +2,14 @@
 use Rattle.std.proofs.Common.{◌≡◌, ℕ, ◌+◌, ◌-◌, ◌≤◌, Bool, true, false, List, [], ◌∷◌, ◌++◌, length, refl, sym, ap, subst, ◌∙◌, arith}
 use Rattle.std.specs.Prelude.{nat_le, Option, Some, None, IsSome, IfSome, option_map}
 use Rattle.std.proofs.lemmas.Bool.Decides.{nat_tests}
+use Rattle.cil_model.specs.declared.phases.Phase.{Phase}
+use Rattle.cil_model.specs.declared.phases.Phase.TheVariants.{Idle, Mark, Allocate, Copy, PreFlip, HeapFlip, ThreadFlip, Reclaim}
 use Rattle.object_memory.specs.declared.addresses.Addr.{Addr}
 use Rattle.object_memory.specs.declared.kinds.Kind.{Kind}
 use Rattle.object_memory.specs.declared.monitors.Monitor.{Monitor}
 use Rattle.object_memory.specs.declared.heap.Cycle.{Cycle}
 use Rattle.object_memory.specs.Cells.{Cell, Cells, size, free_words, next_address, literal_number, new_cell, store_copies, cell_in, change_in, slots_in, with_last, empty_cell}
-use Rattle.object_memory.specs.Spaces.{AreSpaces, Place, with_new, InBoth, Listed, room_at, shell_of, with_shell, set_other}
+use Rattle.object_memory.specs.Spaces.{AreSpaces, BirthSpace, birth_space_of, is_within_cycle, with_new, InBoth, Listed, room_at, shell_of, with_shell, set_other}
 use Rattle.object_memory.specs.Objects.{Objects, spaces_of, IsHeld, with_birth_at}
 use Rattle.object_memory.proofs.Blocks.{last_in, last_changed, same_in, unchanged_in}
 use Rattle.object_memory.proofs.TwoBlocks.{AreSpaces-with_new, not_new, change-is_space}
@@ -137,8 +139,20 @@ module _ (old : Cells) (cycle : Option Cycle) (c : Cycle) (h : IsHeld old cycle)
       let test : nat_le (3 + n) (free_words old) ≡ true = grind (arith, nat_tests) in
       rw (test, e, marked_then_is) refl
 
+-- a thread whose births are put on the grey list is in a phase that it has only while a cycle is open
+pub listed_in_cycle : (phase : Phase) (is_open : Bool) → birth_space_of phase is_open ≡ Listed → is_within_cycle phase ≡ true
+listed_in_cycle Idle is_open e = absurd cc
+listed_in_cycle Mark is_open e = refl
+listed_in_cycle Allocate is_open e = refl
+listed_in_cycle Copy is_open e = refl
+listed_in_cycle PreFlip is_open e = refl
+listed_in_cycle HeapFlip is_open e = refl
+listed_in_cycle ThreadFlip is_open e = refl
+listed_in_cycle Reclaim true e = absurd cc
+listed_in_cycle Reclaim false e = absurd cc
+
 -- what is born has no literal's address
-pub born_told : (o p : Objects) → AreSpaces o.spaces → o ≡ p → (place : Place) (k : Kind) (n : ℕ) (after : Objects) (r : Option Addr) → ◌≡◌ {A = Objects × Option Addr} (after, r) (with_birth_at place p k n)
+pub born_told : (o p : Objects) → AreSpaces o.spaces → o ≡ p → (place : BirthSpace) (k : Kind) (n : ℕ) (after : Objects) (r : Option Addr) → ◌≡◌ {A = Objects × Option Addr} (after, r) (with_birth_at place p k n)
     → IfSome r (λ a. literal_number a ≡ None)
 born_told o p h same place k n after r e =
     let spaces = subst (λ (x : Objects). AreSpaces x.spaces) same h in

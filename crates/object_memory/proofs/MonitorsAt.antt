@@ -9,7 +9,7 @@ use Rattle.object_memory.specs.declared.addresses.TheConstants.{FIRST_LITERAL}
 use Rattle.object_memory.specs.declared.kinds.Kind.{Kind}
 use Rattle.object_memory.specs.declared.monitors.Monitor.{Monitor}
 use Rattle.object_memory.specs.Cells.{Cell, size, cell_from, change_from, null, literal, literal_number, store_slot, store_monitor, cell_in, change_in}
-use Rattle.object_memory.specs.Spaces.{AreSpaces, first_of, cell_at, change_at, place_of}
+use Rattle.object_memory.specs.Spaces.{AreSpaces, first_of, cell_at, change_at, birth_space_of}
 use Rattle.object_memory.specs.Objects.{Objects, with_birth, with_cell, with_literal_monitor, with_slot, monitor_at, with_monitor}
 use Rattle.cil_model.specs.declared.phases.Phase.{Phase}
 use Rattle.object_memory.proofs.TwoBlocks.{change-own, change-other}
@@ -128,7 +128,7 @@ module _ (o : Objects) (m : Monitor) where
 module _ (o : Objects) (h : AreSpaces o.spaces) (k : Kind) (n : ℕ) (phase : Phase) (m : Monitor) (a : Addr) where
   born_cell : (c : Option Cell) → cell_at o.spaces a ≡ c → monitor_of c ≡ Some m → monitor_of (cell_at (with_birth phase o k n).0.spaces a) ≡ Some m
   born_cell None e same = absurd cc
-  born_cell (Some c) e same = rw (birth_at-kept o.spaces h k n (place_of phase o.spaces.is_open) a c e) same
+  born_cell (Some c) e same = rw (birth_at-kept o.spaces h k n (birth_space_of phase o.spaces.is_open) a c e) same
 
   born_by : (l : Option ℕ) → literal_number a ≡ l → option_map_or (slice_get o.literals) l (monitor_of (cell_at o.spaces a)) ≡ Some m
       → option_map_or (slice_get o.literals) l (monitor_of (cell_at (with_birth phase o k n).0.spaces a)) ≡ Some m

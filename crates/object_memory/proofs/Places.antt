@@ -59,7 +59,7 @@ at_from at (d ∷ ds) after c =
     let place : at + used_words (d ∷ ds) ≡ at + size d + used_words ds = omega (arith, more) in
     rw (test, place) (at_from (at + size d) ds after c)
 
--- a place is that of a cell, and the next place is behind it; or it is the end
+-- a place is that of a cell, and the next place is after it; or it is the end
 pub data AtPlace (s : Cells) (p : ℕ) : Type 0 where
   cell : (c : Cell) → cell_in s (record { number = p }) ≡ Some c → IsPlace s (p + size c) → AtPlace s p
   end : p ≡ s.start + used_words s.cells → AtPlace s p
@@ -76,7 +76,7 @@ at_by s p before (c ∷ after) split at =
 pub at_place : (s : Cells) (p : ℕ) → IsPlace s p → AtPlace s p
 at_place s p h = at_by s p h.before h.after h.split h.at
 
--- behind a cell there is a place
+-- after a cell there is a place
 pub place-behind : (s : Cells) (p : ℕ) (c : Cell) → IsPlace s p → cell_in s (record { number = p }) ≡ Some c → IsPlace s (p + size c)
 place-behind s p c h e = elim (at_place s p h) [
   | cell d there next ↦ let same : d ≡ c = cc in subst (λ x. IsPlace s (p + size x)) same next
@@ -90,7 +90,7 @@ place-last s p h e = elim (at_place s p h) [
   | end is ↦ is
 ]
 
--- nothing begins behind all words
+-- nothing begins after all words
 pub begins_last : (s : Cells) (n : ℕ) → n ≡ used_words s.cells → begins_behind s n ≡ None
 begins_last s n e =
     let none : cell_in s (address_behind s n) ≡ None = none_in s (address_behind s n) (λ low below. absurd (omega (arith, e, below))) in
@@ -127,7 +127,7 @@ below_next s p d there a c e less = by_order (nat_lt p a.number) refl
 -- ---- the next cell with a property
 
 module _ (q : Cell → Bool) where
-  -- nothing is found behind all
+  -- nothing is found after all
   none_behind : (at : ℕ) (cs : List Cell) (p : ℕ) → at + used_words cs ≤ p → found_from q at cs p ≡ None
   none_behind at [] p far = refl
   none_behind at (c ∷ cs) p far =
@@ -183,7 +183,7 @@ module _ (q : Cell → Bool) where
           let behind : nat_lt at (p + size c) ≡ true = (let low = r.0 in grind (arith, nat_tests)) in
           rw (before, behind) (rest g fails)
 
-  -- a walk stops at a cell with the property, and goes on behind one without it
+  -- a walk stops at a cell with the property, and continues after one without it
   pub found_here : (s : Cells) (p : ℕ) (c : Cell) → cell_in s (record { number = p }) ≡ Some c → q c ≡ true → found_in q s p ≡ Some p
   found_here s p c e holds = here_from s.start s.cells p c e holds
 

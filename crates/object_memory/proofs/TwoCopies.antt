@@ -20,7 +20,7 @@ module _ (m : Spaces) (h : AreSpaces m) (a : Addr) where
   pub AreSpaces-mark : AreSpaces (mark m a).0
   AreSpaces-mark = AreSpaces-marked (is_white (cell_in m.old a))
 
-  -- one that was marked stays as it is, and so does all else
+  -- one that was marked stays as it is, and so does everything other
   pub mark-black : (c : Cell) → cell_in m.old a ≡ Some c → c.marked ≡ true → mark m a ≡ (m, false)
   mark-black c e marked = rw (e, marked) refl
 

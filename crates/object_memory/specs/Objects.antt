@@ -8,7 +8,7 @@ use Rattle.object_memory.specs.declared.monitors.Monitor.{Monitor}
 use Rattle.object_memory.specs.declared.monitors.Monitor.TheVariants.{Free}
 use Rattle.object_memory.specs.declared.heap.Cycle.{Cycle}
 use Rattle.object_memory.specs.Cells.{Cell, Cells, used_words, free_words, no_cells, literal_number, store_slot, store_monitor}
-use Rattle.object_memory.specs.Spaces.{Spaces, AreSpaces, HasGreyRoom, other_start, cell_at, slots_at, change_at, Place, birth_at, birth, mark}
+use Rattle.object_memory.specs.Spaces.{Spaces, AreSpaces, HasGreyRoom, other_start, cell_at, slots_at, change_at, BirthSpace, birth_at, birth, mark}
 
 -- the cells, and the monitor of each literal in the place of the literal's number
 pub record Objects : Type 0 where
@@ -17,7 +17,7 @@ pub record Objects : Type 0 where
 
 -- ---- how a heap holds its blocks
 
--- the second block and the grey list are there while a cycle is open; else the new block has no words
+-- the second block and the grey list are there while a cycle is open; otherwise the new block has no words
 abbrev pub new_of : Cells → Option Cycle → Cells
 new_of old None = record { start = other_start old.start; cells = []; words = 0 }
 new_of old (Some c) = c.to
@@ -44,7 +44,7 @@ pub record IsHeld (old : Cells) (cycle : Option Cycle) : Type 0 where
 
 -- ---- what is there
 
--- a block without cells, and so many literals, which nobody has entered
+-- a block without cells, and this number of literals, which no thread has entered
 abbrev pub no_objects : (words literals : ℕ) → Objects
 no_objects words literals = record { spaces = spaces_of (no_cells words) None; literals = replicate literals Free }
 
@@ -69,7 +69,7 @@ free_space o = free_words o.spaces.old
 -- ---- births, marks and stores
 
 -- a birth in a place
-abbrev pub with_birth_at : Place → Objects → Kind → ℕ → Objects × Option Addr
+abbrev pub with_birth_at : BirthSpace → Objects → Kind → ℕ → Objects × Option Addr
 with_birth_at p o k n = (record o { spaces = (birth_at p o.spaces k n).0 }, (birth_at p o.spaces k n).1)
 
 -- a birth by the own phase of the thread

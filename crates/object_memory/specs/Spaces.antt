@@ -6,6 +6,8 @@ use Rattle.cil_model.specs.declared.phases.Phase.TheVariants.{Idle, Mark, Alloca
 use Rattle.object_memory.specs.declared.addresses.Addr.{Addr}
 use Rattle.object_memory.specs.declared.addresses.TheConstants.{ADDRESSES}
 use Rattle.object_memory.specs.declared.kinds.Kind.{Kind}
+pub use Rattle.object_memory.specs.declared.birth_spaces.BirthSpace.{BirthSpace}
+pub use Rattle.object_memory.specs.declared.birth_spaces.BirthSpace.TheVariants.{InOld, Listed, InBoth, InNew}
 use Rattle.object_memory.specs.Cells.{Cell, Cells, size, used_words, free_words, literal_number, first, next_address, store_copies, cell_in, change_in, empty_cell, with_last}
 
 -- Two blocks; the cells that are marked and still to be scanned, oldest first; whether a cell was marked since the newest round
@@ -77,24 +79,18 @@ with_grey m a = record m { grey = m.grey ++ a ∷ [] }
 
 -- ---- births
 
--- in which block, by the own phase of the thread: in the old one, there and on the grey list, in both, or in the new one
-pub data Place : Type 0 where
-  InOld : Place
-  Listed : Place
-  InBoth : Place
-  InNew : Place
-
--- A thread may be in the last phase when the cycle is over: the new block is the only one then.
-abbrev pub place_of : Phase → Bool → Place
-place_of Idle is_open = InOld
-place_of Mark is_open = Listed
-place_of Allocate is_open = InBoth
-place_of Copy is_open = InBoth
-place_of PreFlip is_open = InBoth
-place_of HeapFlip is_open = InBoth
-place_of ThreadFlip is_open = InNew
-place_of Reclaim true = InNew
-place_of Reclaim false = InOld
+-- In which block, by the own phase of the thread: in the old one, there and on the grey list, in both, or in the new one. A thread may be in the last
+-- phase when the cycle is over: the new block is the only one then.
+abbrev pub birth_space_of : Phase → Bool → BirthSpace
+birth_space_of Idle is_open = InOld
+birth_space_of Mark is_open = Listed
+birth_space_of Allocate is_open = InBoth
+birth_space_of Copy is_open = InBoth
+birth_space_of PreFlip is_open = InBoth
+birth_space_of HeapFlip is_open = InBoth
+birth_space_of ThreadFlip is_open = InNew
+birth_space_of Reclaim true = InNew
+birth_space_of Reclaim false = InOld
 
 -- whether a thread is in the phase only while a cycle is open
 abbrev pub is_within_cycle : Phase → Bool
@@ -107,20 +103,20 @@ is_within_cycle HeapFlip = true
 is_within_cycle ThreadFlip = true
 is_within_cycle Reclaim = false
 
-abbrev pub room_at : Place → Spaces → ℕ
+abbrev pub room_at : BirthSpace → Spaces → ℕ
 room_at InOld m = free_words m.old
 room_at Listed m = free_words m.old
 room_at InBoth m = min (free_words m.old) (free_words m.new)
 room_at InNew m = free_words m.new
 
 -- the address of what is born: of its old copy where there are two
-abbrev pub address_at : Place → Spaces → Addr
+abbrev pub address_at : BirthSpace → Spaces → Addr
 address_at InOld m = next_address m.old
 address_at Listed m = next_address m.old
 address_at InBoth m = next_address m.old
 address_at InNew m = next_address m.new
 
-abbrev pub born : Place → Spaces → Kind → ℕ → Spaces
+abbrev pub born : BirthSpace → Spaces → Kind → ℕ → Spaces
 born InOld m k n = with_old m (empty_cell k n false None)
 born Listed m k n = with_grey (with_old m (empty_cell k n true None)) (next_address m.old)
 born InBoth m k n =
@@ -128,16 +124,16 @@ born InBoth m k n =
 born InNew m k n = with_new m (empty_cell k n false None)
 
 -- a birth is refused exactly where the cell exceeds the room
-abbrev pub birth_at : Place → Spaces → Kind → ℕ → Spaces × Option Addr
+abbrev pub birth_at : BirthSpace → Spaces → Kind → ℕ → Spaces × Option Addr
 birth_at p m k n = if nat_le (3 + n) (room_at p m) then (born p m k n, Some (address_at p m)) else (m, None)
 
 -- by the own phase of the thread
 abbrev pub birth : Phase → Spaces → Kind → ℕ → Spaces × Option Addr
-birth f m k n = birth_at (place_of f m.is_open) m k n
+birth f m k n = birth_at (birth_space_of f m.is_open) m k n
 
 -- the words that a birth may take
 abbrev pub room_for : Phase → Spaces → ℕ
-room_for f m = room_at (place_of f m.is_open) m
+room_for f m = room_at (birth_space_of f m.is_open) m
 
 -- ---- marks and copies
 
@@ -145,7 +141,7 @@ abbrev pub other_of : Option Cell → Option Addr
 other_of None = None
 other_of (Some c) = c.other
 
--- the other copy of an old cell that has one, else the address itself
+-- the other copy of an old cell that has one, and otherwise the address itself
 abbrev pub forward : Spaces → Addr → Addr
 forward m a = unwrap_or (other_of (cell_in m.old a)) a
 
@@ -180,7 +176,7 @@ clear m a = change_at (store_copies false None) m a
 
 -- ---- cycles
 
--- a cycle begins with a second block of so many words
+-- a cycle begins with a second block of the given number of words
 abbrev pub opened : Spaces → ℕ → Spaces
 opened m words = record { old = m.old; new = record { start = other_start m.old.start; cells = []; words = words }; grey = []; has_marked = false; is_open = true }
 
@@ -217,7 +213,8 @@ white c = white_by c.marked
 abbrev pub whites : List Cell → ℕ
 whites cs = sum_by white cs
 
--- The grey list has room for so many more: for each cell that isn't marked, and for each that may be born. A cell has three words at least.
+-- The grey list has room for `spare` further addresses: one for each cell that isn't marked, and for each that may be born. A cell has three words at
+-- least.
 abbrev pub HasGreyRoom : Cells → ℕ → Type 0
 HasGreyRoom s spare = whites s.cells + whites s.cells + whites s.cells + free_words s ≤ spare + spare + spare + 2
 
@@ -230,7 +227,7 @@ pub record IsPlace (s : Cells) (p : ℕ) : Type 0 where
   pub split : s.cells ≡ before ++ after
   pub at : p ≡ s.start + used_words before
 
--- the address of the first cell with a property, at a place or behind it
+-- the address of the first cell with a property, at a place or after it
 abbrev pub found_from : (Cell → Bool) → ℕ → List Cell → ℕ → Option ℕ
 found_from q at [] p = None
 found_from q at (c ∷ cs) p = if nat_lt at p then found_from q (at + size c) cs p else if q c then Some at else found_from q (at + size c) cs p

@@ -1,14 +1,15 @@
-//! Addresses of objects, and the number that stands for one in a word.
+//! Addresses of objects, and the number that represents one in a word.
 
 ghost use Rattle.std.specs.Prelude.{◌≡◌, ◌-◌, ◌<◌, ◌≤◌, ◌==◌};
 
-/// As many addresses as there are: one for each number of 32 bits.
+/// The number of all addresses: one for each number of 32 bits.
 pub const ADDRESSES: u64 = 4_294_967_296;
 
 /// The number of the first literal's address. The addresses of a heap's objects have numbers below it.
 pub const FIRST_LITERAL: u32 = 2_147_483_648;
 
-/// Where an object is, or null. The objects of a heap have addresses, and so have the literals of a program. During a collection an object may have two; whether two addresses are of one object, a comparison of references tells, and nothing else can be done with them.
+/// Where an object is, or null. The objects of a heap have addresses, and so have the literals of a program. During a collection an object may
+/// have two; a comparison of references determines whether two addresses are of one object, and nothing else can be done with them.
 #[derive(Clone, Copy, PartialEq, Eq)]
 pub struct Addr {
     pub(crate) number: u32,

@@ -6,6 +6,7 @@ ghost use Rattle.space_block.specs.Rows.{blank};
 ghost use Rattle.std.specs.Prelude.{◌≡◌, ◌≢◌, ℕ, ◌+◌, ◌*◌, ◌<◌, ◌≤◌, [], true, false, length, drop, replicate, slice_index, slice_get, Some, None, IfOk, IfSome, IsSome, option_map, vec_capacity};
 
 use crate::addresses::Addr;
+use crate::birth_spaces::BirthSpace;
 use crate::digests::Digest;
 use crate::grey::GreyList;
 use crate::kinds::Kind;
@@ -63,7 +64,7 @@ impl Heap {
     ghost use Rattle.object_memory.specs.Spaces.{IsThere, IsPlace, cell_at, slots_at, is_old, forward, opened, closed, InOld, InBoth, Listed, InNew, is_within_cycle, room_at, room_for, with_shell, clear};
     ghost use Rattle.object_memory.specs.Objects.{no_objects, with_mark, with_birth_at, with_birth, with_cell, with_slot, monitor_at, with_monitor};
 
-    /// A heap without objects, in a block of which no word is in use, beside that many literals, which nobody has entered.
+    /// A heap without objects, in a block of which no word is in use, beside that many literals, which no thread has entered.
     ///
     /// The memory of the literals' monitors is taken here, and no other call of a heap takes any. `NoMemory` where there
     /// is none for them; the block is then dropped.
@@ -158,12 +159,22 @@ impl Heap {
         ensures room { result ≡ room_for phase self.now.spaces }
         ensures few { result ≤ MOST_WORDS }
     {
-        let (old, new) = self.free_words();
-        match phase {
-            Phase::Idle | Phase::Mark => old,
-            Phase::Allocate | Phase::Copy | Phase::PreFlip | Phase::HeapFlip => old.min(new),
-            Phase::ThreadFlip => new,
-            Phase::Reclaim => { if self.is_open() { new } else { old } }
+        self.room_in(BirthSpace::of(phase, self.is_open()))
+    }
+
+    /// The words that a birth in this space may take, its header counted.
+    #[inline(always)]
+    fn room_in(&self, space: BirthSpace) -> usize
+        ensures room { result ≡ room_at space self.now.spaces }
+        ensures few { result ≤ MOST_WORDS }
+    {
+        match space {
+            BirthSpace::InOld | BirthSpace::Listed => self.from.free_words(),
+            BirthSpace::InBoth => {
+                let (old, new) = self.free_words();
+                old.min(new)
+            }
+            BirthSpace::InNew => self.free_words().1,
         }
     }
 
@@ -296,7 +307,7 @@ impl Heap {
         }
     }
 
-    /// Makes an object with so many slots, which all hold 0 or null, for a thread in this phase, and answers its address:
+    /// Makes an object with the given number of slots, which all hold 0 or null, for a thread in this phase, and returns its address:
     /// that of the old copy where it has two. None exactly where its header and its slots exceed the room; nothing is
     /// changed then.
     pub fn birth(&mut self, kind: Kind, slots: u32, phase: Phase) -> Option<Addr>
@@ -304,9 +315,8 @@ impl Heap {
         ensures birth { (self.new, result) ≡ with_birth phase self.old kind slots }
         ensures no_literal { IfSome result (λ a. literal_number a ≡ None) }
     {
-        let _from = &self.from;
         if phase == Phase::Idle {
-            self.birth_in_old(kind, slots)
+            self.birth_in(BirthSpace::InOld, kind, slots)
         } else {
             self.birth_in_cycle(kind, slots, phase)
         }
@@ -319,98 +329,83 @@ impl Heap {
         ensures birth { (self.new, result) ≡ with_birth phase self.old kind slots }
         ensures no_literal { IfSome result (λ a. literal_number a ≡ None) }
     {
-        let is_open = self.cycle.is_some();
-        match phase {
-            Phase::Idle => self.birth_in_old(kind, slots),
-            Phase::Mark => self.birth_listed(kind, slots),
-            Phase::Allocate | Phase::Copy | Phase::PreFlip | Phase::HeapFlip => {
-                self.birth_in_both(kind, slots)
-            }
-            Phase::ThreadFlip => self.birth_in_new(kind, slots),
-            Phase::Reclaim => {
-                if is_open {
-                    self.birth_in_new(kind, slots)
-                } else {
-                    self.birth_in_old(kind, slots)
-                }
-            }
-        }
+        self.birth_in(BirthSpace::of(phase, self.is_open()), kind, slots)
     }
 
-    /// Makes an object in the old block.
-    fn birth_in_old(&mut self, kind: Kind, slots: u32) -> Option<Addr>
-        ensures { (self.new, result) ≡ with_birth_at InOld self.old kind slots }
+    /// The same in a space. The grey list takes an object only while a cycle is open.
+    #[inline(always)]
+    fn birth_in(&mut self, space: BirthSpace, kind: Kind, slots: u32) -> Option<Addr>
+        requires { space ≡ Listed → self.old.spaces.is_open ≡ true }
+        ensures birth { (self.new, result) ≡ with_birth_at space self.old kind slots }
+        ensures no_literal { IfSome result (λ a. literal_number a ≡ None) }
     {
-        if self.from.free_words() < HEADER_WORDS + slots as usize {
+        let _from = &self.from;
+        if self.room_in(space) < HEADER_WORDS + slots as usize {
             return None;
         }
-        Some(self.from.append(kind, slots))
+        Some(self.allocate(space, kind, slots))
+    }
+
+    /// Makes an object in a space that has room for it, and returns its address: that of the old copy where it has two.
+    #[inline(always)]
+    fn allocate(&mut self, space: BirthSpace, kind: Kind, slots: u32) -> Addr
+        requires open { space ≡ Listed → self.old.spaces.is_open ≡ true }
+        requires room { 3 + slots ≤ room_at space self.old.spaces }
+        ensures { (self.new, Some result) ≡ with_birth_at space self.old kind slots }
+    {
+        match space {
+            BirthSpace::InOld => self.from.append(kind, slots),
+            BirthSpace::Listed => self.append_listed(kind, slots),
+            BirthSpace::InBoth => self.append_in_both(kind, slots),
+            BirthSpace::InNew => self.append_in_new(kind, slots),
+        }
     }
 
     /// Makes an object in the old block, marked and on the grey list.
     #[cold]
-    fn birth_listed(&mut self, kind: Kind, slots: u32) -> Option<Addr>
-        requires { self.old.spaces.is_open ≡ true }
-        ensures { (self.new, result) ≡ with_birth_at Listed self.old kind slots }
+    fn append_listed(&mut self, kind: Kind, slots: u32) -> Addr
+        requires open { self.old.spaces.is_open ≡ true }
+        requires room { 3 + slots ≤ room_at Listed self.old.spaces }
+        ensures { (self.new, Some result) ≡ with_birth_at Listed self.old kind slots }
     {
-        if self.from.free_words() < HEADER_WORDS + slots as usize {
-            return None;
-        }
         match &mut self.cycle {
             None => unreachable!(),
             Some(cycle) => {
                 let address = self.from.append(kind, slots);
                 self.from.set_copies(address, true, None);
                 cycle.grey.push(address);
-                Some(address)
+                address
             }
         }
     }
 
-    /// Makes an object with two copies, both marked, and answers the address of the old one.
+    /// Makes an object with two copies, both marked, and returns the address of the old one.
     #[cold]
-    fn birth_in_both(&mut self, kind: Kind, slots: u32) -> Option<Addr>
-        ensures { (self.new, result) ≡ with_birth_at InBoth self.old kind slots }
+    fn append_in_both(&mut self, kind: Kind, slots: u32) -> Addr
+        requires { 3 + slots ≤ room_at InBoth self.old.spaces }
+        ensures { (self.new, Some result) ≡ with_birth_at InBoth self.old kind slots }
     {
-        if self.room_in_both() < HEADER_WORDS + slots as usize {
-            return None;
-        }
         match &mut self.cycle {
-            None => None,
+            None => unreachable!(),
             Some(cycle) => {
                 let address = self.from.append(kind, slots);
                 let copy = cycle.to.append(kind, slots);
                 self.from.set_copies(address, true, Some(copy));
                 cycle.to.set_copies(copy, true, Some(address));
-                Some(address)
+                address
             }
         }
     }
 
     /// Makes an object in the new block alone.
     #[cold]
-    fn birth_in_new(&mut self, kind: Kind, slots: u32) -> Option<Addr>
-        requires { self.old.spaces.is_open ≡ true }
-        ensures { (self.new, result) ≡ with_birth_at InNew self.old kind slots }
+    fn append_in_new(&mut self, kind: Kind, slots: u32) -> Addr
+        requires { 3 + slots ≤ room_at InNew self.old.spaces }
+        ensures { (self.new, Some result) ≡ with_birth_at InNew self.old kind slots }
     {
         match &mut self.cycle {
             None => unreachable!(),
-            Some(cycle) => {
-                if cycle.to.free_words() < HEADER_WORDS + slots as usize {
-                    return None;
-                }
-                Some(cycle.to.append(kind, slots))
-            }
-        }
-    }
-
-    /// The free words of the block that has fewer of them. 0 where no cycle is open.
-    fn room_in_both(&self) -> usize
-        ensures { result ≡ room_at InBoth self.now.spaces }
-    {
-        match &self.cycle {
-            None => 0,
-            Some(cycle) => self.from.free_words().min(cycle.to.free_words()),
+            Some(cycle) => cycle.to.append(kind, slots),
         }
     }
 
@@ -458,7 +453,7 @@ impl Heap {
         self.from.spans(address)
     }
 
-    /// The forward of an address: its other copy where it is that of an old object which has one, else itself.
+    /// The forward of an address: its other copy where it is that of an old object which has one, and otherwise itself.
     pub fn forward(&self, address: Addr) -> Addr
         requires { IsThere self.now.spaces address }
         ensures { result ≡ forward self.now.spaces address }
@@ -559,8 +554,8 @@ impl Heap {
         }
     }
 
-    /// The object of the old block that begins behind so many words of it. None where these are the words of all its
-    /// objects. A walk over all of them begins at place 0, and goes on behind each one's words. It takes as long for each
+    /// The object of the old block that begins after the given number of words of it. None where these are the words of all its
+    /// objects. A walk over all of them begins at place 0, and continues after each one's words. It takes as long for each
     /// object.
     pub fn old_at(&self, place: u32) -> Option<Addr>
         requires { IsPlace self.now.spaces.old (self.now.spaces.old.start + place) }
@@ -569,7 +564,7 @@ impl Heap {
         self.from.at(place)
     }
 
-    /// The object of the new block that begins behind so many words of it, in the same way. None while no cycle is open.
+    /// The object of the new block that begins after the given number of words of it, in the same way. None while no cycle is open.
     pub fn new_at(&self, place: u32) -> Option<Addr>
         requires { IsPlace self.now.spaces.new (self.now.spaces.new.start + place) }
         ensures { result ≡ begins_behind self.now.spaces.new place }

@@ -7,7 +7,7 @@ ghost use Rattle.object_memory.specs.declared.addresses.Addr.{Addr};
 ghost use Rattle.object_memory.specs.declared.kinds.Kind.{Kind};
 ghost use Rattle.object_memory.specs.declared.monitors.Monitor.{Monitor};
 ghost use Rattle.object_memory.specs.Cells.{Cell, Cells, size, used_words, free_words, cell_in, change_in, with_last, store_slot, store_monitor, null, literal, literal_number};
-ghost use Rattle.object_memory.specs.Spaces.{Spaces, AreSpaces, IsPlace, Place, InNew, cell_at, slots_at, change_at, place_of, birth, forward, with_shell, opened, HasShellRoom};
+ghost use Rattle.object_memory.specs.Spaces.{Spaces, AreSpaces, IsPlace, BirthSpace, InNew, cell_at, slots_at, change_at, birth_space_of, birth, forward, with_shell, opened, HasShellRoom};
 ghost use Rattle.object_memory.specs.Objects.{Objects, with_birth, with_slot, monitor_at, with_monitor};
 
 /// A birth's address is that of a new object, whose slots hold 0 or null. All other objects stay where they are, as they are.
@@ -34,7 +34,7 @@ pub fn stores_keep_counts()
     ensures monitor { (m : Spaces) (a b : Addr) (x : Monitor) → length (slots_at (change_at (store_monitor x) m a) b) ≡ length (slots_at m b) }
 {}
 
-/// A walk over a block goes from place to place: it begins at the first word, goes on behind each object, and ends behind the last one.
+/// A walk over a block goes from place to place: it begins at the first word, continues after each object, and ends after the last one.
 /// One object more leaves each place one, and so does a store.
 pub fn walks_go_from_place_to_place()
     ensures start { (s : Cells) → IsPlace s s.start }
@@ -45,7 +45,7 @@ pub fn walks_go_from_place_to_place()
     ensures monitor { (s : Cells) (a : Addr) (m : Monitor) (p : ℕ) → IsPlace s p → IsPlace (change_in (store_monitor m) s a) p }
 {}
 
-/// Null and the literals have addresses of their own, each literal one, which tells its number.
+/// Null and the literals have addresses of their own, each literal one, which determines its number.
 #[tactic(auto, using(crate::proofs::MonitorsAt::literal_number_of, crate::proofs::MonitorsAt::literal_same, crate::proofs::MonitorsAt::literal_not_null))]
 pub fn literals_are_told_apart()
     ensures number { (n : ℕ) → literal_number (literal n) ≡ Some n }
@@ -68,5 +68,5 @@ pub fn shells_fit()
     ensures fits { (m : Spaces) (a : Addr) (c : Cell) → AreSpaces m → HasShellRoom m → cell_in m.old a ≡ Some c → c.other ≡ None → size c ≤ free_words m.new }
     ensures opened { (m : Spaces) (words : ℕ) → m.old.words ≤ words → HasShellRoom (opened m words) }
     ensures shell { (m : Spaces) (a : Addr) (c : Cell) → AreSpaces m → HasShellRoom m → cell_in m.old a ≡ Some c → c.other ≡ None → HasShellRoom (with_shell m a c) }
-    ensures birth { (m : Spaces) (phase : Phase) (k : Kind) (n : ℕ) → AreSpaces m → HasShellRoom m → place_of phase m.is_open ≢ InNew → HasShellRoom (birth phase m k n).0 }
+    ensures birth { (m : Spaces) (phase : Phase) (k : Kind) (n : ℕ) → AreSpaces m → HasShellRoom m → birth_space_of phase m.is_open ≢ InNew → HasShellRoom (birth phase m k n).0 }
 {}

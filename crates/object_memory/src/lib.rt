@@ -7,6 +7,7 @@
 #![tactic(auto)]
 
 mod addresses;
+mod birth_spaces;
 mod copies;
 mod digests;
 mod grey;
@@ -18,6 +19,7 @@ mod space;
 mod values;
 
 pub use addresses::Addr;
+pub use birth_spaces::BirthSpace;
 pub use digests::Digest;
 pub use heap::Heap;
 pub use kinds::{ArrayElement, ElementType, Kind};

@@ -18,10 +18,10 @@ use std::marker::Model;
 /// The words before an object's slots: what it is, what the collector notes at it, and its monitor.
 pub(crate) const HEADER_WORDS: usize = 3;
 
-/// Which of them tells the mark and the other copy.
+/// Which of them represents the mark and the other copy.
 const COPIES_WORD: usize = 1;
 
-/// Which of them tells the monitor.
+/// Which of them represents the monitor.
 const MONITOR_WORD: usize = 2;
 
 /// The address of the first object of a heap's first block, and of a second one beside it.
@@ -125,7 +125,7 @@ impl Space {
         self.block.used()
     }
 
-    /// Makes an object with so many slots, which all hold 0 or null, at the front of what is free, and answers its
+    /// Makes an object with the given number of slots, which all hold 0 or null, at the front of what is free, and returns its
     /// address.
     pub(crate) fn append(&mut self, kind: Kind, slots: u32) -> Addr
         requires { 3 + slots ≤ free_words self.old }
@@ -149,7 +149,7 @@ impl Space {
         address.number.wrapping_sub(self.start) < MOST_WORDS
     }
 
-    /// The object that begins behind so many words of the block. None where these are the words of all objects.
+    /// The object that begins after the given number of words of the block. None where these are the words of all objects.
     pub(crate) fn at(&self, place: u32) -> Option<Addr>
         requires { IsPlace self.now (self.now.start + place) }
         ensures { result ≡ begins_behind self.now place }

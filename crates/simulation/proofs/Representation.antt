@@ -1,4 +1,4 @@
--- A machine's content represents a state of the reference machine: what follows from it, and under which names it holds.
+-- A machine state represents a state of the reference machine: what follows from it, and under which names it holds.
 pub mod VisibleState
 pub mod MoreNames
 pub mod RenamedThreads

@@ -27,7 +27,7 @@ steps_made t events = count_by (λ (e : Event × Report). made_step t e.0 e.1) e
 abbrev pub steps_left_of : Content → ℕ → ℕ
 steps_left_of c t = option_map_or (λ (thread : Thread). thread.steps_left) (slice_get c.threads t) c.limits.budget
 
--- Each thread has as many steps less as it made, and a live one has steps left.
+-- Each thread has one step less for each that it made, and a live one has steps left.
 pub record KeepsBudgets (before after : Content) (events : List (Event × Report)) : Type 0 where
   pub counted : (t : ℕ) → steps_made t events + steps_left_of after t ≡ steps_left_of before t
   pub live : (t : ℕ) → is_live_at after.threads t ≡ true → 0 < steps_left_of after t
@@ -36,7 +36,7 @@ pub record KeepsBudgets (before after : Content) (events : List (Event × Report
 abbrev pub HasEnded : State → ℕ → Type 0
 HasEnded s t = (thread : StateThread) × (slice_get s.threads t ≡ Some thread) × (thread.ended ≢ None)
 
--- From the opening state to this one: no thread made more steps than its budget has, and one that made as many has ended.
+-- From the initial state to this one: no thread made more steps than its budget has, and one that made all of them has ended.
 pub record AreWithinBudget (limits : Limits) (events : List (Event × Report)) (s : State) : Type 0 where
   pub within : (t : ℕ) → steps_made t events ≤ limits.budget
   pub ended : (t : ℕ) → steps_made t events ≡ limits.budget → HasEnded s t

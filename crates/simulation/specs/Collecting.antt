@@ -43,7 +43,7 @@ next_posted c = (with_next_phase c, Worked)
 abbrev pub opening_words : Content → ℕ
 opening_words c = next_words c.objects.spaces.old.words (used_words c.objects.spaces.old.cells) c.limits.max_words
 
--- a cycle opens, with a second block of so many words
+-- a cycle opens, with a second block of opening_words words
 abbrev pub cycle_opened : Content → Content
 cycle_opened c = record (with_next_phase c) { objects = record c.objects { spaces = opened c.objects.spaces (opening_words c) } }
 
@@ -72,7 +72,7 @@ cleared c (p, o, false) = (cycle_ended c, CycleDone)
 abbrev pub round_posted : Content → Content
 round_posted c = record c { posts = posted_round c.posts; objects = record c.objects { spaces = record c.objects.spaces { has_marked = false } } }
 
--- Nothing is grey: marking is closed, a round waits for its answers, or the next one is posted.
+-- Nothing is grey: marking is closed, a round waits for its acknowledgements, or the next one is posted.
 abbrev pub rounds : Content → Content × Report
 rounds c =
     if is_closed c.progress c.objects c.posts then next_posted c
@@ -118,7 +118,7 @@ with_standing_marked o (Ended e) = o
 abbrev pub with_thread_marked : Objects → Option Thread → Objects
 with_thread_marked o thread = option_map_or (λ (x : Thread). with_standing_marked o x.standing) thread o
 
--- a thread that answers a round of Mark has all marked that its frames hold
+-- a thread that acknowledges a round of Mark has all marked that its frames hold
 abbrev pub answers_round : Content → ℕ → Bool
 answers_round c t = is_open c.posts t && (is_marking c.posts.posted && option_map_or (λ (s : Seat). is_phase s.phase c.posts.posted) (seat_of c.posts t) false)
 

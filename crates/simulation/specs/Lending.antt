@@ -5,12 +5,12 @@ use Rattle.interpreter.specs.threads_monitors.Frames.{Frame, Frames}
 use Rattle.simulation.specs.MachineContents.{Content, frame_room}
 use Rattle.simulation.specs.Turns.{live_thread}
 
--- a thread is live, has so many steps left, and this frame runs
+-- a thread is live, has this number of steps left, and this frame runs
 pub record RunsFrame (c : Content) (t left : ℕ) (f : Frame) : Type 0 where
   pub below : List Frame
   pub depth : ℕ
   pub there : slice_get c.threads t ≡ Some (live_thread left (frames_over f below depth frame_room))
 
--- the content with other frames and steps of a live thread
+-- the machine state with other frames and steps of a live thread
 abbrev pub with_live : Content → ℕ → (left : ℕ) → Frames → Content
 with_live c t left m = record c { threads = slice_set c.threads t (live_thread left m) }

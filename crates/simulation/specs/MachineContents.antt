@@ -26,7 +26,7 @@ pub record Content : Type 0 where
 abbrev pub mutator_of : Content → ℕ → Mutator
 mutator_of c t = record { number = t; phase = own_phase c.posts t }
 
--- How many values a frame may hold: arguments, locals, and as many on the stack as a method may have, 64; and one more, the new
+-- How many values a frame may hold: arguments, locals, and on the stack the most that a method may have, 64; and one more, the new
 -- object that newobj puts beneath the operands of a constructor before they become its arguments.
 abbrev pub frame_room : ℕ
 frame_room = MOST_ARGUMENTS + (MOST_LOCALS + 65)

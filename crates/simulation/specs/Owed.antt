@@ -1,5 +1,5 @@
--- What the cycles of a run owe their user: an end after so much work, and the words of all but what was reachable in the reference machine's state when the
--- cycle began, or was born since (this profile).
+-- What the cycles of a run owe their user: an end after a bounded amount of work, and the words of all but what was reachable in the reference machine's
+-- state when the cycle began, or was born since (this profile).
 use Rattle.std.specs.Prelude.{◌≡◌, ◌≤◌, ◌++◌, ℕ, List, [], ◌∷◌, length, Some}
 use Rattle.std.specs.List.{zip}
 use Rattle.interpreter.specs.cil_model.declared.events.Event.{Event}
@@ -19,11 +19,11 @@ use Rattle.simulation.specs.MachineContents.{Content}
 use Rattle.simulation.specs.Rooms.{spaces_of}
 use Rattle.simulation.specs.Runs.{HoldsAfter}
 
--- the reference machine comes to this state by the steps among the events
+-- the reference machine reaches this state by the steps among the events
 abbrev pub ComesTo : Tree → Limits → State → List (Event × Report) → State → Type 0
 ComesTo tree limits first events s = run tree limits first (thread_part events) ≡ RunsTo (step_reports events) s
 
--- what was reachable when the newest cycle began, and what was born since, have so many words together after all events
+-- what was reachable when the newest cycle began, and what was born since, have this number of words together after all events
 pub record OwesAfter (tree : Tree) (limits : Limits) (events : List Event) (reports : List Report) (words : ℕ) : Type 0 where
   pub earlier : List (Event × Report)
   pub later : List (Event × Report)

@@ -1,4 +1,4 @@
--- When a thread's next instruction has an answer, and what it asks of other threads can be answered (this profile).
+-- When a thread's next instruction has a result, and what it asks of other threads can be answered (this profile).
 use Rattle.std.specs.Prelude.{◌≡◌, ◌≢◌, ◌<◌, ℕ, true, IsSome, length, None}
 use Rattle.interpreter.specs.cil_model.declared.limits.TheConstants.{MOST_INSTRUCTIONS}
 use Rattle.interpreter.specs.resolved_code.declared.operations.Operation.{Operation}
@@ -14,12 +14,12 @@ use Rattle.interpreter.specs.declared.outcomes.Outcome.TheVariants.{Comes, Start
 use Rattle.simulation.specs.MachineContents.{Content, mutator_of}
 use Rattle.simulation.specs.Turns.{left_by, thread_for}
 
--- the frames of the thread are at an instruction, whose rule has an answer
+-- the frames of the thread are at an instruction, whose rule has a result
 pub record IsReady (c : Content) (t : ℕ) (m : Frames) : Type 0 where
   pub place : IsSome (line_at c.tree m)
   pub there : (op : Operation) → IsAt c.tree m op → HasSmallConstant op → IsSome (operation_turn c.tree (mutator_of c t) op m c.objects c.statics c.printed)
 
--- the slot of an object that tells its thread is there, and so are the operand and the instruction behind
+-- the slot of an object that identifies its thread is there, and so are the operand and the next instruction
 pub record HasRequest (o : Objects) (m : Frames) (object : Addr) : Type 0 where
   pub slot : object ≢ null → 0 < length (object_slots o object)
   pub operand : 0 < length m.running.stack

@@ -44,7 +44,8 @@ IsRefusedBeyondRoom c s (Step t) r = IsTrue (is_refusal r) ↔ ExceedsRoom c s t
 IsRefusedBeyondRoom c s (Ack t) r = Unit {0}
 IsRefusedBeyondRoom c s Gc r = Unit {0}
 
--- From a content and a state to a content: each event has its turn, and births are refused exactly beyond the room that the machine has then.
+-- From a machine state and a state of the reference machine to a machine state: each event has its transition, and births are refused exactly beyond
+-- the room that the machine has then.
 abbrev pub RefusesBeyondRoom : Content → State → List (Event × Report) → Content → Type 0
 RefusesBeyondRoom c s [] last = last ≡ c
 RefusesBeyondRoom c s (e ∷ es) last =
@@ -53,8 +54,8 @@ RefusesBeyondRoom c s (e ∷ es) last =
 -- ---- runs
 
 -- From a state that a machine represents: the run of the reference machine over the steps among these events is never stuck,
--- gives the steps' reports, refuses the same births, which are those beyond the room of the machine, and comes to a state that the machine
--- represents afterwards. Threads keep their budgets.
+-- gives the steps' reports, refuses the same births, which are those beyond the room of the machine, and reaches a state that the machine represents
+-- afterwards. Threads keep their budgets.
 pub record RunsAlike (old new : Content) (events : List (Event × Report)) (s : State) : Type 0 where
   pub state : State
   pub comes : run old.tree old.limits s (thread_part events) ≡ RunsTo (step_reports events) state
@@ -66,7 +67,7 @@ pub record RunsAlike (old new : Content) (events : List (Event × Report)) (s : 
 abbrev pub FollowsReference : Content → Content → List (Event × Report) → Type 0
 FollowsReference old new events = (s : State) → Represents old s → RunsAlike old new events s
 
--- With these reports, one an event, the reference machine's run over their steps is never stuck, gives the steps' reports, and comes to this state; a
+-- With these reports, one an event, the reference machine's run over their steps is never stuck, gives the steps' reports, and reaches this state; a
 -- birth is refused exactly where it exceeds the room that the program's machine has then.
 pub record IsRunOf (tree : Tree) (limits : Limits) (events : List Event) (reports : List Report) (s : State) : Type 0 where
   pub each : length reports ≡ length events

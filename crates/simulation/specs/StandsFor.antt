@@ -1,4 +1,4 @@
--- When what a machine holds stands for a state of the reference machine: the same, with addresses in the place of names (this profile).
+-- When what a machine holds represents a state of the reference machine: the same, with addresses in the place of names (this profile).
 use Rattle.std.specs.Prelude.{◌≡◌, ◌⊎◌, ◌≤◌, ◌<◌, ℕ, suc, ℤ, if◌then◌else◌, List, [], ◌∷◌, ◌++◌, length, Option, Some, None, slice_get, FitsSigned, IsTrue}
 use Rattle.std.specs.Int.{w32, w64}
 use Rattle.interpreter.specs.cil_model.declared.limits.Limits.{Limits}
@@ -71,7 +71,7 @@ IsMonitor (Held owner count) (IsHeld owner' count') = (owner ≡ owner') × (cou
 IsMonitor Free (IsHeld owner' count') = ⊥
 IsMonitor (Held owner count) IsFree = ⊥
 
--- the word that tells which thread was started on an object
+-- the word that identifies the thread that was started on an object
 abbrev pub thread_word : Option ℕ → ℕ
 thread_word None = 0
 thread_word (Some n) = suc n
@@ -169,7 +169,7 @@ StandsAlike tree limits name (Ended e) fs (Some e') = e ≡ e'
 StandsAlike tree limits name (Live m) fs (Some e') = ⊥
 StandsAlike tree limits name (Ended e) fs None = ⊥
 
--- a thread with as many steps left
+-- a thread with the same number of steps left
 pub record IsThread (tree : Tree) (limits : Limits) (name : Names) (t : Thread) (u : StateThread) : Type 0 where
   pub standing : StandsAlike tree limits name t.standing u.frames u.ended
   pub steps_left : t.steps_left ≡ u.steps_left
@@ -192,7 +192,7 @@ pub record StandsFor (c : Content) (s : State) : Type 0 where
   pub name : Names
   pub by : StandsBy name c s
 
--- Within limits that a run may have, an accepted program's sound machine stands for a typed state, whose monitors are counted.
+-- Within limits that a run may have, an accepted program's sound machine represents a typed state, whose monitors are counted.
 pub record Represents (c : Content) (s : State) : Type 0 where
   pub accepted : IsAccepted c.tree
   pub limits : IsTrue (are_in_range c.limits)

@@ -64,7 +64,7 @@ opening_content tree limits = option_and_then (λ (entry : ClassName × Method).
 
 -- ---- what an instruction asks of other threads
 
--- once it is done its operand is gone, and the thread is at the instruction behind; until then all stays
+-- once it is done its operand is gone, and the thread is at the next instruction; until then all stays
 abbrev pub after_request : Effect → Frames → Frames
 after_request GoesOn m = with_place (with_stack m (drop 1 m.running.stack)) (m.running.place + 1)
 after_request Returns m = m
@@ -86,7 +86,7 @@ started phase tree limits threads o a =
 
 -- ---- a step
 
--- a live thread of so many steps
+-- a live thread with this number of steps left
 abbrev pub live_thread : ℕ → Frames → Thread
 live_thread left m = record { standing = Live m; steps_left = left }
 
@@ -102,7 +102,7 @@ seated Returns h thread starter = h
 seated Blocks h thread starter = h
 seated (Raises x) h thread starter = h
 
--- the thread's frames and the content beside them, once the step is counted
+-- the thread's frames and the machine state beside them, once the step is counted
 abbrev pub counted : Content → ℕ → ℕ → Effect → Frames → Content × Report
 counted c t left effect m = (
   record c { threads = slice_set c.threads t (settled effect (live_thread left m)).0; posts = seats_after c.posts t (settled effect (live_thread left m)).1 },
@@ -113,18 +113,18 @@ counted c t left effect m = (
 abbrev pub answered : Content → ℕ → ℕ → Frames → Effect → Content × Report
 answered c t left m effect = counted c t left effect (after_request effect m)
 
--- the content with all that an instruction of a thread left, before the step is counted
+-- the machine state with all that an instruction of a thread left, before the step is counted
 abbrev pub left_by : Content → ℕ → ℕ → Answer → Content
 left_by c t left a = record c { threads = slice_set c.threads t (live_thread left a.frames); objects = a.objects; statics = a.statics; printed = a.printed }
 
--- the content once the step of a thread with these frames is counted, by what its instruction comes to
+-- the machine state once the step of a thread with these frames is counted, by the outcome of its instruction
 abbrev pub finish : Content → ℕ → ℕ → Frames → Outcome → Option (Content × Report)
 finish c t left m (Comes e) = Some (counted c t left e m)
 finish c t left m (Starts object) =
     option_map (λ (x : List Thread × Objects × Effect). answered (record c { threads = x.0; posts = seated x.2 c.posts (length c.threads) t; objects = x.1 }) t left m x.2) (started (mutator_of c t).phase c.tree c.limits c.threads c.objects object)
 finish c t left m (Joins object) = Some (answered c t left m (join_effect c.threads c.objects object))
 
--- the step of a thread that had so many steps left: its instruction, and then what that comes to
+-- the step of a thread that had this number of steps left: its instruction, and then the outcome of that
 abbrev pub finished : Content → ℕ → ℕ → Answer → Outcome → Option (Content × Report)
 finished c t left a outcome = finish (left_by c t left a) t left a.frames outcome
 
@@ -148,6 +148,7 @@ IsTurn c Gc after = after ≡ collected c
 abbrev pub OpensCycle : Content → Content → Type 0
 OpensCycle c d = (c.objects.spaces.is_open ≡ false) × (d.objects.spaces.is_open ≡ true)
 
--- the event prints, starts a thread or opens a cycle: what was printed, or the threads, are more after its turn, or a cycle is open that wasn't before
+-- the event prints, starts a thread or opens a cycle: what was printed, or the threads, are more after its transition, or a cycle is open that wasn't
+-- before
 abbrev pub TakesMemory : Content → Event → Type 0
 TakesMemory c e = (after : Content × Report) × IsTurn c e after × ((length c.printed < length after.0.printed) ⊎ ((length c.threads < length after.0.threads) ⊎ OpensCycle c after.0))

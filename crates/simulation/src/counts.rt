@@ -9,7 +9,7 @@ ghost use Rattle.interpreter.specs.reference_machine.Steps.{step, Answers};
 ghost use Rattle.interpreter.specs.reference_machine.Runs.{opening};
 ghost use Rattle.simulation.specs.Counts.{IsCounted};
 
-/// In the opening state no monitor is held, and the first thread has its whole budget.
+/// In the initial state no monitor is held, and the first thread has its whole budget.
 pub fn opening_states_are_counted()
     ensures { (tree : Tree) (limits : Limits) → 1 ≤ limits.budget → (s : State) → opening tree limits ≡ Some s → IsCounted limits s }
 {}

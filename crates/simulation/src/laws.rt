@@ -37,7 +37,7 @@ ghost use Rattle.simulation.specs.StandsFor.{Represents};
 ghost use Rattle.simulation.specs.Turns.{IsTurn, opening_content};
 ghost use Rattle.simulation.specs.Ready.{IsReady, IsAnswerable};
 
-/// What a machine holds before its first event represents the opening state of its program.
+/// What a machine holds before its first event represents the initial state of its program.
 pub fn openings_represent()
     ensures { (tree : Tree) (limits : Limits) → IsAccepted tree → IsTrue (are_in_range limits) →
         (c : Content) × (s : State) × (opening_content tree limits ≡ Some c) × (opening tree limits ≡ Some s) × Represents c s }
@@ -53,7 +53,7 @@ pub fn machines_show_their_state()
     ensures started { (c : Content) (s : State) → Represents c s → length c.threads ≡ length s.threads }
 {}
 
-/// Where a machine represents a state, each live thread is at an instruction whose rule has an answer: no operand is missing or of
+/// Where a machine represents a state, each live thread is at an instruction whose rule has a result: no operand is missing or of
 /// another kind, and no frame, slot or object.
 pub fn live_threads_are_ready()
     ensures { (c : Content) (s : State) → Represents c s → (t left : ℕ) (m : Frames) → slice_get c.threads t ≡ Some (record { standing = Live m; steps_left = left }) → IsReady c t m }
@@ -78,8 +78,8 @@ pub fn collector_events_keep_the_state()
     ensures collections { (c : Content) (s : State) → Represents c s → (after : Content × Report) → IsTurn c Gc after → Represents after.0 s }
 {}
 
-/// Where marking is closed, all is marked that the frames of live threads and the static fields reach, through whatever objects: what is
-/// left unmarked can be left behind (`is_closed` of `collector` is this test).
+/// Where marking is closed, all is marked that the frames of live threads and the static fields reach, through whatever objects: what is left
+/// unmarked can be dropped (`is_closed` of `collector` is this test).
 pub fn closed_marking_has_reached_all()
     ensures { (c : Content) → IsSound c → c.posts.posted ≡ Mark → is_closed c.progress c.objects c.posts ≡ true → (a : AnyAddr) → IsReached c a → is_marked_address c.objects.spaces a ≡ true }
 {}
@@ -102,8 +102,8 @@ pub fn the_next_cycle_opens()
     ensures { (c : Content) → c.posts.posted ≡ Idle → all_seen c.posts ≡ true → (after : Content) (r : Report) → IsTurn c Gc (after, r) → (r ≡ Worked) × (after.posts.posted ≡ Mark) }
 {}
 
-/// An acknowledgement counts exactly where a post is open to its thread. It acknowledges the posted phase, where the thread had not done so; else it answers
-/// the round, and nothing is open to the thread afterwards.
+/// An acknowledgement counts exactly where a post is open to its thread. It acknowledges the posted phase, where the thread had not done so; else it
+/// acknowledges the round, and nothing is open to the thread afterwards.
 pub fn an_acknowledgement_is_answered_once()
     ensures counts { (c : Content) (t : ℕ) (after : Content) (r : Report) → IsTurn c (Ack t) (after, r) → (r ≡ Acked) ↔ (is_open c.posts t ≡ true) }
     ensures phase { (c : Content) → AreSeated c.posts c.threads → (t : ℕ) → is_live_at c.threads t ≡ true → (after : Content) (r : Report) → IsTurn c (Ack t) (after, r) →
@@ -125,8 +125,8 @@ pub fn steps_alone_refuse_beyond_all_births()
         AreSteps events → IsRunOf tree limits events reports s → IsStateAfter tree limits (zip events reports) s }
 {}
 
-/// A legal program has one run by the same events within the same limits: each event has one turn of its machine, so all reports are the
-/// same, and so is the state that the reference machine comes to.
+/// A legal program has one run by the same events within the same limits: each event has one transition of its machine, so all reports are the
+/// same, and so is the state that the reference machine reaches.
 pub fn the_run_is_one()
     ensures { (tree : Tree) → IsLegal tree → (limits : Limits) (events : List Event) (reports reports' : List Report) (s s' : State) →
         IsRunOf tree limits events reports s → IsRunOf tree limits events reports' s' → (reports ≡ reports') × (s ≡ s') }
@@ -150,14 +150,14 @@ pub fn cycles_have_what_they_owe()
         OwesAfter tree limits events reports words → OwesAfter tree limits events reports words' → words ≡ words' }
 {}
 
-/// Local instructions on the top frame of a live thread are steps of the thread, each of which reports that it ran, as long as a step is left behind them:
+/// Local instructions on the top frame of a live thread are steps of the thread, each of which reports that it ran, as long as a step is left after them:
 /// whatever else the machine holds, and whatever the phase of the thread.
 pub fn local_instructions_are_steps()
     ensures { (c : Content) (t left n : ℕ) (f g : Frame) → (at : RunsFrame c t left f) → n < left → AreLocalSteps c.tree frame_room n f g →
         AreTurns c (replicate n (Step t)) (with_live c t (left - n) (frames_over g at.below at.depth frame_room)) (replicate n Ran) }
 {}
 
-/// Where a machine represents a state, the top frame of a live thread is at an instruction that has an answer, and so it is after local instructions on it.
+/// Where a machine represents a state, the top frame of a live thread is at an instruction that has a result, and so it is after local instructions on it.
 pub fn lent_frames_are_ready()
     ensures { (c : Content) (s : State) → Represents c s → (t left n : ℕ) (f g : Frame) → RunsFrame c t left f → n < left → AreLocalSteps c.tree frame_room n f g →
         IsReadySomewhere c.tree frame_room g }

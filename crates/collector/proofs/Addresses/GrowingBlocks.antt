@@ -1,4 +1,4 @@
--- What tests of addresses say of cells; and where blocks only gain, what passes such a test goes on to pass it.
+-- What tests of addresses say of cells; and where blocks only gain, what passes such a test continues to pass it.
 use Rattle.std.proofs.Common.{◌≡◌, Bool, true, false, ◌||◌, Some, None, refl, sym, ◌∙◌, arith}
 use Rattle.std.specs.Prelude.{◌==◌, Option, is_some}
 use Rattle.std.proofs.lemmas.Bool.{or_left, or_right}
@@ -108,7 +108,7 @@ pub record TestsStay (m m' : Spaces) : Type 0 where
   pub marked : (a : Addr) → is_marked_old m a ≡ true → is_marked_old m' a ≡ true
   pub new : (a : Addr) → is_new m a ≡ true → is_new m' a ≡ true
 
--- one of two tests goes on to pass
+-- one of two tests continues to pass
 pub either_stays : (x y x' y' : Bool) → (x ≡ true → x' ≡ true) → (y ≡ true → y' ≡ true) → (x || y) ≡ true → (x' || y') ≡ true
 either_stays true y x' y' f g e = or_left x' y' (f refl)
 either_stays false y x' y' f g e = or_right x' y' (g e)

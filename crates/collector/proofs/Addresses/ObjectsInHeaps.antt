@@ -38,7 +38,7 @@ walk_fits s n a c h is e =
     let at : a.number ≡ s.start + n = ap (λ (x : Addr). x.number) is in
     omega (arith, r.1, at, h.fits, h.few)
 
--- what the heap tells of an object's cell
+-- what the heap reports of an object's cell
 pub told : {A : Type 0} (f : Cell → A) (o : Option Cell) (c : Cell) (x : A) → o ≡ Some c → option_map f o ≡ Some x → x ≡ f c
 told f o c x is e = let same : Some x ≡ Some (f c) = sym e ∙ ap (option_map f) is in cc
 
@@ -53,7 +53,7 @@ new_slots m h a c e = ap (λ (o : Option Cell). unwrap_or (option_map (λ (x : C
 pub word_told : (c : Cell) (slot : ℕ) → slot < length c.slots → slice_get c.slots slot ≡ Some (word_of c slot)
 word_told c slot inside = slice_get-get_or c.slots slot 0 inside ∙ ap Some (sym (unwrap_or-slice_get c.slots slot 0))
 
--- what the heap tells of a slot of an old object
+-- what the heap reports of a slot of an old object
 pub old_word : (m : Spaces) (a : Addr) (c : Cell) (slot word : ℕ) → cell_in m.old a ≡ Some c → word ≡ slice_index (slots_at m a) slot → word ≡ word_of c slot
 old_word m a c slot word at is = is ∙ ap (λ (words : List ℕ). slice_index words slot) (old_slots m a c at) ∙ sym (unwrap_or-slice_get c.slots slot 0)
 

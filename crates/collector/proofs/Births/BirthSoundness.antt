@@ -11,7 +11,9 @@ use Rattle.reference_machine.specs.Cycles.{phase_after}
 use Rattle.object_memory.specs.declared.addresses.Addr.{Addr}
 use Rattle.object_memory.specs.declared.kinds.Kind.{Kind}
 use Rattle.object_memory.specs.Cells.{empty_cell, next_address}
-use Rattle.object_memory.specs.Spaces.{AreSpaces, InBoth, InNew, InOld, Listed, Place, Spaces, address_at, born, forward, is_within_cycle, place_of, room_at}
+use Rattle.object_memory.specs.Spaces.{AreSpaces, Spaces, address_at, birth_space_of, born, forward, is_within_cycle, room_at}
+use Rattle.object_memory.specs.declared.birth_spaces.BirthSpace.{BirthSpace}
+use Rattle.object_memory.specs.declared.birth_spaces.BirthSpace.TheVariants.{InBoth, InNew, InOld, Listed}
 use Rattle.object_memory.specs.Objects.{Objects}
 use Rattle.barriers.specs.Barriers.{can_bear, object_born}
 use Rattle.phase_handshake.specs.Handshakes.{Handshakes, IsClose}
@@ -112,7 +114,7 @@ module _ (m : Spaces) (h : AreSpaces m) (k : Kind) (n : ℕ) (p : Progress) wher
   }
 
   -- a thread that has acknowledged the posted phase
-  pub on_time : (own : Phase) → Suits (birth_hold own own) own p m k n (place_of own (is_of_cycle own))
+  pub on_time : (own : Phase) → Suits (birth_hold own own) own p m k n (birth_space_of own (is_of_cycle own))
   on_time Idle = in_old AnyLive Idle (seen_old (born InOld m k n) (next_address m.old) old_there)
   on_time Mark = listed AnyLive Mark refl (λ e. e) (seen_old (born Listed m k n) (next_address m.old) listed_there)
   on_time Allocate = in_both AnyLive Allocate refl refl (λ is. absurd cc) (seen_marked (born InBoth m k n) (next_address m.old) both_marked)
@@ -127,7 +129,7 @@ module _ (m : Spaces) (h : AreSpaces m) (k : Kind) (n : ℕ) (p : Progress) wher
   not_looked none looked = absurd (omega (arith, looked, ap (λ (q : Progress). q.place) none))
 
   -- a thread that is late
-  pub late : (own : Phase) → p ≡ no_progress → Suits (birth_hold own (phase_after own)) (phase_after own) p m k n (place_of own (is_of_cycle (phase_after own)))
+  pub late : (own : Phase) → p ≡ no_progress → Suits (birth_hold own (phase_after own)) (phase_after own) p m k n (birth_space_of own (is_of_cycle (phase_after own)))
   late Idle none = in_old AnyLive Mark (seen_old (born InOld m k n) (next_address m.old) old_there)
   late Mark none = listed AnyLive Allocate refl (not_looked none) (seen_marked (born Listed m k n) (next_address m.old) listed_marked)
   late Allocate none = in_both AnyLive Copy refl refl (λ is. absurd cc) (seen_marked (born InBoth m k n) (next_address m.old) both_marked)
@@ -161,8 +163,8 @@ phase_goes_on Reclaim e = absurd cc
 -- ---- births
 
 module _ (own : Phase) (o : Objects) (k : Kind) (n : ℕ) where
-  abbrev place : Place
-  place = place_of own o.spaces.is_open
+  abbrev place : BirthSpace
+  place = birth_space_of own o.spaces.is_open
 
   abbrev after : Objects
   after = record o { spaces = born place o.spaces k n }
@@ -227,10 +229,10 @@ module _ (own posted : Phase) (near : IsNear own posted) where
   ]
 
   -- the place of the birth suits the posted phase
-  suits_near : (m : Spaces) → AreSpaces m → (k : Kind) (n : ℕ) (p : Progress) → (own ≢ posted → p ≡ no_progress) → Suits (birth_hold own posted) posted p m k n (place_of own (is_of_cycle posted))
+  suits_near : (m : Spaces) → AreSpaces m → (k : Kind) (n : ℕ) (p : Progress) → (own ≢ posted → p ≡ no_progress) → Suits (birth_hold own posted) posted p m k n (birth_space_of own (is_of_cycle posted))
   suits_near m h k n p none = elim near [
-    | inl is ↦ subst (λ x. Suits (birth_hold own x) x p m k n (place_of own (is_of_cycle x))) is (on_time m h k n p own)
-    | inr is ↦ subst (λ x. Suits (birth_hold own x) x p m k n (place_of own (is_of_cycle x))) is (late m h k n p own (none (λ same. phase_goes_on own (is ∙ sym same))))
+    | inl is ↦ subst (λ x. Suits (birth_hold own x) x p m k n (birth_space_of own (is_of_cycle x))) is (on_time m h k n p own)
+    | inr is ↦ subst (λ x. Suits (birth_hold own x) x p m k n (birth_space_of own (is_of_cycle x))) is (late m h k n p own (none (λ same. phase_goes_on own (is ∙ sym same))))
   ]
 
 module _ (tree : Tree) (own posted : Phase) (near : IsNear own posted) (has_round : Bool) (words : ℕ) (p : Progress) (o : Objects)
@@ -240,27 +242,27 @@ module _ (tree : Tree) (own posted : Phase) (near : IsNear own posted) (has_roun
   can_bear_near = ap (λ t. if is_within_cycle own then t else true) sound.blocks.held ∙ can_near own posted near
 
   -- with the cycle as open as the heap has it
-  suits : (k : Kind) (n : ℕ) → Suits (birth_hold own posted) posted p o.spaces k n (place_of own o.spaces.is_open)
+  suits : (k : Kind) (n : ℕ) → Suits (birth_hold own posted) posted p o.spaces k n (birth_space_of own o.spaces.is_open)
   suits k n =
-      subst (λ t. Suits (birth_hold own posted) posted p o.spaces k n (place_of own t)) (sym sound.blocks.held)
+      subst (λ t. Suits (birth_hold own posted) posted p o.spaces k n (birth_space_of own t)) (sym sound.blocks.held)
       (suits_near own posted near o.spaces sound.blocks.spaces k n p (λ ne. (time ne).nothing))
 
   module _ (k : Kind) (n : ℕ) (o' : Objects) (a : Addr) (e : ◌≡◌ {A = Objects × Option Addr} (object_born own o k n) (o', Some a)) where
     -- the birth was granted
-    g : (3 + n ≤ room_at (place_of own o.spaces.is_open) o.spaces) × (after own o k n ≡ o') × (address_at (place_of own o.spaces.is_open) o.spaces ≡ a)
+    g : (3 + n ≤ room_at (birth_space_of own o.spaces.is_open) o.spaces) × (after own o k n ≡ o') × (address_at (birth_space_of own o.spaces.is_open) o.spaces ≡ a)
     g = granted own o k n o' a e
 
     -- the heap stays sound
     pub birth_sound : IsSoundHeap tree posted has_round words p o'.spaces
     birth_sound =
         subst (λ (x : Objects). IsSoundHeap tree posted has_round words p x.spaces) g.1
-        (born_heap tree (birth_hold own posted) posted has_round words p o.spaces k n (place_of own o.spaces.is_open) sound g.0 (suits k n))
+        (born_heap tree (birth_hold own posted) posted has_round words p o.spaces k n (birth_space_of own o.spaces.is_open) sound g.0 (suits k n))
 
     -- where the collector has not begun, it has not begun still
     pub birth_not_begun : HasNotBegun posted has_round p o.spaces → HasNotBegun posted has_round p o'.spaces
     birth_not_begun before =
         subst (λ (x : Objects). HasNotBegun posted has_round p x.spaces) g.1
-        (born_not_begun tree (birth_hold own posted) posted has_round words p o.spaces k n (place_of own o.spaces.is_open) sound g.0 (suits k n) before)
+        (born_not_begun tree (birth_hold own posted) posted has_round words p o.spaces k n (birth_space_of own o.spaces.is_open) sound g.0 (suits k n) before)
 
     -- so each thread is as much on time as it was
     pub birth_on_time : (other : Phase) → IsOnTime other posted has_round p o.spaces → IsOnTime other posted has_round p o'.spaces
@@ -270,7 +272,7 @@ module _ (tree : Tree) (own posted : Phase) (near : IsNear own posted) (has_roun
     pub birth_is : IsBirth own k n o o' a
     birth_is =
         subst (λ (x : Objects). IsBirth own k n o x a) g.1
-        (subst (IsBirth own k n o (after own o k n)) g.2 (birth_in own k n o sound.blocks.spaces (place_of own o.spaces.is_open) g.0 refl))
+        (subst (IsBirth own k n o (after own o k n)) g.2 (birth_in own k n o sound.blocks.spaces (birth_space_of own o.spaces.is_open) g.0 refl))
 
     -- its address may be held
     pub birth_held : passes (birth_hold own posted) posted o'.spaces a ≡ true
@@ -282,14 +284,14 @@ module _ (tree : Tree) (own posted : Phase) (near : IsNear own posted) (has_roun
     pub birth_marked : own ≡ Mark → is_marked_address o'.spaces a ≡ true
     birth_marked is =
         let here = seen_marked (born Listed o.spaces k n) (next_address o.spaces.old) (listed_marked o.spaces sound.blocks.spaces k n p) in
-        let in_place = subst (λ x. is_marked_address (born (place_of x o.spaces.is_open) o.spaces k n) (address_at (place_of x o.spaces.is_open) o.spaces) ≡ true) (sym is) here in
+        let in_place = subst (λ x. is_marked_address (born (birth_space_of x o.spaces.is_open) o.spaces k n) (address_at (birth_space_of x o.spaces.is_open) o.spaces) ≡ true) (sym is) here in
         subst (λ (x : Objects). is_marked_address x.spaces a ≡ true) g.1 (subst (λ x. is_marked_address (after own o k n).spaces x ≡ true) g.2 in_place)
 
     -- what is old, marked or new stays so
     pub birth_tests : TestsStay o.spaces o'.spaces
     birth_tests =
         subst (λ (x : Objects). TestsStay o.spaces x.spaces) g.1
-        (born_stays tree (birth_hold own posted) posted has_round words p o.spaces k n (place_of own o.spaces.is_open) sound g.0 (suits k n))
+        (born_stays tree (birth_hold own posted) posted has_round words p o.spaces k n (birth_space_of own o.spaces.is_open) sound g.0 (suits k n))
 
     -- what may be held stays so, for each hold
     pub birth_stays : (hold : Hold) (b : Addr) → passes hold posted o.spaces b ≡ true → passes hold posted o'.spaces b ≡ true
@@ -299,11 +301,11 @@ module _ (tree : Tree) (own posted : Phase) (near : IsNear own posted) (has_roun
     pub birth_forwards : (b : Addr) → is_live posted o.spaces b ≡ true → forward o'.spaces b ≡ forward o.spaces b
     birth_forwards b live =
         subst (λ (x : Objects). forward x.spaces b ≡ forward o.spaces b) g.1
-        (born_forward tree (birth_hold own posted) posted has_round words p o.spaces k n (place_of own o.spaces.is_open) sound g.0 (suits k n) b live)
+        (born_forward tree (birth_hold own posted) posted has_round words p o.spaces k n (birth_space_of own o.spaces.is_open) sound g.0 (suits k n) b live)
 
     -- a birth doesn't count as marking
     pub birth_marks_nothing : o'.spaces.has_marked ≡ o.spaces.has_marked
-    birth_marks_nothing = sym (ap (λ (x : Objects). x.spaces.has_marked) g.1) ∙ (born_flags o.spaces k n (place_of own o.spaces.is_open)).1
+    birth_marks_nothing = sym (ap (λ (x : Objects). x.spaces.has_marked) g.1) ∙ (born_flags o.spaces k n (birth_space_of own o.spaces.is_open)).1
 
 -- ---- threads
 

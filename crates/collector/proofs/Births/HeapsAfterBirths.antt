@@ -11,7 +11,9 @@ use Rattle.cil_model.specs.declared.trees.Tree.{Tree}
 use Rattle.object_memory.specs.declared.addresses.Addr.{Addr}
 use Rattle.object_memory.specs.declared.kinds.Kind.{Kind}
 use Rattle.object_memory.specs.Cells.{Cell, cell_in, empty_cell, next_address}
-use Rattle.object_memory.specs.Spaces.{AreSpaces, InBoth, InNew, InOld, IsPlace, Listed, Place, Spaces, address_at, born, forward, forward_word, is_noted, other_of, room_at}
+use Rattle.object_memory.specs.Spaces.{AreSpaces, IsPlace, Spaces, address_at, born, forward, forward_word, is_noted, other_of, room_at}
+use Rattle.object_memory.specs.declared.birth_spaces.BirthSpace.{BirthSpace}
+use Rattle.object_memory.specs.declared.birth_spaces.BirthSpace.TheVariants.{InBoth, InNew, InOld, Listed}
 use Rattle.object_memory.proofs.Births.{AreSpaces-born, HasShellRoom-born, born-kept_new, born-kept_old, born-new_last, born-old_last, born-was_new, born-was_old, new_part, old_part}
 use Rattle.object_memory.proofs.Places.{IsPlace-last}
 use Rattle.object_memory.proofs.TwoBlocks.{forward_new, forward_null}
@@ -26,7 +28,7 @@ use Rattle.collector.proofs.Addresses.GrowingBlocks.{IsLying, TestsStay, false_t
 -- ---- places
 
 -- a place of the new block stays one
-new_place : (m : Spaces) (k : Kind) (n words : ℕ) (place : Place) → IsPlace m.new (m.new.start + words) → IsPlace (born place m k n).new ((born place m k n).new.start + words)
+new_place : (m : Spaces) (k : Kind) (n words : ℕ) (place : BirthSpace) → IsPlace m.new (m.new.start + words) → IsPlace (born place m k n).new ((born place m k n).new.start + words)
 new_place m k n words InOld h = h
 new_place m k n words Listed h = h
 new_place m k n words InBoth h = IsPlace-last m.new (empty_cell k n true (Some (next_address m.old))) (m.new.start + words) h
@@ -119,7 +121,7 @@ first_is x g xs rest e = cc
 
 -- ---- where one may be born while a phase is posted
 
-pub record Suits (hold : Hold) (posted : Phase) (p : Progress) (m : Spaces) (k : Kind) (n : ℕ) (place : Place) : Type 0 where
+pub record Suits (hold : Hold) (posted : Phase) (p : Progress) (m : Spaces) (k : Kind) (n : ℕ) (place : BirthSpace) : Type 0 where
   pub early : is_before_copies posted ≡ true → (place ≡ InOld) ⊎ (place ≡ Listed)
   pub between : is_of_cycle posted ≡ false → place ≡ InOld
   pub unlooked : place ≡ Listed → HasLooked posted p m (next_address m.old) → ⊥
@@ -134,39 +136,39 @@ same_address a b e = ap (λ (number : ℕ). record { number = number }) e
 module _ (m : Spaces) (k : Kind) (n : ℕ) where
   -- ---- what a birth leaves
 
-  -- both blocks begin where they began, and have as many words
-  born_start : (place : Place) → (born place m k n).old.start ≡ m.old.start
+  -- both blocks begin where they began, and have the same numbers of words
+  born_start : (place : BirthSpace) → (born place m k n).old.start ≡ m.old.start
   born_start InOld = refl
   born_start Listed = refl
   born_start InBoth = refl
   born_start InNew = refl
 
-  born_new_start : (place : Place) → (born place m k n).new.start ≡ m.new.start
+  born_new_start : (place : BirthSpace) → (born place m k n).new.start ≡ m.new.start
   born_new_start InOld = refl
   born_new_start Listed = refl
   born_new_start InBoth = refl
   born_new_start InNew = refl
 
-  born_words : (place : Place) → ((born place m k n).old.words ≡ m.old.words) × ((born place m k n).new.words ≡ m.new.words)
+  born_words : (place : BirthSpace) → ((born place m k n).old.words ≡ m.old.words) × ((born place m k n).new.words ≡ m.new.words)
   born_words InOld = (refl, refl)
   born_words Listed = (refl, refl)
   born_words InBoth = (refl, refl)
   born_words InNew = (refl, refl)
 
-  -- the cycle is as open, and as much counts as marked
-  pub born_flags : (place : Place) → ((born place m k n).is_open ≡ m.is_open) × ((born place m k n).has_marked ≡ m.has_marked)
+  -- the cycle is open or not as before, and the same counts as marked
+  pub born_flags : (place : BirthSpace) → ((born place m k n).is_open ≡ m.is_open) × ((born place m k n).has_marked ≡ m.has_marked)
   born_flags InOld = (refl, refl)
   born_flags Listed = (refl, refl)
   born_flags InBoth = (refl, refl)
   born_flags InNew = (refl, refl)
 
   -- nothing comes in the new block before there are copies
-  none_comes : (place : Place) → (place ≡ InOld) ⊎ (place ≡ Listed) → (born place m k n).new.cells ≡ m.new.cells
+  none_comes : (place : BirthSpace) → (place ≡ InOld) ⊎ (place ≡ Listed) → (born place m k n).new.cells ≡ m.new.cells
   none_comes place (inl is) = ap (λ x. (born x m k n).new.cells) is
   none_comes place (inr is) = ap (λ x. (born x m k n).new.cells) is
 
   -- what was grey is grey
-  grey_before : (place : Place) (a : Addr) → IsListed m.grey a → IsListed (born place m k n).grey a
+  grey_before : (place : BirthSpace) (a : Addr) → IsListed m.grey a → IsListed (born place m k n).grey a
   grey_before InOld a h = h
   grey_before Listed a h = listed_before m.grey (next_address m.old) a h
   grey_before InBoth a h = h
@@ -175,19 +177,19 @@ module _ (m : Spaces) (k : Kind) (n : ℕ) where
   -- ---- the parts
 
   -- before there are copies what is born has none
-  bare_part : (place : Place) → (place ≡ InOld) ⊎ (place ≡ Listed) → other_of (old_part place m k n) ≡ None
+  bare_part : (place : BirthSpace) → (place ≡ InOld) ⊎ (place ≡ Listed) → other_of (old_part place m k n) ≡ None
   bare_part place (inl is) = ap (λ x. other_of (old_part x m k n)) is
   bare_part place (inr is) = ap (λ x. other_of (old_part x m k n)) is
 
   -- a marked one without another copy is listed
-  listed_part : (place : Place) → is_marked_cell (old_part place m k n) ≡ true → other_of (old_part place m k n) ≡ None → place ≡ Listed
+  listed_part : (place : BirthSpace) → is_marked_cell (old_part place m k n) ≡ true → other_of (old_part place m k n) ≡ None → place ≡ Listed
   listed_part InOld e none = false_true e
   listed_part Listed e none = refl
   listed_part InBoth e none = elim (none-some (next_address m.new) (sym none)) [ ]
   listed_part InNew e none = false_true e
 
   -- one with another copy is marked
-  marked_part : (place : Place) → other_of (old_part place m k n) ≢ None → is_marked_cell (old_part place m k n) ≡ true
+  marked_part : (place : BirthSpace) → other_of (old_part place m k n) ≢ None → is_marked_cell (old_part place m k n) ≡ true
   marked_part InOld some = elim (some refl) [ ]
   marked_part Listed some = refl
   marked_part InBoth some = refl
@@ -197,20 +199,20 @@ module _ (m : Spaces) (k : Kind) (n : ℕ) where
   empty_of : (b : Bool) (o : Option Addr) (c : Cell) → Some (empty_cell k n b o) ≡ Some c → c.slots ≡ replicate n 0
   empty_of b o c e = ap (λ (x : Cell). x.slots) (sym (same_Some (empty_cell k n b o) c e))
 
-  old_empty : (place : Place) (c : Cell) → old_part place m k n ≡ Some c → c.slots ≡ replicate n 0
+  old_empty : (place : BirthSpace) (c : Cell) → old_part place m k n ≡ Some c → c.slots ≡ replicate n 0
   old_empty InOld c e = empty_of false None c e
   old_empty Listed c e = empty_of true None c e
   old_empty InBoth c e = empty_of true (Some (next_address m.new)) c e
   old_empty InNew c e = elim (none-some c e) [ ]
 
-  new_empty : (place : Place) (c : Cell) → new_part place m k n ≡ Some c → c.slots ≡ replicate n 0
+  new_empty : (place : BirthSpace) (c : Cell) → new_part place m k n ≡ Some c → c.slots ≡ replicate n 0
   new_empty InOld c e = elim (none-some c e) [ ]
   new_empty Listed c e = elim (none-some c e) [ ]
   new_empty InBoth c e = empty_of true (Some (next_address m.old)) c e
   new_empty InNew c e = empty_of false None c e
 
   -- one that is born in the new block alone has neither a mark nor another copy
-  clear_part : (place : Place) (d : Cell) → place ≢ InBoth → new_part place m k n ≡ Some d → is_noted d ≡ false
+  clear_part : (place : BirthSpace) (d : Cell) → place ≢ InBoth → new_part place m k n ≡ Some d → is_noted d ≡ false
   clear_part InOld d ne e = elim (none-some d e) [ ]
   clear_part Listed d ne e = elim (none-some d e) [ ]
   clear_part InBoth d ne e = elim (ne refl) [ ]
@@ -234,7 +236,7 @@ module _ (m : Spaces) (k : Kind) (n : ℕ) where
         words (suc slot) e = zeros_copied tree (born InBoth m k n) h' (empty_cell k n true (Some (next_address m.new))) (empty_cell k n true (Some (next_address m.old))) n refl refl slot
 
     -- what the old part refers to as its copy is there, and is its copy
-    out_part : (place : Place) → AreSpaces (born place m k n) → (a b : Addr) (c : Cell) → a.number ≡ (next_address m.old).number → old_part place m k n ≡ Some c → c.other ≡ Some b
+    out_part : (place : BirthSpace) → AreSpaces (born place m k n) → (a b : Addr) (c : Cell) → a.number ≡ (next_address m.old).number → old_part place m k n ≡ Some c → c.other ≡ Some b
         → (d : Cell) × (cell_in (born place m k n).new b ≡ Some d) × AreCopies tree posted p (born place m k n) a c d
     out_part InOld h' a b c at e other = elim (none-some b (ap other_of e ∙ other)) [ ]
     out_part Listed h' a b c at e other = elim (none-some b (ap other_of e ∙ other)) [ ]
@@ -249,7 +251,7 @@ module _ (m : Spaces) (k : Kind) (n : ℕ) where
     out_part InNew h' a b c at e other = elim (none-some c e) [ ]
 
     -- and the other way round
-    back_part : (place : Place) (a b : Addr) (d : Cell) → b.number ≡ (next_address m.new).number → new_part place m k n ≡ Some d → d.other ≡ Some a
+    back_part : (place : BirthSpace) (a b : Addr) (d : Cell) → b.number ≡ (next_address m.new).number → new_part place m k n ≡ Some d → d.other ≡ Some a
         → (c : Cell) × (cell_in (born place m k n).old a ≡ Some c) × (c.other ≡ Some b)
     back_part InOld a b d at e other = elim (none-some d e) [ ]
     back_part Listed a b d at e other = elim (none-some d e) [ ]
@@ -262,7 +264,7 @@ module _ (m : Spaces) (k : Kind) (n : ℕ) where
 
 -- ---- a heap in which one more is born
 
-module _ (tree : Tree) (hold : Hold) (posted : Phase) (has_round : Bool) (words : ℕ) (p : Progress) (m : Spaces) (k : Kind) (n : ℕ) (place : Place)
+module _ (tree : Tree) (hold : Hold) (posted : Phase) (has_round : Bool) (words : ℕ) (p : Progress) (m : Spaces) (k : Kind) (n : ℕ) (place : BirthSpace)
     (sound : IsSoundHeap tree posted has_round words p m) (room : 3 + n ≤ room_at place m) (suits : Suits hold posted p m k n place) where
   abbrev m' : Spaces
   m' = born place m k n
@@ -296,7 +298,7 @@ module _ (tree : Tree) (hold : Hold) (posted : Phase) (has_round : Bool) (words 
     new = λ a e. let c = some_there (cell_in m.new a) e in ap is_some (kept_new a c.0 c.1);
   }
 
-  -- slots that passed go on to pass
+  -- slots that passed continue to pass
   live_slots : (c : Cell) → SlotsPass tree (is_live posted m) c → SlotsPass tree (is_live posted m') c
   live_slots c s = slots_weaken tree (is_live posted m) (is_live posted m') (λ a e. live_stays m m' born_stays a posted e) c s
 

@@ -8,7 +8,9 @@ use Rattle.object_memory.specs.declared.addresses.Addr.{Addr}
 use Rattle.object_memory.specs.declared.kinds.Kind.{Kind}
 use Rattle.object_memory.specs.declared.monitors.Monitor.TheVariants.{Free}
 use Rattle.object_memory.specs.Cells.{Cell, cell_in, empty_cell, next_address}
-use Rattle.object_memory.specs.Spaces.{AreSpaces, InBoth, InNew, InOld, Listed, Place, Spaces, address_at, born, cell_at, first_of, forward, place_of, room_at}
+use Rattle.object_memory.specs.Spaces.{AreSpaces, Spaces, address_at, birth_space_of, born, cell_at, first_of, forward, room_at}
+use Rattle.object_memory.specs.declared.birth_spaces.BirthSpace.{BirthSpace}
+use Rattle.object_memory.specs.declared.birth_spaces.BirthSpace.TheVariants.{InBoth, InNew, InOld, Listed}
 use Rattle.object_memory.specs.Objects.{Objects, object_cell}
 use Rattle.object_memory.proofs.Blocks.{next_in}
 use Rattle.object_memory.proofs.Births.{AreSpaces-born, born-kept, born-kept_new, born-kept_old, born-new_last, born-old_last, born-was_new, born-was_old, new_part, old_part}
@@ -18,7 +20,7 @@ use Rattle.collector.proofs.Births.HeapsAfterBirths.{same_address}
 
 -- ---- what a birth is
 
--- an object without contents: so many zeros, and nobody has entered its monitor
+-- an object without contents: n zeros, and nobody has entered its monitor
 pub record IsEmpty (k : Kind) (n : ℕ) (c : Cell) : Type 0 where
   pub kind : c.kind ≡ k
   pub zeros : c.slots ≡ replicate n 0
@@ -55,7 +57,7 @@ pub record IsBirth (own : Phase) (k : Kind) (n : ℕ) (o o' : Objects) (a : Addr
   pub literals : o'.literals ≡ o.literals
 
 -- in both blocks only where a thread bears two copies
-two_of : (own : Phase) (is_open : Bool) → place_of own is_open ≡ InBoth → bears_two own ≡ true
+two_of : (own : Phase) (is_open : Bool) → birth_space_of own is_open ≡ InBoth → bears_two own ≡ true
 two_of Idle is_open e = absurd cc
 two_of Mark is_open e = absurd cc
 two_of Allocate is_open e = refl
@@ -66,7 +68,7 @@ two_of ThreadFlip is_open e = absurd cc
 two_of Reclaim true e = absurd cc
 two_of Reclaim false e = absurd cc
 
-both_of : (own : Phase) (is_open : Bool) → bears_two own ≡ true → place_of own is_open ≡ InBoth
+both_of : (own : Phase) (is_open : Bool) → bears_two own ≡ true → birth_space_of own is_open ≡ InBoth
 both_of Idle is_open e = absurd cc
 both_of Mark is_open e = absurd cc
 both_of Allocate is_open e = refl
@@ -82,19 +84,19 @@ module _ (k : Kind) (n : ℕ) where
   empty_is b o c e = subst (IsEmpty k n) (same_Some (empty_cell k n b o) c e) (record { kind = refl; zeros = refl; free = refl })
 
   -- so are both parts of what is born
-  old_is_empty : (m : Spaces) (place : Place) (c : Cell) → old_part place m k n ≡ Some c → IsEmpty k n c
+  old_is_empty : (m : Spaces) (place : BirthSpace) (c : Cell) → old_part place m k n ≡ Some c → IsEmpty k n c
   old_is_empty m InOld c e = empty_is false None c e
   old_is_empty m Listed c e = empty_is true None c e
   old_is_empty m InBoth c e = empty_is true (Some (next_address m.new)) c e
   old_is_empty m InNew c e = elim (none-some c e) [ ]
 
-  new_is_empty : (m : Spaces) (place : Place) (c : Cell) → new_part place m k n ≡ Some c → IsEmpty k n c
+  new_is_empty : (m : Spaces) (place : BirthSpace) (c : Cell) → new_part place m k n ≡ Some c → IsEmpty k n c
   new_is_empty m InOld c e = elim (none-some c e) [ ]
   new_is_empty m Listed c e = elim (none-some c e) [ ]
   new_is_empty m InBoth c e = empty_is true (Some (next_address m.old)) c e
   new_is_empty m InNew c e = empty_is false None c e
 
-  module _ (m : Spaces) (h : AreSpaces m) (place : Place) (room : 3 + n ≤ room_at place m) where
+  module _ (m : Spaces) (h : AreSpaces m) (place : BirthSpace) (room : 3 + n ≤ room_at place m) where
     abbrev m' : Spaces
     m' = born place m k n
 
@@ -131,14 +133,14 @@ module _ (k : Kind) (n : ℕ) where
     new_lies c part = new_is_cell m' h' (next_address m.new) c (born-new_last m h k n place c part)
 
 -- the part at the address that the thread gets
-abbrev main_part : Place → Spaces → Kind → ℕ → Option Cell
+abbrev main_part : BirthSpace → Spaces → Kind → ℕ → Option Cell
 main_part InOld m k n = old_part InOld m k n
 main_part Listed m k n = old_part Listed m k n
 main_part InBoth m k n = old_part InBoth m k n
 main_part InNew m k n = new_part InNew m k n
 
 -- each place has one
-main_cell : (place : Place) (m : Spaces) (k : Kind) (n : ℕ) → (c : Cell) × (main_part place m k n ≡ Some c)
+main_cell : (place : BirthSpace) (m : Spaces) (k : Kind) (n : ℕ) → (c : Cell) × (main_part place m k n ≡ Some c)
 main_cell InOld m k n = (empty_cell k n false None, refl)
 main_cell Listed m k n = (empty_cell k n true None, refl)
 main_cell InBoth m k n = (empty_cell k n true (Some (next_address m.new)), refl)
@@ -148,39 +150,39 @@ module _ (own : Phase) (k : Kind) (n : ℕ) (o : Objects) (h : AreSpaces o.space
   abbrev m : Spaces
   m = o.spaces
 
-  abbrev after : Place → Objects
+  abbrev after : BirthSpace → Objects
   after place = record o { spaces = born place m k n }
 
   -- it lies at the address that the thread gets,
-  main_lies : (place : Place) → 3 + n ≤ room_at place m → (c : Cell) → main_part place m k n ≡ Some c → cell_at (born place m k n) (address_at place m) ≡ Some c
+  main_lies : (place : BirthSpace) → 3 + n ≤ room_at place m → (c : Cell) → main_part place m k n ≡ Some c → cell_at (born place m k n) (address_at place m) ≡ Some c
   main_lies InOld room c e = old_lies k n m h InOld room c e
   main_lies Listed room c e = old_lies k n m h Listed room c e
   main_lies InBoth room c e = old_lies k n m h InBoth room c e
   main_lies InNew room c e = new_lies k n m h InNew room c e
 
   -- is empty,
-  main_empty : (place : Place) (c : Cell) → main_part place m k n ≡ Some c → IsEmpty k n c
+  main_empty : (place : BirthSpace) (c : Cell) → main_part place m k n ≡ Some c → IsEmpty k n c
   main_empty InOld c e = old_is_empty k n m InOld c e
   main_empty Listed c e = old_is_empty k n m Listed c e
   main_empty InBoth c e = old_is_empty k n m InBoth c e
   main_empty InNew c e = new_is_empty k n m InNew c e
 
   -- and nothing lay there
-  main_nobody : (place : Place) → 3 + n ≤ room_at place m → (c : Cell) → main_part place m k n ≡ Some c → cell_at m (address_at place m) ≡ None
+  main_nobody : (place : BirthSpace) → 3 + n ≤ room_at place m → (c : Cell) → main_part place m k n ≡ Some c → cell_at m (address_at place m) ≡ None
   main_nobody InOld room c e = nobody_old k n m h InOld room c e
   main_nobody Listed room c e = nobody_old k n m h Listed room c e
   main_nobody InBoth room c e = nobody_old k n m h InBoth room c e
   main_nobody InNew room c e = nobody_new k n m h InNew room c e
 
   -- what comes in the old block is what is born
-  old_came : (place : Place) (b : Addr) (c : Cell) → b.number ≡ (next_address m.old).number → old_part place m k n ≡ Some c → b ≡ address_at place m
+  old_came : (place : BirthSpace) (b : Addr) (c : Cell) → b.number ≡ (next_address m.old).number → old_part place m k n ≡ Some c → b ≡ address_at place m
   old_came InOld b c at e = same_address b (next_address m.old) at
   old_came Listed b c at e = same_address b (next_address m.old) at
   old_came InBoth b c at e = same_address b (next_address m.old) at
   old_came InNew b c at e = elim (none-some c e) [ ]
 
   -- the other copy
-  other_born : 3 + n ≤ room_at InBoth m → place_of own m.is_open ≡ InBoth → (b : Addr) (c : Cell) → b ≡ next_address m.new → new_part InBoth m k n ≡ Some c
+  other_born : 3 + n ≤ room_at InBoth m → birth_space_of own m.is_open ≡ InBoth → (b : Addr) (c : Cell) → b ≡ next_address m.new → new_part InBoth m k n ≡ Some c
       → IsOtherBorn own k n o (after InBoth) (next_address m.old) b c
   other_born room is b c here e =
       let x = empty_cell k n true (Some (next_address m.new)) in
@@ -192,7 +194,7 @@ module _ (own : Phase) (k : Kind) (n : ℕ) (o : Objects) (h : AreSpaces o.space
       }
 
   -- what comes in the new block is what is born too, or its other copy
-  new_came : (place : Place) → 3 + n ≤ room_at place m → place_of own m.is_open ≡ place → (b : Addr) (c : Cell) → b.number ≡ (next_address m.new).number → new_part place m k n ≡ Some c
+  new_came : (place : BirthSpace) → 3 + n ≤ room_at place m → birth_space_of own m.is_open ≡ place → (b : Addr) (c : Cell) → b.number ≡ (next_address m.new).number → new_part place m k n ≡ Some c
       → (b ≡ address_at place m) ⊎ IsOtherBorn own k n o (after place) (address_at place m) b c
   new_came InOld room is b c at e = elim (none-some c e) [ ]
   new_came Listed room is b c at e = elim (none-some c e) [ ]
@@ -200,7 +202,7 @@ module _ (own : Phase) (k : Kind) (n : ℕ) (o : Objects) (h : AreSpaces o.space
   new_came InNew room is b c at e = inl (same_address b (next_address m.new) at)
 
   -- where there are two, the other one is the forward of the one that the thread gets,
-  main_twin : (place : Place) → 3 + n ≤ room_at place m → place_of own m.is_open ≡ place → place ≡ InBoth
+  main_twin : (place : BirthSpace) → 3 + n ≤ room_at place m → birth_space_of own m.is_open ≡ place → place ≡ InBoth
       → (c : Cell) × (cell_at (born place m k n) (forward (born place m k n) (address_at place m)) ≡ Some c) × IsOtherBorn own k n o (after place) (address_at place m) (forward (born place m k n) (address_at place m)) c
   main_twin InOld room is e = absurd cc
   main_twin Listed room is e = absurd cc
@@ -213,7 +215,7 @@ module _ (own : Phase) (k : Kind) (n : ℕ) (o : Objects) (h : AreSpaces o.space
   main_twin InNew room is e = absurd cc
 
   -- and where there is one, it is its own forward
-  main_alone : (place : Place) → 3 + n ≤ room_at place m → place ≢ InBoth → forward (born place m k n) (address_at place m) ≡ address_at place m
+  main_alone : (place : BirthSpace) → 3 + n ≤ room_at place m → place ≢ InBoth → forward (born place m k n) (address_at place m) ≡ address_at place m
   main_alone InOld room ne = let x = empty_cell k n false None in forward_bare (born InOld m k n) (next_address m.old) x (born-old_last m h k n InOld x refl) refl
   main_alone Listed room ne = let x = empty_cell k n true None in forward_bare (born Listed m k n) (next_address m.old) x (born-old_last m h k n Listed x refl) refl
   main_alone InBoth room ne = elim (ne refl) [ ]
@@ -222,7 +224,7 @@ module _ (own : Phase) (k : Kind) (n : ℕ) (o : Objects) (h : AreSpaces o.space
       forward_new (born InNew m k n) (AreSpaces-born m h k n InNew room) (next_address m.new) x (born-new_last m h k n InNew x refl)
 
   -- an object is born in its place, and nothing else comes but its other copy
-  pub birth_in : (place : Place) → 3 + n ≤ room_at place m → place_of own m.is_open ≡ place → IsBirth own k n o (after place) (address_at place m)
+  pub birth_in : (place : BirthSpace) → 3 + n ≤ room_at place m → birth_space_of own m.is_open ≡ place → IsBirth own k n o (after place) (address_at place m)
   birth_in place room is =
       let main = main_cell place m k n in
       record {

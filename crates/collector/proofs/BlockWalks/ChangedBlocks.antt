@@ -10,7 +10,7 @@ use Rattle.object_memory.proofs.Blocks.{range_in}
 
 -- ---- places
 
--- a list in two parts, of which the first one takes so many words
+-- a list in two parts, of which the first one takes this number of words
 abbrev Parts : List Cell → ℕ → Type 0
 Parts cs words = (xs : List Cell) × (ys : List Cell) × (cs ≡ xs ++ ys) × (used_words xs ≡ words)
 
@@ -46,7 +46,7 @@ IsPlace-cell s a c e = let r = place_from s.start s.cells a.number c e in record
 
 -- ---- walks
 
--- what a walk finds: a cell with the property, before each other one that lies at the place or behind it
+-- what a walk finds: a cell with the property, before each other one that lies at the place or after it
 pub record IsFound (q : Cell → Bool) (s : Cells) (p r : ℕ) : Type 0 where
   pub cell : Cell
   pub lies : cell_in s (record { number = r }) ≡ Some cell
@@ -112,6 +112,6 @@ module _ (q : Cell → Bool) where
       by_tests false false true test fails here g h rest = let same : x ≡ c = cc in ap q (sym same) ∙ fails
       by_tests false false false test fails here g h rest = rest g h
 
-  -- where nothing is found no cell at the place or behind it has the property
+  -- where nothing is found no cell at the place or after it has the property
   pub found_none : (s : Cells) (p : ℕ) → found_in q s p ≡ None → (a : Addr) (c : Cell) → cell_in s a ≡ Some c → p ≤ a.number → q c ≡ false
   found_none s p e a c lies low = none_from s.start s.cells p e a.number c lies low

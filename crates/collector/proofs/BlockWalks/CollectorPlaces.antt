@@ -6,7 +6,9 @@ use Rattle.cil_model.specs.declared.phases.Phase.TheVariants.{Allocate, Copy}
 use Rattle.object_memory.specs.declared.addresses.Addr.{Addr}
 use Rattle.object_memory.specs.declared.kinds.Kind.{Kind}
 use Rattle.object_memory.specs.Cells.{Cell, Cells, size, used_words, cell_in, change_in, with_last, empty_cell, next_address}
-use Rattle.object_memory.specs.Spaces.{Spaces, IsPlace, Place, InOld, Listed, InBoth, InNew, address_at, birth_at, born, cell_at, change_at, change_copies, change_if, is_white, mark, marked_if, other_of, room_at, set_mark}
+use Rattle.object_memory.specs.Spaces.{Spaces, IsPlace, address_at, birth_at, born, cell_at, change_at, change_copies, change_if, is_white, mark, marked_if, other_of, room_at, set_mark}
+use Rattle.object_memory.specs.declared.birth_spaces.BirthSpace.{BirthSpace}
+use Rattle.object_memory.specs.declared.birth_spaces.BirthSpace.TheVariants.{InOld, Listed, InBoth, InNew}
 use Rattle.object_memory.proofs.Blocks.{kept_in}
 use Rattle.object_memory.proofs.Places.{IsPlace-last, IsPlace-start, place-le-end}
 use Rattle.object_memory.proofs.TwoBlocks.{own, still, before_in}
@@ -95,21 +97,21 @@ module _ (posted : Phase) (p : Progress) where
 
   module _ (m : Spaces) (h : HasPlace posted p m) where
     -- a birth
-    pub HasPlace-born : (q : Place) (k : Kind) (n : ℕ) → HasPlace posted p (born q m k n)
+    pub HasPlace-born : (q : BirthSpace) (k : Kind) (n : ℕ) → HasPlace posted p (born q m k n)
     HasPlace-born InOld k n = HasPlace-last m (born InOld m k n) h (empty_cell k n false None) refl
     HasPlace-born Listed k n = HasPlace-last m (born Listed m k n) h (empty_cell k n true None) refl
     HasPlace-born InBoth k n = HasPlace-last m (born InBoth m k n) h (empty_cell k n true (Some (next_address m.new))) refl
     HasPlace-born InNew k n = HasPlace-same m (born InNew m k n) h refl
 
-    abbrev outcome : Place → Kind → ℕ → Bool → Spaces × Option Addr
+    abbrev outcome : BirthSpace → Kind → ℕ → Bool → Spaces × Option Addr
     outcome q k n t = if t then (born q m k n, Some (address_at q m)) else (m, None)
 
-    born_by : (q : Place) (k : Kind) (n : ℕ) (t : Bool) → HasPlace posted p (outcome q k n t).0
+    born_by : (q : BirthSpace) (k : Kind) (n : ℕ) (t : Bool) → HasPlace posted p (outcome q k n t).0
     born_by q k n true = HasPlace-born q k n
     born_by q k n false = h
 
     -- which may be refused
-    pub HasPlace-birth_at : (q : Place) (k : Kind) (n : ℕ) → HasPlace posted p (birth_at q m k n).0
+    pub HasPlace-birth_at : (q : BirthSpace) (k : Kind) (n : ℕ) → HasPlace posted p (birth_at q m k n).0
     HasPlace-birth_at q k n = born_by q k n (nat_le (3 + n) (room_at q m))
 
     -- a mark

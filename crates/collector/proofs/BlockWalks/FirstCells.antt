@@ -21,7 +21,7 @@ module _ (q : Cell → Bool) where
   low : (at : ℕ) (cs : List Cell) (a : ℕ) (d : Cell) → cell_from at cs a ≡ Some d → at ≤ a
   low at cs a d e = (range_in (record { start = at; cells = cs; words = 0 }) (record { number = a }) d e).0
 
-  -- a cell is the first one, or one of the others, which lie behind it
+  -- a cell is the first one, or one of the others, which lie after it
   first_or_later : (at : ℕ) (c : Cell) (cs : List Cell) (a : ℕ) (d : Cell) → cell_from at (c ∷ cs) a ≡ Some d → ((a ≡ at) × (c ≡ d)) ⊎ ((at < a) × (cell_from (at + size c) cs a ≡ Some d))
   first_or_later at c cs a d e = by_test (a == at) refl e
     where

@@ -51,7 +51,7 @@ module _ (q : Cell → Bool) (s : Cells) (from at : ℕ) (h : HasPassed q s from
       let end = place-last s (s.start + at) h.place (none_begins s at e) in
       sym (ap (option_map (found_at s)) (sym h.found ∙ ap (found_in q s) end ∙ found_end q s))
 
--- what was found tells where
+-- what was found determines where
 pub found_is : (s : Cells) (f : Found) (o : Option ℕ) → ◌≡◌ {A = Option Found} (Some f) (option_map (found_at s) o) → f ≡ found_at s f.object.number
 found_is s f None e = absurd cc
 found_is s f (Some at) e =

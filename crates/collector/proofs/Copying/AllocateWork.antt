@@ -294,7 +294,7 @@ module _ (tree : Tree) (has_round : Bool) (words : ℕ) (p : Progress) (o : Obje
   none_left (Some c) e = absurd cc
 
   module _ (over : (looked_on p o).2 ≡ false) where
-    -- the place is behind all old objects
+    -- the place is after all old objects
     at_end : o.spaces.old.start + p.place ≡ o.spaces.old.start + used_words o.spaces.old.cells
     at_end = elim (at_place o.spaces.old (o.spaces.old.start + p.place) (sound.place.place (inl refl))) [
       | cell d there behind ↦ (

@@ -42,7 +42,7 @@ room_for_shell m h room a c at needs =
 
 -- ---- words
 
--- a word behind the first is that of a slot
+-- a word after the first is that of a slot
 pub slot_stored : (tree : Tree) (o : Objects) (t : Attempt) (c : Cell) (b : Addr) (word : ℕ) → word ≢ 0 → with_slot o b (word - 1) (copied_word tree o.spaces c (word - 1) t.word) ≡ word_stored tree o t c b word
 slot_stored tree o t c b zero some = absurd (some refl)
 slot_stored tree o t c b (suc slot) some =

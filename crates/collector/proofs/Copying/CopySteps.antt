@@ -1,4 +1,4 @@
--- What a step of Copy needs of the heap at the object that it finds, and what it comes to where a loaded word is stored.
+-- What a step of Copy needs of the heap at the object that it finds, and its outcome where a loaded word is stored.
 use Rattle.std.proofs.Common.{◌≡◌, ℕ, suc, ◌+◌, ◌-◌, ◌<◌, ◌≤◌, Bool, true, length, refl, sym, ap, ◌∙◌, arith}
 use Rattle.std.specs.Prelude.{IsSome, is_some, Option, Some, None, option_map}
 use Rattle.cil_model.specs.declared.phases.Phase.TheVariants.{Copy}

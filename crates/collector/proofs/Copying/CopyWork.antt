@@ -34,8 +34,8 @@ use Rattle.collector.proofs.BlockWalks.CollectorPlaces.{HasPlace-begun}
 has_some : (c : Cell) → c.other ≢ None → has_other c ≡ true
 has_some c ne = let o = other_there c.other ne in ap is_some o.1
 
--- What the next object with another copy is: it has a copy of as many slots in the new block, and no more words of it are copied than it has slots, since the
--- monitor comes first.
+-- What the next object with another copy is: it has a copy with the same number of slots in the new block, and no more words of it are copied than it has
+-- slots, since the monitor comes first.
 pub record IsNext (p : Progress) (m : Spaces) (at : ℕ) : Type 0 where
   pub cell : Cell
   pub other : Addr
@@ -378,7 +378,7 @@ module _ (tree : Tree) (has_round : Bool) (words : ℕ) (p : Progress) (m : Spac
       stored_sound : IsSoundHeap tree Copy has_round words stored_at (change_at f m b)
       stored_sound = subst (IsSoundHeap tree Copy has_round words stored_at) (sym (change-new_alone f m sound.blocks.spaces b to.0 to.1)) after_sound
 
-    -- ---- behind the word
+    -- ---- after the word
 
     abbrev next : Bool → Progress
     next t = if t then record p { place = at - m.old.start; copied_words = k + 1; attempt = no_attempt } else record p { place = at - m.old.start + size c; copied_words = 0; attempt = no_attempt }

@@ -25,7 +25,7 @@ use Rattle.collector.proofs.Marking.MarkedHeaps.{AreDarker-with_marked, AreMarke
 
 -- ---- static fields
 
--- of the progress only the slots that are scanned tell of marks
+-- of the progress only the slots that are scanned matter for the marks
 pub AreMarked-progress : (tree : Tree) (has_round : Bool) (p q : Progress) (m : Spaces) → q.scanned_slots ≡ p.scanned_slots
     → AreMarked tree has_round p m → AreMarked tree has_round q m
 AreMarked-progress tree has_round p q m same marks = record {

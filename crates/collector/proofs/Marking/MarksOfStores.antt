@@ -166,7 +166,7 @@ module _ (m : Spaces) (q : Addr) where
   white_grows : Grows m n
   white_grows = record { old = old_grows; marked = marked_grows; new = new_grows; has_marked = inr refl }
 
-  -- each object has as many grey marks as before, and the marked one its own
+  -- each object has the same number of grey marks as before, and the marked one its own
   grey_stays : ((a : Addr) → is_marked_old m a ≡ true → IsListed m.grey a) → (a : Addr) → is_marked_old n a ≡ true → IsListed n.grey a
   grey_stays all_grey a h = by_cell (cell_in n.old a) refl h
     where

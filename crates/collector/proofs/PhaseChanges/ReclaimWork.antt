@@ -155,7 +155,7 @@ module _ (tree : Tree) (has_round : Bool) (words : ℕ) (p : Progress) (m : Spac
       ]
 
   -- all of it together
-  -- which is where an object begins, or behind all of them
+  -- which is where an object begins, or after all of them
   next_place : IsPlace m.new (m.new.start + p'.place)
   next_place = elim (at_place m.new at (IsPlace-cell m.new there found.cell found.lies)) [
     | cell d lies behind ↦ (

@@ -26,7 +26,7 @@ use Rattle.collector.proofs.HeapStores.StoreSoundness.{IsBesideHeap, IsHeldObjec
 
 -- ---- the other copy
 
--- The other copy of an object: it lies elsewhere in the other block, and has as many slots.
+-- The other copy of an object: it lies elsewhere in the other block, and has the same number of slots.
 pub record IsOther (o : Objects) (a : Addr) (c : Cell) (b : Addr) (d : Cell) : Type 0 where
   pub lies : object_cell o b ≡ Some d
   pub count : length d.slots ≡ length c.slots

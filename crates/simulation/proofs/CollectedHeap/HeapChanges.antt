@@ -149,7 +149,7 @@ module _ (tree : Tree) (words : ℕ) (h : Handshakes) (p : Progress) (seat : Sea
       value_weakens (static_may_hold h.posted o.spaces p number) (static_may_hold h.posted o'.spaces p number)
       (λ a held. passes_then o.spaces o'.spaces change.grows (static_hold_of h.posted p number) h.posted a held) v (fits.static_holds number v there)
 
-  -- all of it fits where the heap and the static fields stand for a state
+  -- all of it fits where the heap and the static fields represent a state
   pub change_fits : (ss' : List Value) (s' : State) → IsHeap tree fits.whole o' s' → AreStatics fits.whole ss' s'.statics → ((number : ℕ) (v : Value) → slice_get ss' number ≡ Some v → ValuePasses (static_may_hold h.posted o'.spaces p number) v) →
       FitsCollected tree words h p seat first all name o' ss' s'
   change_fits ss' s' heap stands static_holds = record {
@@ -196,7 +196,7 @@ module _ (tree : Tree) (words : ℕ) (h : Handshakes) (p : Progress) (seat : Sea
 
 -- ---- marks
 
--- a cell that was marked stands for what it stood for
+-- a cell that was marked represents what it represented
 pub marked_stands : (tree : Tree) (name : Names) (c d : Cell) (object : _) → IsButMarked c d → IsCell tree name c object → IsCell tree name d object
 marked_stands tree name c d object (inl same) stands = subst (λ (x : Cell). IsCell tree name x object) (sym same) stands
 marked_stands tree name c d object (inr same) stands =

@@ -26,7 +26,7 @@ use Rattle.simulation.proofs.Memory.MemoryModels.{IsBirth, MemoryModel}
 use Rattle.simulation.proofs.Memory.CellSizes.{cell_size, contents_size, words_stay}
 use Rattle.simulation.proofs.CollectedHeap.UsedWords.{AreAsLarge, UsesAsMuch, as_large, birth_adds, birth_large, birth_takes, large_then, monitor_uses, room_stays, static_uses, uses_itself, value_uses, word_uses}
 
--- from these spaces to others each block gets at most as many words in use more as the objects have words more
+-- from these spaces to others each block gets at most the number of words in use more that the objects have more
 pub record AddsNoMore (m n : Spaces) (words words' : ℕ) : Type 0 where
   pub old : used_words n.old.cells + words ≤ used_words m.old.cells + words'
   pub new : used_words n.new.cells + words ≤ used_words m.new.cells + words'
@@ -37,7 +37,7 @@ adds_as_much used was start words words' began same as_many before = omega arith
 adds_birth : (used was taken more start words words' began : ℕ) → used ≤ was + taken → taken ≡ more → words' ≡ words + more → was + began ≤ start + words → used + began ≤ start + words'
 adds_birth used was taken more start words words' began birth cell more_words before = omega arith
 
--- from one heap with its objects to another, the room for births in a phase and the words of all objects stay together as many, and in the phases
+-- from one heap with its objects to another, the room for births in a phase and the words of all objects keep their sum, and in the phases
 -- before there are copies no more is left to mark; each block stays as large, and gets no more words in use than the objects get
 pub record KeepsRoom (tree : Tree) (own : Phase) (o o' : Objects) (objects objects' : List HeapObject) : Type 0 where
   pub together : room_for own o'.spaces + words_of_all tree objects' ≡ room_for own o.spaces + words_of_all tree objects
@@ -50,7 +50,7 @@ module _ (tree : Tree) (own : Phase) (start : Objects) (first : List HeapObject)
   pub keeps_itself : KeepsRoom tree own start start first first
   keeps_itself = record { together = refl; marking = λ early. leaves_itself start.spaces; large = record { old = refl; new = refl }; used = record { old = omega arith; new = omega arith } }
 
-  -- and where as many words are used, the objects have as many, and no more is left to mark
+  -- and where the same number of words is used, the objects have the same number, and no more is left to mark
   pub keeps_more : (o o' : Objects) (objects objects' : List HeapObject) → UsesAsMuch o.spaces o'.spaces → (is_before_copies own ≡ true → LeavesNoMore o.spaces o'.spaces) → words_of_all tree objects' ≡ words_of_all tree objects →
       KeepsRoom tree own start o first objects → KeepsRoom tree own start o' first objects'
   keeps_more o o' objects objects' same leaves words keeps = record {
@@ -69,7 +69,7 @@ module _ (tree : Tree) (base : MemoryModel tree) (start : Objects) (first : List
     pub fits : base.Fits name o ss s
     pub room : KeepsRoom tree base.phase start o first s.objects
 
-  -- an object whose cell keeps its size has as many words as the one before
+  -- an object whose cell keeps its size has the number of words of the one before
   module _ (name : Names) (o : Objects) (ss : List Value) (s : State) (h : FitsInRoom name o ss s) (typed : IsTyped tree s) (a : Addr) (n : ℕ) (named : name a.number ≡ Some (Born n)) (cell : Cell) (lies : object_cell o a ≡ Some cell)
       (changed : Cell) (keeps : size changed ≡ size cell) (object : HeapObject) (stands : IsCell tree name changed object) where
     pub words_then : words_of_all tree (with_object s (Born n) object).objects ≡ words_of_all tree s.objects

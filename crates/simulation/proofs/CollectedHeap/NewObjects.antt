@@ -17,7 +17,7 @@ use Rattle.interpreter.specs.object_memory.declared.monitors.Monitor.{Monitor}
 use Rattle.interpreter.specs.object_memory.declared.values.Value.{Value}
 use Rattle.interpreter.specs.object_memory.Cells.{Cell, cell_in, literal}
 use Rattle.interpreter.specs.object_memory.Objects.{Objects, object_cell}
-use Rattle.interpreter.specs.object_memory.Spaces.{Spaces, address_at, born, forward, other_of, place_of, room_for}
+use Rattle.interpreter.specs.object_memory.Spaces.{Spaces, address_at, birth_space_of, born, forward, other_of, room_for}
 use Rattle.interpreter.specs.instructions.barriers.Barriers.{can_bear, object_born}
 use Rattle.interpreter.proofs.object_memory.TwoBlocks.{new_is_cell, no_literal, old_is_cell, told_apart}
 use Rattle.collector.specs.phase_handshake.Handshakes.{Handshakes, IsClose}
@@ -46,7 +46,7 @@ use Rattle.simulation.proofs.CollectedHeap.VisibleNames.{FitsCollected, cut_is, 
 
 -- ---- lists
 
--- what is there stays where one more comes behind it
+-- what is there stays where one more comes after it
 get_stays : {X : Type 0} (xs : List X) (y : X) (n : ℕ) (x : X) → slice_get xs n ≡ Some x → slice_get (xs ++ y ∷ []) n ≡ Some x
 get_stays [] y n x e = none_is_some x e
 get_stays (z ∷ zs) y zero x e = e
@@ -309,7 +309,7 @@ module _ (tree : Tree) (words : ℕ) (h : Handshakes) (p : Progress) (seat : Sea
     abbrev new_object : HeapObject
     new_object = record { contents = contents; monitor = IsFree; thread = None }
 
-    -- an empty object stands for the new one
+    -- an empty object represents the new one
     empty_stands : (c : Cell) → IsEmpty k count c → IsCell tree whole c new_object
     empty_stands c empty = record {
       contents =
@@ -473,12 +473,12 @@ module _ (tree : Tree) (words : ℕ) (h : Handshakes) (p : Progress) (seat : Sea
 -- ---- births that are refused
 
 abbrev outcome : Phase → Objects → Kind → ℕ → Bool → Spaces × Option Addr
-outcome own o k count t = if t then (born (place_of own o.spaces.is_open) o.spaces k count, Some (address_at (place_of own o.spaces.is_open) o.spaces)) else (o.spaces, None)
+outcome own o k count t = if t then (born (birth_space_of own o.spaces.is_open) o.spaces k count, Some (address_at (birth_space_of own o.spaces.is_open) o.spaces)) else (o.spaces, None)
 
 -- they change nothing, and the object exceeds the room
 pub collected_refusals : (own : Phase) (o : Objects) (k : Kind) (count : ℕ) (o' : Objects) → ◌≡◌ {A = Objects × Option Addr} (object_born own o k count) (o', None) → (o' ≡ o) × (room_for own o.spaces < 3 + count)
 collected_refusals own o k count o' e = (refused own o k count o' e, by_room (nat_le (3 + count) (room_for own o.spaces)) refl (ap (λ (x : Objects × Option Addr). x.1) e))
   where
     by_room : (t : Bool) → nat_le (3 + count) (room_for own o.spaces) ≡ t → (outcome own o k count t).1 ≡ None → room_for own o.spaces < 3 + count
-    by_room true test is = none_is_some (address_at (place_of own o.spaces.is_open) o.spaces) (sym is)
+    by_room true test is = none_is_some (address_at (birth_space_of own o.spaces.is_open) o.spaces) (sym is)
     by_room false test is = grind (arith, nat_tests)

@@ -179,7 +179,7 @@ module _ (tree : Tree) (words : ℕ) (h : Handshakes) (p : Progress) (seat : Sea
     abbrev after : List ℕ
     after = slice_set c.slots slot (value_word (forwarded o v))
 
-    -- the forward's word stands for the same
+    -- the forward's word represents the same
     forward_stands : (x : Value) → IsShort x → is_reference_value x ≡ true → (u : StateValue) → is_reference_state u ≡ true → IsWord fits.whole (value_word x) u → IsWord fits.whole (value_word (forwarded o x)) u
     forward_stands (Ref a) low holds u is stands =
         subst (λ (y : Addr). IsWord fits.whole (forward o.spaces y).number u) (reference_again a low)
@@ -215,7 +215,7 @@ module _ (tree : Tree) (words : ℕ) (h : Handshakes) (p : Progress) (seat : Sea
       ];
     }
 
-    -- a cell with the forward stands for what one with the value stands for
+    -- a cell with the forward represents what one with the value represents
     forward_cell : (object : HeapObject) → IsLinked tree c.kind object.contents → IsCell tree fits.whole (store_slot slot (value_word v) c) object → IsCell tree fits.whole (store_slot slot (value_word (forwarded o v)) c) object
     forward_cell object linked stands = record {
       contents = contents_rewritten tree fits.whole fits.whole c.kind before after forward_rewritten object.contents object.thread linked stands.contents;

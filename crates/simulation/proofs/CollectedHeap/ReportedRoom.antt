@@ -7,7 +7,7 @@ use Rattle.interpreter.specs.cil_model.declared.phases.Phase.TheVariants.{Idle, 
 use Rattle.interpreter.specs.reference_machine.Cycles.{Space, new_room, room, space_room}
 use Rattle.interpreter.specs.object_memory.Cells.{free_words, used_words}
 use Rattle.interpreter.specs.object_memory.Objects.{Objects}
-use Rattle.interpreter.specs.object_memory.Spaces.{place_of, room_at, room_for}
+use Rattle.interpreter.specs.object_memory.Spaces.{birth_space_of, room_at, room_for}
 use Rattle.interpreter.specs.instructions.barriers.Barriers.{can_bear}
 use Rattle.collector.specs.phase_handshake.Handshakes.{own_phase, seat_of}
 use Rattle.collector.specs.phase_handshake.declared.posts.Seat.{Seat}
@@ -43,7 +43,7 @@ room_is HeapFlip o can = ap (λ w. min (free_words o.spaces.old) w) (open_room o
 room_is ThreadFlip o can = open_room o can
 room_is Reclaim o can = by_cycle o.spaces.is_open refl
   where
-    by_cycle : (t : Bool) → o.spaces.is_open ≡ t → new_room (spaces_of o) ≡ room_at (place_of Reclaim t) o.spaces
+    by_cycle : (t : Bool) → o.spaces.is_open ≡ t → new_room (spaces_of o) ≡ room_at (birth_space_of Reclaim t) o.spaces
     by_cycle true opened = open_room o opened
     by_cycle false closed = closed_room o closed
 

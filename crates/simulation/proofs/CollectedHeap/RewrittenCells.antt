@@ -84,7 +84,7 @@ module _ (tree : Tree) (name names : Names) (class : ℕ) (c : ClassName) (field
       let old = agree_get (FieldStands name) slots fields agree n e is' in
       word_rewritten tree name names (Instance class) slots slots' rewritten n old.0 w' e.1 old.1 is (linked n e is') old.2)
 
-  -- behind one
+  -- after one
   hidden_fields : (x : ℕ) (words words' : List ℕ) → AreRewritten tree name names (Instance class) (x ∷ words) (x ∷ words') →
       ((place : ℕ) (e : FieldKey × StateValue) → slice_get fields place ≡ Some e → holds_reference tree (Instance class) (suc place) ≡ is_reference_state e.1) →
       Agree (FieldStands name) words fields → Agree (FieldStands names) words' fields
@@ -123,7 +123,7 @@ module _ (tree : Tree) (name names : Names) (class : ℕ) (c : ClassName) (field
         values = plain_fields h.words slots' (subst (λ ws. AreRewritten tree name names (Instance class) ws slots') are rewritten) linked h.values;
       }
 
--- what stands for contents still does with the other words
+-- what represents contents still does with the other words
 pub contents_rewritten : (tree : Tree) (name names : Names) (k : Kind) (slots slots' : List ℕ) → AreRewritten tree name names k slots slots' → (contents : Contents) (thread : Option ℕ) → IsLinked tree k contents →
     IsOfContents tree name k slots contents thread → IsOfContents tree names k slots' contents thread
 contents_rewritten tree name names (Instance class) slots slots' rewritten (IsInstance c fields) thread linked h = instance_rewritten tree name names class c fields thread slots slots' rewritten linked h

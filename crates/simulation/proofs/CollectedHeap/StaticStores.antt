@@ -38,7 +38,7 @@ use Rattle.simulation.proofs.CollectedHeap.HeapChanges.{first_fits, value_passes
 
 -- ---- lists
 
--- another element at a place, which stands for all that the first one stands for
+-- another element at a place, which represents all that the first one represents
 agree_again : {A B : Type 0} (R : A → B → Type 0) (x z : A) → ((y : B) → R x y → R z y) → (xs : List A) (ys : List B) (n : ℕ) → Agree R (slice_set xs n x) ys → Agree R (slice_set xs n z) ys
 agree_again R x z f [] ys n h = h
 agree_again R x z f (w ∷ ws) [] zero h = elim h [ ]
@@ -48,7 +48,7 @@ agree_again R x z f (w ∷ ws) (y ∷ ys) (suc n) h = (h.0, agree_again R x z f 
 
 -- ---- forwards
 
--- the forward of a value stands for the same, once the new copies have all words
+-- the forward of a value represents the same, once the new copies have all words
 pub forwarded_stands : (tree : Tree) (words : ℕ) (h : Handshakes) (p : Progress) (seat : Seat) (first : Objects) (all : Names) (name : Names) (o : Objects) (ss : List Value) (s : State) (fits : FitsCollected tree words h p seat first all name o ss s) →
     has_words h.posted ≡ true → (v : Value) (u : StateValue) → IsValue fits.whole v u → IsValue fits.whole (forwarded o v) u
 forwarded_stands tree words h p seat first all name o ss s fits late v u (int32 z is) = int32 z is
@@ -90,7 +90,7 @@ module _ (tree : Tree) (words : ℕ) (h : Handshakes) (p : Progress) (seat : Sea
 
 module _ (tree : Tree) (words : ℕ) (h : Handshakes) (p : Progress) (seat : Seat) (first : Objects) (all : Names) (name : Names) (n : ℕ) (v : Value) (ss : List Value) (s : State) (entries : List (FieldKey × StateValue))
     (stands : AreStatics name (slice_set ss n v) entries) where
-  -- a field gets a value that stands for the same
+  -- a field gets a value that represents the same
   static_set : (q : Objects) (fits : FitsCollected tree words h p seat first all name q ss s) (w : Value) → ((u : StateValue) → IsValue fits.whole v u → IsValue fits.whole w u) → ValuePasses (static_may_hold h.posted q.spaces p n) w →
       FitsCollected tree words h p seat first all name q (slice_set ss n w) (record s { statics = entries })
   static_set q fits w same pass = record {

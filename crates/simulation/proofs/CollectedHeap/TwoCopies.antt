@@ -228,7 +228,7 @@ module _ (tree : Tree) (posted : Phase) (has_round : Bool) (words : ℕ) (p : Pr
         (new_is_live posted m (forward m a) (words_are_live posted late) (copy_is_new tree posted has_round words p m sound a (forward m a) copies))
   ]
 
-  -- the forward of a reference stands for the same,
+  -- the forward of a reference represents the same,
   pub word_forwarded : (w : ℕ) (u : StateValue) → is_reference_state u ≡ true → IsWord name w u → IsWord name (forward_word m w) u
   word_forwarded w u sort h = by_reference name w u (λ x. IsWord name (forward_word m w) x) sort h
       (λ zero stands. record { value = Ref null; stands = stands name; is = sym (ap (forward_word m) zero ∙ ap (λ (a : Addr). a.number) (forward_null m sound.blocks.spaces)) })

@@ -10,7 +10,9 @@ use Rattle.interpreter.specs.object_memory.declared.values.Value.{Value}
 use Rattle.interpreter.specs.object_memory.declared.values.Value.TheVariants.{Int32, Int64, Native, Ref}
 use Rattle.interpreter.specs.object_memory.Cells.{Cell, Cells, cell_in, empty_cell, free_words, literal_number, next_address, size, store_monitor, store_slot, used_words, with_last}
 use Rattle.interpreter.specs.object_memory.Objects.{Objects, with_cell, with_literal_monitor, with_slot}
-use Rattle.interpreter.specs.object_memory.Spaces.{InBoth, InNew, InOld, Listed, Place, Spaces, born, cell_at, change_at, change_copies, change_if, is_old, is_white, mark, marked_if, other_of, place_of, room_at, room_for, set_mark}
+use Rattle.interpreter.specs.object_memory.Spaces.{Spaces, birth_space_of, born, cell_at, change_at, change_copies, change_if, is_old, is_white, mark, marked_if, other_of, room_at, room_for, set_mark}
+use Rattle.interpreter.specs.object_memory.declared.birth_spaces.BirthSpace.{BirthSpace}
+use Rattle.interpreter.specs.object_memory.declared.birth_spaces.BirthSpace.TheVariants.{InBoth, InNew, InOld, Listed}
 use Rattle.interpreter.specs.object_memory.Values.{value_word}
 use Rattle.interpreter.specs.instructions.barriers.Barriers.{forwarded, object_born, reaches_both, stored_int, stored_monitor, stored_static, stored_value, with_both, with_both_monitors, with_both_slots, with_marked}
 use Rattle.interpreter.proofs.object_memory.Blocks.{used_in, used_last}
@@ -20,7 +22,7 @@ use Rattle.collector.specs.Marking.{with_all_marked}
 use Rattle.collector.proofs.Births.BirthSoundness.{granted}
 use Rattle.collector.proofs.HeapStores.ReachedCopies.{changed_by}
 
--- as many words are used of each block, which is as large, and the second one is held alike
+-- the same number of words is used of each block, which is as large, and the second one is held alike
 pub record UsesAsMuch (m n : Spaces) : Type 0 where
   pub old : used_words n.old.cells ≡ used_words m.old.cells
   pub new : used_words n.new.cells ≡ used_words m.new.cells
@@ -139,26 +141,26 @@ static_uses Reclaim o statics number v = uses_itself o.spaces
 
 -- ---- room
 
--- where as many words are used as much is free of each block,
+-- where the same number of words is used the same number is free of each block,
 old_stays : (m n : Spaces) → UsesAsMuch m n → free_words n.old ≡ free_words m.old
 old_stays m n same = ap (λ w. w - used_words n.old.cells) same.old_words ∙ ap (λ u. m.old.words - u) same.old
 
 new_stays : (m n : Spaces) → UsesAsMuch m n → free_words n.new ≡ free_words m.new
 new_stays m n same = ap (λ w. w - used_words n.new.cells) same.new_words ∙ ap (λ u. m.new.words - u) same.new
 
-place_stays : (place : Place) (m n : Spaces) → UsesAsMuch m n → room_at place n ≡ room_at place m
+place_stays : (place : BirthSpace) (m n : Spaces) → UsesAsMuch m n → room_at place n ≡ room_at place m
 place_stays InOld m n same = old_stays m n same
 place_stays Listed m n same = old_stays m n same
 place_stays InBoth m n same = ap (λ w. min w (free_words n.new)) (old_stays m n same) ∙ ap (λ w. min (free_words m.old) w) (new_stays m n same)
 place_stays InNew m n same = new_stays m n same
 
--- so a thread has as much room for a birth, in each phase
+-- so a thread has the same room for a birth, in each phase
 pub room_stays : (own : Phase) (m n : Spaces) → UsesAsMuch m n → room_for own n ≡ room_for own m
-room_stays own m n same = ap (λ t. room_at (place_of own t) n) same.held ∙ place_stays (place_of own m.is_open) m n same
+room_stays own m n same = ap (λ t. room_at (birth_space_of own t) n) same.held ∙ place_stays (birth_space_of own m.is_open) m n same
 
 -- ---- births
 
--- a cell behind all others takes its words of what is free,
+-- a cell after all others takes its words of what is free,
 last_takes : (s : Cells) (c : Cell) → size c ≤ free_words s → free_words (with_last s c) + size c ≡ free_words s
 last_takes s c fits = omega (arith, used_last s c, fits)
 
@@ -173,7 +175,7 @@ least_takes : (a b x y w : ℕ) → a + w ≡ x → b + w ≡ y → min a b + w 
 least_takes a b x y w old new = omega arith
 
 -- and so a birth in each place
-place_takes : (place : Place) (m : Spaces) (k : Kind) (n : ℕ) → 3 + n ≤ room_at place m → room_at place (born place m k n) + (3 + n) ≡ room_at place m
+place_takes : (place : BirthSpace) (m : Spaces) (k : Kind) (n : ℕ) → 3 + n ≤ room_at place m → room_at place (born place m k n) + (3 + n) ≡ room_at place m
 place_takes InOld m k n fits = empty_takes m.old k n false None fits
 place_takes Listed m k n fits = empty_takes m.old k n true None fits
 place_takes InBoth m k n fits =
@@ -185,21 +187,21 @@ place_takes InBoth m k n fits =
 place_takes InNew m k n fits = empty_takes m.new k n false None fits
 
 -- which leaves the second block held as it was
-born_held : (place : Place) (m : Spaces) (k : Kind) (n : ℕ) → (born place m k n).is_open ≡ m.is_open
+born_held : (place : BirthSpace) (m : Spaces) (k : Kind) (n : ℕ) → (born place m k n).is_open ≡ m.is_open
 born_held InOld m k n = refl
 born_held Listed m k n = refl
 born_held InBoth m k n = refl
 born_held InNew m k n = refl
 
 -- a birth leaves each block as large
-born_large : (place : Place) (m : Spaces) (k : Kind) (n : ℕ) → AreAsLarge m (born place m k n)
+born_large : (place : BirthSpace) (m : Spaces) (k : Kind) (n : ℕ) → AreAsLarge m (born place m k n)
 born_large InOld m k n = record { old = refl; new = refl }
 born_large Listed m k n = record { old = refl; new = refl }
 born_large InBoth m k n = record { old = refl; new = refl }
 born_large InNew m k n = record { old = refl; new = refl }
 
 pub birth_large : (own : Phase) (o : Objects) (k : Kind) (count : ℕ) (o' : Objects) (a : Addr) → ◌≡◌ {A = Objects × Option Addr} (object_born own o k count) (o', Some a) → AreAsLarge o.spaces o'.spaces
-birth_large own o k count o' a e = subst (λ (x : Objects). AreAsLarge o.spaces x.spaces) (granted own o k count o' a e).1 (born_large (place_of own o.spaces.is_open) o.spaces k count)
+birth_large own o k count o' a e = subst (λ (x : Objects). AreAsLarge o.spaces x.spaces) (granted own o k count o' a e).1 (born_large (birth_space_of own o.spaces.is_open) o.spaces k count)
 
 -- no block has more words in use than before and these
 pub record AddsAtMost (words : ℕ) (m n : Spaces) : Type 0 where
@@ -211,7 +213,7 @@ empty_adds s k n marked other =
     let same : size (empty_cell k n marked other) ≡ 3 + n = size-empty k n marked other in
     omega (arith, used_last s (empty_cell k n marked other), same)
 
-place_adds : (place : Place) (m : Spaces) (k : Kind) (n : ℕ) → AddsAtMost (3 + n) m (born place m k n)
+place_adds : (place : BirthSpace) (m : Spaces) (k : Kind) (n : ℕ) → AddsAtMost (3 + n) m (born place m k n)
 place_adds InOld m k n = record { old = empty_adds m.old k n false None; new = omega arith }
 place_adds Listed m k n = record { old = empty_adds m.old k n true None; new = omega arith }
 place_adds InBoth m k n = record { old = empty_adds m.old k n true (Some (next_address m.new)); new = empty_adds m.new k n true (Some (next_address m.old)) }
@@ -220,12 +222,12 @@ place_adds InNew m k n = record { old = omega arith; new = empty_adds m.new k n 
 -- a birth adds no more than its object's words to a block, in each phase
 pub birth_adds : (own : Phase) (o : Objects) (k : Kind) (count : ℕ) (o' : Objects) (a : Addr) → ◌≡◌ {A = Objects × Option Addr} (object_born own o k count) (o', Some a) → AddsAtMost (3 + count) o.spaces o'.spaces
 birth_adds own o k count o' a e =
-    subst (λ (x : Objects). AddsAtMost (3 + count) o.spaces x.spaces) (granted own o k count o' a e).1 (place_adds (place_of own o.spaces.is_open) o.spaces k count)
+    subst (λ (x : Objects). AddsAtMost (3 + count) o.spaces x.spaces) (granted own o k count o' a e).1 (place_adds (birth_space_of own o.spaces.is_open) o.spaces k count)
 
 -- a birth takes its object's words of the thread's room, in each phase
 pub birth_takes : (own : Phase) (o : Objects) (k : Kind) (count : ℕ) (o' : Objects) (a : Addr) → ◌≡◌ {A = Objects × Option Addr} (object_born own o k count) (o', Some a) → room_for own o'.spaces + (3 + count) ≡ room_for own o.spaces
 birth_takes own o k count o' a e =
-    let place : Place = place_of own o.spaces.is_open in
+    let place : BirthSpace = birth_space_of own o.spaces.is_open in
     let birth = granted own o k count o' a e in
     subst (λ (x : Objects). room_for own x.spaces + (3 + count) ≡ room_for own o.spaces) birth.1
-    (ap (λ t. room_at (place_of own t) (born place o.spaces k count) + (3 + count)) (born_held place o.spaces k count) ∙ place_takes place o.spaces k count birth.0)
+    (ap (λ t. room_at (birth_space_of own t) (born place o.spaces k count) + (3 + count)) (born_held place o.spaces k count) ∙ place_takes place o.spaces k count birth.0)

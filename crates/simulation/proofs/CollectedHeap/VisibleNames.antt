@@ -40,7 +40,7 @@ use Rattle.simulation.proofs.CollectedHeap.TwoCopies.{by_reference}
 abbrev pub first_hold : Handshakes → Seat → Objects → Hold
 first_hold h seat first = hold_of h first.spaces.has_marked seat
 
--- The heap is sound, and stands for the state under names of live addresses, where the new copy of a named old object has its name once it is live. The thread's own names
+-- The heap is sound, and represents the state under names of live addresses, where the new copy of a named old object has its name once it is live. The thread's own names
 -- are those of what it may hold. The static fields hold what they may. What was so when the step began is so still.
 pub record FitsCollected (tree : Tree) (words : ℕ) (h : Handshakes) (p : Progress) (seat : Seat) (first : Objects) (all : Names) (name : Names) (o : Objects) (ss : List Value) (s : State) : Type 0 where
   pub sound : IsSoundHeap tree h.posted h.has_round words p o.spaces

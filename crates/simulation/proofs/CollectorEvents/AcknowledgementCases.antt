@@ -38,7 +38,7 @@ first_fails true y e = never (sym e)
 first_fails false y e = refl
 
 module _ (c : Content) (t : ℕ) (P : Content → Type 0) (cases : AcknowledgementCases c t P) where
-  -- the content by its parts
+  -- the machine state by its parts
   of_parts : (threads : List Thread) (posts : Handshakes) (objects : Objects) → threads_after c t ≡ threads → acknowledged c.posts t ≡ posts → objects_after c t ≡ objects →
       P (record c { threads = threads; posts = posts; objects = objects }) → P (with_acknowledgement c t).0
   of_parts threads posts objects e f g h =

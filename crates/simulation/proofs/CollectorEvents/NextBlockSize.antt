@@ -19,7 +19,7 @@ module _ (words used most : ℕ) (within : words ≤ most) where
       by_test true = min-le_right (2 * words) most
       by_test false = within
 
--- where no space may have more words than it, the next one has as many
+-- where no space may have more words than it, the next one has the same number
 pub next_stays : (words used : ℕ) → next_words words used words ≡ words
 next_stays words used = by_test (nat_lt words (2 * used))
   where

@@ -24,7 +24,7 @@ pub data IsCollected (c : Content) : Content × Report → Type 0 where
   works : (d : Content) → is_of_cycle d.posts.posted ≡ true → IsCollected c (d, Worked)
   ends : (d : Content) → c.posts.posted ≡ Reclaim → d.posts.posted ≡ Idle → d.objects.spaces ≡ closed c.objects.spaces → IsCollected c (d, CycleDone)
 
--- one of two turns, by a test
+-- one of two transitions, by a test
 either_is : (c : Content) (b : Bool) (x y : Content × Report) → IsCollected c x → IsCollected c y → IsCollected c (if◌then◌else◌ {A = Content × Report} b x y)
 either_is c true x y f g = f
 either_is c false x y f g = g

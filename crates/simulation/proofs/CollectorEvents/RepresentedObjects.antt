@@ -93,7 +93,7 @@ heap_shown tree name o o' s same heap = record {
 }
 
 module _ (name : Names) (c : Content) (s : State) (stands : StandsBy name c s) where
-  -- a machine with such objects stands for the same state
+  -- a machine with such objects represents the same state
   pub stands_shown : (o : Objects) → ShowsNames name c.objects o → StandsBy name (record c { objects = o }) s
   stands_shown o same = record {
     memory = record { heap = heap_shown c.tree name c.objects o s same stands.memory.heap; static_values = stands.memory.static_values; printed_is = stands.memory.printed_is };
@@ -104,7 +104,7 @@ module _ (name : Names) (c : Content) (s : State) (stands : StandsBy name c s) w
   pub stands_next : StandsBy name (next_posted c).0 s
   stands_next = record { memory = stands.memory; threads = stands.threads }
 
--- after one of two turns, by a test
+-- after one of two transitions, by a test
 either_stands : (name : Names) (s : State) (b : Bool) (x y : Content × Report) → (b ≡ true → StandsBy name x.0 s) → (b ≡ false → StandsBy name y.0 s) → StandsBy name (if◌then◌else◌ {A = Content × Report} b x y).0 s
 either_stands name s true x y f g = f refl
 either_stands name s false x y f g = g refl
@@ -351,6 +351,6 @@ module _ (name : Names) (c : Content) (s : State) where
   work_stands ThreadFlip sound normal stands = stands_next name (posting ThreadFlip c) s (record { memory = stands.memory; threads = stands.threads })
   work_stands Reclaim sound normal stands = clears_stand sound normal stands
 
-  -- after an event of the collector a machine stands for the same state, under the same names
+  -- after an event of the collector a machine represents the same state, under the same names
   pub collected_stands : IsSound c → IsNormal c.posts.posted c.objects.spaces name → StandsBy name c s → StandsBy name (collected c).0 s
   collected_stands sound normal stands = either_stands name s (all_seen c.posts) (work c.posts.posted c) (c, Waiting) (λ seen. work_stands c.posts.posted sound normal stands) (λ late. stands)

@@ -1,4 +1,4 @@
--- The marks of a thread that answers a round are those of a list of references, and leave the monitors of literals.
+-- The marks of a thread that acknowledges a round are those of a list of references, and leave the monitors of literals.
 use Rattle.std.proofs.Common.{◌≡◌, true, List, [], ◌∷◌, map, Option, Some, None, refl, inl, inr, ◌∙◌, subst}
 use Rattle.std.specs.Prelude.{All}
 use Rattle.std.proofs.lemmas.List.Elements.{All-cons, All-head, All-nil, All-tail}
@@ -34,7 +34,7 @@ standing_marked : (o : Objects) (x : Standing) → with_standing_marked o x ≡ 
 standing_marked o (Live m) = roots_marked (roots m) o
 standing_marked o (Ended e) = refl
 
--- a thread that answers marks these
+-- a thread that acknowledges marks these
 pub thread_marked : (o : Objects) (x : Option Thread) → with_thread_marked o x ≡ with_all_marked o (thread_values x)
 thread_marked o None = refl
 thread_marked o (Some x) = standing_marked o x.standing

@@ -55,7 +55,7 @@ pub seen_phase : (h : Handshakes) → all_seen h ≡ true → (t : ℕ) (seat : 
 seen_phase h seen t seat there = same_phase seat.phase h.posted (passes_at (has_seen h.posted) h.seats t seat seen (seat_there h t seat there))
 
 module _ (h k : Handshakes) (asked : k.seats ≡ map unanswered h.seats) (t : ℕ) where
-  -- a seat without its answer was there before
+  -- a seat without its acknowledgement was there before
   was_seat : (seat : Seat) → seat_of k t ≡ Some seat → (was : Seat) × (seat_of h t ≡ Some was) × (seat ≡ record was { answered = false })
   was_seat seat there = by_place (slice_get h.seats t) refl
     where
@@ -80,7 +80,7 @@ module _ (h k : Handshakes) (asked : k.seats ≡ map unanswered h.seats) (t : �
 
 -- ---- what a step owes
 
--- one of two turns, by a test
+-- one of two transitions, by a test
 either_soundly : (b : Bool) (x y : Content × Report) → (b ≡ true → IsSound x.0) → (b ≡ false → IsSound y.0) → IsSound (if◌then◌else◌ {A = Content × Report} b x y).0
 either_soundly true x y f g = f refl
 either_soundly false x y f g = g refl
@@ -142,11 +142,11 @@ module _ (c : Content) (sound : IsSound (posting Idle c)) (seen : all_seen (post
   abbrev opened : Content
   opened = cycle_opened (posting Idle c)
 
-  -- each seat was there, with or without an answer
+  -- each seat was there, with or without an acknowledgement
   before_cycle : (t : ℕ) (seat : Seat) → seat_of opened.posts t ≡ Some seat → (was : Seat) × (seat_of (posting Idle c).posts t ≡ Some was) × (seat ≡ record was { answered = false })
   before_cycle t seat there = was_seat (posting Idle c).posts opened.posts refl t seat there
 
-  -- the second block has as many words at least, and no more than the most
+  -- the second block has at least the same number of words, and no more than the most
   grows : c.objects.spaces.old.words ≤ opening_words c
   grows = next_grows c.objects.spaces.old.words (used_words c.objects.spaces.old.cells) c.limits.max_words sound.heap.blocks.old_words
 
@@ -203,7 +203,7 @@ module _ (c : Content) (sound : IsSound (posting Mark c)) (seen : all_seen (post
       (value_weakens (static_may_hold Mark c.objects.spaces c.progress number) (static_may_hold Mark after_mark.1.spaces c.progress number)
       (stays_held-static Mark c.objects.spaces after_mark.1.spaces c.progress number darker) v (sound.statics number v there)))
 
-  -- each seat was there, with or without an answer
+  -- each seat was there, with or without an acknowledgement
   before_round : (t : ℕ) (seat : Seat) → seat_of (round_posted marking).posts t ≡ Some seat → (was : Seat) × (seat_of marking.posts t ≡ Some was) × (seat ≡ record was { answered = false })
   before_round t seat there = was_seat marking.posts (round_posted marking).posts refl t seat there
 

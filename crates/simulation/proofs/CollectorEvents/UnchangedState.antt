@@ -26,7 +26,7 @@ use Rattle.simulation.proofs.CollectorEvents.Soundness.{collected_soundly}
 use Rattle.simulation.proofs.CollectorEvents.RepresentedObjects.{collected_stands}
 use Rattle.simulation.proofs.Representation.NormalNames.{IsNormal}
 
--- a machine goes on with the same program, limits and threads, and has printed the same
+-- a machine keeps the same program, limits and threads, and has printed the same
 pub record KeepsRest (c d : Content) : Type 0 where
   pub tree : d.tree ≡ c.tree
   pub limits : d.limits ≡ c.limits

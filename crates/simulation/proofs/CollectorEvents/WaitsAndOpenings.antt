@@ -23,7 +23,7 @@ use Rattle.simulation.proofs.Threads.ChangedSeats.{own_seat}
 
 -- ---- what the collector waits for
 
--- a turn that waits changes nothing, and there is a thread that it waits for
+-- a transition that waits changes nothing, and there is a thread that it waits for
 abbrev WaitsRightly : Content → Content × Report → Type 0
 WaitsRightly c x = x.1 ≡ Waiting → IsWaiting c.posts × (x.0 ≡ c)
 
@@ -37,7 +37,7 @@ both_hold true true e = absurd cc
 both_hold false y e = absurd cc
 
 module _ (c : Content) where
-  -- a turn that works doesn't wait
+  -- a transition that works doesn't wait
   works_on : (d : Content) → WaitsRightly c (d, Worked)
   works_on d e = absurd cc
 

@@ -64,9 +64,9 @@ step_leaves c s r t after turn s' room =
     heap_leaves c after.0.objects.spaces room.large.new (λ marking. (grey_there c r.sound marking, room.marking (own_is_early c.posts r.sound.seated.close marking t))) in
     subst (λ n. n ≤ work_left c) (sym alone) less
 
--- ---- each turn
+-- ---- each transition
 
--- there are as many static fields as the program declares
+-- the number of static fields is that of those that the program declares
 fields_length : (tree : Tree) (s : State) (es : List (FieldKey × StateValue)) (fs : List (FieldKey × DeclaredType)) → HaveFieldTypes tree s es fs → length es ≡ length fs
 fields_length tree s [] [] h = refl
 fields_length tree s (e ∷ es) (f ∷ fs) h = ap suc (fields_length tree s es fs h.2)
@@ -78,7 +78,7 @@ statics_length c s r =
     agree_length (λ (v : Value) (f : FieldKey × StateValue). IsValue r.stands.name v f.1) c.statics s.statics r.stands.by.memory.static_values
     ∙ fields_length c.tree s s.statics (static_fields c.tree) r.typed.statics
 
--- the state that an event comes to, and what it takes of the work that is left
+-- the state that an event reaches, and what it takes of the work that is left
 record Goes (c : Content) (s : State) (e : Event) (after : Content × Report) : Type 0 where
   state : State
   next : IsNext c.tree c.limits s e after.1 state
@@ -177,7 +177,7 @@ module _ (tree : Tree) (limits : Limits) where
       let more = bounded_after es rest (e ∷ past) next step.state last (bounded_then past c h e.0 (next, e.1) turn step.takes) step.represents (later step.state step.next) in
       (more.0, (next, turn, more.1), subst (λ l. work_of_newest l ≤ bound more.0) (sym (one_more e es past)) more.2, more.3, more.4)
 
-  -- ---- the opening
+  -- ---- the initial state
 
   -- no cycle is open at first
   record IsUnbegun (c : Content) : Type 0 where

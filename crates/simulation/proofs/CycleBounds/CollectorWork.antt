@@ -45,7 +45,7 @@ use Rattle.simulation.proofs.CollectorEvents.NextBlockSize.{next_grows}
 use Rattle.simulation.proofs.CollectedHeap.UsedWords.{AreAsLarge, all_marked_uses, as_large, marked_uses}
 use Rattle.simulation.proofs.CycleBounds.WorkLeft.{TakesWork, grey_there, larger, larger_same, static_count, statics_left, takes_nothing, work_left}
 
--- one of two turns, by a test
+-- one of two transitions, by a test
 either_takes : (c : Content) (b : Bool) (x y : Content × Report) → (b ≡ true → TakesWork c Gc x) → (b ≡ false → TakesWork c Gc y) → TakesWork c Gc (if◌then◌else◌ {A = Content × Report} b x y)
 either_takes c true x y f g = f refl
 either_takes c false x y f g = g refl
@@ -54,7 +54,7 @@ either_takes c false x y f g = g refl
 waits : (c : Content) → TakesWork c Gc (c, Waiting)
 waits c = takes_nothing c Gc c Waiting refl refl (λ is. is) (omega arith) (record { old = refl; new = refl })
 
--- one that works in a cycle and leaves less, and goes on with the cycle
+-- one that works in a cycle and leaves less, and continues the cycle
 works : (c d : Content) → c.posts.posted ≢ Idle → d.posts.posted ≢ Idle → AreAsLarge c.objects.spaces d.objects.spaces → 1 + work_left d ≤ work_left c → TakesWork c Gc (d, Worked)
 works c d going goes_on large less = record {
   less = λ is. less;
@@ -217,7 +217,7 @@ module _ (c : Content) (sound : IsSound (posting Allocate c)) where
       by_test true = record { old = refl; new = refl }
       by_test false = itself_large c.objects.spaces
 
-  -- the place goes on behind an object
+  -- the place advances to after an object
   look_takes : (o : Option Cell) → cell_in c.objects.spaces.old (address_behind c.objects.spaces.old c.progress.place) ≡ o → (shell_step c.progress c.objects o).2 ≡ true →
       1 + work_left (record allocating { progress = (shell_step c.progress c.objects o).0; objects = (shell_step c.progress c.objects o).1 }) ≤ work_left allocating
   look_takes None none some = absurd cc
@@ -407,7 +407,7 @@ module _ (c : Content) (sound : IsSound (posting Reclaim c)) where
   cleared_cell at o =
       option_map_or {U = Progress × Objects × Bool} (λ (x : Cell). (record c.progress { place = at - new_start + size x }, record c.objects { spaces = clear c.objects.spaces (record { number = at }) }, true)) o (c.progress, c.objects, false)
 
-  -- the place goes on behind an object
+  -- the place advances to after an object
   cell_takes : (at : ℕ) → found_in is_noted c.objects.spaces.new (new_start + c.progress.place) ≡ Some at → (o : Option Cell) → cell_in c.objects.spaces.new (record { number = at }) ≡ o → TakesWork clearing Gc (cleared clearing (cleared_cell at o))
   cell_takes at found None none = ends
   cell_takes at found (Some cell) lies =

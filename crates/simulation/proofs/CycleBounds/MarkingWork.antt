@@ -8,7 +8,8 @@ use Rattle.std.proofs.lemmas.Option.{none-some}
 use Rattle.interpreter.specs.object_memory.declared.addresses.Addr.{Addr}
 use Rattle.interpreter.specs.object_memory.declared.kinds.Kind.{Kind}
 use Rattle.interpreter.specs.object_memory.Cells.{Cell, Cells, cell_in, change_in, empty_cell, free_words, next_address, size, slots_in, used_words, with_last}
-use Rattle.interpreter.specs.object_memory.Spaces.{InOld, Listed, Spaces, born, change_at, is_old, is_white, mark, marked_if, set_mark}
+use Rattle.interpreter.specs.object_memory.Spaces.{Spaces, born, change_at, is_old, is_white, mark, marked_if, set_mark}
+use Rattle.interpreter.specs.object_memory.declared.birth_spaces.BirthSpace.TheVariants.{InOld, Listed}
 use Rattle.interpreter.proofs.object_memory.Blocks.{kept_in, last_in, own_in, sum_in, sum_last, unchanged_in, used_in, used_last}
 use Rattle.interpreter.proofs.object_memory.Rooms.{size-empty}
 use Rattle.interpreter.proofs.object_memory.TwoBlocks.{after_in, before_in, own, still}
@@ -27,7 +28,7 @@ white_left c = white_left_by c.marked (length c.slots)
 abbrev pub grey_left : Cells → Addr → ℕ
 grey_left s a = 1 + length (slots_in s a)
 
--- those of the grey list, with so many slots of the oldest one scanned
+-- those of the grey list, with this number of slots of the oldest one scanned
 abbrev pub scans_left : Cells → ℕ → List Addr → ℕ
 scans_left s scanned [] = 0
 scans_left s scanned (g ∷ rest) = 1 + (length (slots_in s g) - scanned) + sum_by (grey_left s) rest
@@ -93,7 +94,7 @@ module _ (f : Cell → Cell) (keeps : (c : Cell) → length (f c).slots ≡ leng
   keeps_size : (c : Cell) → size (f c) ≡ size c
   keeps_size c = ap (λ n. 3 + n) (keeps c)
 
-  -- the changed cell has as many slots
+  -- the changed cell has the same number of slots
   changed_counts : (s : Cells) (a : Addr) → HaveSameCounts s (change_in f s a)
   changed_counts s a b = by_cell (cell_in s b) refl (cell_in (change_in f s a) b) refl
     where
@@ -128,7 +129,7 @@ module _ (f : Cell → Cell) (keeps : (c : Cell) → length (f c).slots ≡ leng
             let same : white_left (f c) ≡ white_left c = ap (λ b. white_left_by b (length (f c).slots)) (marks c) ∙ ap (white_left_by c.marked) (keeps c) in
             omega (arith, same, sum_in f white_left s a c is)
 
-    -- as much is left
+    -- the same is left
     pub change_leaves : (m : Spaces) (a : Addr) → LeavesNoMore m (change_at f m a)
     change_leaves m a = record {
       there = changed_there m a;
@@ -188,7 +189,7 @@ module _ (m : Spaces) (c : Cell) where
   abbrev more : Cells
   more = with_last m.old c
 
-  -- a cell behind all others leaves the grey ones there, with as many slots
+  -- a cell after all others leaves the grey ones there, with the same number of slots
   grey_still : AreGreyThere m → All (λ b. is_some (cell_in more b) ≡ true) m.grey
   grey_still there = All-weaker (λ b. is_old m b ≡ true) (λ b. is_some (cell_in more b) ≡ true) (λ b old. by_cell b (cell_in m.old b) refl old) m.grey there
     where

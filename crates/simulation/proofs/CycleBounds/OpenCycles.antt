@@ -52,7 +52,7 @@ posted_then c _ waits b is = is
 posted_then c _ (works d of) b is = of
 posted_then c _ (ends d last idle spaces) b is = ap is_of_cycle idle
 
--- what an event of the collector comes to
+-- the outcome of an event of the collector
 pub gc_is : (c : Content) (x : Content × Report) → IsTurn c Gc x → IsCollected c x
 gc_is c x turn = subst (IsCollected c) (sym turn) (collected_is c)
 
@@ -80,7 +80,7 @@ module _ (each : InstructionsAreAlike) where
     posted = posted_then c (next, r) (gc_is c (next, r) turn) (is_cycle_open done) h.posted ∙ sym (open_then done Gc r);
   }
 
--- ---- the opening
+-- ---- the initial state
 
 -- it is of this program, and no cycle is open
 pub record IsOpened (tree : Tree) (limits : Limits) (c : Content) : Type 0 where

@@ -33,8 +33,8 @@ abbrev pub statics_left : Bool → ℕ
 statics_left true = 0
 statics_left false = 1
 
--- What a phase has left, and one for the next post: what is to be marked, the words behind the place, of which each may take ten events to be copied, or
--- static fields; and the most that the phases behind it may have. Between cycles it is nothing. The words are those of the new block, which has no fewer than the old
+-- What a phase has left, and one for the next post: what is to be marked, the words after the place, of which each may take ten events to be copied, or
+-- static fields; and the most that the phases after it may have. Between cycles it is nothing. The words are those of the new block, which has no fewer than the old
 -- one.
 abbrev pub left_in : Phase → (words statics : ℕ) → (has_round : Bool) → Progress → Spaces → ℕ
 left_in Idle words statics has_round p m = 0

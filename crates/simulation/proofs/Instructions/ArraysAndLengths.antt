@@ -68,7 +68,7 @@ count_fits name n k few same = subst (λ x. IsValue name (Native (pos n)) (Nativ
 
 -- ---- the kinds of new arrays
 
--- a numbered element that stands for one is what an array can hold
+-- a numbered element that represents one is what an array can hold
 held_back : (tree : Tree) → IsLegal tree → (e : NumberedElement) (x : Element) → element_at tree e ≡ Some x → (h : ElementType) × (element_held e ≡ Some h) × (numbered h ≡ e)
 held_back tree legal NumberedInt32 x is = (HeldInt32, refl, refl)
 held_back tree legal NumberedInt64 x is = (HeldInt64, refl, refl)

@@ -43,7 +43,7 @@ use Rattle.simulation.proofs.Memory.MemoryModels.{MemoryModel, IsBirth}
 above_none : (n k : ℕ) → n ≡ suc k → nat_lt 0 n ≡ true
 above_none n k h = grind (arith, nat_tests)
 
--- as many as there may be, or fewer
+-- at the limit, or below it
 full_is_deep : (n depth : ℕ) → n + 1 ≤ depth → (n + 1 == depth) ≡ nat_le depth (suc n)
 full_is_deep n depth h = grind (arith, nat_tests)
 
@@ -68,7 +68,7 @@ module _ (here : Setting) (model : MemoryModel here.tree) (name : Names) (m : Fr
   few_below : length m.below + 1 ≤ m.depth
   few_below = subst (λ d. length m.below + 1 ≤ d) (sym at.frames.depth) (omega (arith, at.frames.few))
 
-  -- both look at as many frames
+  -- both look at the same number of frames
   pub depth_is : is_full m ≡ is_too_deep here s f below
   depth_is =
       let counted : length m.below ≡ length below = agree_length (IsFrame here.tree name) m.below below at.frames.frames.1 in
@@ -92,7 +92,7 @@ module _ (here : Setting) (model : MemoryModel here.tree) (name : Names) (m : Fr
         let same : length m.running.stack ≡ length f.stack = agree_length (IsValue name) m.running.stack f.stack own.stack in
         omega (arith, same, leb-true (length parameters) (length f.stack) enough)
 
-    -- the caller behind the instruction
+    -- the caller after the instruction
     abbrev caller : Frames
     caller = with_place (with_inserted m (length parameters) (Ref a)) (m.running.place + 1)
 
@@ -125,7 +125,7 @@ module _ (here : Setting) (model : MemoryModel here.tree) (name : Names) (m : Fr
         ap (λ b. if b then entered callee (Some a) caller else None) (place_is_small here model name m o statics printed s f below (Named.NewObject c parameters) (Resolved.NewObject number) at) ∙
         ap (λ b. if b then Some (frames_in, GoesOn) else None) frame_fits
 
-    -- ---- what they stand for
+    -- ---- what they represent
 
     -- both frames and those below them, under the names after the birth
     module _ (contents : Contents) (born : Objects) (birth : IsBirth model.Fits name statics s contents born a) where

@@ -77,7 +77,7 @@ refused_fault SynchronizationLock h = never h
 refused_fault ThreadState h = never h
 
 module _ (here : Setting) (model : MemoryModel here.tree) (name : Names) (m : Frames) (o : Objects) (statics : List Value) (printed : List ℕ) (s : State) (f : Frame) (below : List Frame) where
-  -- the thread goes on with the same frames, in the same memory, in which nothing lost its name
+  -- the thread continues with the same frames, in the same memory, in which nothing lost its name
   pub record GoesAlike (a : Answer) (e : StateEffect) : Type 0 where
     pub running : Frame
     pub waiting : List Frame
@@ -103,7 +103,7 @@ module _ (here : Setting) (model : MemoryModel here.tree) (name : Names) (m : Fr
     pub frames : a.frames ≡ m
     pub memory : LeavesMemory a
 
-  -- what an instruction comes to, and the same of the reference machine
+  -- the outcome of an instruction, and the same of the reference machine
   abbrev pub ComesAlike : Outcome → Answer → StateEffect → Type 0
   ComesAlike (Comes GoesOn) a e = GoesAlike a e
   ComesAlike (Comes Returns) a e = (e ≡ Goes [] s) × LeavesMemory a
@@ -120,7 +120,7 @@ module _ (here : Setting) (model : MemoryModel here.tree) (name : Names) (m : Fr
     pub is : e ≡ Goes (running ∷ waiting) (with_birth s contents)
     pub exceeds : room_for model.phase o.spaces < cell_words here.tree contents
 
-  -- The rule has an answer, and where the reference machine is refused memory exactly where the machine is, both do the same. The machine is refused
+  -- The rule has a result, and where the reference machine is refused memory exactly where the machine is, both do the same. The machine is refused
   -- it only where the reference machine, if it weren't, would make an object that exceeds the room.
   pub record DoesAlike (turn : MachineTurn) (e : StateEffect) : Type 0 where
     pub answer : Answer

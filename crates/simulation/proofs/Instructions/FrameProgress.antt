@@ -78,7 +78,7 @@ module _ (tree : Tree) (legal : IsLegal tree) (s : State) (given : Option Declar
       let own : length f.stack ≡ length typed.stack = stack_length tree s f.stack typed.stack typed.values in
       omega (arith, height, same, own, given_length given typed.stack)
 
-  -- a frame that stands for it has room for one value more
+  -- a frame that represents it has room for one value more
   pub room_left : (name : Names) (m : Frame) → IsFrame tree name m f → size m < frame_room
   room_left name m h =
       let one : length m.arguments ≡ length f.arguments = agree_length (IsValue name) m.arguments f.arguments h.arguments in
@@ -103,7 +103,7 @@ module _ (here : Setting) (model : MemoryModel here.tree) (name : Names) (m : Fr
       let few : length at.running.frame.code.lines ≤ MOST_INSTRUCTIONS = instructions_few here.tree at.running.accepted.legal f.owner at.running.frame.is_declared.0 f.method at.running.frame.is_declared.1 at.running.frame.code at.running.frame.has_code in
       lt-ltb _ _ (subst (λ p. p < MOST_INSTRUCTIONS) (sym own_frame.place) (omega (arith, inside, few)))
 
-  -- on to the instruction behind
+  -- on to the next instruction
   pub onward_is : (stack : List Value) → onward (with_stack m stack) ≡ Some (with_place (with_stack m stack) (m.running.place + 1), GoesOn)
   onward_is stack = ap (λ b. if b then Some (with_place (with_stack m stack) (m.running.place + 1), GoesOn) else None) place_is_small
 

@@ -1,4 +1,4 @@
--- A frame goes on with what was computed of its operands alike on both machines.
+-- A frame continues with what was computed of its operands alike on both machines.
 use Rattle.std.proofs.Common.{◌≡◌, ◌≤◌, ◌<◌, ◌+◌, ℕ, ℤ, pos, negsuc, Bool, true, false, List, [], ◌∷◌, length, Option, Some, None, option_map, slice_get, slice_set, Result, Ok, Err, refl, sym, ap, subst, arith, inr, ◌∙◌}
 use Rattle.std.specs.Prelude.{if◌then◌else◌, nat_lt}
 use Rattle.std.specs.Option.{option_map_or}
@@ -47,7 +47,7 @@ module _ (here : Setting) (model : MemoryModel here.tree) (name : Names) (m : Fr
   abbrev pub Typed : StateEffect → Type 0
   Typed e = IsTypedEffect here.tree e
 
-  -- a stack that stands for the other
+  -- a stack that represents the other
   abbrev pub Stands : List Value → List StateValue → Type 0
   Stands vs us = Agree (IsValue name) vs us
 
@@ -56,7 +56,7 @@ module _ (here : Setting) (model : MemoryModel here.tree) (name : Names) (m : Fr
 
   -- ---- to another instruction
 
-  -- on to the instruction behind, with other values
+  -- on to the next instruction, with other values
   pub changed_does : (arguments locals stack : List Value) (arguments' locals' stack' : List StateValue) → Stands arguments arguments' → Stands locals locals' → Stands stack stack' →
       Alike (onward (record m { running = record m.running { arguments = arguments; locals = locals; stack = stack } })) (Goes (after (record f { arguments = arguments'; locals = locals' }) stack' ∷ below) s)
   changed_does arguments locals stack arguments' locals' stack' h k l =

@@ -19,7 +19,7 @@ use Rattle.interpreter.specs.cil_model.declared.reports.Fault.TheVariants.{Divid
 use Rattle.interpreter.proofs.cil_model.SameLaws.{both_first, both_second}
 use Rattle.interpreter.specs.reference_machine.Arithmetic.{bit_count, least, is_in_range, exact, divided, binary, unary, shifted, shift}
 
--- half as many numbers as the size has
+-- half of the numbers that the size has
 abbrev half : Width → ℕ
 half w = 2 ^ (bit_count w - 1)
 

@@ -7,7 +7,7 @@ use Rattle.interpreter.specs.object_memory.declared.values.Value.{Value}
 use Rattle.simulation.specs.Agreement.{Agree}
 use Rattle.simulation.specs.StandsFor.{Names, IsValue}
 
--- where there is an answer of the second machine, the first has one too, and they stand in the relation
+-- where there is a result of the second machine, the first has one too, and they stand in the relation
 abbrev pub Meets : {X Y : Type 0} → (X → Y → Type 0) → Option X → Option Y → Type 0
 Meets R o None = Unit {0}
 Meets R (Some x) (Some y) = R x y
@@ -28,7 +28,7 @@ Same a b = a ≡ b
 abbrev pub Opposite : Bool → Bool → Type 0
 Opposite a b = not a ≡ b
 
--- an answer meets itself
+-- a result meets itself
 pub meets_itself : (o : Option Bool) → Meets Same o o
 meets_itself None = tt
 meets_itself (Some b) = refl

@@ -70,7 +70,7 @@ module _ (here : Setting) (model : MemoryModel here.tree) (name : Names) (m : Fr
   abbrev contents : Contents
   contents = new_instance here.tree c
 
-  -- a turn of frames and objects, as one of the machine, and what the reference machine does
+  -- a transition of frames and objects, as one of the machine, and what the reference machine does
   abbrev as_turn : ObjectTurn → MachineTurn
   as_turn turn = of_objects o statics printed turn
 
@@ -129,7 +129,7 @@ module _ (here : Setting) (model : MemoryModel here.tree) (name : Names) (m : Fr
   too_deep : Alike (Some (m, o, Raises StackOverflow)) (StateRaises StackOverflow)
   too_deep = record { answer = answer_of m o statics printed (Comes (Raises StackOverflow)); is = refl; refuses = λ _ h. never h; alike = λ r. (refl, (refl, refl, refl)) }
 
-  -- the reference machine goes on from a birth with frames of its thread
+  -- the reference machine continues from a birth with frames of its thread
   abbrev Enters : StateEffect → Type 0
   Enters e = (running : StateFrame) × (waiting : List StateFrame) × (e ≡ Goes (running ∷ waiting) (with_state_birth s contents))
 

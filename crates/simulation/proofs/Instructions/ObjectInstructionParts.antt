@@ -51,13 +51,13 @@ module _ (here : Setting) (model : MemoryModel here.tree) (name : Names) (m : Fr
   abbrev pub Fine : StateEffect → Type 0
   Fine e = IsTypedEffect here.tree e
 
-  -- a turn on objects as one of the machine
+  -- a transition on objects as one of the machine
   abbrev pub objects_turn : ObjectTurn → MachineTurn
   objects_turn turn = of_objects o statics printed turn
 
-  -- ---- equal turns, and what is there
+  -- ---- equal transitions, and what is there
 
-  -- a turn that is equal to one that does alike
+  -- a transition that is equal to one that does alike
   pub alike_turn : (turn turn' : MachineTurn) (e : StateEffect) → turn ≡ turn' → Alike turn' e → Alike turn e
   alike_turn turn turn' e same h = subst (λ t. Alike t e) (sym same) h
 
@@ -107,7 +107,7 @@ module _ (here : Setting) (model : MemoryModel here.tree) (name : Names) (m : Fr
   -- ---- slots
 
   module _ (a : Addr) (cell : Cell) (lies : object_cell o a ≡ Some cell) (slot word : ℕ) (there : slice_get cell.slots slot ≡ Some word) where
-    -- a turn that asks for a slot that is there
+    -- a transition that asks for a slot that is there
     slot_turn : (go : ℕ → ObjectTurn) → objects_turn (given (slots_of o a) (λ slots. given (slice_get slots slot) go)) ≡ objects_turn (go word)
     slot_turn go = ap (λ (c : Option Cell). objects_turn (given (option_map (λ (y : Cell). y.slots) c) (λ slots. given (slice_get slots slot) go))) lies ∙ ap (λ x. objects_turn (given x go)) there
 
@@ -154,7 +154,7 @@ module _ (here : Setting) (model : MemoryModel here.tree) (name : Names) (m : Fr
 
   -- ---- elements
 
-  -- the turn by whether a place is inside
+  -- the transition by whether a place is inside
   abbrev turn_by : ℕ → Frames → (ℕ → ObjectTurn) → Bool → MachineTurn
   turn_by n k go b = objects_turn (in_range (if b then Some n else None) k o go)
 
@@ -173,7 +173,7 @@ module _ (here : Setting) (model : MemoryModel here.tree) (name : Names) (m : Fr
           let near : n < length elements = slice_get_within elements n old is in
           alike_turn (turn_by n k go (nat_lt n (length slots))) (turn_by n k go true) (go' n old) (ap (turn_by n k go) (lt-ltb n (length slots) (omega (arith, near, same)))) (each n old is t')
 
-  -- the parts of an element's turn
+  -- the parts of an element's transition
   abbrev slots_turn : Frames → (Addr → ℕ → ObjectTurn) → Addr → ℤ → List ℕ → ObjectTurn
   slots_turn k go a z slots = in_range (place_in z (length slots)) k o (λ slot. go a slot)
 

@@ -57,7 +57,7 @@ index_is name v u (native z fits) = refl
 index_is name v u null_reference = refl
 index_is name v u (reference a n is) = refl
 
--- a place that a list has not is at its end or behind
+-- a place that a list has not is at its end or beyond
 past_end : (xs : List ℕ) (k : ℕ) → slice_get xs k ≡ None → length xs ≤ k
 past_end [] k e = omega arith
 past_end (x ∷ xs) zero e = none_is_some x (sym e)
@@ -97,7 +97,7 @@ module _ (here : Setting) (model : MemoryModel here.tree) (name : Names) (m : Fr
 
   -- the value, and the stacks below the three operands
   module _ (v : Value) (u : StateValue) (stands : IsValue name v u) (rest : List Value) (rest' : List StateValue) (agree : Agree (IsValue name) rest rest') where
-    -- an array's cell, of so many elements
+    -- an array's cell, with these elements
     module _ (a : Addr) (n : ℕ) (named : name a.number ≡ Some (Born n)) (t : DeclaredType) (elements : List StateValue) (there : IsArrayAt here.tree name o s a n t elements) (place : ℕ) (old : StateValue) (old_is : slice_get elements place ≡ Some old) where
       -- the array with the value at the place
       abbrev changed : HeapObject

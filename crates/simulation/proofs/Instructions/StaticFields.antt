@@ -100,7 +100,7 @@ module _ (here : Setting) (model : MemoryModel here.tree) (name : Names) (m : Fr
   -- ---- ldsfld
 
   module _ (r : FieldReference) (field : MemberNumber) (is : IsField here.tree true r field) (at : IsSetting here model name m o statics printed s f below (Named.LoadStaticField r) (Resolved.LoadStaticField field)) where
-    -- the turn, by the number of the field
+    -- the transition, by the number of the field
     abbrev loads : ℕ → Turn
     loads n = load_static_turn n m statics
 
@@ -129,7 +129,7 @@ module _ (here : Setting) (model : MemoryModel here.tree) (name : Names) (m : Fr
   -- ---- stsfld
 
   module _ (r : FieldReference) (field : MemberNumber) (is : IsField here.tree true r field) (at : IsSetting here model name m o statics printed s f below (Named.StoreStaticField r) (Resolved.StoreStaticField field)) where
-    -- the turn, by the number of the field
+    -- the transition, by the number of the field
     abbrev stores : ℕ → Value → Frames → StaticTurn
     stores n v k = if nat_lt n (length statics) && is_static_storable model.phase o v then beside_statics (stored_static model.phase o statics n v) (onward k) else None
 

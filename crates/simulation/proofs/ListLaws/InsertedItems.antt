@@ -4,13 +4,13 @@ use Rattle.std.proofs.lemmas.List.{reverse-append}
 
 -- ---- a value beneath the topmost ones
 
--- of a list with a value behind its first n, the first n and one are those, and the value
+-- of a list with a value after its first n, the first n and one are those, and the value
 take_inserted : {A : Type 0} (n : ℕ) (x : A) (xs : List A) → n ≤ length xs → take (suc n) (take n xs ++ x ∷ drop n xs) ≡ take n xs ++ x ∷ []
 take_inserted zero x xs h = refl
 take_inserted (suc n) x [] h = absurd (omega (arith, h))
 take_inserted (suc n) x (y ∷ ys) h = ap (λ zs. y ∷ zs) (take_inserted n x ys (omega (arith, h)))
 
--- the others are behind them
+-- the others are after them
 pub drop_inserted : {A : Type 0} (n : ℕ) (x : A) (xs : List A) → n ≤ length xs → drop (suc n) (take n xs ++ x ∷ drop n xs) ≡ drop n xs
 drop_inserted zero x xs h = refl
 drop_inserted (suc n) x [] h = absurd (omega (arith, h))

@@ -24,7 +24,7 @@ by_birth tree model name o statics s fits k n P refused given = by_answer (objec
     by_answer (born, Some a) e = given born a e
     by_answer (born, None) e = let refusal = model.refusals name o statics s fits k n born e in subst (λ p. P (p, None)) (sym refusal.0) (refused refusal.1)
 
--- where memory isn't refused the reference machine goes on with the object
+-- where memory isn't refused the reference machine continues with the object
 pub birth_goes : (here : Setting) (s : State) (f : StateFrame) (below : List StateFrame) (contents : Contents) (go : ObjectName → State → StateEffect) → here.is_refused ≡ false →
     state_birth here s f below contents go ≡ go (next_name s) (with_state_birth s contents)
 birth_goes here s f below contents go r = ap (λ b. if b then StateRaises OutOfMemory else go (next_name s) (with_state_birth s contents)) r

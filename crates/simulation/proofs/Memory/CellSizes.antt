@@ -1,4 +1,4 @@
--- The cell of an object has as many words as the object needs, and changes of its contents keep that.
+-- The cell of an object has the number of words that the object needs, and changes of its contents keep that.
 use Rattle.std.proofs.Common.{◌≡◌, ◌+◌, ℕ, zero, suc, Bool, true, false, if◌then◌else◌, List, [], ◌∷◌, ◌++◌, length, Option, Some, slice_get, slice_set, ap, ◌∙◌, arith}
 use Rattle.std.proofs.lemmas.List.Sums.{sum_by-cons}
 use Rattle.std.proofs.lemmas.Option.{same_Some}
@@ -21,7 +21,7 @@ hidden_length : (b : Bool) (w : ℕ) (ws : List ℕ) → length ((if b then w �
 hidden_length true w ws = omega arith
 hidden_length false w ws = omega arith
 
--- what stands for an object's contents has as many slots as these have words behind the first three
+-- what represents an object's contents has one slot for each word of these after the first three
 pub contents_size : (tree : Tree) (name : Names) (k : Kind) (slots : List ℕ) (contents : Contents) (thread : Option ℕ) → IsOfContents tree name k slots contents thread → 3 + length slots ≡ cell_words tree contents
 contents_size tree name (Instance class) slots (IsInstance c fields) thread h =
     let all : length slots ≡ (if is_thread_class tree c then 1 else 0) + length h.words = ap length h.slots_are ∙ hidden_length (is_thread_class tree c) (thread_word thread) h.words in
@@ -35,7 +35,7 @@ contents_size tree name (Array e) slots (IsInstance c fields) thread h = elim h 
 pub cell_size : (tree : Tree) (name : Names) (cell : Cell) (object : HeapObject) → IsCell tree name cell object → size cell ≡ cell_words tree object.contents
 cell_size tree name cell object h = contents_size tree name cell.kind cell.slots object.contents object.thread h.contents
 
--- the words of all, where one object is in the place of another of as many
+-- the words of all, where one object is in the place of another with the same number
 pub words_stay : (tree : Tree) (objects : List HeapObject) (n : ℕ) (old new : HeapObject) → slice_get objects n ≡ Some old → cell_words tree new.contents ≡ cell_words tree old.contents →
     words_of_all tree (slice_set objects n new) ≡ words_of_all tree objects
 words_stay tree [] n old new is same = none_is_some old is

@@ -32,7 +32,7 @@ use Rattle.simulation.proofs.Memory.InheritedFields.{has_key, entry_of_first, ch
 use Rattle.simulation.proofs.Memory.FieldPositions.{IsPlaced, placed, position_there, type_there}
 use Rattle.simulation.proofs.Instructions.StaticFields.{is_small, asked, found_in, found_flag}
 
--- ---- slots behind a hidden one, or none
+-- ---- slots after a hidden one, or none
 
 module _ (x p : ℕ) (words : List ℕ) where
   -- what the place of a field holds
@@ -87,7 +87,7 @@ module _ (tree : Tree) (legal : IsLegal tree) (r : FieldReference) (field : Memb
 
   -- ---- its number and its kind
 
-  -- the slot: behind the hidden one
+  -- the slot: after the hidden one
   abbrev pub slot : ℕ
   slot = length (hidden_slots tree is.declared_in) + position.0
 

@@ -14,7 +14,7 @@ use Rattle.simulation.proofs.Memory.InitialValues.{words_stand}
 
 -- ---- objects
 
--- so many words
+-- n words
 abbrev zeros : ℕ → List ℕ
 zeros n = replicate n 0
 

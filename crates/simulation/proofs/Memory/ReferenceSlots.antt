@@ -101,14 +101,14 @@ mapped_at [] p t is = none_is_some t is
 mapped_at (x ∷ xs) zero t is = ap (λ (y : FieldKey × DeclaredType). Some (Some y.1)) (same_Some x t is)
 mapped_at (x ∷ xs) (suc p) t is = mapped_at xs p t is
 
--- behind the hidden slots
+-- after the hidden slots
 behind : (xs ys : List (Option DeclaredType)) (p : ℕ) (x : Option DeclaredType) → slice_get ys p ≡ Some x → slice_get (xs ++ ys) (length xs + p) ≡ Some x
 behind [] ys p x is = let place : p ≡ 0 + p = omega arith in subst (λ n. slice_get ys n ≡ Some x) place is
 behind (z ∷ zs) ys p x is =
     let place : suc (length zs + p) ≡ length (z ∷ zs) + p = omega arith in
     subst (λ n. slice_get (z ∷ (zs ++ ys)) n ≡ Some x) place (behind zs ys p x is)
 
--- as many hidden slots, in classes that are both of threads or both not
+-- the same number of hidden slots, in classes that are both of threads or both not
 pub same_hidden : (tree : Tree) (c d : ClassName) → is_thread_class tree c ≡ is_thread_class tree d → length (hidden_slots tree c) ≡ length (hidden_slots tree d)
 same_hidden tree c d same = ap (λ b. length {A = Option DeclaredType} (if b then None ∷ [] else [])) same
 
@@ -158,7 +158,7 @@ element_says tree e t is slot = by_type (element_at tree (numbered e.element)) r
 abbrev pub is_reference_state : StateValue → Bool
 is_reference_state u = is_reference_kind (kind_of_state u)
 
--- the slot of a field, behind the hidden one of a class of threads
+-- the slot of a field, after the hidden one of a class of threads
 abbrev pub slot_behind : Bool → ℕ → ℕ
 slot_behind true place = suc place
 slot_behind false place = place

@@ -26,7 +26,7 @@ use Rattle.simulation.specs.Agreement.{Agree}
 use Rattle.simulation.specs.StandsFor.{Names, IsValue, int32, int64, native, null_reference, reference, IsWord, IsMonitor, thread_word, IsOfContents, IsBornAt}
 use Rattle.simulation.proofs.Memory.MemoryModels.{IsReadable}
 
--- an address stands for null, or for the object that it names
+-- an address represents null, or the object that it names
 pub reference_is : (name : Names) (v : Value) (u : StateValue) → IsValue name v u → (a : Addr) → v ≡ Ref a → ((a ≡ null) × (u ≡ Null)) ⊎ ((n : ObjectName) × (u ≡ Reference n) × (name a.number ≡ Some n))
 reference_is name v u (int32 z fits) a e = absurd cc
 reference_is name v u (int64 z fits) a e = absurd cc

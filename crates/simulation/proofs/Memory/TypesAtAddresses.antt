@@ -52,7 +52,7 @@ module _ (tree : Tree) (name : Names) (o : Objects) (s : State) (heap : IsReadab
 -- ---- what may stand where a type is wanted
 
 module _ (here : Setting) (name : Names) (o : Objects) (s : State) (f : StateFrame) (below : List StateFrame) (heap : IsReadable here.tree name o s) where
-  -- a value may stand where the one that it stands for may
+  -- a value may stand where the one that it represents may
   may_stand_is : (v : Value) (u : StateValue) (t : DeclaredType) → IsValue name v u → may_stand here.tree o v t ≡ may_hold here s f below t u
   may_stand_is v u t (int32 z fits) = refl
   may_stand_is v u t (int64 z fits) = refl
@@ -87,7 +87,7 @@ pub record IsArrayAt (tree : Tree) (name : Names) (o : Objects) (s : State) (a :
   pub words : Agree (IsWord name) cell.slots elements
   pub of_contents : IsOfContents tree name cell.kind cell.slots (IsArray t elements) object.thread
 
--- a cell that stands for an array is one
+-- a cell that represents an array is one
 array_kind : (tree : Tree) (name : Names) (k : Kind) (slots : List ℕ) (t : DeclaredType) (elements : List StateValue) (thread : Option ℕ) → IsOfContents tree name k slots (IsArray t elements) thread →
     (holds : ArrayElement) × (k ≡ Array holds) × (type_at tree (held_type holds) ≡ Some t) × Agree (IsWord name) slots elements
 array_kind tree name (Array e) slots t elements thread h = (e, refl, h.0, h.1)

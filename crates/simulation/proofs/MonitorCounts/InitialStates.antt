@@ -40,7 +40,7 @@ module _ (tree : Tree) (limits : Limits) (allowed : 1 ≤ limits.budget) where
       whole zero t there = ap (λ (x : Thread). x.steps_left) (sym (same_Some _ t there))
       whole (suc n) t there = none_is_some t there
 
-  -- the opening state
+  -- the initial state
   pub opening_counted : (s : State) → opening tree limits ≡ Some s → IsCounted limits s
   opening_counted s h = option_and_then_some _ (slice_get (entry_points tree) 0) s h (λ entry there h'. by_code entry (code_of entry.1.kind) h')
     where

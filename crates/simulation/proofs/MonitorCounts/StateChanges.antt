@@ -11,7 +11,7 @@ use Rattle.simulation.specs.Counts.{IsCountedMonitor, IsCounted}
 use Rattle.simulation.proofs.ListLaws.ChangedItems.{entry_or_was}
 use Rattle.interpreter.proofs.cil_model.Lists.{none_is_some, get_before, set_or_was, last_or_was}
 
--- a thread of a counted state that has so many steps left after the one that it makes
+-- a thread of a counted state that has this number of steps left after the one that it makes
 pub record IsStepping (here : Setting) (s : State) (left : ℕ) : Type 0 where
   pub counted : IsCounted here.limits s
   pub thread : Thread

@@ -16,7 +16,7 @@ use Rattle.simulation.proofs.MonitorCounts.StateChanges.{IsStepping, IsCountedAf
 use Rattle.simulation.proofs.MonitorCounts.InstructionSteps.{KeepsInEffect, goes, effect_keeps}
 use Rattle.interpreter.proofs.cil_model.Lists.{none_is_some, set_or_was, set_is_there}
 
--- a state that an outcome answers is counted
+-- the state that an outcome has is counted
 abbrev LeavesCounted : Limits → Outcome → Type 0
 LeavesCounted limits (Answers r s) = IsCounted limits s
 LeavesCounted limits Stuck = Unit {0}
@@ -78,13 +78,13 @@ module _ (here : Setting) (allowed : 1 ≤ here.limits.budget) (s : State) where
             let less = stepping.one_less in omega (arith, e, h, less, steps)
         within_at n t (inr was) = within_before n t (keeps.threads n t was)
 
-  -- ---- what a step answers
+  -- ---- what a step returns
 
   -- where the thread ends
   ended_counted : (left : ℕ) → IsStepping here s left → (after : State) → KeepsCounts here s left after → (e : End) → LeavesCounted here.limits (ended_as after here.thread left e)
   ended_counted left stepping after keeps e = moved_counted left stepping after keeps _ refl (λ live. none_is_some e (sym live))
 
-  -- where it goes on, or its budget is used up
+  -- where it continues, or its budget is used up
   going_counted : (r : Report) (left : ℕ) → IsStepping here s left → (after : State) → KeepsCounts here s left after → (frames : List Frame) → LeavesCounted here.limits (goes_on r after here.thread left frames)
   going_counted r zero stepping after keeps frames = ended_counted zero stepping after keeps Budget
   going_counted r (suc left) stepping after keeps frames = moved_counted (suc left) stepping after keeps _ refl (λ live. omega arith)

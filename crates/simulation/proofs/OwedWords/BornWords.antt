@@ -309,7 +309,7 @@ module _ (c : Content) (s : State) (r : Represents c s) (h : IsWithinBirths c s)
         exceeds = beyond words left (omega (arith, more, left_for_births));
       }
 
--- ---- the opening
+-- ---- the initial state
 
 module _ (tree : Tree) (limits : Limits) where
   pub opened_within : (c : Content) → opening_content tree limits ≡ Some c → (s : State) → IsWithinBirths c s

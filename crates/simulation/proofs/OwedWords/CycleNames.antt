@@ -12,7 +12,9 @@ use Rattle.interpreter.specs.object_memory.declared.values.Value.{Value}
 use Rattle.interpreter.specs.object_memory.declared.values.Value.TheVariants.{Int32, Int64, Native, Ref}
 use Rattle.interpreter.specs.object_memory.Cells.{Cell, cell_in, empty_cell, next_address}
 use Rattle.interpreter.specs.object_memory.Objects.{Objects}
-use Rattle.interpreter.specs.object_memory.Spaces.{AreSpaces, InBoth, InNew, InOld, Listed, Place, Spaces, address_at, born, forward, is_old, is_white, mark, marked_if, other_of, place_of, set_mark}
+use Rattle.interpreter.specs.object_memory.Spaces.{AreSpaces, Spaces, address_at, birth_space_of, born, forward, is_old, is_white, mark, marked_if, other_of, set_mark}
+use Rattle.interpreter.specs.object_memory.declared.birth_spaces.BirthSpace.{BirthSpace}
+use Rattle.interpreter.specs.object_memory.declared.birth_spaces.BirthSpace.TheVariants.{InBoth, InNew, InOld, Listed}
 use Rattle.interpreter.specs.instructions.barriers.Barriers.{object_born, with_marked}
 use Rattle.interpreter.specs.reference_machine.Cycles.{phase_after}
 use Rattle.interpreter.proofs.object_memory.Births.{born-kept_old, born-old_last, born-was_new, born-was_old, forward-born, new_part, old_part}
@@ -215,14 +217,14 @@ module _ (own posted : Phase) (o : Objects) (spaces : AreSpaces o.spaces) (v : V
 -- ---- births
 
 module _ (m : Spaces) (spaces : AreSpaces m) (k : Kind) (n : ℕ) where
-  part_address : (place : Place) (a : Addr) (d : Cell) → a.number ≡ (next_address m.old).number → old_part place m k n ≡ Some d → a ≡ address_at place m
+  part_address : (place : BirthSpace) (a : Addr) (d : Cell) → a.number ≡ (next_address m.old).number → old_part place m k n ≡ Some d → a ≡ address_at place m
   part_address InOld a d same part = ap (λ (x : ℕ). record { number = x }) same
   part_address Listed a d same part = ap (λ (x : ℕ). record { number = x }) same
   part_address InBoth a d same part = ap (λ (x : ℕ). record { number = x }) same
   part_address InNew a d same part = none_is_some d part
 
   -- a marked object was marked before or is the one that was born
-  pub born_marked : (place : Place) (a : Addr) → is_marked_old (born place m k n) a ≡ true → (is_marked_old m a ≡ true) ⊎ (a ≡ address_at place m)
+  pub born_marked : (place : BirthSpace) (a : Addr) → is_marked_old (born place m k n) a ≡ true → (is_marked_old m a ≡ true) ⊎ (a ≡ address_at place m)
   born_marked place a h =
       let d = marked_cell (born place m k n) a h in
       elim (born-was_old m spaces k n place a d.0 d.1) [
@@ -230,7 +232,7 @@ module _ (m : Spaces) (spaces : AreSpaces m) (k : Kind) (n : ℕ) where
         | inr here ↦ inr (part_address place a d.0 here.0 here.1)
       ]
 
-  new_address : (place : Place) (a : Addr) (d : Cell) → a.number ≡ (next_address m.new).number → new_part place m k n ≡ Some d →
+  new_address : (place : BirthSpace) (a : Addr) (d : Cell) → a.number ≡ (next_address m.new).number → new_part place m k n ≡ Some d →
       (a ≡ address_at place m) ⊎ (other_of (cell_in (born place m k n).old (address_at place m)) ≡ Some a)
   new_address InOld a d same part = none_is_some d part
   new_address Listed a d same part = none_is_some d part
@@ -239,7 +241,7 @@ module _ (m : Spaces) (spaces : AreSpaces m) (k : Kind) (n : ℕ) where
   new_address InNew a d same part = inl (ap (λ (x : ℕ). record { number = x }) same)
 
   -- and a new one was new before, or is that one or its copy
-  pub born_new : (place : Place) (a : Addr) → is_new (born place m k n) a ≡ true → (is_new m a ≡ true) ⊎ ((a ≡ address_at place m) ⊎ (other_of (cell_in (born place m k n).old (address_at place m)) ≡ Some a))
+  pub born_new : (place : BirthSpace) (a : Addr) → is_new (born place m k n) a ≡ true → (is_new m a ≡ true) ⊎ ((a ≡ address_at place m) ⊎ (other_of (cell_in (born place m k n).old (address_at place m)) ≡ Some a))
   born_new place a h =
       let d = new_cell (born place m k n) a h in
       elim (born-was_new m spaces k n place a d.0 d.1) [
@@ -248,7 +250,7 @@ module _ (m : Spaces) (spaces : AreSpaces m) (k : Kind) (n : ℕ) where
       ]
 
   -- what was a copy is one
-  still_copy : (place : Place) (y : Addr) → IsCopyOfMarked m y → IsCopyOfMarked (born place m k n) y
+  still_copy : (place : BirthSpace) (y : Addr) → IsCopyOfMarked m y → IsCopyOfMarked (born place m k n) y
   still_copy place y x =
       let c = marked_cell m x.old x.marked in
       record {
@@ -257,7 +259,7 @@ module _ (m : Spaces) (spaces : AreSpaces m) (k : Kind) (n : ℕ) where
         copy = forward-born m spaces k n place x.old (λ same. none_is_some c.0 (sym (next_in m.old) ∙ subst (λ (z : ℕ). cell_in m.old (record { number = z }) ≡ Some c.0) same c.1)) ∙ x.copy;
       }
 
-  copies_born : (place : Place) → (place ≡ InNew → ⊥) → ((y : Addr) → is_new m y ≡ true → IsCopyOfMarked m y) → (y : Addr) → is_new (born place m k n) y ≡ true → IsCopyOfMarked (born place m k n) y
+  copies_born : (place : BirthSpace) → (place ≡ InNew → ⊥) → ((y : Addr) → is_new m y ≡ true → IsCopyOfMarked m y) → (y : Addr) → is_new (born place m k n) y ≡ true → IsCopyOfMarked (born place m k n) y
   copies_born InOld else' are y new = still_copy InOld y (are y new)
   copies_born Listed else' are y new = still_copy Listed y (are y new)
   copies_born InNew else' are y new = absurd (else' refl)
@@ -274,10 +276,10 @@ module _ (m : Spaces) (spaces : AreSpaces m) (k : Kind) (n : ℕ) where
       ]
 
 -- no thread that bears in the new block alone is near the phases in which objects get their copies
-not_in_new : (own posted : Phase) (is_open : Bool) → IsNear own posted → is_copying posted ≡ true → place_of own is_open ≡ InNew → ⊥
+not_in_new : (own posted : Phase) (is_open : Bool) → IsNear own posted → is_copying posted ≡ true → birth_space_of own is_open ≡ InNew → ⊥
 not_in_new own posted is_open near copying = by_near near
   where
-    at_own : (x : Phase) (t : Bool) → is_copying x ≡ true → place_of x t ≡ InNew → ⊥
+    at_own : (x : Phase) (t : Bool) → is_copying x ≡ true → birth_space_of x t ≡ InNew → ⊥
     at_own Idle t e h = never e
     at_own Mark t e h = never e
     at_own Allocate t e h = absurd cc
@@ -287,7 +289,7 @@ not_in_new own posted is_open near copying = by_near near
     at_own ThreadFlip t e h = never e
     at_own Reclaim t e h = never e
 
-    at_next : (x : Phase) (t : Bool) → is_copying (phase_after x) ≡ true → place_of x t ≡ InNew → ⊥
+    at_next : (x : Phase) (t : Bool) → is_copying (phase_after x) ≡ true → birth_space_of x t ≡ InNew → ⊥
     at_next Idle t e h = never e
     at_next Mark t e h = absurd cc
     at_next Allocate t e h = absurd cc
@@ -297,13 +299,13 @@ not_in_new own posted is_open near copying = by_near near
     at_next ThreadFlip t e h = never e
     at_next Reclaim t e h = never e
 
-    by_near : IsNear own posted → place_of own is_open ≡ InNew → ⊥
+    by_near : IsNear own posted → birth_space_of own is_open ≡ InNew → ⊥
     by_near (inl is) = at_own own is_open (ap is_copying is ∙ copying)
     by_near (inr is) = at_next own is_open (ap is_copying is ∙ copying)
 
 module _ (own posted : Phase) (near : IsNear own posted) (o : Objects) (spaces : AreSpaces o.spaces) (k : Kind) (n : ℕ) (o' : Objects) (a : Addr) (e : ◌≡◌ {A = Objects × Option Addr} (object_born own o k n) (o', Some a)) where
-  abbrev place : Place
-  place = place_of own o.spaces.is_open
+  abbrev place : BirthSpace
+  place = birth_space_of own o.spaces.is_open
 
   -- what is marked after a birth was marked before, or is what was born,
   pub marked_before_birth : (x : Addr) → is_marked_old o'.spaces x ≡ true → (is_marked_old o.spaces x ≡ true) ⊎ (x ≡ a)
@@ -334,4 +336,4 @@ module _ (own posted : Phase) (near : IsNear own posted) (o : Objects) (spaces :
   birth_copies are copying =
       let g = granted own o k n o' a e in
       subst (λ (z : Objects). (y : Addr) → is_new z.spaces y ≡ true → IsCopyOfMarked z.spaces y) g.1
-      (copies_born o.spaces spaces k n (place_of own o.spaces.is_open) (not_in_new own posted o.spaces.is_open near copying) (are copying))
+      (copies_born o.spaces spaces k n (birth_space_of own o.spaces.is_open) (not_in_new own posted o.spaces.is_open near copying) (are copying))

@@ -197,7 +197,7 @@ module _ (m : Spaces) (spaces : AreSpaces m) (y : Addr) (new : is_new m y ≡ tr
       by_other (Some z) is = ap Some (sym (ap (λ (o : Option Addr). unwrap_or o x.old) is) ∙ x.copy)
 
 module _ (tree : Tree) (posted : Phase) (has_round : Bool) (words : ℕ) (p : Progress) (m : Spaces) (sound : IsSoundHeap tree posted has_round words p m) (y : Addr) (d : Cell) (lies : cell_in m.new y ≡ Some d) where
-  -- it tells which one that is
+  -- it identifies the one that it is a copy of
   copy_back : (posted ≡ Reclaim → ⊥) → (x : IsCopyOfMarked m y) → d.other ≡ Some x.old
   copy_back early x =
       let out = copy_other m sound.blocks.spaces y (new_is m y d lies) x in
@@ -205,7 +205,7 @@ module _ (tree : Tree) (posted : Phase) (has_round : Bool) (words : ℕ) (p : Pr
       let e = sound.copies.out x.old y c.0 c.1 c.2 in
       ap (λ (z : Cell). z.other) (same_Some d e.0 (sym lies ∙ e.1)) ∙ e.2.back (inl early)
 
-  -- and what tells it is a copy
+  -- and what identifies another one is a copy
   back_copy : (x : Addr) → d.other ≡ Some x → IsCopyOfMarked m y
   back_copy x other =
       let c = sound.copies.back x y d lies other in
@@ -218,7 +218,7 @@ module _ (tree : Tree) (posted : Phase) (has_round : Bool) (words : ℕ) (p : Pr
 -- ---- each phase
 
 module _ (c : Content) (s : State) (legal : IsLegal c.tree) (typed : IsTyped c.tree s) (name names : Names) (stands : StandsBy name c s) where
-  -- what is kept after a turn has a name, under names that are normal then
+  -- what is kept after a transition has a name, under names that are normal then
   abbrev Then : Content × Report → Type 0
   Then x = Renames name x.0 names → HasNames names x.0
 

@@ -180,7 +180,7 @@ module _ (is_inside : ℕ → Bool) where
           each_literal = λ n characters is. is_cut_inside name (literal n).number (Literal characters) refl (h.each_literal n characters is);
         }
 
-    -- a machine stands for its state under the names of the set
+    -- a machine represents its state under the names of the set
     pub stands_inside : (name : Names) (c : Content) (s : State) → IsClosed Inside s → ((n : ℕ) → is_inside n ≡ true → Inside n) → StandsBy name c s → StandsBy (cut_inside name) c s
     stands_inside name c s closed inside h = record {
       memory = record {

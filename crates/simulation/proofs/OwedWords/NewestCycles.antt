@@ -1,4 +1,4 @@
--- Where a run ends a cycle, its events have a newest cycle, and just so many words are owed.
+-- Where a run ends a cycle, its events have a newest cycle, and exactly one number of words is owed.
 use Rattle.std.proofs.Common.{◌≡◌, ◌⊎◌, ◌≤◌, ◌<◌, ℕ, Bool, true, false, List, [], ◌∷◌, ◌++◌, length, Contains, refl, inl, inr, sym, ap, ◌∙◌, subst, arith, append_assoc, append-nil, length-append}
 use Rattle.std.specs.Prelude.{◌&&◌, not, sum_by, slice_get, IsTrue}
 use Rattle.std.specs.List.{AllByRecursion, zip}
@@ -75,7 +75,7 @@ module _ (xs earlier later : Events) (split : BeginsNewestCycle xs earlier later
       let whole : later ++ e ∷ [] ≡ (between ++ last.0) ++ last.1 ∷ [] = is ∙ (ap (λ l. between ++ l) last.2 ∙ sym (append_assoc between last.0 (last.1 ∷ []))) in
       by_front between x rest last.0 last.1 last.2 (front_same later (between ++ last.0) e last.1 whole) some shut
 
-  -- so the newest cycle goes on
+  -- so the newest cycle continues
   cycle_goes_on : BeginsNewestCycle (xs ++ e ∷ []) earlier (later ++ e ∷ [])
   cycle_goes_on = record {
     whole = ap (λ l. l ++ e ∷ []) split.whole ∙ append_assoc earlier later (e ∷ []);
@@ -165,7 +165,7 @@ module _ (tree : Tree) (before now : State) (words words' : ℕ) (owes : OwesWor
       let less = distinct_sum (λ n. words_of_object tree (slice_get now.objects n)) owes.names owes'.names owes.distinct all_listed in
       subst (λ k. words ≤ k) owes'.total (subst (λ k. k ≤ sum_by (λ n. words_of_object tree (slice_get now.objects n)) owes'.names) owes.total less)
 
--- so many words are owed, and no other number
+-- this number of words is owed, and no other number
 pub owed_once : (tree : Tree) (limits : Limits) (events : List Event) (reports : List Report) (words words' : ℕ) → OwesAfter tree limits events reports words → OwesAfter tree limits events reports words' → words ≡ words'
 owed_once tree limits events reports words words' o o' =
     let first : o.first ≡ o'.first = same_Some o.first o'.first (sym o.opens ∙ o'.opens) in
@@ -205,7 +205,7 @@ module _ (each : InstructionsAreAlike) (tree : Tree) (accepted : IsAccepted tree
   abbrev goes : (done rest : Events) (e : Event) (r : Report) (d next : Content) (u after : State) → all ≡ done ++ (e, r) ∷ rest → IsBefore done d u → IsTurn d e (next, r) → IsNext d.tree d.limits u e r after → IsBefore (done ++ (e, r) ∷ []) next after
   goes = λ done rest e r d next u after split k turn is. before_goes each done e r d next u after k turn is
 
-  -- where the run comes to after the first of its events
+  -- what the run reaches after the first of its events
   come : (xs ys : Events) → all ≡ xs ++ ys → Comes tree limits all s h.last IsBefore goes xs ys [] h.first
   come xs ys split = walk tree limits all s h.last IsBefore goes xs ys [] h.machine h.first (at_first xs ys split) (record { represents = first_represents; posted = ap is_of_cycle (opened_is tree limits h.machine h.opened).idle })
 

@@ -43,7 +43,7 @@ acknowledged_posted c t = after_acknowledgement c t (λ (x : Content). x.posts.p
 -- ---- names of what is owed
 
 module _ (Inside : ℕ → Type 0) (is_inside : ℕ → Bool) (told : (n : ℕ) → Inside n → is_inside n ≡ true) (inside : (n : ℕ) → is_inside n ≡ true → Inside n) where
-  -- The machine stands for the state, in which the set has all that its objects and the roots refer to; under normal names, each of them of an object of
+  -- The machine represents the state, in which the set has all that its objects and the roots refer to; under normal names, each of them of an object of
   -- the set, what a cycle keeps has a name.
   pub record IsOwedBy (c : Content) (s : State) : Type 0 where
     pub represents : Represents c s
@@ -103,7 +103,7 @@ module _ (Inside : ℕ → Type 0) (is_inside : ℕ → Bool) (told : (n : ℕ) 
   -- ---- steps
 
   module _ (each : InstructionsAreAlike) (c : Content) (s : State) (t : ℕ) (next : Content) (r : Report) (h : IsOwedBy c s) (turn : IsTurn c (Step t) (next, r)) where
-    -- what the reference machine comes to by the same step
+    -- what the reference machine reaches by the same step
     abbrev follows : (u : State) × (step c.tree c.limits s t (is_refusal r) ≡ Answers r u) × (r' : Represents next u) × KeepsOwnRoom c s t next.objects u × KeepsOwnNames c s h.represents next.objects r'.stands.name
     follows = step_names each c s h.represents t (next, r) turn
 

@@ -170,7 +170,7 @@ module _ (s : State) where
           contained_within (Inside names) (candidates names) (Reference n) (all_within names (candidates names) none) (Contains-append_right (roots s) (members names) (Reference n) (member_there names k (Reference n) listed held))
       by_name (Literal characters) (k, less, e) listed = absurd (omega (arith, less))
 
-  -- a list of reachable objects, to which nothing is to be added, or which has so many
+  -- a list of reachable objects, to which nothing is to be added, or which has at least `fuel`
   record IsFound (fuel : ℕ) : Type 0 where
     names : List ℕ
     distinct : IsDistinct nat_eq names
@@ -220,7 +220,7 @@ module _ (s : State) where
         by_test true test h later = subst (λ x. IsReachable s (Born x)) (sym (eqb-true n k test)) each.0
         by_test false test h later = later h
 
-    -- with so many that were born since
+    -- with this number that were born since
     record ListsOwed (more : ℕ) : Type 0 where
       names : List ℕ
       distinct : IsDistinct nat_eq names

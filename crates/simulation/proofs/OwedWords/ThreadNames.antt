@@ -31,7 +31,7 @@ use Rattle.simulation.proofs.CollectedHeap.VisibleNames.{FitsCollected, first_ho
 use Rattle.simulation.proofs.OwedWords.CycleNames.{IsNamed, KeepsNames, birth_adds, birth_copies, copies_alike, first_adds, first_copies, is_kept, kept_alike, kept_is_held, kept_is_live}
 use Rattle.simulation.proofs.Memory.MemoryModels.{IsBirth, MemoryModel}
 
--- a name that was there, or that of an object born since there were so many
+-- a name that was there, or that of an object born since there were this number
 abbrev pub IsKnown : Names → ℕ → ObjectName → Type 0
 IsKnown own begun n = ((a : ℕ) × (own a ≡ Some n)) ⊎ ((k : ℕ) × (Born k ≡ n) × (begun ≤ k))
 
@@ -90,7 +90,7 @@ module _ (tree : Tree) (legal : IsLegal tree) (words : ℕ) (h : Handshakes) (p 
           copies = λ are. copies_alike h.posted (marked_first seat.phase o v).spaces (stored_value seat.phase o a slot v).spaces alike (marked.copies are);
         }
 
-    -- an object in the place of another leaves as many
+    -- an object in the place of another leaves the same number
     pub as_many : (n : ℕ) (object : HeapObject) → begun ≤ length (with_object s (Born n) object).objects
     as_many n object = subst (λ k. begun ≤ k) (sym (length-set s.objects n object)) fit.more
 

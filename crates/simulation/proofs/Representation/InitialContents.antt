@@ -167,7 +167,7 @@ module _ (tree : Tree) (limits : Limits) (accepted : IsAccepted tree) (in_range 
           },
         )
 
--- an accepted program has a first content, which stands for its opening state
+-- an accepted program has an initial machine state, which represents its initial state
 pub opening_represents : (tree : Tree) (limits : Limits) → IsAccepted tree → IsTrue (are_in_range limits) →
     (c : Content) × (s : State) × (opening_content tree limits ≡ Some c) × (opening tree limits ≡ Some s) × Represents c s
 opening_represents tree limits accepted in_range =

@@ -25,7 +25,7 @@ use Rattle.simulation.specs.StandsFor.{Names}
 abbrev AreApart : {X : Type 0} → List X → Type 0
 AreApart {X} xs = (m n : ℕ) (x : X) → slice_get xs m ≡ Some x → slice_get xs n ≡ Some x → m ≡ n
 
--- those behind the first
+-- those after the first
 rest_apart : {X : Type 0} (y : X) (ys : List X) → AreApart (y ∷ ys) → AreApart ys
 rest_apart y ys apart m n x h k = let same : suc m ≡ suc n = apart (suc m) (suc n) x h k in omega (arith, same)
 
@@ -34,7 +34,7 @@ kept_apart : {X : Type 0} (test : X → Bool) (ys : List X) → AreApart ys → 
 kept_apart test [] apart m n x h k = none_is_some x h
 kept_apart {X} test (y ∷ ys) apart m n x h k = by_test (test y) (kept_apart test ys (rest_apart y ys apart)) m n h k
   where
-    -- none behind the first is the first
+    -- none after the first is the first
     behind : (j : ℕ) → slice_get (filter test ys) j ≡ Some y → {A : Type 0} → A
     behind j e {A} = let found = kept_from test ys j y e in let same : zero ≡ suc found.0 = apart zero (suc found.0) y refl found.1 in absurd (omega (arith, same))
 
@@ -64,7 +64,7 @@ once_apart (y ∷ ys) m n x h k = by_places (kept_apart (λ z. not (same_text y 
     by_places later (suc m) zero h k = not_first m (h ∙ sym k)
     by_places later (suc m) (suc n) h k = ap suc (later m n x h k)
 
--- as many of one thing as there are items
+-- one of a thing for each item
 pub same_for_each : {X Y : Type 0} (xs : List X) (n : ℕ) (x : X) (y : Y) → slice_get xs n ≡ Some x → slice_get (replicate (length xs) y) n ≡ Some y
 same_for_each xs n x y e =
     let within : n < length xs = slice_get_within xs n x e in

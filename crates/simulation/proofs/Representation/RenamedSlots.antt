@@ -34,12 +34,12 @@ agree_of_places R (x ∷ xs) (y ∷ ys) same h =
 agree_of_places R [] (y ∷ ys) same h = absurd (omega (arith, same))
 agree_of_places R (x ∷ xs) [] same h = absurd (omega (arith, same))
 
--- a place behind the first of two lists
+-- a place after the first of two lists
 get_behind : {X : Type 0} (xs ys : List X) (n : ℕ) → slice_get (xs ++ ys) (length xs + n) ≡ slice_get ys n
 get_behind [] ys n = let place : 0 + n ≡ n = omega arith in ap (slice_get ys) place
 get_behind (x ∷ xs) ys n = let place : length (x ∷ xs) + n ≡ suc (length xs + n) = omega arith in ap (slice_get (x ∷ (xs ++ ys))) place ∙ get_behind xs ys n
 
--- a list that begins as one of two parts, with as many elements as both
+-- a list that begins as one of two parts, with the number of elements of both
 split_alike : (xs ys zs : List ℕ) → length zs ≡ length (xs ++ ys) → ((n w : ℕ) → slice_get xs n ≡ Some w → slice_get zs n ≡ Some w) → (rest : List ℕ) × (zs ≡ xs ++ rest) × (length rest ≡ length ys)
 split_alike [] ys zs count h = (zs, refl, count)
 split_alike (x ∷ xs) ys [] count h = absurd (omega (arith, count))
@@ -49,7 +49,7 @@ split_alike (x ∷ xs) ys (z ∷ zs) count h =
 
 -- ---- slots
 
--- As many slots: each integer is the same, and each reference stands for the same object.
+-- The same number of slots: each integer is the same, and each reference represents the same object.
 pub record ShowAlike (tree : Tree) (name names : Names) (kind : Kind) (slots shown : List ℕ) : Type 0 where
   pub count : length shown ≡ length slots
   pub integers : (slot word : ℕ) → holds_reference tree kind slot ≡ false → slice_get slots slot ≡ Some word → slice_get shown slot ≡ Some word

@@ -80,7 +80,7 @@ module _ (name : Names) (test : Test) (nulls : test (record { number = 0 }) ≡ 
   value_passes v u null_reference = nulls
   value_passes v u (reference a n is) = named a.number n is
 
-  -- a value among those that stand for some
+  -- a value among those that represent some
   among_passes : (vs : List Value) (us : List StateValue) → Agree (IsValue name) vs us → (v : Value) → IsAmong vs v → ValuePasses test v
   among_passes [] us agree v h = elim h [ ]
   among_passes (w ∷ vs) [] agree v h = elim agree [ ]

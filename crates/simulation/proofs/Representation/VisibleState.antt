@@ -138,7 +138,7 @@ module _ (limits : Limits) (c d : Content) (s : State) (events : List (Event × 
   within_budget : AreWithinBudget limits events s
   within_budget = record { within = λ t. omega (arith, kept.counted t, whole t); ended = λ t all. spent t (omega (arith, kept.counted t, whole t, all)) }
 
--- a machine that represented the opening state, after a run
+-- a machine that represented the initial state, after a run
 pub stands_after : (tree : Tree) (limits : Limits) (c d : Content) (events : List Event) (reports : List Report) (first : State) → opening tree limits ≡ Some first → opening_content tree limits ≡ Some c → Represents c first → c.tree ≡ tree → c.limits ≡ limits → d.limits ≡ c.limits → 0 < limits.budget
     → length reports ≡ length events → FollowsReference c d (zip events reports) → StandsAfter tree limits events reports d
 stands_after tree limits c d events reports first opens opened r same_tree same_limits kept_limits some each follows =

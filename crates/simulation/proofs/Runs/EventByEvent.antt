@@ -21,7 +21,7 @@ same_tail : (a b : Report) (as' bs : List Report) → a ∷ as' ≡ b ∷ bs →
 same_tail a b as' bs e = cc
 
 module _ (tree : Tree) (limits : Limits) (all : List (Event × Report)) (now : State) (last : Content) where
-  -- a run is at a content and a state: these events are done, and these are left
+  -- a run is at a machine state and a state of the reference machine: these events are done, and these are left
   pub record IsAt (done rest : List (Event × Report)) (c : Content) (s : State) : Type 0 where
     pub of_tree : c.tree ≡ tree
     pub of_limits : c.limits ≡ limits
@@ -77,14 +77,14 @@ module _ (tree : Tree) (limits : Limits) (all : List (Event × Report)) (now : S
     there = at_next done rest c s Gc r at at.refuses.0 s at.refuses.1 at.runs (at.refuses.3 s refl);
   }
 
-  -- the run of the reference machine behind an event
+  -- the run of the reference machine after an event
   runs_behind : (xs : List (Event × Report)) (e : Event) (r : Report) (s after t : State) → IsNext tree limits s e r after → run tree limits after (thread_part xs) ≡ RunsTo (step_reports xs) t →
       run tree limits s (thread_part ((e, r) ∷ xs)) ≡ RunsTo (step_reports ((e, r) ∷ xs)) t
   runs_behind xs (Step n) r s after t is runs = ap (λ o. followed_by o (λ (u : State). run tree limits u (thread_part xs))) is ∙ ap (preceded_by r) runs
   runs_behind xs (Ack n) r s after t is runs = subst (λ (u : State). run tree limits u (thread_part xs) ≡ RunsTo (step_reports xs) t) is runs
   runs_behind xs Gc r s after t is runs = subst (λ (u : State). run tree limits u (thread_part xs) ≡ RunsTo (step_reports xs) t) is runs
 
-  -- what holds from event to event holds where the run comes to
+  -- what holds from event to event holds where the run ends
   module _ (Holds : List (Event × Report) → Content → State → Type 0)
       (goes : (done rest : List (Event × Report)) (e : Event) (r : Report) (c next : Content) (s after : State) → all ≡ done ++ (e, r) ∷ rest → Holds done c s → IsTurn c e (next, r) → IsNext c.tree c.limits s e r after → Holds (done ++ (e, r) ∷ []) next after) where
     pub record Comes (xs ys done : List (Event × Report)) (s : State) : Type 0 where

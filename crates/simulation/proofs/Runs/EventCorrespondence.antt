@@ -94,9 +94,9 @@ module _ (here : Setting) (model : MemoryModel here.tree) (name : Names) (m : Fr
 pub each_alike : InstructionsAreAlike
 each_alike here model name m o statics printed s f below i operation at = by_operation here model name m o statics printed s f below i operation at.resolved at
 
--- ---- the opening
+-- ---- the initial state
 
--- an accepted program has a first content, which represents its opening state
+-- an accepted program has an initial machine state, which represents its initial state
 pub opening_is_represented : (tree : Tree) (limits : Limits) → IsAccepted tree → IsTrue (are_in_range limits) →
     (c : Content) × (s : State) × (opening_content tree limits ≡ Some c) × (opening tree limits ≡ Some s) × Represents c s
 opening_is_represented = opening_represents
@@ -121,7 +121,7 @@ pub collection_keeps : (c : Content) (s : State) → Represents c s → (after :
 collection_keeps c s r after turn =
     let normal = normally c s r in subst (λ (x : Content × Report). Represents x.0 s) (sym turn) (collected_represents c s r normal.name normal.normal normal.by)
 
--- a live thread's instruction has an answer
+-- a live thread's instruction has a result
 pub thread_is_ready : (c : Content) (s : State) → Represents c s → (t left : ℕ) (m : Frames) → slice_get c.threads t ≡ Some (record { standing = Live m; steps_left = left }) → IsReady c t m
 thread_is_ready c s r t left m there = thread_ready each_alike c s r t left m there
 

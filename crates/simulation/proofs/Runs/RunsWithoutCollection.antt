@@ -167,7 +167,7 @@ module _ (each : InstructionsAreAlike) where
             (subst (λ (l : Limits). RefusesBeyondOneSpace c.tree l after.0 (thread_part (zip es rs))) same.1 (subst (λ (u : Tree). RefusesBeyondOneSpace u next.limits after.0 (thread_part (zip es rs))) same.0 rest)),
       )
 
--- ---- the opening
+-- ---- the initial state
 
 module _ (tree : Tree) (limits : Limits) where
   -- nothing was born, and thread 0 alone has a seat

@@ -1,4 +1,4 @@
--- The same events from one content have the same reports, and come to the same state of the reference machine.
+-- The same events from one machine state have the same reports, and reach the same state of the reference machine.
 use Rattle.std.proofs.Common.{◌≡◌, ℕ, List, [], ◌∷◌, Some, length, refl, sym, ap, ◌∙◌, subst, arith, Option, None, option_and_then, option_map, slice_get}
 use Rattle.std.specs.List.{zip}
 use Rattle.std.proofs.lemmas.Option.{same_Some}
@@ -40,7 +40,7 @@ same_tail : (a b : Report) (as' bs : List Report) → a ∷ as' ≡ b ∷ bs →
 same_tail a b as' bs e = cc
 
 module _ (tree : Tree) (limits : Limits) (one : (lines : List Line) (i : Instruction) (o p : Operation) → IsOperation tree lines i o → IsOperation tree lines i p → o ≡ p) where
-  -- a content of this program within these limits
+  -- a machine state of this program within these limits
   abbrev IsOf : Content → Type 0
   IsOf c = (c.tree ≡ tree) × (c.limits ≡ limits)
 
@@ -51,7 +51,7 @@ module _ (tree : Tree) (limits : Limits) (one : (lines : List Line) (i : Instruc
   turns_alike c e x y of =
       one_turn c (subst (λ (t : Tree). (lines : List Line) (i : Instruction) (o p : Operation) → IsOperation t lines i o → IsOperation t lines i p → o ≡ p) (sym of.0) one) e x y
 
-  -- what a run from a content and a state comes to
+  -- what a run from a machine state and a state of the reference machine reaches
   record ComesTo (c : Content) (s : State) (events : List (Event × Report)) (t : State) : Type 0 where
     pub runs : run tree limits s (thread_part events) ≡ RunsTo (step_reports events) t
     pub last : Content

@@ -1,4 +1,4 @@
--- In a legal tree an event has one turn: a list of events brings a machine to one content, with one list of reports.
+-- In a legal tree an event has one transition: a list of events brings a machine to one state, with one list of reports.
 use Rattle.std.proofs.Common.{◌≡◌, List, Some, None, Option, slice_get, ℕ, sym, ap, ◌∙◌, subst}
 use Rattle.std.proofs.lemmas.Option.{same_Some}
 use Rattle.interpreter.specs.cil_model.declared.events.Event.{Event}

@@ -52,7 +52,7 @@ module _ (c : Content) (s : State) (r : Represents c s) where
 
 module _ (c : Content) (s : State) (r : Represents c s) (t left : ℕ) (m : Frames) (there : slice_get c.threads t ≡ Some (record { standing = Live m; steps_left = left }))
     (operation : Operation) (at : IsAt c.tree m operation) (constant : HasSmallConstant operation) where
-  -- what waiting comes to
+  -- the outcome of waiting
   abbrev IsJoined : Effect → Type 0
   IsJoined j =
       (false ≡ is_refused_effect j) ×

@@ -27,7 +27,7 @@ use Rattle.simulation.proofs.Representation.NormalContents.{StandsNormally, has_
 use Rattle.simulation.proofs.CollectedHeap.MemoryWithRoom.{KeepsRoom, in_room, keeps_itself}
 
 module _ (c : Content) (s : State) (r : Represents c s) where
-  -- the machine stands for the state under normal names
+  -- the machine represents the state under normal names
   pub normally : StandsNormally c s
   normally = normal_names c (sound_is_held c r.sound) r.accepted.legal s r.typed r.stands.name r.stands.by
 

@@ -28,14 +28,14 @@ set_twice [] n x y = refl
 set_twice (z ∷ zs) zero x y = refl
 set_twice (z ∷ zs) (suc n) x y = ap (λ l. z ∷ l) (set_twice zs n x y)
 
--- a step that goes on, with another step left behind it
+-- a step after which the thread continues, with another step left after it
 settled_goes : (left : ℕ) (m : Frames) → 1 < left → settled GoesOn (live_thread left m) ≡ (live_thread (left - 1) m, Ran)
 settled_goes left m more =
     let some : (left - 1 == 0) ≡ false = grind (arith, nat_tests) in
     ap (λ (b : Bool). standing_after (if b then Some Budget else None) m (left - 1) GoesOn) some
 
 module _ (c : Content) (t left : ℕ) (f : Frame) (at : RunsFrame c t left f) where
-  -- the content once other frames run there
+  -- the machine state once other frames run there
   abbrev pub after : ℕ → Frame → Content
   after n g = with_live c t (left - n) (frames_over g at.below at.depth frame_room)
 
@@ -58,7 +58,7 @@ module _ (c : Content) (t left : ℕ) (f : Frame) (at : RunsFrame c t left f) wh
       ∙ ap (λ (threads : List Thread). Some (record c { threads = threads }, Ran)) (set_twice c.threads t (live_thread left m) (live_thread (left - 1) m)) in
       subst (λ o. IsThreadTurn c t o (after 1 g, Ran)) (sym at.there) (a, step.done at.below at.depth (mutator_of c t) c.objects c.statics c.printed, ends)
 
--- turns with one more
+-- transitions with one more
 pub turns_then : (c d n : Content) (es : List Event) (rs : List Report) (e : Event) (r : Report) → AreTurns c es d rs → IsTurn d e (n, r) → AreTurns c (es ++ e ∷ []) n (rs ++ r ∷ [])
 turns_then c d n [] rs e r h k = subst (λ x. AreTurns c (e ∷ []) n (x ++ r ∷ [])) (sym h.1) (n, subst (λ x. IsTurn x e (n, r)) h.0 k, (refl, refl))
 turns_then c d n (x ∷ es) (y ∷ ys) e r h k = (h.0, h.1, turns_then h.0 d n es ys e r h.2 k)
@@ -80,7 +80,7 @@ module _ (c : Content) (t left : ℕ) (f : Frame) (at : RunsFrame c t left f) wh
       ∙ ap (λ k. with_live c t k (frames_over h at.below at.depth frame_room)) fewer)
       turn
 
-  -- so many of them
+  -- n of them
   pub local_turns : (n : ℕ) (g : Frame) → n < left → AreLocalSteps c.tree frame_room n f g → AreTurns c (replicate n (Step t)) (after c t left f at n g) (replicate n Ran)
   local_turns zero g less steps = (ap (after c t left f at 0) steps ∙ nothing_done c t left f at, refl)
   local_turns (suc n) g less (next, before, step) =

@@ -33,7 +33,7 @@ use Rattle.simulation.proofs.Threads.LiveThreads.{normally, own_frames, own_memo
 abbrev pub setting_of : Content → ℕ → Bool → Setting
 setting_of c t refused = record { tree = c.tree; limits = c.limits; thread = t; is_refused = refused }
 
--- the thread of the reference machine lives, with frames that those of the machine stand for, and as many steps left
+-- the thread of the reference machine lives, with frames that those of the machine represent, and the same number of steps left
 pub record IsAlive (c : Content) (s : State) (name : Names) (t left : ℕ) (m : Frames) : Type 0 where
   pub thread : StateThread
   pub there : slice_get s.threads t ≡ Some thread
@@ -66,7 +66,7 @@ module _ (c : Content) (s : State) (r : Represents c s) (t left : ℕ) (m : Fram
         runs_at (setting_of c t refused) r.accepted s r.typed is_alive.running is_alive.below
         (subst (AreTypedFrames c.tree s) is_alive.frames_are (r.typed.threads t is_alive.thread is_alive.there is_alive.lives))
 
-    -- that which a resolved one there stands for
+    -- that which a resolved one there represents
     pub in_setting : (operation : Operation) → IsAt c.tree m operation → HasSmallConstant operation →
         IsSetting (setting_of c t refused) (own_model c s r t left m there) (own_names c s r t left m there) m c.objects c.statics c.printed s is_alive.running is_alive.below is_running.0 operation
     in_setting operation at constant = record {

@@ -51,7 +51,7 @@ is_beyond words left h = by_test (nat_le words left) refl h
 
 -- ---- where a step is refused, the object exceeds the room
 
--- the answer of a step that makes an object
+-- the result of a step that makes an object
 record IsBorn (s : State) (contents : Contents) (outcome : Outcome) : Type 0 where
   report : Report
   after : State

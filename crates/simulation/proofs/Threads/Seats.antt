@@ -34,7 +34,7 @@ append_other (y ∷ ys) (suc n) x other = append_other ys n x (λ e. other (ap s
 
 -- ---- live threads
 
--- a thread that goes on is live, and all others are as they were
+-- a thread that continues is live, and all others are as they were
 pub live_set : (xs : List Thread) (t n : ℕ) (x : Thread) → is_live x ≡ true → is_live_at xs t ≡ true → is_live_at (slice_set xs t x) n ≡ is_live_at xs n
 live_set [] t n x lives there = never there
 live_set (y ∷ ys) zero zero x lives there = lives ∙ sym there
@@ -92,7 +92,7 @@ counted_posts h t (HasEnded e) = refl
 counted_posts h t report = refl
 
 module _ (h : Handshakes) (threads : List Thread) (fit : AreSeated h threads) where
-  -- ---- a thread that goes on, and one that ends
+  -- ---- a thread that continues, and one that ends
 
   -- a live thread in the place of another
   pub live_fits : (t : ℕ) (x : Thread) → is_live x ≡ true → is_live_at threads t ≡ true → AreSeated h (slice_set threads t x)

@@ -64,7 +64,7 @@ module _ (c : Content) (s : State) (r : Represents c s) (t left : ℕ) (m : Fram
   fault_follows fault refuses e = comes c s r t left m there c.threads (λ x. refl) false (Raises fault) refuses (answer_of m c.objects c.statics c.printed (Comes (Raises fault))) (e, (refl, refl, refl))
 
   module _ (rest : List StateValue) (object : Addr) (number : ℕ) (x : IsThreadObject c.tree (own_names c s r t left m there) c.objects s object number) (named : (own_names c s r t left m there) object.number ≡ Some (Born number)) where
-    -- the object tells its thread
+    -- the object identifies its thread
     abbrev marked : HeapObject
     marked = record x.object { thread = Some (length s.threads) }
 
@@ -211,7 +211,7 @@ module _ (c : Content) (s : State) (r : Represents c s) (t left : ℕ) (m : Fram
 
   -- ---- that it can be answered
 
-  -- the word that tells the thread can be stored
+  -- the word that identifies the thread can be stored
   pub start_storable : (object : Addr) → Asks c s r t left m there Start object (answer_of m c.objects c.statics c.printed (Starts object)) → object ≢ null → is_word_storable (mutator_of c t).phase c.objects object 0 ≡ true
   start_storable object asks apart = elim (start_asked object (answer_of m c.objects c.statics c.printed (Starts object)) asks) [
     | inl none ↦ absurd (apart none.0)

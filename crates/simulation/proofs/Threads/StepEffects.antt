@@ -213,7 +213,7 @@ module _ (c : Content) (t left : ℕ) (a : Answer) (after : Content × Report) w
 
 -- ---- any event
 
--- an acknowledgement leaves as many threads
+-- an acknowledgement leaves the number of threads as it was
 acknowledged_threads : (c : Content) (t : ℕ) → length (threads_after c t) ≡ length c.threads
 acknowledged_threads c t = by_flip (flips_frames c t) (slice_get c.threads t)
   where

@@ -62,7 +62,7 @@ module _ (names : Names) (c : Content) (s : State) (by : StandsBy names c s) (t 
     threads = agree_set (IsThread c.tree c.limits names) c.threads s.threads by.threads t x u h;
   }
 
-  -- both answer the same report, and what is held then stands for the state, of the same objects
+  -- both return the same report, and what is held then represents the state, of the same objects
   abbrev Settles : Outcome → Thread × Report → Type 0
   Settles outcome x = (s' : State) × (outcome ≡ Answers x.1 s') × StandsBy names (record c { threads = slice_set c.threads t x.0 }) s' × (s'.objects ≡ s.objects)
 
@@ -122,16 +122,16 @@ refusal_of (Raises x) m left = refusal_of_fault x
 same_state : (o : Outcome) (x y : Report) (s s' : State) → o ≡ Answers x s → o ≡ Answers y s' → s ≡ s'
 same_state o x y s s' h k = cc
 
--- the room for births of a thread and the words of all objects are together as many as before its step
+-- the room for births of a thread and the words of all objects are together the same number as before its step
 abbrev pub KeepsOwnRoom : Content → State → ℕ → Objects → State → Type 0
 KeepsOwnRoom c s t o s' = KeepsRoom c.tree (mutator_of c t).phase c.objects o s.objects s'.objects
 
--- what the step of a thread comes to on both machines, where posts and seats fit the threads after it
+-- the outcome of the step of a thread on both machines, where posts and seats fit the threads after it
 abbrev pub Follows : (c : Content) (s : State) → Represents c s → ℕ → Content × Report → Type 0
 Follows c s r t after = AreSeated after.0.posts after.0.threads →
     (s' : State) × (step c.tree c.limits s t (is_refusal after.1) ≡ Answers after.1 s') × (r' : Represents after.0 s') × KeepsOwnRoom c s t after.0.objects s' × KeepsOwnNames c s r after.0.objects r'.stands.name
 
--- a content that stands for the state after a step
+-- a machine state that represents the state after a step
 pub followed : (c : Content) (s : State) (r : Represents c s) (t : ℕ) (threads : List Thread) (h : Handshakes) (o : Objects) (statics : List Value) (printed : List ℕ) (report : Report) (s' : State) →
     step c.tree c.limits s t (is_refusal report) ≡ Answers report s' → (name : Names) → StandsBy name (record c { threads = threads; objects = o; statics = statics; printed = printed }) s' →
     (AreSeated h threads → IsSound (record c { threads = threads; posts = h; objects = o; statics = statics; printed = printed })) → KeepsOwnRoom c s t o s' → KeepsOwnNames c s r o name →
@@ -183,7 +183,7 @@ module _ (c : Content) (s : State) (r : Represents c s) (t left : ℕ) (m : Fram
 
   -- ---- what an instruction left
 
-  -- what fits stands for the state, beside the threads that were there
+  -- what fits represents the state, beside the threads that were there
   pub by_fits : (names : Names) (o : Objects) (statics : List Value) (printed : List ℕ) (s' : State) (fits : FitsOwn c s r t left m there names o statics s') → printed ≡ s'.printed → s'.threads ≡ s.threads →
       StandsBy fits.whole (record c { objects = o; statics = statics; printed = printed }) s'
   by_fits names o statics printed s' fits same others = record {
@@ -207,7 +207,7 @@ module _ (c : Content) (s : State) (r : Represents c s) (t left : ℕ) (m : Fram
     pub blocked_pass : FramesPass (own_passes c s r t left m there o) (settled Blocks (live_thread left m')).0.standing
     blocked_pass fs e a listed = frames_pass a (subst (λ x. IsListed (roots x) a) (sym (still_live (end_after Blocks (left - 1)) m' fs (left - 1) Blocks e)) listed)
 
-  -- a thread that is settled as its instruction's effect says
+  -- a thread whose step is charged as its instruction's effect says
   pub finish : (names : Names) (threads base : List Thread) (h : Handshakes) (o : Objects) (statics : List Value) (printed : List ℕ) (s' : State) → ((x : Thread) → slice_set threads t x ≡ slice_set base t x) →
       (fits : FitsOwn c s r t left m there names o statics s') → KeepsOwnRoom c s t o s' → KeepsOwnNames c s r o fits.whole → (by : StandsBy fits.whole (record c { threads = base; objects = o; statics = statics; printed = printed }) s') →
       AreBeside c s r t left m there base h o → (refused : Bool) (effect : Effect) → refused ≡ is_refused_effect effect → (m' : Frames) →

@@ -86,7 +86,7 @@ ended_absent c s r t left e there =
         ap (λ x. option_map_or (step_of (setting_of c t false) s) x (Answers Absent s)) at ∙
         ap (λ x. if is_none x then settled s t (u.steps_left - 1) u.frames (effect_of (setting_of c t false) s u.frames) else Answers Absent s) ended)
 
--- ---- what a done instruction comes to
+-- ---- the outcome of a done instruction
 
 module _ (each : InstructionsAreAlike) (c : Content) (s : State) (r : Represents c s) (t left : ℕ) (m : Frames) (there : slice_get c.threads t ≡ Some (record { standing = Live m; steps_left = left })) where
   -- the same on the reference machine, where memory is refused to both
@@ -131,7 +131,7 @@ module _ (each : InstructionsAreAlike) where
   pub thread_ready : (c : Content) (s : State) → Represents c s → (t left : ℕ) (m : Frames) → slice_get c.threads t ≡ Some (record { standing = Live m; steps_left = left }) → IsReady c t m
   thread_ready c s r t left m there = live_is_ready each c s r t left m there
 
-  -- a step comes to the same on both, and keeps the room and the words of all objects together, and names
+  -- a step has the same outcome on both, and keeps the room and the words of all objects together, and names
   pub step_names : (c : Content) (s : State) (r : Represents c s) (t : ℕ) (after : Content × Report) → IsTurn c (Step t) after →
       (s' : State) × (step c.tree c.limits s t (is_refusal after.1) ≡ Answers after.1 s') × (r' : Represents after.0 s') × KeepsOwnRoom c s t after.0.objects s' × KeepsOwnNames c s r after.0.objects r'.stands.name
   step_names c s r t after turn = by_thread (slice_get c.threads t) refl turn (step_keeps_fitting c after t turn r.sound.seated)

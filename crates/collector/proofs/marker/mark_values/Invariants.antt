@@ -3,7 +3,7 @@ use Rattle.collector.specs.Conditions.{AreThere}
 use Rattle.collector.specs.Marking.{with_all_marked}
 use Rattle.collector.proofs.marker.mark_values.Given as goal
 
--- what is left to mark, after what was marked, comes to all
+-- marking what is left, after what was marked, results in the marks of all
 abbrev pub invariant-loop-value : goal.invariant-loop-value
 invariant-loop-value l =
     record {

@@ -31,7 +31,7 @@ use Rattle.simulation.proofs.Instructions.StackOperands.{fine}
 use Rattle.simulation.proofs.Instructions.Calls.MethodExecution.{methods_run_alike}
 use Rattle.simulation.proofs.Memory.MemoryModels.{MemoryModel, mutator_in}
 
--- a reference has as many operands as the method that it finds has arguments
+-- a reference has one operand for each argument of the method that it finds
 pub operand_count : (is_instance : Bool) (r : MethodReference) (c : ClassName) (m : Method) (static : Bool) → static ≡ not is_instance → m.signature ≡ r.signature →
     length (reference_operands is_instance r) ≡ length (if static then m.signature.parameters else type_of_class c ∷ m.signature.parameters)
 operand_count true r c m false is same = ap (λ (x : Signature). length (type_of_class c ∷ x.parameters)) (sym same)

@@ -1,4 +1,4 @@
--- Each method of a legal program has a number, which stands for that method.
+-- Each method of a legal program has a number, which represents that method.
 use Rattle.std.proofs.Common.{◌≡◌, ◌+◌, ℕ, Option, Some, None, slice_get, refl}
 use Rattle.interpreter.specs.cil_model.declared.types.ClassName.{ClassName}
 use Rattle.interpreter.specs.cil_model.declared.trees.Tree.{Tree}

@@ -67,7 +67,7 @@ module _ (here : Setting) (model : MemoryModel here.tree) (name : Names) (m : Fr
   abbrev Alike : CallTurn → StateEffect → Type 0
   Alike turn e = DoesAlike here model name m o statics printed s f below (of_calls o statics printed turn) e
 
-  -- what a turn carries: the objects, and what it comes to
+  -- what a transition carries: the objects, and its outcome
   abbrev carrying : Objects × Effect → CallTurn
   carrying x = beside_console printed (carried m (with_stack m rest) x)
 

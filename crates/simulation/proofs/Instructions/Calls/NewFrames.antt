@@ -38,7 +38,7 @@ use Rattle.simulation.proofs.Memory.InitialValues.{locals_stand, local_count}
 use Rattle.interpreter.proofs.cil_model.SameLaws.{never}
 use Rattle.simulation.proofs.Memory.MemoryModels.{MemoryModel}
 
--- ---- as many frames as there may be
+-- ---- the limit of frames
 
 full_test : (a b c d : ℕ) → a ≡ b → c ≡ d → suc a ≤ d → (a + 1 == c) ≡ nat_le d (suc b)
 full_test a b c d same depth few = by_test (nat_le d (suc b)) refl
@@ -51,17 +51,17 @@ full_test a b c d same depth few = by_test (nat_le d (suc b)) refl
 not_full_test : (a b c d : ℕ) → a ≡ b → c ≡ d → nat_le d (suc b) ≡ false → (nat_lt (a + 1) c ≡ true) × (suc (suc a) ≤ d)
 not_full_test a b c d same depth e = (grind (arith, nat_tests, same, depth, e), grind (arith, nat_tests, same, depth, e))
 
--- and as many arguments and locals as a frame has room for
+-- and arguments and locals for which a frame has room
 few_test : (a l r x : ℕ) → a ≤ MOST_ARGUMENTS → l ≡ x → x ≤ MOST_LOCALS → r ≡ frame_room → nat_le (a + l) r ≡ true
 few_test a l r x one same two room = grind (arith, nat_tests, one, same, two, room)
 
 module _ (here : Setting) (model : MemoryModel here.tree) (name : Names) (m : Frames) (o : Objects) (statics : List Value) (printed : List ℕ) (s : State) (f : StateFrame) (below : List StateFrame) (i : Instruction) (operation : Operation)
     (at : IsSetting here model name m o statics printed s f below i operation) where
-  -- both machines have as many below
+  -- both machines have the same number below
   frames_below : length m.below ≡ length below
   frames_below = agree_length (IsFrame here.tree name) m.below below at.frames.frames.1
 
-  -- so both have as many as there may be, or neither
+  -- so both are at the limit, or neither
   pub full_alike : is_full m ≡ is_too_deep here s f below
   full_alike = full_test (length m.below) (length below) m.depth here.limits.depth frames_below at.frames.depth at.frames.few
 

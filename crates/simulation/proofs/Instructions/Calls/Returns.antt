@@ -41,7 +41,7 @@ some_below gs n is = grind (arith, nat_tests, is)
 gives_done : (v : Option Value) (k : Frames) → k.below ≡ [] → gives v k ≡ Some (k, Returns)
 gives_done v k is = if_true (length k.below == 0) (Some (k, Returns)) _ (ap (λ (l : List Frame). length l == 0) is)
 
--- else that goes on, with the value, where there is one
+-- else that continues, with the value, where there is one
 gives_none : (k : Frames) (g : Frame) (gs : List Frame) → k.below ≡ g ∷ gs → gives None k ≡ Some (record k { running = g; below = gs }, GoesOn)
 gives_none k g gs is =
     if_false (length k.below == 0) (Some (k, Returns)) (Some (returned k, GoesOn)) (some_below gs (length k.below) (ap (λ (l : List Frame). length l) is)) ∙
@@ -53,7 +53,7 @@ gives_some v k g gs is room =
     if_false (length k.below == 0) (Some (k, Returns)) (pushed (returned k)) (some_below gs (length k.below) (ap (λ (l : List Frame). length l) is)) ∙
     ap (λ l. pushed (returned_to k l)) is ∙ if_true (nat_lt (size g) k.room) _ None room
 
--- a value that stands for the other, or none for none
+-- a value that represents the other, or none for none
 abbrev IsGiven : Names → Option Value → Option StateValue → Type 0
 IsGiven name None None = Unit {0}
 IsGiven name (Some v) (Some u) = IsValue name v u

@@ -19,7 +19,7 @@ use Rattle.simulation.specs.StandsFor.{Names}
 use Rattle.simulation.proofs.Memory.MemoryModels.{MemoryModel, mutator_in}
 use Rattle.simulation.proofs.Instructions.Correspondence.{IsSetting, DoesAlike}
 
--- a method that is found runs alike on operands that are there, as many as it has arguments
+-- a method that is found runs alike on operands that are there, one for each of its arguments
 abbrev pub MethodsRunAlike : Type 1
 MethodsRunAlike =
     (here : Setting) (model : MemoryModel here.tree) (name : Names) (m : Frames) (o : Objects) (statics : List Value) (printed : List ℕ) (s : State) (f : StateFrame) (below : List StateFrame) (i : Instruction) (operation : Operation) →

@@ -1,4 +1,4 @@
--- The method that a virtual call runs has a number, and as many arguments as the call has operands.
+-- The method that a virtual call runs has a number, and one argument for each operand of the call.
 use Rattle.std.proofs.Common.{◌≡◌, ℕ, suc, Bool, true, false, if◌then◌else◌, ◌&&◌, IsTrue, List, [], ◌∷◌, length, Option, Some, None, option_and_then, slice_get, unwrap_or, refl, sym, ap, ◌∙◌, subst}
 use Rattle.std.specs.Option.{option_map_or}
 use Rattle.std.proofs.lemmas.Option.{option_and_then_some, same_Some}
@@ -88,7 +88,7 @@ declared_at tree c m (place, h) = by_number (class_number tree c) (numbered tree
 
 -- ---- what is chosen
 
--- a method with a number, which takes an object and as many arguments as the signature names
+-- a method with a number, which takes an object and the arguments that the signature names
 pub record IsChosen (tree : Tree) (signature : Signature) (run : ClassName × Method) : Type 0 where
   pub class : ℕ
   pub place : ℕ
