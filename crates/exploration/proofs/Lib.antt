@@ -7,5 +7,6 @@ pub mod Running
 pub mod Showing
 pub mod Local
 pub mod Paths
+pub mod CheckedSteps
 pub mod Going
 pub mod Begins

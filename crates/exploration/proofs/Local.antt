@@ -12,7 +12,7 @@ module _ (tree : Tree) (room : ℕ) (below : List Frame) (depth : ℕ) where
   pub step_moves : (f g : Frame) → IsLocalStep tree room f g → IsLocalMove tree (over f) (over g)
   step_moves f g step = record { done = step.done below depth }
 
-  -- one more behind others
+  -- one more after others
   further_then : (m n k : Frames) → IsAhead tree m n → IsLocalMove tree n k → IsAhead tree m k
   further_then m _ k (here _) move = onward m k k move (here k)
   further_then m n k (onward _ next _ first rest) move = onward m next k first (further_then next n k rest move)

@@ -25,9 +25,6 @@ use Rattle.exploration.specs.declared.findings.Found.{Found}
 use Rattle.exploration.specs.Searches.{IsClosed, IsLedTo, LeadsInto}
 use Rattle.exploration.specs.Shown.{CannotStep, IsTerminal, Outcome, ShowOnly, outcome_shown}
 use Rattle.exploration.specs.declared.findings.Path.{Path}
-use Rattle.exploration.proofs.Stepping.{live_there}
-use native.Mathlib.Decide.{ℕ_discrete}
-use mathlib.Core.Logic.{dite}
 
 -- the events of a path at a place
 pub events_there : (paths : List Path) (n : ℕ) (p : Path) → slice_get paths n ≡ Some p → slice_get (map events_of paths) n ≡ Some p.events.items
@@ -48,7 +45,7 @@ led_once c one (e ∷ es) x y (r ∷ rs) (q ∷ qs) h k =
     led_once h.0 (subst IsOneOperation (sym kept.0) one) es x y rs qs h.2 (subst (λ (d : Content). AreTurns d es y qs) (sym same) k.2)
 
 -- a number is below another or not
-nat_cases : (m n : ℕ) → (m < n) ⊎ (n ≤ m)
+pub nat_cases : (m n : ℕ) → (m < n) ⊎ (n ≤ m)
 nat_cases m zero = inr (omega arith)
 nat_cases zero (suc n) = inl (omega arith)
 nat_cases (suc m) (suc n) = by_case (nat_cases m n)
@@ -58,7 +55,7 @@ nat_cases (suc m) (suc n) = by_case (nat_cases m n)
     by_case (inr beyond) = inr (omega (arith, beyond))
 
 -- no thread of a number beyond all is live
-beyond_dead : (threads : List Thread) (t : ℕ) → length threads ≤ t → is_live_at threads t ≡ false
+pub beyond_dead : (threads : List Thread) (t : ℕ) → length threads ≤ t → is_live_at threads t ≡ false
 beyond_dead [] t beyond = refl
 beyond_dead (x ∷ xs) zero beyond = absurd (omega (arith, beyond))
 beyond_dead (x ∷ xs) (suc t) beyond = beyond_dead xs t (omega (arith, beyond))
@@ -69,24 +66,6 @@ turns_program c [] x rs h = ap (λ (y : Content). y.tree) h.0
 turns_program c (e ∷ es) x [] h = elim h [ ]
 turns_program c (e ∷ es) x (r ∷ rs) h = turns_program h.0 es x rs h.2 ∙ (same_program c (h.0, r) e h.1).0
 
--- a thread is live exactly if it has no end
-pub ended_is_some : (e : Option End) → is_some e ≡ true → is_none e ≡ false
-ended_is_some None is = absurd (cc is)
-ended_is_some (Some x) is = refl
-
-pub none_is_live : (e : Option End) → is_some e ≡ false → is_none e ≡ true
-none_is_live None is = refl
-none_is_live (Some x) is = absurd (cc is)
-
-pub live_by_end : (threads : List Thread) (t : ℕ) (e : Option End) → slice_get (map end_of threads) t ≡ Some e → is_live_at threads t ≡ is_none e
-live_by_end [] t e is = none_is_some e is
-live_by_end (x ∷ xs) zero e is = ap is_none (same_Some (end_of x) e is)
-live_by_end (x ∷ xs) (suc t) e is = live_by_end xs t e is
-
-pub either_true : {P : Type 0} (a b : Bool) → (a || b) ≡ true → (a ≡ true → P) → (b ≡ true → P) → P
-either_true true b is p q = p refl
-either_true false b is p q = q is
-
 -- ---- what has come to an end
 
 module _ (first : Content) (one : IsOneOperation first.tree) where
@@ -94,8 +73,8 @@ module _ (first : Content) (one : IsOneOperation first.tree) where
   led_together events c d h k = led_once first one events c d h.reports k.reports h.turns k.turns
 
   -- a live thread whose step was not blocked
-  pub goes_on_at : (events : List Event) (c : Content) → LeadsTo first events c → (t : ℕ) → is_live_at c.threads t ≡ true → (next : Content) (r : Report) → IsTurn c (Step t) (next, r) → r ≢ Blocked → CanStepAt first events t
-  goes_on_at events c led t live next r turn moves = (c, led, refuted)
+  pub moves_on : (events : List Event) (c : Content) → LeadsTo first events c → (t : ℕ) → is_live_at c.threads t ≡ true → (next : Content) (r : Report) → IsTurn c (Step t) (next, r) → r ≢ Blocked → CannotStep c t → ⊥
+  moves_on events c led t live next r turn moves = refuted
     where
       one_here : IsOneOperation c.tree
       one_here = subst IsOneOperation (sym (turns_program first events c led.reports led.turns)) one
@@ -103,6 +82,9 @@ module _ (first : Content) (one : IsOneOperation first.tree) where
       refuted : CannotStep c t → ⊥
       refuted (inl dead) = let no : true ≡ false = sym live ∙ dead in absurd (cc no)
       refuted (inr (after, blocked)) = moves (ap (λ (x : Content × Report). x.1) (one_turn c one_here (Step t) (next, r) (after, Blocked) turn blocked))
+
+  pub goes_on_at : (events : List Event) (c : Content) → LeadsTo first events c → (t : ℕ) → is_live_at c.threads t ≡ true → (next : Content) (r : Report) → IsTurn c (Step t) (next, r) → r ≢ Blocked → CanStepAt first events t
+  goes_on_at events c led t live next r turn moves = (c, led, moves_on events c led t live next r turn moves)
 
   -- each thread by itself
   pub ends_at : (events : List Event) (c : Content) → LeadsTo first events c → ((t : ℕ) → t < length c.threads → CannotStepAt first events t) → IsTerminalAt first events
@@ -117,33 +99,6 @@ module _ (first : Content) (one : IsOneOperation first.tree) where
 
   pub does_not_end_at : (events : List Event) (t : ℕ) → CanStepAt first events t → IsNotTerminalAt first events
   does_not_end_at events t h = (h.0, h.1, λ ends. h.2 (ends t))
-
-  -- some thread makes a step
-  pub moves_at : (events : List Event) (c : Content) → LeadsTo first events c → (t : ℕ) → is_live_at c.threads t ≡ true → (next : Content) (r : Report) → IsTurn c (Step t) (next, r) → r ≢ Blocked → IsNotTerminalAt first events
-  moves_at events c led t live next r turn moves = does_not_end_at events t (goes_on_at events c led t live next r turn moves)
-
--- ---- the threads below a number
-
--- each step of a live thread below this number leads into the set, from whatever content the events lead to
-abbrev pub LeadBelow : Content → (Content → Type 0) → List Event → ℕ → Type 0
-LeadBelow first known events n = (c : Content) → LeadsTo first events c → (t : ℕ) → t < n → is_live_at c.threads t ≡ true → LeadsInto known c t
-
-module _ (first : Content) (one : IsOneOperation first.tree) (known : Content → Type 0) (events : List Event) (n : ℕ) (below : LeadBelow first known events n) (c : Content) (led : LeadsTo first events c) where
-  -- the next one is not live
-  pub dead_more : is_live_at c.threads n ≡ false → LeadBelow first known events (n + 1)
-  dead_more dead d at t less live = dite (ℕ_discrete t n)
-      (λ same. let no : true ≡ false = sym live ∙ (ap (λ (x : Content). is_live_at x.threads t) (led_together first one events d c at led) ∙ (ap (is_live_at c.threads) same ∙ dead)) in absurd (cc no))
-      (λ other. below d at t (omega (arith, less, other)) live)
-
-  -- the step of the next one leads into the set
-  pub leads_more : LeadsInto known c n → LeadBelow first known events (n + 1)
-  leads_more leads d at t less live = dite (ℕ_discrete t n)
-      (λ same. subst (λ (x : Content). LeadsInto known x t) (led_together first one events c d led at) (subst (λ (k : ℕ). LeadsInto known c k) (sym same) leads))
-      (λ other. below d at t (omega (arith, less, other)) live)
-
--- a live thread was started
-pub live_within : (threads : List Thread) (t : ℕ) → is_live_at threads t ≡ true → t < length threads
-live_within threads t live = let there = live_there threads t live in slice_get_within threads t _ there.2
 
 -- ---- the outcomes
 

@@ -28,7 +28,7 @@ use Rattle.interleaving_core.proofs.simulation.ListLaws.AgreeingLists.{agree_app
 use Rattle.interleaving_core.proofs.simulation.cil_model.Lists.{none_is_some}
 use Rattle.exploration.specs.Behind.{IsBehind, here, IsStandingBehind, IsThreadBehind}
 
--- ---- who is behind itself
+-- ---- a thread and itself
 
 pub standing_itself : (tree : Tree) (s : Standing) → IsStandingBehind tree s s
 standing_itself tree (Live m) = here m
@@ -91,7 +91,7 @@ live_alike tree (x ∷ xs) (y ∷ ys) h (suc n) = live_alike tree xs ys h.1 n
 live_alike tree [] (y ∷ ys) h n = elim h [ ]
 live_alike tree (x ∷ xs) [] h n = elim h [ ]
 
--- ---- what an instruction comes to
+-- ---- the outcome of an instruction
 
 module _ (c : Content) (ts : List Thread) (agree : Agree (IsThreadBehind c.tree) c.threads ts) (t left left' : ℕ) (m : Frames) (y : Content × Report) (lasts : y.1 ≢ HasEnded Budget) where
   abbrev d : Content

@@ -64,7 +64,7 @@ module _ (c : Content) (ts : List Thread) (agree : Agree (IsThreadBehind c.tree)
   abbrev d : Content
   d = record c { threads = ts }
 
-  -- what the first machine's step comes to
+  -- the result of the first machine's step
   abbrev Steps : Type 0
   Steps = (after : Content) × (q : Report) × IsTurn c (Step t) (after, q) × ((q ≡ HasEnded Budget) ⊎ (((q ≡ Ran) × IsBehind after d) ⊎ ((q ≡ r) × IsBehind after next)))
 

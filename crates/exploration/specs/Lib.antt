@@ -4,5 +4,6 @@ pub mod Behind
 pub mod Searches
 pub mod Shown
 pub mod Paths
+pub mod CheckedSteps
 pub mod Begins
 pub mod Findings

@@ -1,19 +1,22 @@
 //! The check that lists of events lead to every reachable state, and that no outcome is missing.
 
-ghost use Rattle.std.specs.Prelude.{Contains, ◌≡◌, ◌≢◌, ℕ, IfOk, IsSome, OnOk, Some, false, map, slice_get, true};
+ghost use Rattle.std.specs.Prelude.{Contains, ◌≡◌, ◌≢◌, ◌<◌, ◌+◌, ◌*◌, ℕ, Bool, IfOk, IfSome, IsSome, List, OnOk, Some, false, length, map, slice_get, slice_set, true};
 ghost use Rattle.interleaving_core.specs.simulation.cil_model.Legality.{IsLegal};
+ghost use Rattle.interleaving_core.specs.simulation.cil_model.declared.events.Event.{Event as AnyEvent};
+ghost use Rattle.interleaving_core.specs.simulation.cil_model.declared.limits.TheConstants.{MOST_THREADS};
 ghost use Rattle.interleaving_core.specs.simulation.cil_model.declared.reports.End.TheVariants.{Budget};
-ghost use Rattle.interleaving_core.specs.simulation.cil_model.declared.reports.Report.{Report as AnyReport};
 ghost use Rattle.interleaving_core.specs.simulation.cil_model.declared.reports.Report.TheVariants.{Blocked, Ended};
 ghost use Rattle.interleaving_core.specs.simulation.reference_machine.Runs.{is_refusal};
-ghost use Rattle.exploration.specs.Paths.{IsNotTerminalAt, IsTerminalAt, CanStepAt, IsComplete, IsReal, CannotStepAt, AreStepsChecked, LeadsTo, ShowsOneOf, events_of, outcome_found};
-ghost use Rattle.exploration.specs.Searches.{IsClosed, IsCovered, IsLedTo, LeadsInto};
+ghost use Rattle.exploration.specs.Paths.{IsNotTerminalAt, IsTerminalAt, CanStepAt, IsComplete, IsReal, CannotStepAt, AreStepsChecked, ShowsOneOf, events_of, outcome_found};
+ghost use Rattle.exploration.specs.CheckedSteps.{AreAllChecked, AreEntries, IsLedToBy, IsStepInto};
+ghost use Rattle.exploration.specs.Searches.{IsClosed, IsCovered, IsLedTo};
 ghost use Rattle.exploration.specs.Shown.{ShowOnly, outcome_shown};
 ghost use Rattle.exploration.specs.declared.findings.Found.{Found as AnyFound};
 
-use crate::findings::{Found, Path};
+use crate::findings::{Found, Path, PathStep};
 use crate::replayers::{First, Replayer};
 use cil_model::events::Event;
+use cil_model::limits::MOST_THREADS;
 use cil_model::memory::NoMemory;
 use cil_model::reports::{End, Fault, Report};
 use std::alloc::Global;
@@ -41,35 +44,22 @@ fn is_made(report: Report) -> bool
     }
 }
 
-/// Takes the machine to the state after a list of events, unless it is there.
-fn go_to<M: First>(
-    replayer: &mut Replayer<M>,
-    alloc: Global,
-    events: &[Event],
-    is_there: bool,
-) -> Result<(), NoMemory>
-    requires { is_there ≡ true → LeadsTo M.first events.now replayer.old }
-    ensures { OnOk result (LeadsTo M.first events.now replayer.new) }
-{
-    if is_there {
-        return Ok(());
-    }
-    replayer.replay(alloc, events)
-}
-
-/// The report of a step of a thread from the state after the events of a path, which is that of the machine. None unless the step, followed by local instructions, leads to the state
-/// after the events of the path that `next` names.
+/// Whether a thread can make a step after a list of events. None unless the thread is live and its step, followed by local instructions, leads to the state of the other machine.
 fn check_step<M: First>(
     replayer: &mut Replayer<M>,
-    other: &mut Replayer<M>,
+    other: &Replayer<M>,
     alloc: Global,
-    paths: &[Path],
-    path: &Path,
+    events: &[Event],
     thread: u8,
-) -> Result<Option<Report>, NoMemory>
+) -> Result<Option<bool>, NoMemory>
     requires { IsLegal M.first.tree }
-    ensures { IfOk result (λ step. (report : AnyReport) → step ≡ Some report → (leads : LeadsInto (IsLedTo M.first (map events_of paths.now)) replayer.old thread) × (leads.report ≡ report)) }
+    ensures { IfOk result (λ step. (can : Bool) → step ≡ Some can → IsStepInto M.first events.now thread other.now can) }
 {
+    replayer.replay(alloc, events)?;
+    let _started = replayer.started();
+    if !replayer.is_live(thread) {
+        return Ok(None);
+    }
     let report = replayer.step(alloc, thread)?;
     if !is_ordinary(report) {
         return Ok(None);
@@ -77,51 +67,136 @@ fn check_step<M: First>(
     replayer.run_local(alloc, thread)?;
     let newest = replayer.newest();
     replayer.run_local(alloc, newest)?;
-    let Some(next) = path.next.get(usize::from(thread)) else {
-        return Ok(None);
-    };
-    let Some(target) = paths.get(*next) else {
-        return Ok(None);
-    };
-    other.replay(alloc, target.events.as_slice())?;
     let is_known = replayer.is_like(other);
     if !is_known {
         return Ok(None);
     }
-    Ok(Some(report))
+    Ok(Some(is_made(report)))
 }
 
-/// Whether some thread can make a step after the events of a path. None unless each step of a live thread leads to the state that the path names.
+/// Notes that a step is checked, and whether its thread can make it. Nothing changes if there is no such entry.
+fn note(entries: &mut Vec<Option<bool>>, step: PathStep, can_step: bool)
+    ensures { entries.new.items ≡ slice_set entries.old.items (step.path * MOST_THREADS + step.thread) (Some can_step) }
+{
+    let index = step.path as usize * MOST_THREADS + usize::from(step.thread);
+    if index < entries.len() {
+        entries[index] = Some(can_step);
+    }
+}
+
+/// Checks a step, and notes it if it leads to the state of the other machine. That is the state after the events of the path of index `place`.
+fn note_step<M: First>(
+    replayer: &mut Replayer<M>,
+    other: &Replayer<M>,
+    alloc: Global,
+    paths: &[Path],
+    place: u32,
+    step: PathStep,
+    entries: &mut Vec<Option<bool>>,
+) -> Result<(), NoMemory>
+    requires legal { IsLegal M.first.tree }
+    requires there { IsLedToBy M.first (map events_of paths.now) place other.now }
+    requires entries { AreEntries M.first (map events_of paths.now) entries.old.items }
+    ensures { OnOk result (AreEntries M.first (map events_of paths.now) entries.new.items) }
+{
+    let Some(path) = paths.get(step.path as usize) else {
+        return Ok(());
+    };
+    if usize::from(step.thread) >= MOST_THREADS {
+        return Ok(());
+    }
+    let checked = check_step(replayer, other, alloc, path.events.as_slice(), step.thread)?;
+    let Some(can_step) = checked else {
+        return Ok(());
+    };
+    note(entries, step, can_step);
+    Ok(())
+}
+
+/// Notes that each thread that is not live can't make a step. The state of the machine is that after the events of the path of index `place`.
+fn note_ended<M: First>(
+    other: &Replayer<M>,
+    paths: &[Path],
+    place: u32,
+    entries: &mut Vec<Option<bool>>,
+)
+    requires there { IsLedToBy M.first (map events_of paths.now) place other.now }
+    requires entries { AreEntries M.first (map events_of paths.now) entries.old.items }
+    ensures { AreEntries M.first (map events_of paths.now) entries.new.items }
+{
+    let _started = other.started();
+    for thread in 0..MOST_THREADS as u8 {
+        if other.is_live(thread) {
+            continue;
+        }
+        note(
+            entries,
+            PathStep {
+                path: place,
+                thread,
+            },
+            false,
+        );
+    }
+}
+
+/// Notes which steps lead to the state after the events of a path, and which threads have ended there.
+fn note_path<M: First>(
+    replayer: &mut Replayer<M>,
+    other: &mut Replayer<M>,
+    alloc: Global,
+    paths: &[Path],
+    place: u32,
+    entries: &mut Vec<Option<bool>>,
+) -> Result<(), NoMemory>
+    requires legal { IsLegal M.first.tree }
+    requires entries { AreEntries M.first (map events_of paths.now) entries.old.items }
+    ensures { OnOk result (AreEntries M.first (map events_of paths.now) entries.new.items) }
+{
+    let Some(path) = paths.get(place as usize) else {
+        return Ok(());
+    };
+    other.replay(alloc, path.events.as_slice())?;
+    note_ended(other, paths, place, entries);
+    for step in &path.incoming {
+        note_step(replayer, other, alloc, paths, place, *step, entries)?;
+    }
+    Ok(())
+}
+
+/// Checks each step that leads to the state after the events of a path: for each path and each thread, by `path * MOST_THREADS + thread`, whether the thread can make a step. None if
+/// the step was not checked.
 fn check_steps<M: First>(
     replayer: &mut Replayer<M>,
     other: &mut Replayer<M>,
     alloc: Global,
     paths: &[Path],
-    path: &Path,
-) -> Result<Option<bool>, NoMemory>
-    requires { IsLegal M.first.tree }
-    ensures checked { IfOk result (λ steps. IsSome steps → AreStepsChecked M.first (map events_of paths.now) (events_of path.now)) }
-    ensures moves { IfOk result (λ steps. steps ≡ Some true → IsNotTerminalAt M.first (events_of path.now)) }
+    count: u32,
+) -> Result<Vec<Option<bool>>, NoMemory>
+    requires legal { IsLegal M.first.tree }
+    ensures { IfOk result (λ entries. AreEntries M.first (map events_of paths.now) entries.items) }
 {
-    let events = path.events.as_slice();
-    replayer.replay(alloc, events)?;
-    let ends = replayer.ends(alloc)?;
-    let mut is_there = true;
-    let mut can_step = false;
-    for thread in 0..ends.len() {
-        let has_ended = ends[thread].is_some();
-        if has_ended {
-            continue;
-        }
-        go_to(replayer, alloc, events, is_there)?;
-        is_there = false;
-        let step = check_step(replayer, other, alloc, paths, path, thread as u8)?;
-        let Some(report) = step else {
-            return Ok(None);
-        };
-        can_step = can_step | is_made(report);
+    let mut entries = vec![in alloc; None; count as usize * MOST_THREADS]?;
+    for place in 0..count {
+        note_path(replayer, other, alloc, paths, place, &mut entries)?;
     }
-    Ok(Some(can_step))
+    Ok(entries)
+}
+
+/// Whether some thread can make a step after the events of the path of index `place`. None unless the step of each thread is checked.
+fn can_any_step(entries: &[Option<bool>], place: u32) -> Option<bool>
+    ensures all { IsSome result → AreAllChecked entries.now place }
+    ensures some { result ≡ Some true → (t : ℕ) × (t < MOST_THREADS) × (slice_get entries.now (place * MOST_THREADS + t) ≡ Some (Some true)) }
+{
+    let first = place as usize * MOST_THREADS;
+    let mut can_any = false;
+    for thread in 0..MOST_THREADS {
+        let Some(Some(can_step)) = entries.get(first + thread) else {
+            return None;
+        };
+        can_any = can_any | *can_step;
+    }
+    Some(can_any)
 }
 
 /// Whether the machine shows one of the outcomes. True only if it does.
@@ -141,21 +216,24 @@ fn shows_one_of<M: First>(
     Ok(false)
 }
 
-/// Whether each step after the events of a path leads to the state that the path names, and the state shows one of the outcomes if no thread can make a step. True only if so.
+/// Whether each step after the events of a path is checked, and the state after these events shows one of the outcomes if no thread can make a step. True only if so.
 fn check_path<M: First>(
     replayer: &mut Replayer<M>,
-    other: &mut Replayer<M>,
     alloc: Global,
     paths: &[Path],
     found: &[Found],
-    path: &Path,
+    place: u32,
+    entries: &[Option<bool>],
 ) -> Result<bool, NoMemory>
-    requires { IsLegal M.first.tree }
-    ensures closed { IfOk result (λ known. known ≡ true → AreStepsChecked M.first (map events_of paths.now) (events_of path.now)) }
-    ensures shown { IfOk result (λ known. known ≡ true → ShowsOneOf M.first (map outcome_found found.now) (events_of path.now)) }
+    requires legal { IsLegal M.first.tree }
+    requires entries { AreEntries M.first (map events_of paths.now) entries.now }
+    ensures closed { IfOk result (λ known. known ≡ true → (events : List AnyEvent) → slice_get (map events_of paths.now) place ≡ Some events → AreStepsChecked M.first (map events_of paths.now) events) }
+    ensures shown { IfOk result (λ known. known ≡ true → (events : List AnyEvent) → slice_get (map events_of paths.now) place ≡ Some events → ShowsOneOf M.first (map outcome_found found.now) events) }
 {
-    let steps = check_steps(replayer, other, alloc, paths, path)?;
-    let Some(can_step) = steps else {
+    let Some(path) = paths.get(place as usize) else {
+        return Ok(false);
+    };
+    let Some(can_step) = can_any_step(entries, place) else {
         return Ok(false);
     };
     if can_step {
@@ -163,6 +241,16 @@ fn check_path<M: First>(
     }
     replayer.replay(alloc, path.events.as_slice())?;
     shows_one_of(replayer, alloc, found)
+}
+
+/// The number of paths. None if the index of a path may not fit in 32 bits.
+fn count_of(paths: &[Path]) -> Option<u32>
+    ensures { IfSome result (λ count. count ≡ length paths.now) }
+{
+    match u32::try_from(paths.len()) {
+        Ok(count) => Some(count),
+        Err(_) => None,
+    }
 }
 
 /// Whether no step leads out of the set of states to which the paths lead, and each of these states in which no thread can make a step shows one of the outcomes. True only if so. It
@@ -178,8 +266,12 @@ fn check_paths<M: First>(
     ensures closed { IfOk result (λ known. known ≡ true → IsClosed (IsLedTo M.first (map events_of paths.now))) }
     ensures only { IfOk result (λ known. known ≡ true → ShowOnly (IsLedTo M.first (map events_of paths.now)) (map outcome_found found.now)) }
 {
-    for place in 0..paths.len() {
-        let is_checked = check_path(replayer, other, alloc, paths, found, &paths[place])?;
+    let Some(count) = count_of(paths) else {
+        return Ok(false);
+    };
+    let entries = check_steps(replayer, other, alloc, paths, count)?;
+    for place in 0..count {
+        let is_checked = check_path(replayer, alloc, paths, found, place, &entries)?;
         if !is_checked {
             return Ok(false);
         }

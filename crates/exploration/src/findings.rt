@@ -7,12 +7,21 @@ ghost use Rattle.exploration.specs.Findings.{has_deadlock, has_fault};
 use cil_model::events::Event;
 use cil_model::reports::End;
 
-/// A list of events from the initial state on. For each thread, by its number, `next` has the index of the list that leads to the same state as a step of the thread
-/// after these events, followed by the local instructions of that thread and of the thread that was started last.
+/// A step of a thread after the events of a path.
+#[derive(Clone, Copy)]
+pub struct PathStep {
+    /// The index of the path.
+    pub path: u32,
+    /// The thread that makes the step.
+    pub thread: u8,
+}
+
+/// A list of events from the initial state on. Each step of `incoming`, followed by the local instructions of its thread and of the thread that was started last, leads to the
+/// same state as these events.
 #[derive(Drop)]
 pub struct Path {
     pub events: Vec<Event>,
-    pub next: Vec<usize>,
+    pub incoming: Vec<PathStep>,
 }
 
 /// An outcome: the events that lead to it, the number of preemptions among them, the printed bytes, and the end of each thread by its number, which is None for a blocked

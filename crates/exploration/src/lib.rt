@@ -10,6 +10,6 @@ pub mod laws;
 mod replayers;
 
 pub use checking::{FIRST_THREAD, are_real, is_complete, is_ordinary};
-pub use findings::{Found, Path};
+pub use findings::{Found, Path, PathStep};
 pub use interleaving_core::Machine;
 pub use replayers::{First, Replayer};

@@ -1,10 +1,10 @@
 //! Machines of one program that replay lists of events.
 
-ghost use Rattle.std.specs.Prelude.{◌≡◌, ◌≤◌, ◌-◌, ◌&&◌, IfOk, OnOk, is_none, length, map, true};
+ghost use Rattle.std.specs.Prelude.{◌≡◌, ◌≤◌, ◌-◌, ◌&&◌, IfOk, OnOk, is_none, length, true};
 ghost use Rattle.interleaving_core.specs.simulation.cil_model.Legality.{IsLegal};
 ghost use Rattle.interleaving_core.specs.simulation.cil_model.declared.events.Event.TheVariants.{Step as StepOf};
 ghost use Rattle.interleaving_core.specs.simulation.cil_model.declared.limits.TheConstants.{MOST_THREADS};
-ghost use Rattle.interleaving_core.specs.simulation.threads_monitors.Threads.{end_of, is_live_at};
+ghost use Rattle.interleaving_core.specs.simulation.threads_monitors.Threads.{is_live_at};
 ghost use Rattle.interleaving_core.specs.simulation.Turns.{IsTurn};
 ghost use Rattle.interleaving_core.specs.Alike.{AreAlike};
 ghost use Rattle.interleaving_core.specs.Waits.{wait_at};
@@ -21,6 +21,9 @@ use cil_model::reports::{End, Report};
 use interleaving_core::Machine;
 use std::alloc::Global;
 use std::marker::{Brand, Model, PhantomData};
+
+/// What a digest is multiplied by for each byte of a text: the prime of the hash FNV-1a.
+const TEXT_FACTOR: u64 = 1_099_511_628_211;
 
 /// Names the initial content of machines of one program within the same limits. The caller that makes the machines picks it, at `Brand`.
 pub trait First {
@@ -116,16 +119,6 @@ impl<M: First> Replayer<M> {
         self.machine.is_live(thread)
     }
 
-    /// How each thread that was started has ended, by its number; None for a live thread. It fails only if memory runs out.
-    pub(crate) fn ends(&self, alloc: Global) -> Result<Vec<Option<End>>, NoMemory>
-        ensures all { IfOk result (λ ends. ends.items ≡ map end_of self.now.threads) }
-        ensures few { IfOk result (λ ends. length ends.items ≤ MOST_THREADS) }
-    {
-        let _started = self.machine.started();
-        let ends = self.machine.ends(alloc)?;
-        Ok(ends)
-    }
-
     /// The number of threads that were started.
     pub fn started(&self) -> usize
         ensures all { result ≡ length self.now.threads }
@@ -155,9 +148,16 @@ impl<M: First> Replayer<M> {
         self.machine.is_live(thread) && self.machine.wait_of(thread).is_none()
     }
 
-    /// A hash of the machine's state: equal for machines of which `is_like` is true. Nothing is proved of it.
+    /// A hash of the machine's state. It is a hint: no contract says anything of it, and nothing that is proved rests on it. Machines that differ in nothing but the remaining steps of
+    /// threads have the same digest, and other machines seldom do. If a search merges two states because of it, the check fails.
     pub fn digest(&self) -> u64 {
-        self.machine.digest()
+        let mut digest = self.machine.digest();
+        for thread in 0..self.machine.started() {
+            if let Some(End::Fault(fault)) = self.machine.end_of(thread as u8) {
+                digest = with_text(digest, fault.name());
+            }
+        }
+        digest
     }
 
     /// Whether the printed bytes and the ends of all threads are those of an outcome. True only if they are. It fails only if memory runs out.
@@ -189,6 +189,15 @@ impl<M: First> Replayer<M> {
             ends: self.machine.ends(alloc)?,
         })
     }
+}
+
+/// A digest to which a text is added.
+fn with_text(digest: u64, text: &str) -> u64 {
+    let mut digest = digest;
+    for byte in text.as_bytes() {
+        digest = (digest ^ u64::from(*byte)).wrapping_mul(TEXT_FACTOR);
+    }
+    digest
 }
 
 /// Whether two lists of ends are equal. True only if they are.

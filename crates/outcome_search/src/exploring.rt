@@ -60,8 +60,9 @@ pub fn explore(
 /// The size of the block of `keep_freed_memory`: more than the frames of all threads of two machines.
 const KEPT_WORDS: usize = 524_288;
 
-/// Allocates a large block and gives it back. An allocator that returns freed memory to the system, as that of the C library does, then keeps as much for later allocations: so each
-/// replay finds the memory that the one before has freed.
+/// Allocates a block of 4 MiB and gives it back. This is for the allocator of the GNU C library alone: once a block of that size is given back, it no longer maps blocks up to that size
+/// one by one, and it no longer returns less than twice as much to the system. So each replay finds the memory that the one before has freed. With another allocator it does nothing,
+/// and a search may be slower; no result depends on it.
 fn keep_freed_memory(alloc: Global) -> Result<(), NoMemory> {
     let _block: Vec<u64> = Vec::with_capacity(alloc, KEPT_WORDS)?;
     Ok(())

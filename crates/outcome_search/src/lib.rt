@@ -8,6 +8,7 @@ mod exploring;
 mod nodes;
 mod searching;
 mod states;
+mod walks;
 
 pub use bounds::{Bounds, Goal, Stop};
 pub use exploration::Found;

@@ -4,8 +4,7 @@ use cil_model::events::Event;
 use cil_model::limits::MOST_THREADS;
 use cil_model::memory::NoMemory;
 use std::alloc::Global;
-use std::cmp::Reverse;
-use std::collections::BinaryHeap;
+use std::collections::BTreeMap;
 
 /// Steps of one thread, followed by local instructions of the thread that was started last.
 #[derive(Clone, Copy)]
@@ -35,19 +34,29 @@ pub struct Node {
     pub last: Move,
 }
 
-/// The position of a node in the order of the search: fewest preemptions first, then fewest steps, then the order of discovery.
+/// The position of a node in the order of the search: fewest preemptions first, then fewest steps. Nodes of the same rank are in the order of discovery.
 #[derive(Clone, Copy, PartialEq, Eq, PartialOrd, Ord)]
-struct Rank {
-    preemptions: u32,
-    steps: u32,
-    index: u32,
+pub struct Rank {
+    /// The number of preemptions of the schedule.
+    pub preemptions: u32,
+    /// The number of steps of the schedule.
+    pub steps: u32,
 }
 
-/// All nodes, and the queue of those that are not visited.
+/// A node that is not visited: the next one after another node, by a step of a thread.
+#[derive(Clone, Copy)]
+pub struct Candidate {
+    /// The index of the previous node.
+    pub parent: u32,
+    /// The thread that makes the step.
+    pub thread: u8,
+}
+
+/// All nodes that were visited, and those that are not, by their ranks.
 #[derive(Drop)]
 pub struct Nodes {
     all: Vec<Node>,
-    queue: BinaryHeap<Reverse<Rank>>,
+    queue: BTreeMap<Rank, Vec<Candidate>>,
 }
 
 /// The index of the next element of a list of this length. `NoMemory` if there is no such index.
@@ -60,26 +69,43 @@ impl Nodes {
     pub fn new(alloc: Global) -> Nodes {
         Nodes {
             all: Vec::new(alloc),
-            queue: BinaryHeap::new(alloc),
+            queue: BTreeMap::new(alloc),
         }
     }
 
-    /// Adds a node to the queue.
-    pub fn push(&mut self, node: Node) -> Result<(), NoMemory> {
-        let rank = Rank {
-            preemptions: node.preemptions,
-            steps: node.steps,
-            index: next_index(self.all.len())?,
-        };
+    /// The index of the node that is added next.
+    pub fn next(&self) -> Result<u32, NoMemory> {
+        next_index(self.all.len())
+    }
+
+    /// Adds a node that is visited.
+    pub fn add(&mut self, node: Node) -> Result<(), NoMemory> {
         self.all.push(node)?;
-        self.queue.push(Reverse(rank))?;
         Ok(())
     }
 
-    /// Takes the first node from the queue, and returns its index. None if the queue is empty.
-    pub fn pop(&mut self) -> Option<u32> {
-        let Reverse(rank) = self.queue.pop()?;
-        Some(rank.index)
+    /// Adds a candidate to the queue, after those of the same rank.
+    pub fn push(
+        &mut self,
+        alloc: Global,
+        rank: Rank,
+        candidate: Candidate,
+    ) -> Result<(), NoMemory> {
+        if let Some(candidates) = self.queue.get_mut(&rank) {
+            candidates.push(candidate)?;
+            return Ok(());
+        }
+        let mut candidates = Vec::new(alloc);
+        candidates.push(candidate)?;
+        if self.queue.insert(rank, candidates).is_err() {
+            return Err(NoMemory);
+        }
+        Ok(())
+    }
+
+    /// Takes the candidates of the first rank from the queue. None if the queue is empty.
+    pub fn pop(&mut self) -> Option<(Rank, Vec<Candidate>)> {
+        self.queue.pop_first()
     }
 
     /// The node at an index.

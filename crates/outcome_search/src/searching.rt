@@ -3,12 +3,11 @@
 ghost use Rattle.exploration.specs.simulation.cil_model.Legality.{IsLegal};
 
 use crate::bounds::{Bounds, Goal, Stop};
-use crate::nodes::{Move, Node, Nodes};
+use crate::nodes::{Candidate, Move, Node, Nodes, Rank};
 use crate::states::{Edge, States};
-use cil_model::events::Event;
+use crate::walks::Walks;
 use cil_model::memory::NoMemory;
-use cil_model::reports::{End, Report};
-use exploration::{FIRST_THREAD, First, Found, Path, Replayer, is_ordinary};
+use exploration::{FIRST_THREAD, First, Found, Path, Replayer};
 use std::alloc::Global;
 
 /// What a search found: the number of states and the outcomes. `stop` is None if it visited all states; only then are there paths, one for each state.
@@ -40,24 +39,24 @@ pub fn search<M: First>(
     requires { IsLegal M.first.tree }
 {
     let mut searching = start(replayer, alloc, bounds)?;
-    for _node in 0..u64::MAX {
-        let Some(index) = searching.nodes.pop() else {
-            break;
-        };
-        searching.visit(replayer, alloc, index)?;
+    for _rank in 0..u64::MAX {
         if searching.is_over() {
             break;
         }
+        let Some((rank, candidates)) = searching.nodes.pop() else {
+            break;
+        };
+        searching.visit_all(replayer, alloc, rank, &candidates)?;
     }
     Ok(SearchResult {
-        states: searching.states.count(),
+        states: searching.states.found(),
         paths: searching.paths(alloc)?,
         found: searching.found,
         stop: searching.stop,
     })
 }
 
-/// A search before its first node, which is that of the initial state.
+/// A search after its first node, which is that of the initial state.
 fn start<M: First>(
     replayer: &mut Replayer<M>,
     alloc: Global,
@@ -69,8 +68,15 @@ fn start<M: First>(
     let count = replayer.run_local(alloc, FIRST_THREAD)?;
     let mut states = States::new(alloc);
     let state = states.add(replayer.digest())?;
-    let mut nodes = Nodes::new(alloc);
-    nodes.push(Node {
+    states.mark_found(state);
+    let mut searching = Searching {
+        bounds,
+        states,
+        nodes: Nodes::new(alloc),
+        found: Vec::new(alloc),
+        stop: None,
+    };
+    let node = Node {
         state,
         parent: None,
         preemptions: 0,
@@ -81,77 +87,9 @@ fn start<M: First>(
             count,
             more: 0,
         },
-    })?;
-    Ok(Searching {
-        bounds,
-        states,
-        nodes,
-        found: Vec::new(alloc),
-        stop: None,
-    })
-}
-
-/// The result of a step of a thread and of the local instructions after it.
-enum Lead {
-    /// The thread used up its budget or was refused memory.
-    Out(Stop),
-    /// A move, and the digest of the state after it.
-    To { by: Move, digest: u64 },
-}
-
-/// The result of a step of a thread that can make one, in the state of the machine.
-fn lead_of<M: First>(
-    replayer: &mut Replayer<M>,
-    alloc: Global,
-    thread: u8,
-) -> Result<Lead, NoMemory>
-    requires { IsLegal M.first.tree }
-{
-    let report = replayer.step(alloc, thread)?;
-    if !is_ordinary(report) {
-        return Ok(Lead::Out(stop_of(report, thread)));
-    }
-    let count = replayer.run_local(alloc, thread)?;
-    let newest = replayer.newest();
-    let more = replayer.run_local(alloc, newest)?;
-    let by = Move {
-        thread,
-        newest,
-        count: count.saturating_add(1),
-        more,
     };
-    Ok(Lead::To {
-        by,
-        digest: replayer.digest(),
-    })
-}
-
-/// Whether each thread, by its number, can make a step after a list of events. The machine is left in the state after these events.
-fn movers_after<M: First>(
-    replayer: &mut Replayer<M>,
-    alloc: Global,
-    events: &[Event],
-) -> Result<Vec<bool>, NoMemory> {
-    replayer.replay(alloc, events)?;
-    let started = replayer.started();
-    let mut movers = Vec::with_capacity(alloc, started)?;
-    for thread in 0..started {
-        movers.push(replayer.can_step(thread as u8))?;
-    }
-    Ok(movers)
-}
-
-/// The number of a thread, which is at most 255.
-fn number_of(thread: usize) -> u8 {
-    u8::try_from(thread).unwrap_or(u8::MAX)
-}
-
-/// Why a search stops at a report that is not ordinary.
-fn stop_of(report: Report, thread: u8) -> Stop {
-    match report {
-        Report::Ended(End::Budget) => Stop::Budget(thread),
-        _ => Stop::Refusal(thread),
-    }
+    searching.visit(replayer, alloc, node)?;
+    Ok(searching)
 }
 
 impl Searching {
@@ -171,117 +109,109 @@ impl Searching {
         }
     }
 
+    /// Visits the nodes of candidates of a rank, until the search is over.
+    fn visit_all<M: First>(
+        &mut self,
+        replayer: &mut Replayer<M>,
+        alloc: Global,
+        rank: Rank,
+        candidates: &[Candidate],
+    ) -> Result<(), NoMemory>
+        requires { IsLegal M.first.tree }
+    {
+        for candidate in candidates {
+            if self.is_over() {
+                break;
+            }
+            if let Some(node) = self.node_of(rank, *candidate) {
+                self.visit(replayer, alloc, node)?;
+            }
+        }
+        Ok(())
+    }
+
+    /// The node of a candidate of a rank.
+    fn node_of(&self, rank: Rank, candidate: Candidate) -> Option<Node> {
+        let parent = self.nodes.get(candidate.parent)?;
+        let (state, last) = self.move_from(parent.state, candidate.thread)?;
+        Some(Node {
+            state,
+            parent: Some(candidate.parent),
+            preemptions: rank.preemptions,
+            steps: rank.steps,
+            last,
+        })
+    }
+
     /// Visits a node, unless its state was visited after a move of the same thread before.
     fn visit<M: First>(
         &mut self,
         replayer: &mut Replayer<M>,
         alloc: Global,
-        index: u32,
+        node: Node,
     ) -> Result<(), NoMemory>
         requires { IsLegal M.first.tree }
     {
-        let Some(node) = self.nodes.get(index) else {
-            return Ok(());
-        };
-        if !self.states.visit(node.state, node.last.thread) {
+        let index = self.nodes.next()?;
+        if !self.states.visit(node.state, node.last.thread, index) {
             return Ok(());
         }
-        if !self.states.is_expanded(node.state) {
-            let events = self.nodes.events(alloc, index)?;
-            self.expand(replayer, alloc, node, index, events)?;
+        self.nodes.add(node)?;
+        if self.states.is_first_node(node.state, index) {
+            self.expand(replayer, alloc, node, index)?;
         }
-        self.push_successors(node, index)
+        self.push_successors(alloc, node, index)
     }
 
-    /// Finds the edges of a state, by the events of its first node.
+    /// Finds the edges of a state that is visited for the first time, the states to which they lead, and its outcome if no thread can make a step.
     fn expand<M: First>(
         &mut self,
         replayer: &mut Replayer<M>,
         alloc: Global,
         node: Node,
         index: u32,
-        events: Vec<Event>,
     ) -> Result<(), NoMemory>
         requires { IsLegal M.first.tree }
     {
-        let movers = movers_after(replayer, alloc, events.as_slice())?;
-        if movers.iter().all(|can_step| !can_step) {
+        if !self.states.is_expanded(node.state) {
+            let events = self.nodes.events(alloc, index)?;
+            let walks = Walks {
+                events: events.as_slice(),
+                start: node.state,
+                last: node.last.thread,
+                most_states: self.bounds.states,
+            };
+            walks.find_edges(&mut self.states, replayer, alloc)?;
+        }
+        if self.states.is_terminal(node.state) {
+            replayer.replay(alloc, self.nodes.events(alloc, index)?.as_slice())?;
             self.add_outcome(replayer, alloc, node, index)?;
         }
-        let edges = self.edges(replayer, alloc, node.state, events.as_slice(), &movers)?;
-        self.states.expand(node.state, index, &edges)
+        self.find_successors(node.state);
+        Ok(())
     }
 
-    /// The edges from a state, to which these events lead, and in which the machine is. `movers` says of each thread whether it can make a step.
-    fn edges<M: First>(
-        &mut self,
-        replayer: &mut Replayer<M>,
-        alloc: Global,
-        state: u32,
-        events: &[Event],
-        movers: &[bool],
-    ) -> Result<Vec<Edge>, NoMemory>
-        requires { IsLegal M.first.tree }
-    {
-        let mut edges = Vec::with_capacity(alloc, movers.len())?;
-        let mut is_at_state = true;
-        for (thread, can_step) in movers.iter().enumerate() {
-            if !can_step {
-                edges.push(Edge {
-                    next: state,
-                    by: None,
-                })?;
-                continue;
-            }
-            if !is_at_state {
-                replayer.replay(alloc, events)?;
-            }
-            is_at_state = false;
-            edges.push(self.edge(replayer, alloc, state, number_of(thread))?)?;
-        }
-        Ok(edges)
-    }
-
-    /// The edge of a thread that can make a step, from a state, which is that of the machine.
-    fn edge<M: First>(
-        &mut self,
-        replayer: &mut Replayer<M>,
-        alloc: Global,
-        state: u32,
-        thread: u8,
-    ) -> Result<Edge, NoMemory>
-        requires { IsLegal M.first.tree }
-    {
-        match lead_of(replayer, alloc, thread)? {
-            Lead::Out(stop) => {
-                self.stop = Some(stop);
-                Ok(Edge {
-                    next: state,
-                    by: None,
-                })
-            }
-            Lead::To { by, digest } => {
-                let Some(next) = self.state_of(digest)? else {
-                    self.stop = Some(Stop::States);
-                    return Ok(Edge {
-                        next: state,
-                        by: None,
-                    });
-                };
-                Ok(Edge { next, by: Some(by) })
+    /// Marks the states to which the edges of a state lead as found. The search stops if there are too many, or if an edge leads out.
+    fn find_successors(&mut self, state: u32) {
+        for thread in 0..self.states.threads(state) {
+            match self.states.edge(state, thread) {
+                Some(Edge::To { next, .. }) => self.find_state(next),
+                Some(Edge::Out(stop)) => self.stop = Some(stop),
+                _ => {}
             }
         }
     }
 
-    /// The index of the state with a digest, which is added if there is none. None if there would be too many.
-    fn state_of(&mut self, digest: u64) -> Result<Option<u32>, NoMemory> {
-        if let Some(index) = self.states.find(digest) {
-            return Ok(Some(index));
+    /// Marks a state as found. The search stops if there would be too many.
+    fn find_state(&mut self, state: u32) {
+        if self.states.is_found(state) {
+            return;
         }
-        if self.states.count() >= self.bounds.states {
-            return Ok(None);
+        if self.states.found() >= self.bounds.states {
+            self.stop = Some(Stop::States);
+        } else {
+            self.states.mark_found(state);
         }
-        Ok(Some(self.states.add(digest)?))
     }
 
     /// Adds the outcome of the machine's state, unless it is known.
@@ -323,7 +253,7 @@ impl Searching {
     }
 
     /// Adds the nodes after a node whose state is expanded, except those that would not be visited.
-    fn push_successors(&mut self, node: Node, index: u32) -> Result<(), NoMemory> {
+    fn push_successors(&mut self, alloc: Global, node: Node, index: u32) -> Result<(), NoMemory> {
         let last = node.last.thread;
         let can_continue = self.move_from(node.state, last).is_some();
         for thread in 0..self.states.threads(node.state) {
@@ -339,21 +269,23 @@ impl Searching {
             if self.states.is_visited(next, thread) {
                 continue;
             }
-            self.nodes.push(Node {
-                state: next,
-                parent: Some(index),
-                preemptions,
-                steps: node.steps.saturating_add(by.count).saturating_add(by.more),
-                last: by,
-            })?;
+            let steps = node.steps.saturating_add(by.count).saturating_add(by.more);
+            let candidate = Candidate {
+                parent: index,
+                thread,
+            };
+            self.nodes
+                .push(alloc, Rank { preemptions, steps }, candidate)?;
         }
         Ok(())
     }
 
     /// The state to which a thread leads from a state, and the move. None if it can't make a step.
     fn move_from(&self, state: u32, thread: u8) -> Option<(u32, Move)> {
-        let edge = self.states.edge(state, thread)?;
-        Some((edge.next, edge.by?))
+        match self.states.edge(state, thread)? {
+            Edge::To { next, by } => Some((next, by)),
+            _ => None,
+        }
     }
 
     /// Whether a schedule has more preemptions than the bound.

@@ -20,7 +20,7 @@ abbrev pub is_blocked_below : List (Option End) → ℕ → Bool
 is_blocked_below ends zero = false
 is_blocked_below ends (suc n) = is_blocked_below ends n || is_none (get_or ends n None)
 
--- what stands before the number of a blocked thread, by whether it is another's
+-- what comes before the number of a blocked thread, by whether it is the first one
 abbrev pub blocked_lead : Bool → List ℕ
 blocked_lead false = codes "deadlock: threads "
 blocked_lead true = codes ", "
@@ -63,7 +63,7 @@ outcome_line number ends printed = (codes "outcome " ++ decimal number ++ codes 
 
 -- ---- the second line
 
--- the text of a schedule; empty where it has too many events or too great a thread's number for one
+-- the text of a schedule; empty if it has too many events for one, or a thread whose number is too large
 abbrev pub IsSchedule : List Event → List ℕ → Type 0
 IsSchedule events text = IsWritten events text ⊎ ((IsWritable events → ⊥) × (text ≡ []))
 

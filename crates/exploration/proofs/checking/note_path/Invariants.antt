@@ -1,0 +1,8 @@
+use Rattle.std.proofs.Common.{map}
+use Rattle.exploration.specs.CheckedSteps.{AreEntries}
+use Rattle.exploration.specs.Paths.{events_of}
+use Rattle.exploration.proofs.checking.note_path.Given as goal
+
+-- the entries so far
+abbrev pub invariant-loop-step : goal.invariant-loop-step
+invariant-loop-step g l = AreEntries g.M.First.first (map events_of l.fn.paths) l.entries.items
