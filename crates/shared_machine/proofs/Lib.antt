@@ -10,4 +10,5 @@ pub mod TicketCounts
 pub mod OwnEvents
 pub mod Openings
 pub mod Records
+pub mod ServedThreads
 pub mod Moves

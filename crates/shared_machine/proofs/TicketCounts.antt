@@ -1,5 +1,6 @@
 -- What tickets have counted of their workers' own events.
-use Rattle.std.proofs.Common.{◌≡◌, ℕ, zero, suc, ◌+◌, ◌<◌, List, [], ◌∷◌, ◌++◌, length, get_or, refl, sym, ap, ◌∙◌, subst, arith, eq-eqb, nat_eq, All, Bool, true}
+use Rattle.std.proofs.Common.{◌≡◌, ℕ, zero, suc, ◌+◌, ◌<◌, List, [], ◌∷◌, ◌++◌, length, get_or, refl, sym, ap, ◌∙◌, subst, arith, eq-eqb, nat_eq, All, Bool, true, false, true≢false}
+use Rattle.std.specs.Prelude.{◌&&◌}
 use Rattle.std.proofs.lemmas.List.{get_or_append_left, get_or_push, length_push}
 use Rattle.std.proofs.lemmas.List.Elements.{All-append, All-cons, All-nil}
 use native.Mathlib.Decide.{ℕ_discrete}
@@ -77,9 +78,13 @@ worked_times workers t u n lent thread r same is inside own =
 pub worked_as : (workers workers' : ℕ) (t t' u : Count) → workers' ≡ workers → t' ≡ t → HasWorked workers' t' u → HasWorked workers t u
 worked_as workers workers' t t' u same same' did = subst (λ (p : ℕ × Count). HasWorked p.0 p.1 u) (λ k. (same k, same' k)) did
 
--- whether a worker drives a thread, by its number as it was read
-pub driven : (workers worker own thread : ℕ) (drives : Bool) → worker ≡ own → drives ≡ is_driven_by workers worker thread → drives ≡ true → is_driven_by workers own thread ≡ true
-driven workers worker own thread drives same is so = ap (λ w. is_driven_by workers w thread) (sym same) ∙ sym is ∙ so
+-- a worker drives a thread that it serves, by its number as it was read
+pub served : (workers worker own thread : ℕ) (live serves : Bool) → worker ≡ own → serves ≡ (live && is_driven_by workers worker thread) → serves ≡ true → is_driven_by workers own thread ≡ true
+served workers worker own thread live serves same is so = ap (λ w. is_driven_by workers w thread) (sym same) ∙ second live (is_driven_by workers worker thread) (sym is ∙ so)
+  where
+    second : (a b : Bool) → (a && b) ≡ true → b ≡ true
+    second true b both = both
+    second false b both = absurd (true≢false (sym both))
 
 -- ---- several workers
 

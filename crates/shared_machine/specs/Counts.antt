@@ -4,7 +4,7 @@ use mathlib.Core.Option.{some}
 use lib.ListN.{get_elem?}
 use Rattle.atomic_table.specs.Seated.{TableId}
 use Rattle.atomic_table.specs.Table.{Me, Step}
-use Rattle.shared_machine.specs.declared.view.View.{View}
+use Rattle.shared_machine.specs.declared.counts.view.View.{View}
 
 -- the name of no table
 abbrev pub no_table : TableId

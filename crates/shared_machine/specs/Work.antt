@@ -1,5 +1,5 @@
 -- What workers do to a shared machine (this profile).
-use Rattle.std.specs.Prelude.{◌≡◌, ◌⊎◌, ℕ, ◌<◌, ◌%◌, Bool, true, nat_eq, List, length, slice_index_or, Option, All, IfSome, IsSome}
+use Rattle.std.specs.Prelude.{◌≡◌, ◌⊎◌, ℕ, zero, suc, ◌<◌, ◌+◌, ◌%◌, ◌&&◌, Bool, true, if◌then◌else◌, nat_eq, List, length, slice_index_or, Option, All, IfSome, IsSome}
 use Rattle.std.specs.List.{count_by}
 use Rattle.atomic_table.specs.Seated.{TableId}
 use Rattle.cil_model.specs.declared.events.Event.{Event}
@@ -24,6 +24,11 @@ is_driven_by workers worker thread = nat_eq (thread % workers) worker
 -- a thread that a machine can have and that one of so many workers drives
 abbrev pub IsTheirs : ℕ → ℕ → ℕ → Type 0
 IsTheirs workers worker thread = (thread < MOST_THREADS) × (is_driven_by workers worker thread ≡ true)
+
+-- how many of the threads below a number are live and driven by one of this many workers
+abbrev pub served_below : Content → ℕ → ℕ → ℕ → ℕ
+served_below c workers worker zero = 0
+served_below c workers worker (suc n) = served_below c workers worker n + (if is_live_at c.threads n && is_driven_by workers worker n then 1 else 0)
 
 -- what one of so many workers may do: steps and acknowledgements of the threads that it drives, and, as worker 0, events of the collector
 abbrev pub IsOwn : ℕ → ℕ → Event → Type 0

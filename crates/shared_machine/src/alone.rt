@@ -7,7 +7,7 @@ ghost use Rattle.shared_machine.specs.Histories.{events_of, reports_of};
 ghost use Rattle.shared_machine.specs.Worlds.{AreDoneOf, HasCounted, HasCountedFirst, HasRun, IsPrintedWithin};
 
 use crate::answer::Answer;
-use crate::book::{Blank, Ticket};
+use crate::counts::book::{Blank, Ticket};
 use crate::outcome::Outcome;
 use crate::shared::Shared;
 use crate::world::Opening;

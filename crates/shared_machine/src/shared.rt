@@ -6,19 +6,22 @@ ghost use Rattle.shared_machine.specs.Worlds.{AgreesWith, HasRun, HasTicket, IfD
 ghost use Rattle.shared_machine.specs.declared.shared.TheConstants.{MOST_WORKERS};
 
 use crate::answer::Answer;
-use crate::book::{Blank, Book, Ticket};
+use crate::counts::book::{Blank, Book, Ticket};
 use crate::outcome::Outcome;
 use crate::world::{Opening, World, perform, rooms_for};
 use cil_model::events::Event;
 use cil_model::memory::NoMemory;
 use interleaving_core::Machine;
 use std::alloc::{AllocError, Global};
-use std::hint::spin_loop;
 use std::marker::Model;
 use std::sync::{Mutex, MutexGuard, Wait};
+use std::thread::yield_now;
 
-/// How often a worker tries to take the lock before it waits for it.
-const TRIES: u32 = 64;
+/// How often a worker tries to take the lock before it sleeps until the lock is given back.
+const TRIES: u32 = 1024;
+
+/// After how many tries it yields, in case the worker that holds the lock has no processor.
+const TRIES_TO_A_YIELD: u32 = 64;
 
 /// Workers of a shared machine.
 pub const MOST_WORKERS: u8 = 16;
@@ -90,13 +93,15 @@ impl<M: Opening> Shared<M> {
         self.world.lock(rt)
     }
 
-    /// Takes the lock as `lock` does, where it is held for a short time only: it tries some times before it waits as others do.
+    /// Takes the lock as `lock` does, where it is held for a short time only: it tries many times before it sleeps.
     pub(crate) fn lock_soon<R: Wait>(&self, rt: &R) -> MutexGuard<'_, World<M>> {
-        for _try in 0..TRIES {
+        for attempt in 1..TRIES {
             if let Some(guard) = self.world.try_lock() {
                 return guard;
             }
-            spin_loop();
+            if attempt % TRIES_TO_A_YIELD == 0 {
+                yield_now();
+            }
         }
         self.world.lock(rt)
     }

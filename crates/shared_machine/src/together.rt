@@ -6,12 +6,12 @@ ghost use Rattle.shared_machine.specs.Worlds.{HasRun, IsPrintedWithin};
 ghost use Rattle.shared_machine.specs.declared.shared.TheConstants.{MOST_WORKERS};
 ghost use Rattle.shared_machine.specs.Work.{HasEnded, IsDeadlocked, IsOwnOf};
 
-use crate::book::Blank;
-use crate::crew::run_workers;
-use crate::deadlock::is_deadlocked;
-use crate::gate::Gate;
+use crate::counts::book::Blank;
 use crate::outcome::Outcome;
 use crate::shared::Shared;
+use crate::workers::crew::run_workers;
+use crate::workers::deadlock::is_deadlocked;
+use crate::workers::gate::Gate;
 use crate::world::Opening;
 use cil_model::memory::NoMemory;
 use cil_model::stops::StopAt;

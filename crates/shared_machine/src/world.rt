@@ -15,10 +15,10 @@ ghost use Rattle.shared_machine.specs.Worlds.{AgreesWith, CannotLend, HasRooms, 
 ghost use Rattle.shared_machine.specs.declared.answer.Answer.TheVariants.{Away};
 
 use crate::answer::Answer;
-use crate::book::{Book, Ticket};
+use crate::counts::book::{Book, Ticket};
+use crate::counts::view::{Naming, Next};
 use crate::history::{Entry, History};
 use crate::outcome::Outcome;
-use crate::view::{Naming, Next};
 use cil_model::events::Event;
 use cil_model::limits::MOST_THREADS;
 use cil_model::memory::NoMemory;

@@ -1,8 +1,0 @@
-use Rattle.shared_machine.specs.Work.{HasWorked, IsHeraldOf, IsSeatHere}
-use Rattle.shared_machine.proofs.working.work.Given as goal
-
-abbrev pub invariant-loop : goal.invariant-loop
-invariant-loop g l = record {
-  here : IsSeatHere l.epochs l.worker.seat × IsHeraldOf l.epochs l.worker.herald;
-  worked : HasWorked l.plan.workers l.fn.worker.ticket l.worker.ticket;
-}

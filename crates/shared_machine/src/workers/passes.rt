@@ -1,0 +1,410 @@
+//! A worker's pass.
+
+ghost use Rattle.std.specs.Prelude.{◌≡◌, ◌≢◌, ◌<◌, ◌≤◌, ℕ, false};
+ghost use Rattle.cil_model.specs.declared.limits.TheConstants.{MOST_THREADS};
+ghost use Rattle.shared_machine.specs.declared.workers.passes.TheConstants.{MOST_LOCAL};
+ghost use Rattle.cil_model.specs.declared.events.Event.TheVariants.{Step as StepOf};
+ghost use Rattle.shared_machine.specs.Work.{HasWorked, IsHeraldOf, IsOwn, IsSeatHere, IsSeatOf};
+
+use crate::answer::Answer;
+use crate::counts::book::Ticket;
+use crate::counts::view::Naming;
+use crate::shared::Shared;
+use crate::workers::findings::{Findings, found_in, is_served, served_threads};
+use crate::workers::pace::{Pace, Passed, Progress};
+use crate::workers::plan::Plan;
+use crate::workers::seats::{Parked, seat_of};
+use crate::world::{Lent, Opening, World, check_in, lend, perform, run_local, stop};
+use cil_model::events::Event;
+use cil_model::reports::Report;
+use cil_model::stops::StopAt;
+use epoch_words::{Epochs, Herald, Post, Seat};
+use interleaving_core::Machine;
+use std::alloc::Global;
+use std::sync::{Mutex, MutexGuard, Wait};
+
+/// The most local instructions of a thread in a pass.
+const MOST_LOCAL: u32 = 64;
+
+/// How many passes a worker makes on one loan, where they need nothing but the lent frame.
+const PASSES_ON_A_LOAN: u32 = 64;
+
+/// A worker at its work.
+#[derive(Drop)]
+pub(crate) struct Worker<M: Opening> {
+    pub ticket: Ticket<M>,
+    /// Its seat, while it drives a live thread. Else one is parked.
+    pub seat: Option<Seat>,
+    /// The number that it last acknowledged, 0 before it did.
+    pub acknowledged: u64,
+    /// The right to post, which worker 0 has.
+    pub herald: Option<Herald>,
+    /// How its passes went up to now.
+    pub pace: Pace,
+}
+
+/// Does an event as `perform` does it. Where it is one of the worker's own, the worker has done nothing else.
+// Where it is called for one kind of event, only that kind's code is left of it.
+#[inline(always)]
+fn ask<M: Opening>(
+    alloc: Global,
+    world: &mut World<M>,
+    ticket: &mut Ticket<M>,
+    event: Event,
+) -> Answer
+    ensures { (workers : ℕ) → IsOwn workers ticket.old.worker event → HasWorked workers ticket.old ticket.new }
+{
+    perform(world, alloc, ticket, event)
+}
+
+/// Takes a lent frame back, and has its thread make a step where no instruction was done on the frame. Where the thread is the worker's
+/// own, the worker has done nothing else.
+fn settle<M: Opening>(
+    alloc: Global,
+    world: &mut World<M>,
+    ticket: &mut Ticket<M>,
+    lent: Lent<M>,
+    thread: u8,
+) -> Progress
+    requires { lent.thread ≡ thread }
+    ensures { (workers : ℕ) → IsOwn workers ticket.old.worker (StepOf thread) → HasWorked workers ticket.old ticket.new }
+{
+    match check_in(world, ticket, lent) {
+        Ok(0) => Progress::of(perform(world, alloc, ticket, Event::Step(thread))),
+        Ok(_) => Progress::MadeApart,
+        Err(_) => Progress::OutOfMemory,
+    }
+}
+
+/// The most local instructions that a worker does on one loan, by how many live threads it drives: those of a pass, or of some passes in a row
+/// that need nothing but the thread's frame, since no event of the collector and no other thread of the worker comes between them.
+fn most_on_loan(plan: Plan, worker: u8, served: usize) -> u32
+    ensures herald { worker ≡ 0 → result ≡ MOST_LOCAL }
+    ensures several { served ≢ 1 → result ≡ MOST_LOCAL }
+    ensures held { plan.is_open ≡ false → result ≡ MOST_LOCAL }
+{
+    if plan.is_open && worker != 0 && served == 1 {
+        MOST_LOCAL * PASSES_ON_A_LOAN
+    } else {
+        MOST_LOCAL
+    }
+}
+
+/// Advances a thread, under the lock that is held: by one step, or, where its next instruction is local, by up to `most` local instructions
+/// without the lock. The lock is held again at the end. Where the thread is the worker's own, the worker has done nothing else.
+fn go_on<'s, M: Opening, R: Wait>(
+    rt: &R,
+    alloc: Global,
+    shared: &'s Shared<M>,
+    mut world: MutexGuard<'s, World<M>>,
+    ticket: &mut Ticket<M>,
+    thread: u8,
+    most: u32,
+) -> (Progress, MutexGuard<'s, World<M>>)
+    ensures { (workers : ℕ) → IsOwn workers ticket.old.worker (StepOf thread) → HasWorked workers ticket.old ticket.new }
+{
+    if world.machine().is_next_local(thread) {
+        if let Some(lent) = lend(&mut *world, thread) {
+            drop(world);
+            let lent = run_local(lent, most);
+            let mut again = shared.lock_soon(rt);
+            let progress = settle(alloc, &mut *again, ticket, lent, thread);
+            return (progress, again);
+        }
+    }
+    let answer = ask(alloc, &mut *world, ticket, Event::Step(thread));
+    (Progress::of(answer), world)
+}
+
+/// Advances each live thread that the worker drives and that was started before the pass, in the order of their numbers. It stops where memory
+/// does not last.
+fn step_each<'s, M: Opening, R: Wait>(
+    rt: &R,
+    alloc: Global,
+    shared: &'s Shared<M>,
+    mut world: MutexGuard<'s, World<M>>,
+    ticket: &mut Ticket<M>,
+    plan: Plan,
+    found: Findings,
+) -> (Progress, MutexGuard<'s, World<M>>)
+    requires some { 0 < plan.workers }
+    requires few { found.started ≤ MOST_THREADS }
+    ensures { HasWorked plan.workers ticket.old ticket.new }
+{
+    let most = most_on_loan(plan, ticket.worker(), found.served);
+    let mut progress = Progress::None;
+    for thread in 0..found.started {
+        let number = thread as u8;
+        if is_served(world.machine(), plan.workers, ticket.worker(), number) {
+            let (came, held) = go_on(rt, alloc, shared, world, ticket, number, most);
+            world = held;
+            progress = progress.then(came);
+            if !progress.lasts() {
+                return (progress, world);
+            }
+        }
+    }
+    (progress, world)
+}
+
+/// Acknowledges for each live thread that the worker drives, in the order of their numbers. It stops where memory does not last.
+fn acknowledge_each<M: Opening>(
+    alloc: Global,
+    world: &mut World<M>,
+    ticket: &mut Ticket<M>,
+    workers: u8,
+    found: Findings,
+) -> Progress
+    requires some { 0 < workers }
+    requires few { found.started ≤ MOST_THREADS }
+    ensures { HasWorked workers ticket.old ticket.new }
+{
+    for thread in 0..found.started {
+        let number = thread as u8;
+        if is_served(world.machine(), workers, ticket.worker(), number) {
+            let answer = ask(alloc, world, ticket, Event::Ack(number));
+            if answer == Answer::NoMemory {
+                return Progress::OutOfMemory;
+            }
+        }
+    }
+    Progress::Made
+}
+
+/// Polls, and, where the number is newer than the last one acknowledged, has each of the worker's threads acknowledge, and then
+/// acknowledges itself. It gives back the seat and the number that is acknowledged now.
+fn acknowledge<M: Opening>(
+    alloc: Global,
+    epochs: &Epochs,
+    world: &mut World<M>,
+    ticket: &mut Ticket<M>,
+    seat: Seat,
+    acknowledged: u64,
+    workers: u8,
+    found: Findings,
+) -> (Progress, Seat, u64)
+    requires some { 0 < workers }
+    requires few { found.started ≤ MOST_THREADS }
+    requires here { IsSeatOf epochs.now seat }
+    ensures here { IsSeatOf epochs.now result.1 }
+    ensures worked { HasWorked workers ticket.old ticket.new }
+{
+    let (posted, seat) = epochs.poll(seat);
+    if posted <= acknowledged {
+        return (Progress::None, seat, acknowledged);
+    }
+    let progress = acknowledge_each(alloc, world, ticket, workers, found);
+    if progress.lasts() {
+        (progress, epochs.ack(seat), posted)
+    } else {
+        (progress, seat, acknowledged)
+    }
+}
+
+/// Has the worker's seat acknowledge, or a parked one where the worker has none, and parks it where the worker drives no live thread. It
+/// gives back the seat that stays with the worker, and the number that is acknowledged now.
+fn take_part<M: Opening, E: Naming, R: Wait>(
+    rt: &R,
+    alloc: Global,
+    epochs: &Epochs,
+    parked: &Mutex<Parked<E>>,
+    world: &mut World<M>,
+    ticket: &mut Ticket<M>,
+    seat: Option<Seat>,
+    acknowledged: u64,
+    workers: u8,
+    found: Findings,
+) -> (Progress, Option<Seat>, u64)
+    requires some { 0 < workers }
+    requires few { found.started ≤ MOST_THREADS }
+    requires here { IsSeatHere epochs.now seat }
+    requires same { epochs.now.table ≡ E.table }
+    ensures here { IsSeatHere epochs.now result.1 }
+    ensures worked { HasWorked workers ticket.old ticket.new }
+{
+    let Some(seat) = seat_of(rt, parked, seat) else {
+        return (Progress::None, None, acknowledged);
+    };
+    let (progress, seat, acknowledged) = acknowledge(
+        alloc,
+        epochs,
+        world,
+        ticket,
+        seat,
+        acknowledged,
+        workers,
+        found,
+    );
+    if found.served > 0 {
+        (progress, Some(seat), acknowledged)
+    } else {
+        (progress, parked.lock(rt).put(seat), acknowledged)
+    }
+}
+
+/// Posts the next number, where the herald is here, and answers whether a seat was late.
+fn post(epochs: &Epochs, herald: &mut Option<Herald>) -> bool
+    requires { IsHeraldOf epochs.now herald.old }
+    ensures { IsHeraldOf epochs.now herald.new }
+{
+    let Some(right) = herald.take() else {
+        return false;
+    };
+    let (post, right) = epochs.post(right);
+    *herald = Some(right);
+    matches!(post, Post::Late)
+}
+
+/// How many workers drive no live thread.
+fn idle_workers(machine: &Machine, workers: u8) -> usize {
+    // Where there are no more threads than workers, each thread has a worker of its own.
+    if machine.started() <= usize::from(workers) {
+        return usize::from(workers).saturating_sub(machine.live());
+    }
+    let mut idle = 0;
+    for worker in 0..workers {
+        if served_threads(machine, workers, worker) == 0 {
+            idle += 1;
+        }
+    }
+    idle
+}
+
+/// Does an event of the collector. Where the collector waits, as many parked seats acknowledge as there are workers that drive no live
+/// thread, and the next number is posted. That is for worker 0: another one does nothing. It answers whether a seat was late, too.
+fn collect<M: Opening, E: Naming, R: Wait>(
+    rt: &R,
+    alloc: Global,
+    epochs: &Epochs,
+    parked: &Mutex<Parked<E>>,
+    world: &mut World<M>,
+    ticket: &mut Ticket<M>,
+    herald: &mut Option<Herald>,
+    workers: u8,
+) -> (Progress, bool)
+    requires here { IsHeraldOf epochs.now herald.old }
+    requires same { epochs.now.table ≡ E.table }
+    ensures herald { IsHeraldOf epochs.now herald.new }
+    ensures worked { (workers : ℕ) → HasWorked workers ticket.old ticket.new }
+{
+    if ticket.worker() != 0 {
+        return (Progress::None, false);
+    }
+    let answer = ask(alloc, world, ticket, Event::Gc);
+    let mut is_late = false;
+    if answer == Answer::Did(Report::Waiting) {
+        let idle = idle_workers(world.machine(), workers);
+        if idle > 0 {
+            parked.lock(rt).acknowledge(epochs, idle);
+        }
+        is_late = post(epochs, herald);
+    }
+    (Progress::of(answer), is_late)
+}
+
+/// What a worker does in a pass, under the lock that is held: it polls and acknowledges, has each of its threads go on, and, as worker 0,
+/// does an event of the collector. Where memory does not last, it stops there and sets the stop mark.
+fn serve<'s, M: Opening, E: Naming, R: Wait>(
+    rt: &R,
+    alloc: Global,
+    shared: &'s Shared<M>,
+    epochs: &Epochs,
+    parked: &Mutex<Parked<E>>,
+    mut world: MutexGuard<'s, World<M>>,
+    worker: &mut Worker<M>,
+    plan: Plan,
+    found: Findings,
+) -> (Passed, MutexGuard<'s, World<M>>)
+    requires some { 0 < plan.workers }
+    requires few { found.started ≤ MOST_THREADS }
+    requires here { IsSeatHere epochs.now worker.old.seat × IsHeraldOf epochs.now worker.old.herald }
+    requires same { epochs.now.table ≡ E.table }
+    ensures here { IsSeatHere epochs.now worker.new.seat × IsHeraldOf epochs.now worker.new.herald }
+    ensures worked { HasWorked plan.workers worker.old.ticket worker.new.ticket }
+{
+    let Worker {
+        ticket,
+        seat,
+        acknowledged,
+        herald,
+        pace,
+    } = worker;
+    let (mut progress, held_seat, number) = take_part(
+        rt,
+        alloc,
+        epochs,
+        parked,
+        &mut *world,
+        ticket,
+        seat.take(),
+        *acknowledged,
+        plan.workers,
+        found,
+    );
+    *seat = held_seat;
+    *acknowledged = number;
+    let mut steps = Progress::None;
+    let mut is_late = false;
+    if progress.lasts() {
+        let (came, held) = step_each(rt, alloc, shared, world, ticket, plan, found);
+        world = held;
+        steps = came;
+        progress = progress.then(came);
+    }
+    if progress.lasts() {
+        let (came, late) = collect(
+            rt,
+            alloc,
+            epochs,
+            parked,
+            &mut *world,
+            ticket,
+            herald,
+            plan.workers,
+        );
+        is_late = late;
+        progress = progress.then(came);
+    }
+    if !progress.lasts() {
+        stop(&mut *world);
+    }
+    let passed = Passed {
+        progress,
+        steps,
+        is_driving: found.served > 0,
+        is_late,
+        is_last: found.is_last,
+    };
+    pace.note_pass(&passed);
+    (passed, world)
+}
+
+/// One pass of a worker, under the lock that is held: it looks, polls and acknowledges, has each of its threads go on, and, as worker 0, does an
+/// event of the collector. Its threads are those that it drives and that are live as the pass begins. Where memory does not last, it stops
+/// there and sets the stop mark. Where the run is to stop at a deadlock, a worker that finds the stop mark does nothing else.
+///
+/// The lock is given back meanwhile where a thread goes on without it, and is held at the end.
+pub(crate) fn pass<'s, M: Opening, E: Naming, R: Wait>(
+    rt: &R,
+    alloc: Global,
+    shared: &'s Shared<M>,
+    epochs: &Epochs,
+    parked: &Mutex<Parked<E>>,
+    world: MutexGuard<'s, World<M>>,
+    worker: &mut Worker<M>,
+    plan: Plan,
+) -> (Passed, MutexGuard<'s, World<M>>)
+    requires some { 0 < plan.workers }
+    requires here { IsSeatHere epochs.now worker.old.seat × IsHeraldOf epochs.now worker.old.herald }
+    requires same { epochs.now.table ≡ E.table }
+    ensures here { IsSeatHere epochs.now worker.new.seat × IsHeraldOf epochs.now worker.new.herald }
+    ensures worked { HasWorked plan.workers worker.old.ticket worker.new.ticket }
+{
+    let found = found_in(&*world, plan.workers, worker.ticket.worker());
+    if found.is_stopped && matches!(plan.stop_at, StopAt::Deadlock) {
+        return (Passed::nothing(), world);
+    }
+    serve(
+        rt, alloc, shared, epochs, parked, world, worker, plan, found,
+    )
+}
