@@ -2,14 +2,14 @@
 #![tactic(auto)]
 
 use command_line::{LineFault, Malformed, Unread, Unwritten};
-use driver::{Failure, RecordFiles, WriterOut};
+use driver::{Failure, Outputs, RecordFiles, WriterOut};
 use orders::{Order, read_source, read_text, run_file_name};
 use std::alloc::AllocError;
 use std::fs::File;
 use std::process::ExitCode;
 use std::sync::Wait;
 use std::thread::Threads;
-use std::time::Instant;
+use std::time::{Clock, Duration, Instant};
 use std::{env, fs, io};
 
 fn main(rt: HostRuntime) -> ExitCode {
@@ -22,7 +22,10 @@ fn main(rt: HostRuntime) -> ExitCode {
     ExitCode::from(status)
 }
 
-fn program(rt: &HostRuntime, threads: &(impl Threads + Wait + Sync)) -> Result<u8, Failure> {
+fn program(
+    rt: &HostRuntime,
+    threads: &(impl Threads + Wait + Clock + Sync),
+) -> Result<u8, Failure> {
     match given_words(rt)? {
         Some(given) => obey(rt, threads, given.as_slice()),
         None => {
@@ -41,22 +44,22 @@ fn given_words(rt: &HostRuntime) -> Result<Option<Vec<String>>, Failure> {
     }
 }
 
-/// Does what the words of the command line ask for, and answers the status.
+/// Does what the words of the command line ask for, and returns the status.
 fn obey(
     rt: &HostRuntime,
-    threads: &(impl Threads + Wait + Sync),
+    threads: &(impl Threads + Wait + Clock + Sync),
     given: &[String],
 ) -> Result<u8, Failure> {
     let alloc = rt.alloc();
     let words: Vec<&str> = given.iter().map(|word| word.as_str()).collect(alloc)?;
     match command_line::order(alloc, words.as_slice()) {
         Ok(order) => Ok(carry_out(rt, threads, &order)),
-        Err(fault) => tell_line(rt, &fault),
+        Err(fault) => report_line(rt, &fault),
     }
 }
 
-/// Tells what stands in the place of an order, and answers the status.
-fn tell_line(rt: &HostRuntime, fault: &LineFault) -> Result<u8, Failure> {
+/// Prints the help, the version or the error that a command line has in the place of a command, and returns the status.
+fn report_line(rt: &HostRuntime, fault: &LineFault) -> Result<u8, Failure> {
     match fault {
         LineFault::Help(text) | LineFault::Version(text) => {
             print!(rt; "{text}")?;
@@ -70,15 +73,19 @@ fn tell_line(rt: &HostRuntime, fault: &LineFault) -> Result<u8, Failure> {
     }
 }
 
-/// Carries out an order on its files, and answers the status.
-fn carry_out(rt: &HostRuntime, threads: &(impl Threads + Wait + Sync), order: &Order<'_>) -> u8 {
+/// Carries out a command on its files, and returns the status.
+fn carry_out(
+    rt: &HostRuntime,
+    threads: &(impl Threads + Wait + Clock + Sync),
+    order: &Order<'_>,
+) -> u8 {
     let source = match source_of(rt, order) {
         Ok(source) => source,
-        Err(unread) => return tell_unread(rt, &unread),
+        Err(unread) => return report_unread(rt, &unread),
     };
     let schedule = match schedule_of(rt, order) {
         Ok(schedule) => schedule,
-        Err(unread) => return tell_unread(rt, &unread),
+        Err(unread) => return report_unread(rt, &unread),
     };
     match with_run_file(rt, order) {
         Ok(order) => carry_out_timed(rt, threads, &order, source.as_slice(), schedule.as_slice()),
@@ -86,7 +93,7 @@ fn carry_out(rt: &HostRuntime, threads: &(impl Threads + Wait + Sync), order: &O
     }
 }
 
-/// The order with what the `.run` file beside its schedule says, where there is one. If that is not read or is not a `.run` file, it is
+/// The command with what the `.run` file beside its schedule says, where there is one. If that is not read or is not a `.run` file, it is
 /// reported, and the error is the status.
 fn with_run_file<'a>(rt: &HostRuntime, order: &Order<'a>) -> Result<Order<'a>, u8> {
     let Some(schedule) = order.schedule_file() else {
@@ -101,9 +108,9 @@ fn with_run_file<'a>(rt: &HostRuntime, order: &Order<'a>) -> Result<Order<'a>, u
         Ok(None) => Ok(*order),
         Ok(Some(text)) => match run_files::read(text.as_slice()) {
             Some(run) => Ok(order.with_run_file(run)),
-            None => Err(tell_malformed(rt, &Malformed { file })),
+            None => Err(report_malformed(rt, &Malformed { file })),
         },
-        Err(error) => Err(tell_unread(rt, &Unread { file, error })),
+        Err(error) => Err(report_unread(rt, &Unread { file, error })),
     }
 }
 
@@ -118,19 +125,25 @@ fn text_where_found(rt: &HostRuntime, file: &str) -> io::Result<Option<Vec<u8>>>
     }
 }
 
-/// Carries out an order on the bytes of its files, and returns the status. Prints the seconds that it took after the numbers of a run.
+/// Carries out a command on the bytes of its files, and returns the status. Prints the seconds of a run after its other numbers.
 fn carry_out_timed(
     rt: &HostRuntime,
-    threads: &(impl Threads + Wait + Sync),
+    threads: &(impl Threads + Wait + Clock + Sync),
     order: &Order<'_>,
     source: &[u8],
     schedule: &[u8],
 ) -> u8 {
     let start = Instant::now(rt);
-    let status = carry_out_on(rt, threads, order, source, schedule);
-    if let Ok(start) = start {
+    let errors = rt.stderr();
+    let mut outputs = Outputs::new(
+        WriterOut::new(io::writer(rt)),
+        WriterOut::new(io::writer(&errors)),
+    );
+    let status = driver::drive(threads, rt.alloc(), order, source, schedule, &mut outputs);
+    let status = write_files(rt, order, outputs.files, status);
+    if let (Ok(start), Some(ended)) = (start, outputs.ended) {
         if order.counts() && is_of_run(status) {
-            show_seconds(rt, start);
+            show_seconds(rt, ended.duration_since(start));
         }
     }
     status
@@ -142,45 +155,22 @@ fn is_of_run(status: u8) -> bool {
     matches!(status, 0 | 3 | 4 | 6)
 }
 
-/// Prints the seconds since a moment. Prints nothing if the clock can't be read.
-fn show_seconds(rt: &HostRuntime, start: Instant) {
-    if let Ok(time) = start.elapsed(rt) {
-        let seconds = time.as_secs();
-        let millis = time.subsec_millis();
-        let _written = eprintln!(rt; "seconds: {seconds}.{millis:03}");
-    }
+/// Prints a time in seconds.
+fn show_seconds(rt: &HostRuntime, time: Duration) {
+    let seconds = time.as_secs();
+    let millis = time.subsec_millis();
+    let _written = eprintln!(rt; "seconds: {seconds}.{millis:03}");
 }
 
-/// Carries out an order on the bytes of its files, and answers the status.
-fn carry_out_on(
-    rt: &HostRuntime,
-    threads: &(impl Threads + Wait + Sync),
-    order: &Order<'_>,
-    source: &[u8],
-    schedule: &[u8],
-) -> u8 {
-    let alloc = rt.alloc();
-    let errors = rt.stderr();
-    let mut out = WriterOut::new(io::writer(rt));
-    let mut err = WriterOut::new(io::writer(&errors));
-    let mut record = None;
-    let status = driver::drive(
-        threads,
-        alloc,
-        order,
-        source,
-        schedule,
-        &mut out,
-        &mut err,
-        &mut record,
-    );
-    match record {
+/// Writes the files that a command has left, if it has, and returns the status, which is this one if they are written.
+fn write_files(rt: &HostRuntime, order: &Order<'_>, files: Option<RecordFiles>, status: u8) -> u8 {
+    match files {
         Some(texts) => write_record(rt, order, &texts, status),
         None => status,
     }
 }
 
-/// Writes the record of a run to the file that the order names, and its `.run` file beside it, and returns the status, which is this one if
+/// Writes the record of a run to the file that the command names, and its `.run` file beside it, and returns the status, which is this one if
 /// they are written. A run that has a record has some events; where there are none, no file is made.
 fn write_record(rt: &HostRuntime, order: &Order<'_>, texts: &RecordFiles, status: u8) -> u8 {
     let Some(file) = order.record_file() else {
@@ -191,7 +181,7 @@ fn write_record(rt: &HostRuntime, order: &Order<'_>, texts: &RecordFiles, status
     }
     match fs::write(rt, file, texts.schedule.as_bytes()) {
         Ok(()) => write_run_file(rt, file, texts, status),
-        Err(error) => tell_unwritten(rt, &Unwritten { file, error }),
+        Err(error) => report_unwritten(rt, &Unwritten { file, error }),
     }
 }
 
@@ -208,7 +198,7 @@ fn write_run_file(rt: &HostRuntime, record: &str, texts: &RecordFiles, status: u
     let file = name.as_str();
     match fs::write(rt, file, texts.run.as_bytes()) {
         Ok(()) => status,
-        Err(error) => tell_unwritten(rt, &Unwritten { file, error }),
+        Err(error) => report_unwritten(rt, &Unwritten { file, error }),
     }
 }
 
@@ -245,7 +235,7 @@ fn schedule_of<'a>(rt: &HostRuntime, order: &Order<'a>) -> Result<Vec<u8>, Unrea
 }
 
 /// Reports that a file is not a `.run` file, and returns the status.
-fn tell_malformed(rt: &HostRuntime, malformed: &Malformed<'_>) -> u8 {
+fn report_malformed(rt: &HostRuntime, malformed: &Malformed<'_>) -> u8 {
     let status = report_failure(rt, Failure::Refused(run_files::MALFORMED));
     if let Ok(text) = malformed.told(rt.alloc()) {
         let _written = eprint!(rt; "{text}");
@@ -259,18 +249,18 @@ fn report_failure(rt: &HostRuntime, failure: Failure) -> u8 {
     driver::report(failure, &mut WriterOut::new(io::writer(&errors)))
 }
 
-/// Tells that a file is not read, and why, and answers the status.
-fn tell_unread(rt: &HostRuntime, unread: &Unread<'_>) -> u8 {
-    tell_file(rt, unread.error, unread.told(rt.alloc()))
+/// Reports that a file is not read, and why, and returns the status.
+fn report_unread(rt: &HostRuntime, unread: &Unread<'_>) -> u8 {
+    report_file(rt, unread.error, unread.told(rt.alloc()))
 }
 
-/// Tells that the record's file is not written, and why, and answers the status.
-fn tell_unwritten(rt: &HostRuntime, unwritten: &Unwritten<'_>) -> u8 {
-    tell_file(rt, unwritten.error, unwritten.told(rt.alloc()))
+/// Reports that the record's file is not written, and why, and returns the status.
+fn report_unwritten(rt: &HostRuntime, unwritten: &Unwritten<'_>) -> u8 {
+    report_file(rt, unwritten.error, unwritten.told(rt.alloc()))
 }
 
-/// Tells an error of a file, and behind it what is told of the file. Where that is not to be had or not written, the first line stands alone.
-fn tell_file(rt: &HostRuntime, error: io::Error, told: Result<String, AllocError>) -> u8 {
+/// Reports an error of a file, and after it a text about the file. Where that text is not available or not written, the first line is alone.
+fn report_file(rt: &HostRuntime, error: io::Error, told: Result<String, AllocError>) -> u8 {
     let status = report_failure(rt, Failure::from(error));
     if let Ok(text) = told {
         let _written = eprint!(rt; "{text}");

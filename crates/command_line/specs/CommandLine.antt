@@ -23,9 +23,11 @@ use Rattle.cil_model.specs.declared.limits.TheConstants.{LEAST_WORDS, MOST_WORDS
 use Rattle.cil_model.specs.declared.limits.TheConstants.{MOST_BUDGET, MOST_DEPTH}
 use Rattle.orders.specs.declared.given_limits.GivenLimits.{GivenLimits}
 use Rattle.orders.specs.declared.order.Order.{Order}
-use Rattle.orders.specs.declared.order.Order.TheVariants.{Check, Run, Replay, Trace, Picture, Threads, Explore, Flip}
-use Rattle.orders.specs.declared.order.TheConstants.{LEAST_OUTPUT, MOST_OUTPUT}
+use Rattle.orders.specs.declared.order.Order.TheVariants.{Check, Run, Trace, Picture, Explore, Flip}
+use Rattle.orders.specs.declared.run.TheConstants.{LEAST_OUTPUT, MOST_OUTPUT}
 use Rattle.orders.specs.declared.part.Part.{Part}
+use Rattle.orders.specs.declared.run.RunKind.{RunKind}
+use Rattle.orders.specs.declared.run.RunKind.TheVariants.{Schedule, Replay, Workers}
 use Rattle.orders.specs.declared.part.TheConstants.{LAST_NUMBER}
 use Rattle.cil_model.specs.declared.stops.StopAt.{StopAt}
 use Rattle.cil_model.specs.declared.stops.StopAt.TheVariants.{Deadlock, End}
@@ -168,13 +170,16 @@ pub data Wanted : Type 0 where
   explore : Text → Extent → Option Text → Limits → Bool → Wanted
   flip : ℕ → ℕ → ℕ → ℕ → Wanted
 
+abbrev pub wanted_run : Text → Option ℕ → Bool → Bool → RunKind → Wanted
+wanted_run file most_printed explain stats (Schedule text limits) = run file text.now most_printed limits explain stats
+wanted_run file most_printed explain stats (Replay schedule limits expected) = replay file schedule.now most_printed limits explain stats
+wanted_run file most_printed explain stats (Workers workers kept stop_at limits) = threads file workers.count (option_map (λ name. name.now) kept) stop_at most_printed limits explain stats
+
 abbrev pub wanted_of : Order → Wanted
 wanted_of (Check file explain) = check file.now explain
-wanted_of (Run file schedule most_printed limits explain stats) = run file.now schedule.now most_printed limits explain stats
-wanted_of (Replay file schedule most_printed limits expected explain stats) = replay file.now schedule.now most_printed limits explain stats
+wanted_of (Run r) = wanted_run r.file.now r.most_printed r.explain r.stats r.kind
 wanted_of (Trace file schedule limits expected explain) = trace file.now schedule.now limits explain
 wanted_of (Picture file schedule part limits expected explain) = picture file.now schedule.now part.first part.last limits explain
-wanted_of (Threads file workers kept stop_at most_printed limits explain stats) = threads file.now workers.count (option_map (λ name. name.now) kept) stop_at most_printed limits explain stats
 wanted_of (Explore file extent kept limits explain) = explore file.now extent (option_map (λ name. name.now) kept) limits explain
 wanted_of (Flip sizes) = flip sizes.seats sizes.objects sizes.slots sizes.rounds
 
@@ -392,13 +397,17 @@ abbrev pub AreGivenInRange : GivenLimits → Type 0
 AreGivenInRange given = IfSome given.words (λ n. (LEAST_WORDS ≤ n) × (n ≤ MOST_WORDS)) × IfSome given.max_words (λ n. (LEAST_WORDS ≤ n) × (n ≤ MOST_WORDS))
     × IfSome given.budget (λ n. (1 ≤ n) × (n ≤ MOST_BUDGET)) × IfSome given.depth (λ n. (1 ≤ n) × (n ≤ MOST_DEPTH))
 
+-- the limits of a run lie in their ranges, and nothing is known of a recorded run
+abbrev pub IsKindInRange : RunKind → Type 0
+IsKindInRange (Schedule text limits) = are_numbers_in_range limits ≡ true
+IsKindInRange (Replay schedule limits expected) = AreGivenInRange limits × (expected ≡ None)
+IsKindInRange (Workers workers kept stop_at limits) = are_numbers_in_range limits ≡ true
+
 -- each number of the order lies in its range, and nothing is known of a recorded run
 abbrev pub IsInRange : Order → Type 0
 IsInRange (Check file explain) = ⊤
-IsInRange (Run file schedule most_printed limits explain stats) = (are_numbers_in_range limits ≡ true) × IsOutputInRange most_printed
-IsInRange (Replay file schedule most_printed limits expected explain stats) = AreGivenInRange limits × (expected ≡ None) × IsOutputInRange most_printed
+IsInRange (Run r) = IsKindInRange r.kind × IsOutputInRange r.most_printed
 IsInRange (Trace file schedule limits expected explain) = AreGivenInRange limits × (expected ≡ None)
 IsInRange (Picture file schedule part limits expected explain) = AreGivenInRange limits × (expected ≡ None) × IsPartInRange part
-IsInRange (Threads file workers kept stop_at most_printed limits explain stats) = (are_numbers_in_range limits ≡ true) × IsOutputInRange most_printed
 IsInRange (Explore file extent kept limits explain) = are_numbers_in_range limits ≡ true
 IsInRange (Flip sizes) = ⊤

@@ -15,11 +15,12 @@ use clap::error::ErrorKind;
 use clap::{ArgMatches, Error};
 use flip_trial::Sizes;
 use orders::{
-    Extent, GivenLimits, Goal, LAST_NUMBER, LEAST_OUTPUT, MOST_OUTPUT, Order, Part, Workers,
+    Extent, GivenLimits, Goal, LAST_NUMBER, LEAST_OUTPUT, MOST_OUTPUT, Order, Part, Run, RunKind,
+    Workers,
 };
 use std::alloc::{AllocError, Global};
 
-/// Why the words of a command line hold no order.
+/// Why the words of a command line hold no command.
 #[derive(Drop)]
 pub enum LineFault {
     /// Help was asked for: the text for the standard output.
@@ -95,7 +96,7 @@ fn command_order<'a>(alloc: Global, words: &'a [&'a str]) -> Result<Order<'a>, L
     }
 }
 
-/// The order that the matches hold.
+/// The command that the matches hold.
 fn wanted_order<'a>(alloc: Global, matches: &ArgMatches<'a>) -> Result<Order<'a>, LineFault>
     ensures value { IfOk result (λ order. wanted_in (subcommand_rows_of matches.now) ≡ Some (wanted_of order)) }
     ensures range { IfOk result IsInRange }
@@ -107,7 +108,7 @@ fn wanted_order<'a>(alloc: Global, matches: &ArgMatches<'a>) -> Result<Order<'a>
     }
 }
 
-/// The order that the matches of `threads` hold.
+/// The command that the matches of `threads` hold.
 fn wanted_threads_order<'a>(alloc: Global, found: &ArgMatches<'a>) -> Result<Order<'a>, LineFault>
     ensures value { IfOk result (λ order. threads_in (rows_of (found_of found.now)) ≡ Some (wanted_of order)) }
     ensures range { IfOk result IsInRange }
@@ -119,7 +120,7 @@ fn wanted_threads_order<'a>(alloc: Global, found: &ArgMatches<'a>) -> Result<Ord
     }
 }
 
-/// The error of words that clap takes and that hold no order: of a last event before the first one, or of an unknown goal. It fails only if memory
+/// The error of words that clap takes and that hold no command: of a last event before the first one, or of an unknown goal. It fails only if memory
 /// runs out.
 fn told_of_none(alloc: Global, matches: &ArgMatches<'_>) -> Result<String, AllocError> {
     if let Some((_, found)) = matches.subcommand() {
@@ -153,8 +154,8 @@ fn line_fault(alloc: Global, error: &Error) -> LineFault
     }
 }
 
-/// What clap tells of an error, but for its tip how to pass an option that there is not as a value: no one means that. Fails for want of
-/// memory alone.
+/// What clap prints of an error, but for its tip how to pass an option that there is not as a value: no one means that. The only error is
+/// out of memory.
 fn told(alloc: Global, error: &Error) -> Result<String, AllocError> {
     let text = error.to_string(alloc)?;
     let Some((mistake, tip)) = text.as_str().split_once("\n\n  tip: to pass '") else {
@@ -198,17 +199,14 @@ fn wanted_run<'a>(found: &ArgMatches<'a>) -> Option<Order<'a>>
     ensures range { IfSome result IsInRange }
 {
     let most_printed = most_printed(found)?;
-    let (file, schedule, limits) = scheduled(found)?;
-    let explain = flag(found, "explain");
-    let stats = flag(found, "stats");
-    Some(Order::Run {
+    let (file, text, limits) = scheduled(found)?;
+    Some(Order::Run(Run {
         file,
-        schedule,
+        kind: RunKind::Schedule { text, limits },
         most_printed,
-        limits,
-        explain,
-        stats,
-    })
+        explain: flag(found, "explain"),
+        stats: flag(found, "stats"),
+    }))
 }
 
 fn wanted_replay<'a>(found: &ArgMatches<'a>) -> Option<Order<'a>>
@@ -217,17 +215,18 @@ fn wanted_replay<'a>(found: &ArgMatches<'a>) -> Option<Order<'a>>
 {
     let most_printed = most_printed(found)?;
     let (file, schedule, limits) = replayed(found)?;
-    let explain = flag(found, "explain");
-    let stats = flag(found, "stats");
-    Some(Order::Replay {
-        file,
+    let kind = RunKind::Replay {
         schedule,
-        most_printed,
         limits,
         expected: None,
-        explain,
-        stats,
-    })
+    };
+    Some(Order::Run(Run {
+        file,
+        kind,
+        most_printed,
+        explain: flag(found, "explain"),
+        stats: flag(found, "stats"),
+    }))
 }
 
 /// The source's file, the file of a schedule, and the limits that are given.
@@ -320,20 +319,19 @@ fn wanted_threads<'a>(found: &ArgMatches<'a>) -> Option<Order<'a>>
 {
     let most_printed = most_printed(found)?;
     let (file, workers, limits) = worked(found)?;
-    let record = text(found, "record");
-    let stop_at = stop_at(found);
-    let explain = is_explained(found);
-    let stats = flag(found, "stats");
-    Some(Order::Threads {
-        file,
+    let kind = RunKind::Workers {
         workers,
-        record,
-        stop_at,
-        most_printed,
+        record: text(found, "record"),
+        stop_at: stop_at(found),
         limits,
-        explain,
-        stats,
-    })
+    };
+    Some(Order::Run(Run {
+        file,
+        kind,
+        most_printed,
+        explain: is_explained(found),
+        stats: flag(found, "stats"),
+    }))
 }
 
 /// Whether a run by workers is explained: if it is asked for, and if the run is to stop at a deadlock.

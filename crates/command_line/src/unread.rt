@@ -1,4 +1,4 @@
-//! What is told of a file that is not read or not written.
+//! What is reported of a file that is not read or not written.
 ghost use Rattle.std.specs.Prelude.{◌≡◌, IfOk, codes, string_bytes};
 ghost use Rattle.command_line.specs.UnreadFiles.{IsLineOf, IsToldOf, malformed_line, shown_character, shown_name};
 
@@ -6,7 +6,7 @@ use std::alloc::{AllocError, Global};
 use std::io;
 use std::io::ErrorKind;
 
-/// A file that an order names and that is not read.
+/// A file that a command names and that is not read.
 #[derive(Clone, Copy)]
 pub struct Unread<'a> {
     /// The file's name, as the command line has it.
@@ -15,7 +15,7 @@ pub struct Unread<'a> {
     pub error: io::Error,
 }
 
-/// A file that an order names for its record and that is not written.
+/// A file that a command names for its record and that is not written.
 #[derive(Clone, Copy)]
 pub struct Unwritten<'a> {
     /// The file's name, as the command line has it.
@@ -45,9 +45,9 @@ impl Malformed<'_> {
 }
 
 impl Unread<'_> {
-    /// What stands on the standard error behind the line `device`: the line `cilvm: cannot read FILE: WHY`, with `?` in the place of each
-    /// control character of the file's name. It is empty where memory was wanted, since that is told by `memory` alone. Fails for want of
-    /// memory alone.
+    /// What follows the line `device` on the standard error: the line `cilvm: cannot read FILE: WHY`, with `?` in the place of each
+    /// control character of the file's name. It is empty where memory ran out, since that is printed as `memory` alone. The only error is
+    /// out of memory.
     pub fn told(&self, alloc: Global) -> Result<String, AllocError>
         ensures { IfOk result (λ text. IsToldOf (codes "read") self.now.file.now self.now.error (string_bytes text)) }
     {
@@ -56,8 +56,8 @@ impl Unread<'_> {
 }
 
 impl Unwritten<'_> {
-    /// What stands on the standard error behind the line `device`: the line `cilvm: cannot write FILE: WHY`, as that of `Unread`. It is empty
-    /// where memory was wanted. Fails for want of memory alone.
+    /// What follows the line `device` on the standard error: the line `cilvm: cannot write FILE: WHY`, as that of `Unread`. It is empty
+    /// where memory ran out. The only error is out of memory.
     pub fn told(&self, alloc: Global) -> Result<String, AllocError>
         ensures { IfOk result (λ text. IsToldOf (codes "write") self.now.file.now self.now.error (string_bytes text)) }
     {
@@ -65,7 +65,7 @@ impl Unwritten<'_> {
     }
 }
 
-/// What is told of a file for which this could not be done.
+/// What is reported of a file for which this could not be done.
 fn told_of(alloc: Global, what: &str, file: &str, error: io::Error) -> Result<String, AllocError>
     ensures { IfOk result (λ text. IsToldOf what.now file.now error (string_bytes text)) }
 {
@@ -83,7 +83,7 @@ fn line_of(alloc: Global, what: &str, file: &str, error: io::Error) -> Result<St
     format!(in alloc; "cilvm: cannot {what} {name}: {why}\n")
 }
 
-/// A name as it may stand in a line of text, whatever a terminal takes its characters for.
+/// A name as it may be written in a line of text, whatever a terminal takes its characters for.
 fn shown_name(alloc: Global, name: &str) -> Result<String, AllocError>
     ensures { IfOk result (λ shown. string_bytes shown ≡ shown_name name.now) }
 {

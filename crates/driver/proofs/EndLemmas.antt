@@ -9,38 +9,39 @@ use Rattle.outputs.proofs.TakenLaws.{fails_second, takes_both}
 use Rattle.source_runs.specs.simulation.MachineContents.{Content}
 use Rattle.source_runs.specs.simulation.threads_monitors.Threads.{end_of}
 use Rattle.driver.specs.Outcomes.{IsEndText, IsMachineShown, IsMachineShownInPart, IsRunShown, IsRunShownInPart}
+use Rattle.driver.specs.Outputs.{OutputState}
 use Rattle.driver.specs.Threads.{lines_from}
 use Rattle.driver.proofs.OutcomeLemmas.{live_text}
 
-module _ (explain : Bool) (source : List ℕ) (limits : Limits) (events : List Event) (reports : List Report) (c : Content) (out out' err : Taken) where
+module _ (explain : Bool) (source : List ℕ) (limits : Limits) (events : List Event) (reports : List Report) (c : Content) (o m : OutputState) where
   -- a write of what the machine shows failed
-  pub cut_run : (err' : Taken) → IsMachineShownInPart explain c out out' err err' → IsRunShownInPart explain source limits events reports c out out' err err'
-  cut_run err' (live, explains, cut) = (live, live_text explain explain source limits (zip events reports) c live explains, cut)
+  pub cut_run : IsMachineShownInPart explain c o m → IsRunShownInPart explain source limits events reports c o m
+  cut_run (live, explains, cut) = (live, live_text explain explain source limits (zip events reports) c live explains, cut)
 
   -- all that the machine shows is written, and nothing more
-  pub live_run : (err' : Taken) (status : ℕ) → IsMachineShown explain c out out' err err' status → IsRunShown explain source limits events reports c out out' err err' status
-  live_run err' status (live, explains, shown) = (live, live_text explain explain source limits (zip events reports) c live explains, shown)
+  pub live_run : (status : ℕ) → IsMachineShown explain c o m status → IsRunShown explain source limits events reports c o m status
+  live_run status (live, explains, shown) = (live, live_text explain explain source limits (zip events reports) c live explains, shown)
 
   -- what explains how threads ended is written too
-  pub whole_run : (between err' : Taken) (status : ℕ) → IsMachineShown explain c out out' err between status
-      → (ended : List ℕ) × IsEndText explain source limits (zip events reports) ended × Takes between err' ended → IsRunShown explain source limits events reports c out out' err err' status
-  whole_run between err' status (live, explains, shown) (ended, is_end, taken) =
+  pub whole_run : (err' : Taken) (status : ℕ) → IsMachineShown explain c o m status
+      → (ended : List ℕ) × IsEndText explain source limits (zip events reports) ended × Takes m.err err' ended → IsRunShown explain source limits events reports c o (record m { err = err' }) status
+  whole_run err' status (live, explains, shown) (ended, is_end, taken) =
       let lines = lines_from 0 (map end_of c.threads) in (
         live ++ ended,
         (live, ended, explains, is_end, refl),
         record {
           output = shown.output;
-          errors = subst (Takes err err') (append_assoc lines live ended) (takes_both err between err' (lines ++ live) ended shown.errors taken);
+          errors = subst (Takes o.err err') (append_assoc lines live ended) (takes_both o.err m.err err' (lines ++ live) ended shown.errors taken);
           status_is = shown.status_is;
         },
       )
 
   -- a write of that failed
-  pub ends_cut : (between err' : Taken) (status : ℕ) → IsMachineShown explain c out out' err between status
-      → (ended : List ℕ) × IsEndText explain source limits (zip events reports) ended × Fails between err' ended → IsRunShownInPart explain source limits events reports c out out' err err'
-  ends_cut between err' status (live, explains, shown) (ended, is_end, cut) =
+  pub ends_cut : (err' : Taken) (status : ℕ) → IsMachineShown explain c o m status
+      → (ended : List ℕ) × IsEndText explain source limits (zip events reports) ended × Fails m.err err' ended → IsRunShownInPart explain source limits events reports c o (record m { err = err' })
+  ends_cut err' status (live, explains, shown) (ended, is_end, cut) =
       let lines = lines_from 0 (map end_of c.threads) in (
         live ++ ended,
         (live, ended, explains, is_end, refl),
-        inr (shown.output, subst (Fails err err') (append_assoc lines live ended) (fails_second err between err' (lines ++ live) ended shown.errors cut)),
+        inr (shown.output, subst (Fails o.err err') (append_assoc lines live ended) (fails_second o.err m.err err' (lines ++ live) ended shown.errors cut)),
       )

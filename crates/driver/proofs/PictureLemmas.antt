@@ -1,5 +1,5 @@
 -- What a run that is drawn, whole or in part, shows of its source.
-use Rattle.std.proofs.Common.{◌++◌, ◌≤◌, ℕ, Bool, List, length, subst, ◌∙◌, ap}
+use Rattle.std.proofs.Common.{◌≡◌, ◌++◌, ◌≤◌, ℕ, Bool, List, length, subst, ◌∙◌, ap}
 use Rattle.source_runs.proofs.simulation.Representation.VisibleState.{ends_stand}
 use Rattle.source_runs.specs.simulation.MachineContents.{Content}
 use Rattle.source_runs.specs.Runs.{IsReady}
@@ -10,21 +10,22 @@ use Rattle.cil_model.specs.declared.limits.Limits.{Limits}
 use Rattle.cil_model.specs.declared.reports.Report.{Report}
 use Rattle.orders.specs.Orders.{event_count}
 use Rattle.orders.specs.declared.part.Part.{Part}
-use Rattle.outputs.specs.Taken.{Fails, Taken, Takes}
+use Rattle.outputs.specs.Taken.{Fails, Takes}
 use Rattle.run_picture.specs.Pictures.{IsPicture}
 use Rattle.run_picture.specs.declared.windows.TheConstants.{MOST_EVENTS}
 use Rattle.driver.specs.Outcomes.{AreThreadsShown, AreThreadsShownInPart, HasDrawn, IsPicturedThenInPart}
+use Rattle.driver.specs.Outputs.{OutputState}
 use Rattle.driver.specs.Pictures.{window_of}
 use Rattle.driver.specs.Threads.{lines_from, status_of}
 
-module _ (source : List ℕ) (limits : Limits) (text : List ℕ) (part : Part) (explain : Bool) (events : List Event) (begins after : Content) (reports : List Report) (out out' err err' : Taken)
+module _ (source : List ℕ) (limits : Limits) (text : List ℕ) (part : Part) (explain : Bool) (events : List Event) (begins after : Content) (reports : List Report) (o o' : OutputState)
     (ready : IsReady source limits text events begins) (few : event_count part (length events) ≤ MOST_EVENTS)
-    (pictured : IsPicture begins events after reports (window_of part (length events)) out.contents out'.contents) where
+    (pictured : IsPicture begins events after reports (window_of part (length events)) o.out.contents o'.out.contents) (same : o'.texts ≡ o.texts) where
   done : HasDone ready.tree limits events reports after
   done = has_done ready.tree limits begins after events reports ready.is_accepted.accepted ready.in_range ready.opened.begins pictured.turns
 
   -- what the machine that was drawn shows
-  pub has_drawn : (status : ℕ) → AreThreadsShown explain after err err' status → HasDrawn source limits text part explain out out' err err' status
+  pub has_drawn : (status : ℕ) → AreThreadsShown explain after o.err o'.err status → HasDrawn source limits text part explain o o' status
   has_drawn status shown =
       let stands = done.stands in
       let ends = ends_stand after stands.state stands.represents in
@@ -42,12 +43,13 @@ module _ (source : List ℕ) (limits : Limits) (text : List ℕ) (part : Part) (
         leaves = done.leaves;
         explanation = shown.0;
         explains = shown.1;
-        errors = subst (λ es. Takes err err' (lines_from 0 es ++ shown.0)) ends shown.2;
+        errors = subst (λ es. Takes o.err o'.err (lines_from 0 es ++ shown.0)) ends shown.2;
         status_is = shown.3 ∙ ap status_of ends;
+        same = same;
       }
 
   -- what it shows where a write of that fails
-  pub drawn_in_part : AreThreadsShownInPart explain after err err' → IsPicturedThenInPart source limits text part explain out out' err err'
+  pub drawn_in_part : AreThreadsShownInPart explain after o.err o'.err → IsPicturedThenInPart source limits text part explain o o'
   drawn_in_part shown =
       let stands = done.stands in
       record {
@@ -63,5 +65,5 @@ module _ (source : List ℕ) (limits : Limits) (text : List ℕ) (part : Part) (
         represents = stands.represents;
         explanation = shown.0;
         explains = shown.1;
-        errors = subst (λ es. Fails err err' (lines_from 0 es ++ shown.0)) (ends_stand after stands.state stands.represents) shown.2;
+        errors = subst (λ es. Fails o.err o'.err (lines_from 0 es ++ shown.0)) (ends_stand after stands.state stands.represents) shown.2;
       }

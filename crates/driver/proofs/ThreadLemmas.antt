@@ -1,5 +1,5 @@
 -- The lines of threads, one after another.
-use Rattle.std.proofs.Common.{◌≡◌, ◌+◌, ◌<◌, ℕ, List, ◌∷◌, [], ◌++◌, length, take, drop, get_or, Option, None, Some, arith, sym, ◌∙◌, ap, zero, suc, append_assoc}
+use Rattle.std.proofs.Common.{◌≡◌, ◌+◌, ◌<◌, ℕ, List, ◌∷◌, [], ◌++◌, length, take, drop, get_or, Option, arith, sym, ◌∙◌, ap, zero, suc, append_assoc}
 use Rattle.std.proofs.lemmas.List.{append-nil}
 use Rattle.cil_model.specs.declared.reports.End.{End}
 use Rattle.driver.specs.Threads.{line_of, lines_from}

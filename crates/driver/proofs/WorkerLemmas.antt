@@ -4,6 +4,7 @@ use Rattle.std.proofs.lemmas.Bool.{lt-ltb}
 use Rattle.std.proofs.lemmas.List.Elements.{All-head, All-tail}
 use Rattle.std.proofs.lemmas.List.Sums.{sum_by-cons}
 use Rattle.std.specs.List.{count_by, list_all, list_any, zip}
+use Rattle.std.specs.Prelude.{IfSome}
 use Rattle.cil_model.specs.declared.events.Event.{Event}
 use Rattle.cil_model.specs.declared.events.Event.TheVariants.{Step, Ack, Gc}
 use Rattle.cil_model.specs.declared.limits.Limits.{Limits}
@@ -29,10 +30,15 @@ use Rattle.cil_model.specs.declared.stops.StopAt.{StopAt}
 use Rattle.cil_model.specs.declared.stops.StopAt.TheVariants.{End as AtEnd, Deadlock as AtDeadlock}
 use Rattle.orders.specs.Orders.{record_file_of}
 use Rattle.orders.specs.declared.order.Order.{Order}
-use Rattle.orders.specs.declared.order.Order.TheVariants.{Check, Run, Replay, Trace, Picture, Threads, Explore, Flip}
-use Rattle.driver.specs.Outcomes.{AreCut, HasRunThreads, HaveEnded, IsOutcome, IsRunByWorkers, IsRunByWorkersInPart, IsRunShown, IsRunShownInPart, IsRunText, status_after, stop_text}
+use Rattle.orders.specs.declared.order.Order.TheVariants.{Check, Run as RunOrder, Trace, Picture, Explore, Flip}
+use Rattle.orders.specs.declared.run.Run.{Run}
+use Rattle.orders.specs.declared.run.RunKind.{RunKind}
+use Rattle.orders.specs.declared.run.RunKind.TheVariants.{Schedule, Replay, Workers}
+use Rattle.orders.specs.Runs.{record_file_of_kind}
+use Rattle.driver.specs.Outcomes.{AreCut, HasRunThreads, HaveEnded, IsOutcome, IsRunByWorkers, IsRunByWorkersInPart, IsRunDone, IsRunShown, IsRunShownInPart, IsRunText, status_after, stop_text}
+use Rattle.driver.specs.Outputs.{OutputState}
 use Rattle.driver.specs.Records.{IsRecordOf, is_short, status_with, texts_in, texts_over, too_long_text}
-use Rattle.driver.specs.Statistics.{stats_text}
+use Rattle.driver.specs.Statistics.{IsMostOfRun, stats_text}
 use Rattle.driver.specs.Threads.{is_live, lines_from, status_of}
 use Rattle.driver.proofs.OutcomeLemmas.{cut_after, cut_more}
 use Rattle.driver.specs.declared.recording.Record.{Record}
@@ -79,13 +85,14 @@ reported_of c text last = lines_from 0 (map end_of c.threads) ++ text ++ last
 
 module _ (source : List ℕ) (limits : Limits) (workers : ℕ) (stop_at : StopAt) (most : Option ℕ) (asked explain stats stopped : Bool) (h : List Entry) (c : Content) (made : Record)
     (ran : HasRunTo source limits (events_of h) (reports_of h) c) (own : All (IsOwnOf workers) h) (within : IsPrintedUpTo most c.printed)
-    (marked : Bool) (ended : stopped ≡ false → HasEnded stop_at c marked) (is_record : IsRecordOf asked (events_of h) (run_file source limits workers c.printed) made) where
+    (marked : Bool) (ended : stopped ≡ false → HasEnded stop_at c marked) (is_record : IsRecordOf asked (events_of h) (run_file source limits workers c.printed) made)
+    (most_words : Option ℕ) (is_most : IfSome most_words (IsMostOfRun source limits (zip (events_of h) (reports_of h)))) where
   abbrev after : StandsAfter ran.0 limits (events_of h) (reports_of h) c
   after = ran.2.stands
 
   -- what comes last: why there is no record, that memory ran out, and the numbers of the run
   abbrev last : List ℕ
-  last = too_long_text made ++ stop_text (is_short stopped made) ++ stats_text stats (events_of h) (reports_of h) c
+  last = too_long_text made ++ stop_text (is_short stopped made) ++ stats_text stats (events_of h) (reports_of h) c most_words
 
   -- a machine that workers ran shows a run by workers
   run_by_workers : (text : List ℕ) → IsRunText explain explain source limits (zip (events_of h) (reports_of h)) c text → IsRunByWorkers source limits workers stop_at most asked explain stats stopped after.state made (reported_of c text last)
@@ -102,30 +109,31 @@ module _ (source : List ℕ) (limits : Limits) (workers : ℕ) (stop_at : StopAt
         represents = after.represents;
         explanation = text;
         explains = explains;
+        most_words = most_words;
+        is_most = is_most;
         reports_all = ap (λ es. lines_from 0 es ++ text ++ last) ends;
       }
 
   -- all that it shows is written, and the texts of the record are left
-  pub has_run_threads : (out out' err between err' : Taken) (kept kept' : Option (List ℕ × List ℕ)) (before status : ℕ)
-      → IsRunShown explain source limits (events_of h) (reports_of h) c out out' err between before → kept' ≡ texts_over (texts_in made) kept
-      → (status ≡ status_after (is_short stopped made) (status_with made before)) × Takes between err' last
-      → HasRunThreads source limits workers stop_at most asked explain stats out out' err err' kept kept' status
-  has_run_threads out out' err between err' kept kept' before status (text, explains, shown) left (is, more) =
+  pub has_run_threads : (o m o' : OutputState) (before status : ℕ) → IsRunShown explain source limits (events_of h) (reports_of h) c o m before → o'.out ≡ m.out → o'.texts ≡ texts_over (texts_in made) o.texts
+      → (status ≡ status_after (is_short stopped made) (status_with made before)) × Takes m.err o'.err last
+      → HasRunThreads source limits workers stop_at most asked explain stats o o' status
+  has_run_threads o m o' before status (text, explains, shown) printed left (is, more) =
       record {
         stopped = stopped;
         state = after.state;
         made = made;
         reported = reported_of c text last;
         is_run = run_by_workers text explains;
-        output = subst (Takes out out') (printed_stands c after.state after.represents) shown.output;
-        errors = takes_both err between err' (lines_from 0 (map end_of c.threads) ++ text) last shown.errors more;
+        output = subst (λ x. Takes o.out x after.state.printed) (sym printed) (subst (Takes o.out m.out) (printed_stands c after.state after.represents) shown.output);
+        errors = takes_both o.err m.err o'.err (lines_from 0 (map end_of c.threads) ++ text) last shown.errors more;
         left = left;
         status_is = is ∙ ap (λ n. status_after (is_short stopped made) (status_with made n)) (shown.status_is ∙ ap status_of (ends_stand c after.state after.represents));
       }
 
   -- a write of what it shows failed
-  pub threads_in_part : (out out' err err' : Taken) → IsRunShownInPart explain source limits (events_of h) (reports_of h) c out out' err err' → IsRunByWorkersInPart source limits workers stop_at most asked explain stats out out' err err'
-  threads_in_part out out' err err' (text, explains, cut) =
+  pub threads_in_part : (o o' : OutputState) → IsRunShownInPart explain source limits (events_of h) (reports_of h) c o o' → IsRunByWorkersInPart source limits workers stop_at most asked explain stats o o'
+  threads_in_part o o' (text, explains, cut) =
       let lines = lines_from 0 (map end_of c.threads) ++ text in
       record {
         stopped = stopped;
@@ -133,14 +141,14 @@ module _ (source : List ℕ) (limits : Limits) (workers : ℕ) (stop_at : StopAt
         made = made;
         reported = reported_of c text last;
         is_run = run_by_workers text explains;
-        cut = subst (λ p. AreCut p (lines ++ last) out out' err err') (printed_stands c after.state after.represents) (cut_more c.printed lines last out out' err err' cut);
+        cut = subst (λ p. AreCut p (lines ++ last) o o') (printed_stands c after.state after.represents) (cut_more c.printed lines last o o' cut);
       }
 
   -- a write of what comes last failed
-  pub threads_then_in_part : (out out' err between err' : Taken) (before : ℕ)
-      → IsRunShown explain source limits (events_of h) (reports_of h) c out out' err between before → Fails between err' last
-      → IsRunByWorkersInPart source limits workers stop_at most asked explain stats out out' err err'
-  threads_then_in_part out out' err between err' before (text, explains, shown) failed =
+  pub threads_then_in_part : (o m : OutputState) (err' : Taken) (before : ℕ)
+      → IsRunShown explain source limits (events_of h) (reports_of h) c o m before → Fails m.err err' last
+      → IsRunByWorkersInPart source limits workers stop_at most asked explain stats o (record m { err = err' })
+  threads_then_in_part o m err' before (text, explains, shown) failed =
       let lines = lines_from 0 (map end_of c.threads) ++ text in
       record {
         stopped = stopped;
@@ -148,7 +156,7 @@ module _ (source : List ℕ) (limits : Limits) (workers : ℕ) (stop_at : StopAt
         made = made;
         reported = reported_of c text last;
         is_run = run_by_workers text explains;
-        cut = subst (λ p. AreCut p (lines ++ last) out out' err err') (printed_stands c after.state after.represents) (cut_after c.printed lines last out out' err between err' shown.output shown.errors failed);
+        cut = subst (λ p. AreCut p (lines ++ last) o (record m { err = err' })) (printed_stands c after.state after.represents) (cut_after c.printed lines last o m err' shown.output shown.errors failed);
       }
 
 -- some record is of events, whether one is asked for or not
@@ -163,20 +171,24 @@ no_texts events file (Texts texts) is = absurd (cc is.0)
 no_texts events file TooLong is = absurd (cc is.0)
 no_texts events file NoMemory is = absurd (cc is)
 
--- an order that names no file for a record leaves the texts of the record as they were
-pub nothing_kept : (order : Order) (source schedule : List ℕ) (out out' err err' : Taken) (kept kept' : Option (List ℕ × List ℕ)) (status : ℕ)
-    → IsOutcome order source schedule out out' err err' kept kept' status → record_file_of order ≡ None → kept' ≡ kept
-nothing_kept order source schedule out out' err err' kept kept' status (inr told) none = told.1
-nothing_kept (Check file explain) source schedule out out' err err' kept kept' status (inl done) none = done.1
-nothing_kept (Run file text most limits explain stats) source schedule out out' err err' kept kept' status (inl done) none = done.1
-nothing_kept (Replay file name most limits expected explain stats) source schedule out out' err err' kept kept' status (inl done) none = done.1
-nothing_kept (Trace file name limits expected explain) source schedule out out' err err' kept kept' status (inl done) none = done.1
-nothing_kept (Picture file name part limits expected explain) source schedule out out' err err' kept kept' status (inl done) none = done.1
-nothing_kept (Threads file workers None stop_at most limits explain stats) source schedule out out' err err' kept kept' status (inl done) none =
-    done.left ∙ ap (λ (texts : Option (List ℕ × List ℕ)). texts_over texts kept)
+-- a run that names no file for a record leaves the texts of the record as they were
+nothing_kept_of_run : (run : Run) (source schedule : List ℕ) (kind : RunKind) (o o' : OutputState) (status : ℕ) → IsRunDone run source schedule kind o o' status → record_file_of_kind kind ≡ None → o'.texts ≡ o.texts
+nothing_kept_of_run run source schedule (Schedule text limits) o o' status done none = done.same
+nothing_kept_of_run run source schedule (Replay name limits expected) o o' status done none = done.same
+nothing_kept_of_run run source schedule (Workers workers None stop_at limits) o o' status done none =
+    done.left ∙ ap (λ (texts : Option (List ℕ × List ℕ)). texts_over texts o.texts)
     (no_texts (events_of done.is_run.entries) (run_file source limits workers.count done.state.printed) done.made done.is_run.is_record)
-nothing_kept (Threads file workers (Some name) stop_at most limits explain stats) source schedule out out' err err' kept kept' status (inl done) none = absurd (cc none)
-nothing_kept (Explore file extent None limits explain) source schedule out out' err err' kept kept' status (inl done) none =
-    done.0.left ∙ ap (λ (texts : Option (List ℕ × List ℕ)). texts_over texts kept) done.0.are_saved
-nothing_kept (Explore file extent (Some name) limits explain) source schedule out out' err err' kept kept' status (inl done) none = absurd (cc none)
-nothing_kept (Flip sizes) source schedule out out' err err' kept kept' status (inl done) none = done.2
+nothing_kept_of_run run source schedule (Workers workers (Some name) stop_at limits) o o' status done none = absurd (cc none)
+
+-- an order that names no file for a record leaves the texts of the record as they were
+pub nothing_kept : (order : Order) (source schedule : List ℕ) (o o' : OutputState) (status : ℕ) → IsOutcome order source schedule o o' status → record_file_of order ≡ None → o'.texts ≡ o.texts
+nothing_kept order source schedule o o' status (inr reported) none = reported.given_up.same
+nothing_kept (Check file explain) source schedule o o' status (inl done) none = done.4
+nothing_kept (RunOrder run) source schedule o o' status (inl done) none = nothing_kept_of_run run source schedule run.kind o o' status done none
+nothing_kept (Trace file name limits expected explain) source schedule o o' status (inl done) none = done.same
+nothing_kept (Picture file name part limits expected explain) source schedule o o' status (inl (inl done)) none = done.same
+nothing_kept (Picture file name part limits expected explain) source schedule o o' status (inl (inr done)) none = done.same
+nothing_kept (Explore file extent None limits explain) source schedule o o' status (inl done) none =
+    done.left ∙ ap (λ (texts : Option (List ℕ × List ℕ)). texts_over texts o.texts) done.are_saved
+nothing_kept (Explore file extent (Some name) limits explain) source schedule o o' status (inl done) none = absurd (cc none)
+nothing_kept (Flip sizes) source schedule o o' status (inl done) none = done.4

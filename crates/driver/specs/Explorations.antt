@@ -8,6 +8,7 @@ use Rattle.source_runs.specs.acceptance.declared.failure.Failure.{Failure}
 use Rattle.source_runs.specs.acceptance.declared.failure.Failure.TheVariants.{Memory}
 use Rattle.cil_model.specs.declared.limits.Limits.{Limits}
 use Rattle.outcome_search.specs.Explorations.{HasAllOutcomes, IsFoundIn}
+use Rattle.outcome_search.specs.exploration.Findings.{has_deadlock}
 use Rattle.outcome_search.specs.exploration.Paths.{outcome_found}
 use Rattle.outcome_search.specs.exploration.declared.findings.Found.{Found}
 use Rattle.outcome_search.specs.declared.bounds.Goal.{Goal}
@@ -23,10 +24,11 @@ use Rattle.outcome_text.specs.declared.summaries.Coverage.{Coverage}
 use Rattle.outcome_text.specs.declared.summaries.Coverage.TheVariants.{AllSchedules, FewPreemptions, Stopped}
 use Rattle.outcome_text.specs.declared.summaries.Summary.{Summary}
 use Rattle.orders.specs.declared.extents.Extent.{Extent}
-use Rattle.outputs.specs.Taken.{Fails, Taken, Takes}
+use Rattle.outputs.specs.Taken.{Fails, Takes}
 use Rattle.run_files.specs.RunFiles.{run_file, text_of}
+use Rattle.driver.specs.Outputs.{OutputState}
 use Rattle.driver.specs.Records.{texts_over}
-use Rattle.driver.specs.Threads.{is_done, is_live}
+use Rattle.driver.specs.Threads.{is_done}
 
 -- ---- the text
 
@@ -79,10 +81,6 @@ IsExplorationText extent explain e text =
 
 -- ---- the outcome that is saved, and the status
 
--- a thread is blocked
-abbrev pub has_deadlock : Found → Bool
-has_deadlock f = list_any is_live f.ends.items
-
 -- a thread is blocked or ended early, or these are not the printed bytes
 abbrev pub is_other : List ℕ → Found → Bool
 is_other printed f = not (list_all is_done f.ends.items) || not (bytes_eq printed f.printed.items)
@@ -123,21 +121,23 @@ pub record IsExplorationOf (source : List ℕ) (limits : Limits) (e : Exploratio
   pub complete : e.is_complete ≡ true → HasAllOutcomes source limits (map outcome_found e.found.items)
 
 -- a source is explored: what was found is printed, and the texts that are saved are left
-pub record HasExplored (source : List ℕ) (limits : Limits) (extent : Extent) (saved explain : Bool) (out out' : Taken) (kept kept' : Option (List ℕ × List ℕ)) (status : ℕ) : Type 0 where
+pub record HasExplored (source : List ℕ) (limits : Limits) (extent : Extent) (saved explain : Bool) (o o' : OutputState) (status : ℕ) : Type 0 where
   pub exploration : Exploration
   pub explored : IsExplorationOf source limits exploration
   pub text : List ℕ
   pub is_text : IsExplorationText extent explain exploration text
-  pub shown : Takes out out' text
+  pub shown : Takes o.out o'.out text
+  pub silent : o'.err ≡ o.err
   pub texts : Option (List ℕ × List ℕ)
   pub are_saved : AreSaved saved source limits exploration.found.items texts
-  pub left : kept' ≡ texts_over texts kept
+  pub left : o'.texts ≡ texts_over texts o.texts
   pub status_is : status ≡ status_of_exploration exploration.is_complete exploration.found.items
 
 -- a write failed of what is printed of an exploration
-pub record IsExploredInPart (source : List ℕ) (limits : Limits) (extent : Extent) (explain : Bool) (out out' : Taken) : Type 0 where
+pub record IsExploredInPart (source : List ℕ) (limits : Limits) (extent : Extent) (explain : Bool) (o o' : OutputState) : Type 0 where
   pub exploration : Exploration
   pub explored : IsExplorationOf source limits exploration
   pub text : List ℕ
   pub is_text : IsExplorationText extent explain exploration text
-  pub cut : Fails out out' text
+  pub cut : Fails o.out o'.out text
+  pub silent : o'.err ≡ o.err

@@ -1,5 +1,6 @@
 pub mod Explorations
 pub mod Outcomes
+pub mod Outputs
 pub mod Pictures
 pub mod Records
 pub mod Replays

@@ -1,6 +1,6 @@
 -- What comes of an order: what is printed, and the status that the program ends with (this profile).
 use Rattle.std.specs.Fmt.{decimal}
-use Rattle.std.specs.Prelude.{◌≡◌, ◌⊎◌, ◌*◌, ◌++◌, ◌∷◌, ◌<◌, ◌≤◌, [], ℕ, Bool, true, false, All, List, None, Option, codes, is_some, length, map, if◌then◌else◌}
+use Rattle.std.specs.Prelude.{◌≡◌, ◌⊎◌, ◌*◌, ◌++◌, ◌∷◌, ◌<◌, ◌≤◌, [], ℕ, Bool, true, false, All, IfSome, List, None, Option, codes, is_some, length, map, if◌then◌else◌}
 use Rattle.std.specs.List.{list_any, zip}
 use Rattle.flip_trial.specs.Trial.{place_count}
 use Rattle.flip_trial.specs.declared.sizes.Sizes.{Sizes}
@@ -21,7 +21,7 @@ use Rattle.cil_model.specs.declared.reports.Report.{Report}
 use Rattle.source_runs.specs.simulation.MachineContents.{Content}
 use Rattle.source_runs.specs.acceptance.Failures.{is_refusal, message_of}
 use Rattle.source_runs.specs.acceptance.Failures.{IsOfWriting, status_of_failure}
-use Rattle.outputs.specs.Taken.{Fails, HasGrown, Taken, Takes}
+use Rattle.outputs.specs.Taken.{Fails, Taken, Takes}
 use Rattle.orders.specs.GivenLimits.{limits_for}
 use Rattle.orders.specs.Orders.{event_count, is_explained}
 use Rattle.orders.specs.declared.part.Part.{Part}
@@ -32,10 +32,11 @@ use Rattle.run_files.specs.declared.file.RunFile.{RunFile}
 use Rattle.run_picture.specs.Pictures.{IsPicture, IsPictureInPart}
 use Rattle.run_picture.specs.declared.windows.TheConstants.{MOST_EVENTS}
 use Rattle.driver.specs.Explorations.{HasExplored, IsExploredInPart}
+use Rattle.driver.specs.Outputs.{IsGivenUp, OutputState}
 use Rattle.driver.specs.Pictures.{too_many_text, window_of}
 use Rattle.driver.specs.Records.{IsRecordOf, is_short, status_with, texts_in, texts_over, too_long_text}
 use Rattle.driver.specs.Replays.{differences_from, differences_text, status_if_same}
-use Rattle.driver.specs.Statistics.{stats_text}
+use Rattle.driver.specs.Statistics.{IsMostOfRun, stats_text}
 use Rattle.driver.specs.Threads.{ends_of, is_live, lines_from, status_of}
 use Rattle.driver.specs.declared.recording.Record.{Record}
 use Rattle.source_runs.specs.shared_machine.Histories.{events_of, reports_of}
@@ -44,7 +45,10 @@ use Rattle.source_runs.specs.shared_machine.Work.{IsDeadlocked, IsOwnOf}
 use Rattle.source_runs.specs.acceptance.declared.failure.Failure.{Failure}
 use Rattle.source_runs.specs.acceptance.declared.failure.Failure.TheVariants.{Memory, Device}
 use Rattle.orders.specs.declared.order.Order.{Order}
-use Rattle.orders.specs.declared.order.Order.TheVariants.{Check, Run, Replay, Trace, Picture, Threads, Explore, Flip}
+use Rattle.orders.specs.declared.order.Order.TheVariants.{Check, Run as RunOrder, Trace, Picture, Explore, Flip}
+use Rattle.orders.specs.declared.run.Run.{Run}
+use Rattle.orders.specs.declared.run.RunKind.{RunKind}
+use Rattle.orders.specs.declared.run.RunKind.TheVariants.{Schedule, Replay, Workers}
 use Rattle.source_runs.specs.acceptance.Sources.{IsLetIn, IsMade, IsNotAccepted, IsNotRun, IsOpened}
 use Rattle.source_runs.specs.Runs.{IsNotRunBy, IsPrintedUpTo, ComesTo, ComesToBy, IsReady}
 use Rattle.source_runs.specs.shared_machine.Worlds.{AreDoneOf}
@@ -55,7 +59,7 @@ use Rattle.schedule_text.specs.Readings.{AreRead}
 abbrev pub AreThreadsExplained : Content → List ℕ → Type 0
 AreThreadsExplained c text = (deadlocked : List Bool) × IsDeadlockOf c deadlocked × (text ≡ threads_text c deadlocked)
 
--- what explains how the threads of a machine stand, where that is asked for, unless memory is wanted; else nothing
+-- what explains how the threads of a machine stand, where that is asked for, unless memory runs out; else nothing
 abbrev pub IsThreadText : Bool → Content → List ℕ → Type 0
 IsThreadText false c text = text ≡ []
 IsThreadText true c text = (text ≡ []) ⊎ AreThreadsExplained c text
@@ -75,35 +79,35 @@ IsRunText live ended source limits events c text =
     (first second : List ℕ) × IsThreadText live c first × IsEndText ended source limits events second × (text ≡ first ++ second)
 
 -- what is shown on the two outputs of bytes that were printed, of how the threads stand, and of what explains that; and the status
-pub record IsShown (printed : List ℕ) (ends : List (Option End)) (text : List ℕ) (out out' err err' : Taken) (status : ℕ) : Type 0 where
-  pub output : Takes out out' printed
-  pub errors : Takes err err' (lines_from 0 ends ++ text)
+pub record IsShown (printed : List ℕ) (ends : List (Option End)) (text : List ℕ) (o o' : OutputState) (status : ℕ) : Type 0 where
+  pub output : Takes o.out o'.out printed
+  pub errors : Takes o.err o'.err (lines_from 0 ends ++ text)
   pub status_is : status ≡ status_of ends
 
 -- what a machine has printed and how its threads stand is shown
-abbrev pub IsMachineShown : Bool → Content → Taken → Taken → Taken → Taken → ℕ → Type 0
-IsMachineShown explain c out out' err err' status =
-    (text : List ℕ) × IsThreadText explain c text × IsShown c.printed (map end_of c.threads) text out out' err err' status
+abbrev pub IsMachineShown : Bool → Content → OutputState → OutputState → ℕ → Type 0
+IsMachineShown explain c o o' status =
+    (text : List ℕ) × IsThreadText explain c text × IsShown c.printed (map end_of c.threads) text o o' status
 
 -- what a run of a source has printed and how its threads stand is shown
-abbrev pub IsRunShown : Bool → List ℕ → Limits → List Event → List Report → Content → Taken → Taken → Taken → Taken → ℕ → Type 0
-IsRunShown explain source limits events reports c out out' err err' status =
-    (text : List ℕ) × IsRunText explain explain source limits (zip events reports) c text × IsShown c.printed (map end_of c.threads) text out out' err err' status
+abbrev pub IsRunShown : Bool → List ℕ → Limits → List Event → List Report → Content → OutputState → OutputState → ℕ → Type 0
+IsRunShown explain source limits events reports c o o' status =
+    (text : List ℕ) × IsRunText explain explain source limits (zip events reports) c text × IsShown c.printed (map end_of c.threads) text o o' status
 
 -- A write failed of what was to be written on the two outputs, the first text before the second: a prefix of the first is written, and
 -- nothing of the second; or the whole first, and a prefix of the second.
-abbrev pub AreCut : List ℕ → List ℕ → Taken → Taken → Taken → Taken → Type 0
-AreCut first second out out' err err' = (Fails out out' first × (err' ≡ err)) ⊎ (Takes out out' first × Fails err err' second)
+abbrev pub AreCut : List ℕ → List ℕ → OutputState → OutputState → Type 0
+AreCut first second o o' = (Fails o.out o'.out first × (o'.err ≡ o.err)) ⊎ (Takes o.out o'.out first × Fails o.err o'.err second)
 
 -- a write of that failed
-abbrev pub IsMachineShownInPart : Bool → Content → Taken → Taken → Taken → Taken → Type 0
-IsMachineShownInPart explain c out out' err err' =
-    (text : List ℕ) × IsThreadText explain c text × AreCut c.printed (lines_from 0 (map end_of c.threads) ++ text) out out' err err'
+abbrev pub IsMachineShownInPart : Bool → Content → OutputState → OutputState → Type 0
+IsMachineShownInPart explain c o o' =
+    (text : List ℕ) × IsThreadText explain c text × AreCut c.printed (lines_from 0 (map end_of c.threads) ++ text) o o'
 
 -- a write of what a run shows failed
-abbrev pub IsRunShownInPart : Bool → List ℕ → Limits → List Event → List Report → Content → Taken → Taken → Taken → Taken → Type 0
-IsRunShownInPart explain source limits events reports c out out' err err' =
-    (text : List ℕ) × IsRunText explain explain source limits (zip events reports) c text × AreCut c.printed (lines_from 0 (map end_of c.threads) ++ text) out out' err err'
+abbrev pub IsRunShownInPart : Bool → List ℕ → Limits → List Event → List Report → Content → OutputState → OutputState → Type 0
+IsRunShownInPart explain source limits events reports c o o' =
+    (text : List ℕ) × IsRunText explain explain source limits (zip events reports) c text × AreCut c.printed (lines_from 0 (map end_of c.threads) ++ text) o o'
 
 -- how the threads of a machine stand is shown, and what explains that; and the status
 abbrev pub AreThreadsShown : Bool → Content → Taken → Taken → ℕ → Type 0
@@ -122,9 +126,13 @@ abbrev pub flip_text : ℕ → ℕ → List ℕ
 flip_text kept retired = codes "kept " ++ decimal kept ++ 10 ∷ codes "retired " ++ decimal retired ++ 10 ∷ []
 
 -- it is done: every load gave what was stored, and with the status 0 each first copy is retired
-abbrev pub IsTried : Sizes → Taken → Taken → ℕ → Type 0
-IsTried sizes out out' status = (retired : ℕ) × Takes out out' (flip_text (sizes.rounds * place_count sizes) retired)
-    × ((status ≡ 3) ⊎ ((status ≡ 0) × (retired ≡ place_count sizes)))
+abbrev pub IsFlipDone : Sizes → OutputState → OutputState → ℕ → Type 0
+IsFlipDone sizes o o' status = (retired : ℕ) × Takes o.out o'.out (flip_text (sizes.rounds * place_count sizes) retired)
+    × ((status ≡ 3) ⊎ ((status ≡ 0) × (retired ≡ place_count sizes))) × (o'.err ≡ o.err) × (o'.texts ≡ o.texts)
+
+-- a write of the two lines failed
+abbrev pub IsFlipDoneInPart : Sizes → OutputState → OutputState → Type 0
+IsFlipDoneInPart sizes o o' = ((retired : ℕ) × Fails o.out o'.out (flip_text (sizes.rounds * place_count sizes) retired)) × (o'.err ≡ o.err)
 
 -- ---- an order
 
@@ -143,14 +151,14 @@ AreNotesShownInPart false err err' = ⊥
 AreNotesShownInPart true err err' = (notes : List ℕ) × Fails err err' notes
 
 -- a check is done: the one line that it prints, and the notes on the source
-abbrev pub IsChecked : List ℕ → Bool → Taken → Taken → Taken → Taken → ℕ → Type 0
-IsChecked source explain out out' err err' status =
-    IsLetIn source × Takes out out' accepted_text × AreNotesShown explain err err' × (status ≡ 0)
+abbrev pub IsChecked : List ℕ → Bool → OutputState → OutputState → ℕ → Type 0
+IsChecked source explain o o' status =
+    IsLetIn source × Takes o.out o'.out accepted_text × AreNotesShown explain o.err o'.err × (status ≡ 0) × (o'.texts ≡ o.texts)
 
 -- a write failed of the line that a check prints, or of the notes after it
-abbrev pub IsCheckedInPart : List ℕ → Bool → Taken → Taken → Taken → Taken → Type 0
-IsCheckedInPart source explain out out' err err' =
-    IsLetIn source × ((Fails out out' accepted_text × (err' ≡ err)) ⊎ (Takes out out' accepted_text × AreNotesShownInPart explain err err'))
+abbrev pub IsCheckedInPart : List ℕ → Bool → OutputState → OutputState → Type 0
+IsCheckedInPart source explain o o' =
+    IsLetIn source × ((Fails o.out o'.out accepted_text × (o'.err ≡ o.err)) ⊎ (Takes o.out o'.out accepted_text × AreNotesShownInPart explain o.err o'.err))
 
 -- why a check is not done
 abbrev pub IsNotChecked : List ℕ → Failure → Type 0
@@ -180,17 +188,20 @@ pub record IsRun (source : List ℕ) (limits : Limits) (text : List ℕ) (most :
   pub represents : Represents after state
   pub explanation : List ℕ
   pub explains : IsRunText explain ended source limits (zip done reports) after explanation
-  pub reports_all : reported ≡ lines_from 0 (ends_of state) ++ explanation ++ (stop_text stopped ++ differences_text (differences_from expected source limits state.printed) ++ stats_text stats done reports after)
+  pub most_words : Option ℕ
+  pub is_most : IfSome most_words (IsMostOfRun source limits (zip done reports))
+  pub reports_all : reported ≡ lines_from 0 (ends_of state) ++ explanation ++ (stop_text stopped ++ differences_text (differences_from expected source limits state.printed) ++ stats_text stats done reports after most_words)
 
 -- a run is done: what its state has printed and what is reported is shown
-pub record HasRun (source : List ℕ) (limits : Limits) (text : List ℕ) (most : Option ℕ) (expected : Option RunFile) (explain stats : Bool) (out out' err err' : Taken) (status : ℕ) : Type 0 where
+pub record HasRun (source : List ℕ) (limits : Limits) (text : List ℕ) (most : Option ℕ) (expected : Option RunFile) (explain stats : Bool) (o o' : OutputState) (status : ℕ) : Type 0 where
   pub stopped : Bool
   pub state : State
   pub reported : List ℕ
   pub is_run : IsRun source limits text most expected explain stats explain stopped state reported
-  pub output : Takes out out' state.printed
-  pub errors : Takes err err' reported
+  pub output : Takes o.out o'.out state.printed
+  pub errors : Takes o.err o'.err reported
   pub status_is : status ≡ status_after stopped (status_if_same (differences_from expected source limits state.printed) (status_of (ends_of state)))
+  pub same : o'.texts ≡ o.texts
 
 -- why a run is not done: it has not begun, or a write failed
 abbrev pub HasNotRun : List ℕ → Limits → List ℕ → Failure → Type 0
@@ -208,7 +219,7 @@ failure_of_tracing CantWrite = Device
 -- A run is traced. A machine that holds what the program begins with makes the turns of the events, with the reports of the run, and a
 -- line of each is shown, and an empty line. It represents then the state that the run comes to, and what that has printed, and how its
 -- threads stand, is shown as if it were not traced. Where the last event ends a cycle, the machine has no more words in use than are owed.
-pub record HasTraced (source : List ℕ) (limits : Limits) (text : List ℕ) (explain : Bool) (out out' err err' : Taken) (status : ℕ) : Type 0 where
+pub record HasTraced (source : List ℕ) (limits : Limits) (text : List ℕ) (explain : Bool) (o o' : OutputState) (status : ℕ) : Type 0 where
   pub events : List Event
   pub reports : List Report
   pub state : State
@@ -217,17 +228,18 @@ pub record HasTraced (source : List ℕ) (limits : Limits) (text : List ℕ) (ex
   pub opened : IsOpened comes_to.by_events.tree limits begins
   pub after : Content
   pub between : Taken
-  pub traced : IsTraced begins events after reports out.contents between.contents
+  pub traced : IsTraced begins events after reports o.out.contents between.contents
   pub represents : Represents after state
   pub leaves : LeavesWhatIsOwed comes_to.by_events.tree limits events reports after
   pub explanation : List ℕ
   pub explains : IsThreadText explain after explanation
-  pub shown : IsShown state.printed (ends_of state) explanation between out' err err' status
+  pub shown : IsShown state.printed (ends_of state) explanation (record o { out = between }) o' status
+  pub same : o'.texts ≡ o.texts
 
 -- A run is drawn. A machine that holds what the program begins with makes the turns of the events, with the reports of the run, and a
 -- picture of those of a part is shown, which are few. It represents then the state that the run comes to, and how the state's threads stand
 -- is shown. Where the last event ends a cycle, the machine has no more words in use than are owed.
-pub record HasDrawn (source : List ℕ) (limits : Limits) (text : List ℕ) (part : Part) (explain : Bool) (out out' err err' : Taken) (status : ℕ) : Type 0 where
+pub record HasDrawn (source : List ℕ) (limits : Limits) (text : List ℕ) (part : Part) (explain : Bool) (o o' : OutputState) (status : ℕ) : Type 0 where
   pub events : List Event
   pub few : event_count part (length events) ≤ MOST_EVENTS
   pub reports : List Report
@@ -236,23 +248,29 @@ pub record HasDrawn (source : List ℕ) (limits : Limits) (text : List ℕ) (par
   pub begins : Content
   pub opened : IsOpened comes_to.by_events.tree limits begins
   pub after : Content
-  pub pictured : IsPicture begins events after reports (window_of part (length events)) out.contents out'.contents
+  pub pictured : IsPicture begins events after reports (window_of part (length events)) o.out.contents o'.out.contents
   pub represents : Represents after state
   pub leaves : LeavesWhatIsOwed comes_to.by_events.tree limits events reports after
   pub explanation : List ℕ
   pub explains : IsThreadText explain after explanation
-  pub errors : Takes err err' (lines_from 0 (ends_of state) ++ explanation)
+  pub errors : Takes o.err o'.err (lines_from 0 (ends_of state) ++ explanation)
   pub status_is : status ≡ status_of (ends_of state)
+  pub same : o'.texts ≡ o.texts
 
 -- A picture would have more events than it may. Nothing is run, and their number is reported.
-pub record HasTooMany (source : List ℕ) (limits : Limits) (text : List ℕ) (part : Part) (out out' err err' : Taken) (status : ℕ) : Type 0 where
+pub record HasTooMany (source : List ℕ) (limits : Limits) (text : List ℕ) (part : Part) (o o' : OutputState) (status : ℕ) : Type 0 where
   pub events : List Event
   pub begins : Content
   pub ready : IsReady source limits text events begins
   pub many : MOST_EVENTS < event_count part (length events)
-  pub untouched : out' ≡ out
-  pub told : Takes err err' (too_many_text (event_count part (length events)))
+  pub untouched : o'.out ≡ o.out
+  pub reported : Takes o.err o'.err (too_many_text (event_count part (length events)))
   pub status_is : status ≡ 2
+  pub same : o'.texts ≡ o.texts
+
+-- what a picture is, or why there is none
+abbrev pub IsDrawn : List ℕ → Limits → List ℕ → Part → Bool → OutputState → OutputState → ℕ → Type 0
+IsDrawn source limits text part explain o o' status = HasDrawn source limits text part explain o o' status ⊎ HasTooMany source limits text part o o' status
 
 -- how workers leave the threads of a run that memory did not stop: none is live, or, where the run may stop there, each live one waits for
 -- a monitor that another thread holds or for the end of a live thread
@@ -274,18 +292,20 @@ pub record IsRunByWorkers (source : List ℕ) (limits : Limits) (workers : ℕ) 
   pub represents : Represents after state
   pub explanation : List ℕ
   pub explains : IsRunText explain explain source limits (zip (events_of entries) (reports_of entries)) after explanation
-  pub reports_all : reported ≡ lines_from 0 (ends_of state) ++ explanation ++ (too_long_text made ++ stop_text (is_short stopped made) ++ stats_text stats (events_of entries) (reports_of entries) after)
+  pub most_words : Option ℕ
+  pub is_most : IfSome most_words (IsMostOfRun source limits (zip (events_of entries) (reports_of entries)))
+  pub reports_all : reported ≡ lines_from 0 (ends_of state) ++ explanation ++ (too_long_text made ++ stop_text (is_short stopped made) ++ stats_text stats (events_of entries) (reports_of entries) after most_words)
 
 -- a run by workers is done: what its state has printed and what is reported is shown, and the texts of the record are left
-pub record HasRunThreads (source : List ℕ) (limits : Limits) (workers : ℕ) (stop_at : StopAt) (most : Option ℕ) (asked explain stats : Bool) (out out' err err' : Taken) (kept kept' : Option (List ℕ × List ℕ)) (status : ℕ) : Type 0 where
+pub record HasRunThreads (source : List ℕ) (limits : Limits) (workers : ℕ) (stop_at : StopAt) (most : Option ℕ) (asked explain stats : Bool) (o o' : OutputState) (status : ℕ) : Type 0 where
   pub stopped : Bool
   pub state : State
   pub made : Record
   pub reported : List ℕ
   pub is_run : IsRunByWorkers source limits workers stop_at most asked explain stats stopped state made reported
-  pub output : Takes out out' state.printed
-  pub errors : Takes err err' reported
-  pub left : kept' ≡ texts_over (texts_in made) kept
+  pub output : Takes o.out o'.out state.printed
+  pub errors : Takes o.err o'.err reported
+  pub left : o'.texts ≡ texts_over (texts_in made) o.texts
   pub status_is : status ≡ status_after (is_short stopped made) (status_with made (status_of (ends_of state)))
 
 -- why a run by workers is not done: it has not begun, or a write failed
@@ -296,82 +316,78 @@ HasNotRunThreads source limits failure = IsNotRun source limits failure ⊎ (IsL
 abbrev pub HasNotExplored : List ℕ → Limits → Failure → Type 0
 HasNotExplored source limits failure = IsNotRun source limits failure ⊎ (IsLetIn source × IsOfWriting failure)
 
--- an order is carried out: a run takes its schedule from the command line, a replay from the file; only workers and explorations leave a record
-abbrev pub IsDone : Order → List ℕ → List ℕ → Taken → Taken → Taken → Taken → Option (List ℕ × List ℕ) → Option (List ℕ × List ℕ) → ℕ → Type 0
-IsDone (Check file explain) source schedule out out' err err' kept kept' status =
-    IsChecked source explain out out' err err' status × (kept' ≡ kept)
-IsDone (Run file text most limits explain stats) source schedule out out' err err' kept kept' status =
-    HasRun source limits text.now most None explain stats out out' err err' status × (kept' ≡ kept)
-IsDone (Replay file name most limits expected explain stats) source schedule out out' err err' kept kept' status =
-    HasRun source (limits_for limits expected) schedule most expected explain stats out out' err err' status × (kept' ≡ kept)
-IsDone (Trace file name limits expected explain) source schedule out out' err err' kept kept' status =
-    HasTraced source (limits_for limits expected) schedule explain out out' err err' status × (kept' ≡ kept)
-IsDone (Picture file name part limits expected explain) source schedule out out' err err' kept kept' status =
-    (HasDrawn source (limits_for limits expected) schedule part explain out out' err err' status ⊎ HasTooMany source (limits_for limits expected) schedule part out out' err err' status) × (kept' ≡ kept)
-IsDone (Threads file workers name stop_at most limits explain stats) source schedule out out' err err' kept kept' status =
-    HasRunThreads source limits workers.count stop_at most (is_some name) explain stats out out' err err' kept kept' status
-IsDone (Explore file extent name limits explain) source schedule out out' err err' kept kept' status =
-    HasExplored source limits extent (is_some name) explain out out' kept kept' status × (err' ≡ err)
-IsDone (Flip sizes) source schedule out out' err err' kept kept' status =
-    IsTried sizes out out' status × (err' ≡ err) × (kept' ≡ kept)
+-- a run is done: one by a schedule text takes it from the command line, a replay from the file; only workers leave a record
+abbrev pub IsRunDone : Run → List ℕ → List ℕ → RunKind → OutputState → OutputState → ℕ → Type 0
+IsRunDone run source schedule (Schedule text limits) = HasRun source limits text.now run.most_printed None run.explain run.stats
+IsRunDone run source schedule (Replay name limits expected) = HasRun source (limits_for limits expected) schedule run.most_printed expected run.explain run.stats
+IsRunDone run source schedule (Workers workers name stop_at limits) = HasRunThreads source limits workers.count stop_at run.most_printed (is_some name) run.explain run.stats
+
+-- why a run is not done
+abbrev pub IsRunNotDone : List ℕ → List ℕ → RunKind → Failure → Type 0
+IsRunNotDone source schedule (Schedule text limits) = HasNotRun source limits text.now
+IsRunNotDone source schedule (Replay name limits expected) = HasNotRun source (limits_for limits expected) schedule
+IsRunNotDone source schedule (Workers workers name stop_at limits) = HasNotRunThreads source limits
+
+-- an order is carried out: only a run by workers and an exploration leave files
+abbrev pub IsDone : Order → List ℕ → List ℕ → OutputState → OutputState → ℕ → Type 0
+IsDone (Check file explain) source schedule = IsChecked source explain
+IsDone (RunOrder run) source schedule = IsRunDone run source schedule run.kind
+IsDone (Trace file name limits expected explain) source schedule = HasTraced source (limits_for limits expected) schedule explain
+IsDone (Picture file name part limits expected explain) source schedule = IsDrawn source (limits_for limits expected) schedule part explain
+IsDone (Explore file extent name limits explain) source schedule = HasExplored source limits extent (is_some name) explain
+IsDone (Flip sizes) source schedule = IsFlipDone sizes
 
 -- why an order is not carried out
 abbrev pub IsNotDone : Order → List ℕ → List ℕ → Failure → Type 0
-IsNotDone (Check file explain) source schedule failure = IsNotChecked source failure
-IsNotDone (Run file text most limits explain stats) source schedule failure =
-    HasNotRun source limits text.now failure
-IsNotDone (Replay file name most limits expected explain stats) source schedule failure =
-    HasNotRun source (limits_for limits expected) schedule failure
-IsNotDone (Trace file name limits expected explain) source schedule failure =
-    HasNotTraced source (limits_for limits expected) schedule failure
-IsNotDone (Picture file name part limits expected explain) source schedule failure =
-    HasNotTraced source (limits_for limits expected) schedule failure
-IsNotDone (Threads file workers name stop_at most limits explain stats) source schedule failure =
-    HasNotRunThreads source limits failure
-IsNotDone (Explore file extent name limits explain) source schedule failure =
-    HasNotExplored source limits failure
-IsNotDone (Flip sizes) source schedule failure = IsOfWriting failure
+IsNotDone (Check file explain) source schedule = IsNotChecked source
+IsNotDone (RunOrder run) source schedule = IsRunNotDone source schedule run.kind
+IsNotDone (Trace file name limits expected explain) source schedule = HasNotTraced source (limits_for limits expected) schedule
+IsNotDone (Picture file name part limits expected explain) source schedule = HasNotTraced source (limits_for limits expected) schedule
+IsNotDone (Explore file extent name limits explain) source schedule = HasNotExplored source limits
+IsNotDone (Flip sizes) source schedule = IsOfWriting
 
 -- ---- an order that is not carried out
 
 -- a write failed of what a run shows
-pub record IsRunInPart (source : List ℕ) (limits : Limits) (text : List ℕ) (most : Option ℕ) (expected : Option RunFile) (explain stats ended : Bool) (out out' err err' : Taken) : Type 0 where
+pub record IsRunInPart (source : List ℕ) (limits : Limits) (text : List ℕ) (most : Option ℕ) (expected : Option RunFile) (explain stats ended : Bool) (o o' : OutputState) : Type 0 where
   pub stopped : Bool
   pub state : State
   pub reported : List ℕ
   pub is_run : IsRun source limits text most expected explain stats ended stopped state reported
-  pub cut : AreCut state.printed reported out out' err err'
+  pub cut : AreCut state.printed reported o o'
 
 -- a run is traced in part: a prefix of the lines of its first events is shown
-pub record IsTraceInPart (source : List ℕ) (limits : Limits) (text : List ℕ) (out out' : Taken) : Type 0 where
+pub record IsTraceInPart (source : List ℕ) (limits : Limits) (text : List ℕ) (o o' : OutputState) : Type 0 where
   pub events : List Event
   pub begins : Content
   pub ready : IsReady source limits text events begins
   pub after : Content
-  pub traced : IsTracedInPart begins events after out.contents out'.contents
+  pub traced : IsTracedInPart begins events after o.out.contents o'.out.contents
+  pub silent : o'.err ≡ o.err
 
 -- a run is traced to its end, and shown in part
-pub record IsTracedThenInPart (source : List ℕ) (limits : Limits) (text : List ℕ) (explain : Bool) (out out' err err' : Taken) : Type 0 where
+pub record IsTracedThenInPart (source : List ℕ) (limits : Limits) (text : List ℕ) (explain : Bool) (o o' : OutputState) : Type 0 where
   pub events : List Event
   pub begins : Content
   pub ready : IsReady source limits text events begins
   pub after : Content
   pub reports : List Report
   pub between : Taken
-  pub traced : IsTraced begins events after reports out.contents between.contents
-  pub shown : IsRunInPart source limits text None None explain false false between out' err err'
+  pub traced : IsTraced begins events after reports o.out.contents between.contents
+  pub shown : IsRunInPart source limits text None None explain false false (record o { out = between }) o'
 
 -- a run is drawn in part: its first events are done, and nothing or a prefix of the picture is shown
-pub record IsPictureCut (source : List ℕ) (limits : Limits) (text : List ℕ) (part : Part) (out out' : Taken) : Type 0 where
+pub record IsPictureCut (source : List ℕ) (limits : Limits) (text : List ℕ) (part : Part) (o o' : OutputState) : Type 0 where
   pub events : List Event
   pub begins : Content
   pub ready : IsReady source limits text events begins
   pub few : event_count part (length events) ≤ MOST_EVENTS
   pub after : Content
-  pub pictured : IsPictureInPart begins events after (window_of part (length events)) out.contents out'.contents
+  pub pictured : IsPictureInPart begins events after (window_of part (length events)) o.out.contents o'.out.contents
+  pub silent : o'.err ≡ o.err
 
 -- a run is drawn, and a write failed of how its threads stand
-pub record IsPicturedThenInPart (source : List ℕ) (limits : Limits) (text : List ℕ) (part : Part) (explain : Bool) (out out' err err' : Taken) : Type 0 where
+pub record IsPicturedThenInPart (source : List ℕ) (limits : Limits) (text : List ℕ) (part : Part) (explain : Bool) (o o' : OutputState) : Type 0 where
   pub events : List Event
   pub few : event_count part (length events) ≤ MOST_EVENTS
   pub reports : List Report
@@ -380,69 +396,57 @@ pub record IsPicturedThenInPart (source : List ℕ) (limits : Limits) (text : Li
   pub begins : Content
   pub opened : IsOpened comes_to.by_events.tree limits begins
   pub after : Content
-  pub pictured : IsPicture begins events after reports (window_of part (length events)) out.contents out'.contents
+  pub pictured : IsPicture begins events after reports (window_of part (length events)) o.out.contents o'.out.contents
   pub represents : Represents after state
   pub explanation : List ℕ
   pub explains : IsThreadText explain after explanation
-  pub errors : Fails err err' (lines_from 0 (ends_of state) ++ explanation)
+  pub errors : Fails o.err o'.err (lines_from 0 (ends_of state) ++ explanation)
 
 -- a write failed of the line that reports too many events
-pub record IsTooManyInPart (source : List ℕ) (limits : Limits) (text : List ℕ) (part : Part) (err err' : Taken) : Type 0 where
+pub record IsTooManyInPart (source : List ℕ) (limits : Limits) (text : List ℕ) (part : Part) (o o' : OutputState) : Type 0 where
   pub events : List Event
   pub begins : Content
   pub ready : IsReady source limits text events begins
   pub many : MOST_EVENTS < event_count part (length events)
-  pub begun : Fails err err' (too_many_text (event_count part (length events)))
+  pub cut : Fails o.err o'.err (too_many_text (event_count part (length events)))
+  pub silent : o'.out ≡ o.out
+
+-- what a trace shows in part
+abbrev pub IsTracedUpTo : List ℕ → Limits → List ℕ → Bool → OutputState → OutputState → Type 0
+IsTracedUpTo source limits text explain o o' = IsTraceInPart source limits text o o' ⊎ IsTracedThenInPart source limits text explain o o'
 
 -- what a picture shows in part
-abbrev pub IsDrawnInPart : List ℕ → Limits → List ℕ → Part → Bool → Taken → Taken → Taken → Taken → Type 0
-IsDrawnInPart source limits text part explain out out' err err' =
-    (IsPictureCut source limits text part out out' × (err' ≡ err))
-    ⊎ (IsPicturedThenInPart source limits text part explain out out' err err' ⊎ (IsTooManyInPart source limits text part err err' × (out' ≡ out)))
+abbrev pub IsDrawnInPart : List ℕ → Limits → List ℕ → Part → Bool → OutputState → OutputState → Type 0
+IsDrawnInPart source limits text part explain o o' =
+    IsPictureCut source limits text part o o' ⊎ (IsPicturedThenInPart source limits text part explain o o' ⊎ IsTooManyInPart source limits text part o o')
 
 -- a write failed of what a run by workers shows
-pub record IsRunByWorkersInPart (source : List ℕ) (limits : Limits) (workers : ℕ) (stop_at : StopAt) (most : Option ℕ) (asked explain stats : Bool) (out out' err err' : Taken) : Type 0 where
+pub record IsRunByWorkersInPart (source : List ℕ) (limits : Limits) (workers : ℕ) (stop_at : StopAt) (most : Option ℕ) (asked explain stats : Bool) (o o' : OutputState) : Type 0 where
   pub stopped : Bool
   pub state : State
   pub made : Record
   pub reported : List ℕ
   pub is_run : IsRunByWorkers source limits workers stop_at most asked explain stats stopped state made reported
-  pub cut : AreCut state.printed reported out out' err err'
+  pub cut : AreCut state.printed reported o o'
+
+-- a part of what a run shows where it is done
+abbrev pub IsRunDoneInPart : Run → List ℕ → List ℕ → RunKind → OutputState → OutputState → Type 0
+IsRunDoneInPart run source schedule (Schedule text limits) = IsRunInPart source limits text.now run.most_printed None run.explain run.stats run.explain
+IsRunDoneInPart run source schedule (Replay name limits expected) = IsRunInPart source (limits_for limits expected) schedule run.most_printed expected run.explain run.stats run.explain
+IsRunDoneInPart run source schedule (Workers workers name stop_at limits) = IsRunByWorkersInPart source limits workers.count stop_at run.most_printed (is_some name) run.explain run.stats
 
 -- a part of what the order shows where it is carried out
-abbrev pub IsDoneInPart : Order → List ℕ → List ℕ → Taken → Taken → Taken → Taken → Type 0
-IsDoneInPart (Check file explain) source schedule out out' err err' =
-    IsCheckedInPart source explain out out' err err'
-IsDoneInPart (Run file text most limits explain stats) source schedule out out' err err' =
-    IsRunInPart source limits text.now most None explain stats explain out out' err err'
-IsDoneInPart (Replay file name most limits expected explain stats) source schedule out out' err err' =
-    IsRunInPart source (limits_for limits expected) schedule most expected explain stats explain out out' err err'
-IsDoneInPart (Trace file name limits expected explain) source schedule out out' err err' =
-    (IsTraceInPart source (limits_for limits expected) schedule out out' × (err' ≡ err)) ⊎ IsTracedThenInPart source (limits_for limits expected) schedule explain out out' err err'
-IsDoneInPart (Picture file name part limits expected explain) source schedule out out' err err' =
-    IsDrawnInPart source (limits_for limits expected) schedule part explain out out' err err'
-IsDoneInPart (Threads file workers name stop_at most limits explain stats) source schedule out out' err err' =
-    IsRunByWorkersInPart source limits workers.count stop_at most (is_some name) explain stats out out' err err'
-IsDoneInPart (Explore file extent name limits explain) source schedule out out' err err' =
-    IsExploredInPart source limits extent explain out out' × (err' ≡ err)
-IsDoneInPart (Flip sizes) source schedule out out' err err' =
-    ((retired : ℕ) × Fails out out' (flip_text (sizes.rounds * place_count sizes) retired)) × (err' ≡ err)
-
--- a write to one of two outputs failed
-abbrev pub HasBroken : Taken → Taken → Taken → Taken → Type 0
-HasBroken out out' err err' = HasGrown out.failures out'.failures ⊎ HasGrown err.failures err'.failures
-
--- an order is given up for this failure: nothing is printed of a refusal, and else nothing, or a prefix of what it shows; a device is
--- reported only where a write failed
-pub record IsGivenUp (order : Order) (source schedule : List ℕ) (failure : Failure) (out out' err err' : Taken) : Type 0 where
-  pub reason : IsNotDone order source schedule failure
-  pub untouched : is_refusal failure ≡ true → (out' ≡ out) × (err' ≡ err)
-  pub device : failure ≡ Device → HasBroken out out' err err'
-  pub in_part : ((out' ≡ out) × (err' ≡ err)) ⊎ IsDoneInPart order source schedule out out' err err'
+abbrev pub IsDoneInPart : Order → List ℕ → List ℕ → OutputState → OutputState → Type 0
+IsDoneInPart (Check file explain) source schedule = IsCheckedInPart source explain
+IsDoneInPart (RunOrder run) source schedule = IsRunDoneInPart run source schedule run.kind
+IsDoneInPart (Trace file name limits expected explain) source schedule = IsTracedUpTo source (limits_for limits expected) schedule explain
+IsDoneInPart (Picture file name part limits expected explain) source schedule = IsDrawnInPart source (limits_for limits expected) schedule part explain
+IsDoneInPart (Explore file extent name limits explain) source schedule = IsExploredInPart source limits extent explain
+IsDoneInPart (Flip sizes) source schedule = IsFlipDoneInPart sizes
 
 -- a failure is reported with what explains it: a refusal, where the order asks for that
-abbrev pub is_told_why : Order → Failure → Bool
-is_told_why order failure = if is_refusal failure then is_explained order else false
+abbrev pub has_explanation : Order → Failure → Bool
+has_explanation order failure = if is_refusal failure then is_explained order else false
 
 -- what follows the line of a failure: a text that explains it, where that is asked for, else nothing
 abbrev pub IsExplanation : Bool → List ℕ → Type 0
@@ -450,31 +454,31 @@ IsExplanation false text = text ≡ []
 IsExplanation true text = Unit {0}
 
 -- an order is given up for a failure, and all that is to be reported of it is written: the status is the failure's
-pub record IsTold (order : Order) (source schedule : List ℕ) (out out' err err' : Taken) (status : ℕ) : Type 0 where
+pub record IsReported (order : Order) (source schedule : List ℕ) (o o' : OutputState) (status : ℕ) : Type 0 where
   pub failure : Failure
   pub before : Taken
-  pub given_up : IsGivenUp order source schedule failure out out' err before
+  pub given_up : IsGivenUp (IsNotDone order source schedule) (IsDoneInPart order source schedule) o (record o' { err = before }) failure
   pub text : List ℕ
-  pub explains : IsExplanation (is_told_why order failure) text
-  pub written : Takes before err' (message_of failure ++ text)
+  pub explains : IsExplanation (has_explanation order failure) text
+  pub written : Takes before o'.err (message_of failure ++ text)
   pub status_is : status ≡ status_of_failure failure
 
 -- an order is given up for a failure, and a write failed that was to report it
-pub record IsTellingCut (order : Order) (source schedule : List ℕ) (out out' err err' : Taken) : Type 0 where
+pub record IsReportCut (order : Order) (source schedule : List ℕ) (o o' : OutputState) : Type 0 where
   pub failure : Failure
   pub before : Taken
-  pub given_up : IsGivenUp order source schedule failure out out' err before
+  pub given_up : IsGivenUp (IsNotDone order source schedule) (IsDoneInPart order source schedule) o (record o' { err = before }) failure
   pub text : List ℕ
-  pub explains : IsExplanation (is_told_why order failure) text
-  pub cut : Fails before err' (message_of failure ++ text)
+  pub explains : IsExplanation (has_explanation order failure) text
+  pub cut : Fails before o'.err (message_of failure ++ text)
 
--- the order is carried out, or it is reported why it is not, and no record is left
-abbrev pub IsOutcome : Order → List ℕ → List ℕ → Taken → Taken → Taken → Taken → Option (List ℕ × List ℕ) → Option (List ℕ × List ℕ) → ℕ → Type 0
-IsOutcome order source schedule out out' err err' kept kept' status =
-    IsDone order source schedule out out' err err' kept kept' status ⊎ (IsTold order source schedule out out' err err' status × (kept' ≡ kept))
+-- the order is carried out, or it is reported why it is not
+abbrev pub IsOutcome : Order → List ℕ → List ℕ → OutputState → OutputState → ℕ → Type 0
+IsOutcome order source schedule o o' status =
+    IsDone order source schedule o o' status ⊎ IsReported order source schedule o o' status
 
--- that, or a write failed that was to tell it: the status is 5
-abbrev pub IsOutcomeOrCut : Order → List ℕ → List ℕ → Taken → Taken → Taken → Taken → Option (List ℕ × List ℕ) → Option (List ℕ × List ℕ) → ℕ → Type 0
-IsOutcomeOrCut order source schedule out out' err err' kept kept' status =
-    IsOutcome order source schedule out out' err err' kept kept' status
-    ⊎ ((status ≡ 5) × IsTellingCut order source schedule out out' err err' × (kept' ≡ kept))
+-- that, or a write failed that was to report it: the status is 5
+abbrev pub IsOutcomeOrCut : Order → List ℕ → List ℕ → OutputState → OutputState → ℕ → Type 0
+IsOutcomeOrCut order source schedule o o' status =
+    IsOutcome order source schedule o o' status
+    ⊎ ((status ≡ 5) × IsReportCut order source schedule o o')

@@ -1,11 +1,11 @@
--- Which events of a run a picture shows, and what is told where they are too many (this profile).
+-- Which events of a run a picture shows, and what is reported where they are too many (this profile).
 use Rattle.std.specs.Fmt.{decimal}
 use Rattle.std.specs.Prelude.{◌++◌, ◌∷◌, [], ◌/◌, ◌%◌, ℕ, List, codes, nat_lt, if◌then◌else◌}
 use Rattle.orders.specs.Orders.{last_of}
 use Rattle.orders.specs.declared.part.Part.{Part}
 use Rattle.run_picture.specs.declared.windows.Window.{Window}
 
--- the events that are drawn of a run of so many
+-- the events that are drawn of a run with this number of events
 abbrev pub window_of : Part → ℕ → Window
 window_of part events = record { first = part.first; last = last_of part events }
 
@@ -18,6 +18,6 @@ abbrev pub grouped : ℕ → List ℕ
 grouped n = if nat_lt n 1000000 then decimal (n / 1000) ++ codes "," ++ last_three n
     else decimal (n / 1000000) ++ codes "," ++ last_three (n / 1000) ++ codes "," ++ last_three n
 
--- the line that tells that a picture would have so many events
+-- the line that reports that a picture would have this number of events
 abbrev pub too_many_text : ℕ → List ℕ
 too_many_text count = codes "cilvm: " ++ (grouped count ++ (codes " events: a picture has 20,000 at most; choose them by --from and --to" ++ 10 ∷ []))

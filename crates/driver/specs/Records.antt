@@ -1,4 +1,4 @@
--- The record of a run: what it is, and what is told where there is none (this profile).
+-- The record of a run: what it is, and what is reported where there is none (this profile).
 use Rattle.std.specs.Prelude.{◌≡◌, ◌<◌, [], ℕ, Bool, true, false, List, Option, Some, None, length, option_map, string_bytes}
 use Rattle.cil_model.specs.declared.events.Event.{Event}
 use Rattle.schedule_text.specs.Writings.{IsWritten}

@@ -6,11 +6,13 @@ ghost use Rattle.outputs.specs.Taken.{Fails, HasGrown, Takes};
 ghost use Rattle.run_picture.specs.Pictures.{IsPicture, IsPictureInPart};
 ghost use Rattle.schedule_text.specs.Items.{events_of};
 ghost use Rattle.schedule_text.specs.declared.errors.TheConstants.{MOST_EVENTS as MOST_SCHEDULED};
-ghost use Rattle.source_runs.specs.acceptance.Failures.{IsOfWriting, is_refusal};
+ghost use Rattle.source_runs.specs.acceptance.Failures.{IsOfWriting};
 ghost use Rattle.source_runs.specs.acceptance.declared.failure.Failure.TheVariants.{Device as DeviceFailure};
-ghost use Rattle.driver.specs.Outcomes.{HasBroken, HasDrawn, HasNotTraced, HasTooMany, IsDrawnInPart};
+ghost use Rattle.driver.specs.Outcomes.{HasNotTraced, IsDrawn, IsDrawnInPart};
+ghost use Rattle.driver.specs.Outputs.{IsGivenUp, output_state};
 ghost use Rattle.driver.specs.Pictures.{too_many_text, window_of};
 
+use crate::command_outputs::Outputs;
 use crate::showing::show_threads_of;
 use cil_model::limits::Limits;
 use orders::Part;
@@ -22,8 +24,8 @@ use std::alloc::{AllocError, Global};
 use std::fmt;
 use std::fmt::Display;
 
-/// Runs a source by the events of a text, prints a picture of a part of them and then how the threads stand, and answers the status of the
-/// run. Where the picture would have too many events, it runs nothing, tells their number, and answers 2.
+/// Runs a source by the events of a text, prints a picture of a part of them and then the ends of the threads, and returns the status of the
+/// run. Where the picture would have too many events, it runs nothing, reports their number, and returns 2.
 pub(crate) fn show_picture<W: Out, E: Out>(
     alloc: Global,
     source: &[u8],
@@ -31,31 +33,31 @@ pub(crate) fn show_picture<W: Out, E: Out>(
     text: &[u8],
     part: Part,
     explain: bool,
-    out: &mut W,
-    err: &mut E,
+    outputs: &mut Outputs<W, E>,
 ) -> Result<u8, Failure>
-    ensures done { IfOk result (λ status. HasDrawn source.now limits text.now part explain (W.taken out.old) (W.taken out.new) (E.taken err.old) (E.taken err.new) status
-        ⊎ HasTooMany source.now limits text.now part (W.taken out.old) (W.taken out.new) (E.taken err.old) (E.taken err.new) status) }
-    ensures failed { IfErr result (HasNotTraced source.now limits text.now) }
-    ensures untouched { IfErr result (λ failure. is_refusal failure ≡ true
-        → (W.taken out.new ≡ W.taken out.old) × (E.taken err.new ≡ E.taken err.old)) }
-    ensures device { IfErr result (λ failure. failure ≡ DeviceFailure
-        → HasBroken (W.taken out.old) (W.taken out.new) (E.taken err.old) (E.taken err.new)) }
-    ensures in_part { OnErr result (((W.taken out.new ≡ W.taken out.old) × (E.taken err.new ≡ E.taken err.old))
-        ⊎ IsDrawnInPart source.now limits text.now part explain (W.taken out.old) (W.taken out.new) (E.taken err.old) (E.taken err.new)) }
+    ensures done { IfOk result (IsDrawn source.now limits text.now part explain
+        (output_state W.taken E.taken outputs.old) (output_state W.taken E.taken outputs.new)) }
+    ensures given_up { IfErr result (IsGivenUp (HasNotTraced source.now limits text.now) (IsDrawnInPart source.now limits text.now part explain)
+        (output_state W.taken E.taken outputs.old) (output_state W.taken E.taken outputs.new)) }
 {
     let (mut machine, items) = open(alloc, source, limits, text)?;
     let events = event_count(items.as_slice());
     let count = part.event_count(events);
     if count > MOST_EVENTS {
-        return tell_too_many(alloc, count, err);
+        return report_too_many(alloc, count, &mut outputs.err);
     }
     let window = window_of(part, events);
-    draw(alloc, &mut machine, items.as_slice(), window, out)?;
-    Ok(show_threads_of(alloc, explain, &machine, err)?)
+    draw(
+        alloc,
+        &mut machine,
+        items.as_slice(),
+        window,
+        &mut outputs.out,
+    )?;
+    Ok(show_threads_of(alloc, explain, &machine, &mut outputs.err)?)
 }
 
-/// How many events the items of a schedule's text stand for.
+/// The number of events that the items of a schedule's text have.
 fn event_count(items: &[Item]) -> usize
     requires few { length (events_of items.now) ≤ MOST_SCHEDULED }
     ensures { result ≡ length (events_of items.now) }
@@ -67,7 +69,7 @@ fn event_count(items: &[Item]) -> usize
     events
 }
 
-/// The events that are drawn of a run of so many.
+/// The events that are drawn of a run with this number of events.
 fn window_of(part: Part, events: usize) -> Window
     ensures { result ≡ window_of part events }
 {
@@ -98,8 +100,8 @@ fn draw<W: Out>(
     }
 }
 
-/// Tells that a picture would have so many events, and answers the status.
-fn tell_too_many<E: Out>(alloc: Global, count: usize, err: &mut E) -> Result<u8, Failure>
+/// Reports that a picture would have this number of events, and returns the status.
+fn report_too_many<E: Out>(alloc: Global, count: usize, err: &mut E) -> Result<u8, Failure>
     ensures whole { IfOk result (λ status. (status ≡ 2) × Takes (E.taken err.old) (E.taken err.new) (too_many_text count)) }
     ensures cut { OnErr result ((E.taken err.new ≡ E.taken err.old) ⊎ Fails (E.taken err.old) (E.taken err.new) (too_many_text count)) }
     ensures device { IfErr result (λ failure. failure ≡ DeviceFailure → HasGrown (E.taken err.old).failures (E.taken err.new).failures) }
@@ -110,7 +112,7 @@ fn tell_too_many<E: Out>(alloc: Global, count: usize, err: &mut E) -> Result<u8,
     Ok(2)
 }
 
-/// The line that tells it.
+/// The line that reports it.
 fn too_many_line(alloc: Global, count: usize) -> Result<String, AllocError>
     ensures { IfOk result (λ line. string_bytes line ≡ too_many_text count) }
 {

@@ -1,40 +1,40 @@
 //! Does what an order asks for.
 
-ghost use Rattle.std.specs.Prelude.{◌≡◌, ◌⊎◌, ◌*◌, ◌++◌, ◌∷◌, [], ◌≤◌, ℕ, codes, IfErr, IfOk, List, None, OnErr, OnOk, true};
+ghost use Rattle.std.specs.Prelude.{◌≡◌, IfErr, IfOk, List, None, OnErr, OnOk};
 ghost use Rattle.cil_model.specs.declared.reports.Report.{Report};
 ghost use Rattle.event_trace.specs.Traces.{IsTraced, IsTracedInPart};
-ghost use Rattle.flip_trial.specs.Trial.{place_count};
-ghost use Rattle.outputs.specs.Taken.{Fails, HasGrown};
+ghost use Rattle.outputs.specs.Taken.{HasGrown};
 ghost use Rattle.schedule_text.specs.Items.{events_of};
-ghost use Rattle.source_runs.specs.acceptance.Failures.{IsOfWriting, is_refusal};
-ghost use Rattle.source_runs.specs.acceptance.Sources.{IsLetIn};
+ghost use Rattle.source_runs.specs.acceptance.Failures.{IsOfWriting};
+ghost use Rattle.source_runs.specs.acceptance.Sources.{IsLetIn, IsNotAccepted};
 ghost use Rattle.source_runs.specs.acceptance.declared.failure.Failure.TheVariants.{Device as DeviceFailure};
 ghost use Rattle.orders.specs.Orders.{record_file_of};
-ghost use Rattle.driver.specs.Outcomes.{HasBroken, HasNotRun, HasNotTraced, HasRun, HasTraced, IsChecked, IsCheckedInPart, IsDone, IsNotChecked, failure_of_tracing};
-ghost use Rattle.driver.specs.Outcomes.{IsNotDone, IsDoneInPart, IsOutcome, IsOutcomeOrCut};
+ghost use Rattle.driver.specs.Outcomes.{HasNotRun, HasNotTraced, HasRun, HasTraced, IsChecked, IsCheckedInPart, IsDone, IsDoneInPart, IsFlipDone, IsFlipDoneInPart};
+ghost use Rattle.driver.specs.Outcomes.{IsNotChecked, IsNotDone, IsOutcome, IsOutcomeOrCut, IsReportCut, IsRunDone, IsRunDoneInPart, IsRunInPart, IsRunNotDone, IsTracedUpTo, failure_of_tracing};
+ghost use Rattle.driver.specs.Outputs.{IsGivenUp, output_state};
 ghost use Rattle.driver.specs.Records.{texts_of};
-ghost use Rattle.driver.specs.Outcomes.{IsRunInPart, IsTellingCut, IsTraceInPart, IsTracedThenInPart, IsTried, flip_text};
 
+use crate::command_outputs::Outputs;
 use crate::drawing::show_picture;
-use crate::explaining::{show_notes, tell_failure};
+use crate::explaining::{report_failure, show_notes};
 use crate::exploring::show_exploration;
 use crate::outcomes::show_outcome;
-use crate::recording::RecordFiles;
 use crate::replays::differences_from;
 use crate::running_threads::show_threads;
 use crate::showing::{say_accepted, show, show_flip};
-use crate::statistics::show_last;
+use crate::statistics::{most_words_of, show_last};
 use cil_model::limits::Limits;
 use event_trace::{TraceError, trace};
 use flip_trial::Sizes;
-use orders::Order;
+use orders::{Order, Run, RunKind};
 use outputs::{Device, Out};
 use run_files::RunFile;
 use schedule_text::Item;
-use source_runs::{Failure, Machine, accept, open, run_source};
+use source_runs::{Failure, Machine, SourceError, examine, open, run_source};
 use std::alloc::Global;
 use std::sync::Wait;
 use std::thread::Threads;
+use std::time::{Clock, Instant};
 
 /// Carries out a command on the bytes of its files, and returns the status: a replay, a trace and a picture take their
 /// schedule from `schedule`, which the others ignore. Faults are looked for in this order: the source, the limits,
@@ -58,120 +58,78 @@ use std::thread::Threads;
 /// on `err`, before the numbers of the run, if its source, its limits or what it printed is not what the file says; then the status is 6, unless memory
 /// ran out.
 ///
-/// Where workers run the program and a record is asked for, the text of the run's events and that of its `.run` file are left in `record`, once
+/// Where workers run the program and a record is asked for, the text of the run's events and that of its `.run` file are left in `files`, once
 /// all is printed: a replay of it with the same limits prints the same. Of more than 1,000,000 events there is no record; that is reported by
 /// `error 503` after the lines of the threads, and the status is 1. Where memory runs out for the record, `memory` is, and the status is 5. Where a source is
 /// explored and a schedule is to be saved, that of the first fault, deadlock or other output is left there, with its `.run` file. In every other
-/// case `record` stays as it was.
+/// case `files` stays as it was.
+///
+/// Where a run has ended, `ended` is that moment, if the clock can be read; the rest of the command is not part of the run's time.
 pub fn drive<W: Out, E: Out>(
-    rt: &(impl Threads + Wait + Sync),
+    rt: &(impl Threads + Wait + Clock + Sync),
     alloc: Global,
     order: &Order<'_>,
     source: &[u8],
     schedule: &[u8],
-    out: &mut W,
-    err: &mut E,
-    record: &mut Option<RecordFiles>,
+    outputs: &mut Outputs<W, E>,
 ) -> u8
-    ensures outcome { IsOutcomeOrCut order.now source.now schedule.now (W.taken out.old) (W.taken out.new)
-        (E.taken err.old) (E.taken err.new) (texts_of «record».old) (texts_of «record».new) result }
-    ensures kept { record_file_of order.now ≡ None → texts_of «record».new ≡ texts_of «record».old }
+    ensures outcome { IsOutcomeOrCut order.now source.now schedule.now
+        (output_state W.taken E.taken outputs.old) (output_state W.taken E.taken outputs.new) result }
+    ensures kept { record_file_of order.now ≡ None → texts_of outputs.new.files ≡ texts_of outputs.old.files }
 {
-    match carry_out(rt, alloc, order, source, schedule, out, err, record) {
+    match carry_out(rt, alloc, order, source, schedule, outputs) {
         Ok(status) => status,
         Err(_) => 5,
     }
 }
 
-/// Does a command as `drive` does, and answers the status. An error is a write that failed and was to tell why the command is not done.
+/// Carries out a command as `drive` does, and returns the status. An error is a failed write of why the command is not done.
 pub fn carry_out<W: Out, E: Out>(
-    rt: &(impl Threads + Wait + Sync),
+    rt: &(impl Threads + Wait + Clock + Sync),
     alloc: Global,
     order: &Order<'_>,
     source: &[u8],
     schedule: &[u8],
-    out: &mut W,
-    err: &mut E,
-    record: &mut Option<RecordFiles>,
+    outputs: &mut Outputs<W, E>,
 ) -> Result<u8, Device>
-    ensures told { IfOk result (IsOutcome order.now source.now schedule.now (W.taken out.old)
-        (W.taken out.new) (E.taken err.old) (E.taken err.new) (texts_of «record».old) (texts_of «record».new)) }
-    ensures cut { IfErr result (λ _. IsTellingCut order.now source.now schedule.now (W.taken out.old)
-        (W.taken out.new) (E.taken err.old) (E.taken err.new)) }
-    ensures same { OnErr result (texts_of «record».new ≡ texts_of «record».old) }
+    ensures reported { IfOk result (IsOutcome order.now source.now schedule.now
+        (output_state W.taken E.taken outputs.old) (output_state W.taken E.taken outputs.new)) }
+    ensures cut { OnErr result (IsReportCut order.now source.now schedule.now
+        (output_state W.taken E.taken outputs.old) (output_state W.taken E.taken outputs.new)) }
 {
-    match perform(rt, alloc, order, source, schedule, out, err, record) {
+    let mut found: Option<SourceError> = None;
+    match perform(rt, alloc, order, source, schedule, outputs, &mut found) {
         Ok(status) => Ok(status),
-        Err(failure) => tell_failure(alloc, order, failure, source, schedule, err),
+        Err(failure) => report_failure(
+            alloc,
+            order,
+            failure,
+            &found,
+            source,
+            schedule,
+            &mut outputs.err,
+        ),
     }
 }
 
+/// Carries out a command as `drive` does, and returns the status. Of a source that `check` refuses, `found` gets what was found of it.
 fn perform<W: Out, E: Out>(
-    rt: &(impl Threads + Wait + Sync),
+    rt: &(impl Threads + Wait + Clock + Sync),
     alloc: Global,
     order: &Order<'_>,
     source: &[u8],
     schedule: &[u8],
-    out: &mut W,
-    err: &mut E,
-    record: &mut Option<RecordFiles>,
+    outputs: &mut Outputs<W, E>,
+    found: &mut Option<SourceError>,
 ) -> Result<u8, Failure>
-    ensures done { IfOk result (IsDone order.now source.now schedule.now (W.taken out.old)
-        (W.taken out.new) (E.taken err.old) (E.taken err.new) (texts_of «record».old) (texts_of «record».new)) }
-    ensures failed { IfErr result (IsNotDone order.now source.now schedule.now) }
-    ensures same { OnErr result (texts_of «record».new ≡ texts_of «record».old) }
-    ensures untouched { IfErr result (λ failure. is_refusal failure ≡ true
-        → (W.taken out.new ≡ W.taken out.old) × (E.taken err.new ≡ E.taken err.old)) }
-    ensures device { IfErr result (λ failure. failure ≡ DeviceFailure
-        → HasBroken (W.taken out.old) (W.taken out.new) (E.taken err.old) (E.taken err.new)) }
-    ensures in_part { OnErr result (((W.taken out.new ≡ W.taken out.old) × (E.taken err.new ≡ E.taken err.old))
-        ⊎ IsDoneInPart order.now source.now schedule.now (W.taken out.old) (W.taken out.new) (E.taken err.old) (E.taken err.new)) }
+    ensures done { IfOk result (IsDone order.now source.now schedule.now
+        (output_state W.taken E.taken outputs.old) (output_state W.taken E.taken outputs.new)) }
+    ensures given_up { IfErr result (IsGivenUp (IsNotDone order.now source.now schedule.now) (IsDoneInPart order.now source.now schedule.now)
+        (output_state W.taken E.taken outputs.old) (output_state W.taken E.taken outputs.new)) }
 {
     match *order {
-        Order::Check { file, explain } => check(alloc, file, source, explain, out, err),
-        Order::Run {
-            schedule: text,
-            most_printed,
-            limits,
-            explain,
-            stats,
-            ..
-        } => show_run(
-            rt,
-            alloc,
-            source,
-            limits,
-            text.as_bytes(),
-            most_printed,
-            None,
-            explain,
-            stats,
-            out,
-            err,
-        ),
-        Order::Replay {
-            most_printed,
-            limits,
-            expected,
-            explain,
-            stats,
-            ..
-        } => {
-            let limits = limits.limits_for(expected);
-            show_run(
-                rt,
-                alloc,
-                source,
-                limits,
-                schedule,
-                most_printed,
-                expected,
-                explain,
-                stats,
-                out,
-                err,
-            )
-        }
+        Order::Check { file, explain } => check(alloc, file, source, explain, outputs, found),
+        Order::Run(run) => perform_run(rt, alloc, &run, source, schedule, outputs),
         Order::Trace {
             limits,
             expected,
@@ -183,8 +141,7 @@ fn perform<W: Out, E: Out>(
             limits.limits_for(expected),
             schedule,
             explain,
-            out,
-            err,
+            outputs,
         ),
         Order::Picture {
             part,
@@ -199,32 +156,7 @@ fn perform<W: Out, E: Out>(
             schedule,
             part,
             explain,
-            out,
-            err,
-        ),
-        Order::Threads {
-            workers,
-            record: file,
-            stop_at,
-            most_printed,
-            limits,
-            explain,
-            stats,
-            ..
-        } => show_threads(
-            rt,
-            alloc,
-            source,
-            limits,
-            workers,
-            stop_at,
-            most_printed,
-            file.is_some(),
-            explain,
-            stats,
-            out,
-            err,
-            record,
+            outputs,
         ),
         Order::Explore {
             extent,
@@ -239,29 +171,91 @@ fn perform<W: Out, E: Out>(
             extent,
             save.is_some(),
             explain,
-            out,
-            record,
+            outputs,
         ),
-        Order::Flip(sizes) => try_flip(rt, alloc, sizes, out),
+        Order::Flip(sizes) => run_flip(rt, alloc, sizes, outputs),
     }
 }
 
-/// Tries the flip by threads, prints what came of it, and answers the status.
-fn try_flip<W: Out>(
+/// Carries out a run of a source, and returns its status.
+fn perform_run<W: Out, E: Out>(
+    rt: &(impl Threads + Wait + Clock + Sync),
+    alloc: Global,
+    run: &Run<'_>,
+    source: &[u8],
+    schedule: &[u8],
+    outputs: &mut Outputs<W, E>,
+) -> Result<u8, Failure>
+    ensures done { IfOk result (IsRunDone run.now source.now schedule.now run.now.kind
+        (output_state W.taken E.taken outputs.old) (output_state W.taken E.taken outputs.new)) }
+    ensures given_up { IfErr result (IsGivenUp (IsRunNotDone source.now schedule.now run.now.kind) (IsRunDoneInPart run.now source.now schedule.now run.now.kind)
+        (output_state W.taken E.taken outputs.old) (output_state W.taken E.taken outputs.new)) }
+{
+    match run.kind {
+        RunKind::Schedule { text, limits } => {
+            let text = text.as_bytes();
+            show_run(rt, alloc, run, source, limits, text, None, outputs)
+        }
+        RunKind::Replay {
+            limits,
+            expected,
+            ..
+        } => {
+            let limits = limits.limits_for(expected);
+            show_run(rt, alloc, run, source, limits, schedule, expected, outputs)
+        }
+        RunKind::Workers {
+            workers,
+            record: file,
+            stop_at,
+            limits,
+        } => {
+            let is_recorded = file.is_some();
+            show_threads(
+                rt,
+                alloc,
+                run,
+                source,
+                limits,
+                workers,
+                stop_at,
+                is_recorded,
+                outputs,
+            )
+        }
+    }
+}
+
+/// Exercises the flip by threads, prints its result, and returns the status.
+fn run_flip<W: Out, E: Out>(
     rt: &impl Threads,
     alloc: Global,
     sizes: Sizes,
-    out: &mut W,
+    outputs: &mut Outputs<W, E>,
 ) -> Result<u8, Failure>
-    ensures done { IfOk result (IsTried sizes (W.taken out.old) (W.taken out.new)) }
-    ensures failed { IfErr result IsOfWriting }
-    ensures device { IfErr result (λ failure. failure ≡ DeviceFailure → HasGrown (W.taken out.old).failures (W.taken out.new).failures) }
-    ensures in_part { OnErr result ((W.taken out.new ≡ W.taken out.old)
-        ⊎ ((retired : ℕ) × Fails (W.taken out.old) (W.taken out.new) (flip_text (sizes.rounds * place_count sizes) retired))) }
+    ensures done { IfOk result (IsFlipDone sizes
+        (output_state W.taken E.taken outputs.old) (output_state W.taken E.taken outputs.new)) }
+    ensures given_up { IfErr result (IsGivenUp IsOfWriting (IsFlipDoneInPart sizes)
+        (output_state W.taken E.taken outputs.old) (output_state W.taken E.taken outputs.new)) }
 {
     let outcome = flip_trial::run(rt, alloc, sizes)?;
-    show_flip(outcome, out)?;
+    show_flip(outcome, &mut outputs.out)?;
     Ok(if outcome.finished { 0 } else { 3 })
+}
+
+/// Accepts a source, or leaves in `found` what was found of it.
+fn accept(alloc: Global, source: &[u8], found: &mut Option<SourceError>) -> Result<(), Failure>
+    ensures accepted { OnOk result (IsLetIn source.now) }
+    ensures refused { IfErr result (IsNotAccepted source.now) }
+{
+    match examine(alloc, source) {
+        Ok(_) => Ok(()),
+        Err(error) => {
+            let failure = error.failure();
+            *found = Some(error);
+            Err(failure)
+        }
+    }
 }
 
 /// Reports that a source is accepted, prints the notes on it where explanations are asked for, and returns the status.
@@ -270,80 +264,70 @@ fn check<W: Out, E: Out>(
     file: &str,
     source: &[u8],
     explain: bool,
-    out: &mut W,
-    err: &mut E,
+    outputs: &mut Outputs<W, E>,
+    found: &mut Option<SourceError>,
 ) -> Result<u8, Failure>
-    ensures done { IfOk result (IsChecked source.now explain (W.taken out.old) (W.taken out.new) (E.taken err.old) (E.taken err.new)) }
-    ensures failed { IfErr result (IsNotChecked source.now) }
-    ensures untouched { IfErr result (λ failure. is_refusal failure ≡ true
-        → (W.taken out.new ≡ W.taken out.old) × (E.taken err.new ≡ E.taken err.old)) }
-    ensures device { IfErr result (λ failure. failure ≡ DeviceFailure
-        → HasBroken (W.taken out.old) (W.taken out.new) (E.taken err.old) (E.taken err.new)) }
-    ensures in_part { OnErr result (((W.taken out.new ≡ W.taken out.old) × (E.taken err.new ≡ E.taken err.old))
-        ⊎ IsCheckedInPart source.now explain (W.taken out.old) (W.taken out.new) (E.taken err.old) (E.taken err.new)) }
+    ensures done { IfOk result (IsChecked source.now explain
+        (output_state W.taken E.taken outputs.old) (output_state W.taken E.taken outputs.new)) }
+    ensures given_up { IfErr result (IsGivenUp (IsNotChecked source.now) (IsCheckedInPart source.now explain)
+        (output_state W.taken E.taken outputs.old) (output_state W.taken E.taken outputs.new)) }
 {
-    accept(alloc, source)?;
-    say_accepted(out)?;
-    show_notes(alloc, file, source, explain, err)?;
+    accept(alloc, source, found)?;
+    say_accepted(&mut outputs.out)?;
+    show_notes(alloc, file, source, explain, &mut outputs.err)?;
     Ok(0)
 }
 
 /// Runs a source by the events of a text, prints what the run leaves, and returns its status. Where memory runs out before an event, or the event
 /// would print beyond the bound, the run is stopped there, and that is reported after this; then in what it differs from what is expected. The numbers of the run come last, where
-/// they are asked for.
+/// they are asked for. `ended` is the moment when the run has ended, if the clock can be read.
 fn show_run<W: Out, E: Out>(
-    rt: &impl Wait,
+    rt: &(impl Wait + Clock),
     alloc: Global,
+    run: &Run<'_>,
     source: &[u8],
     limits: Limits,
     text: &[u8],
-    most_printed: Option<u32>,
     expected: Option<RunFile>,
-    explain: bool,
-    stats: bool,
-    out: &mut W,
-    err: &mut E,
+    outputs: &mut Outputs<W, E>,
 ) -> Result<u8, Failure>
-    ensures done { IfOk result (HasRun source.now limits text.now most_printed expected explain stats (W.taken out.old)
-        (W.taken out.new) (E.taken err.old) (E.taken err.new)) }
-    ensures failed { IfErr result (HasNotRun source.now limits text.now) }
-    ensures untouched { IfErr result (λ failure. is_refusal failure ≡ true
-        → (W.taken out.new ≡ W.taken out.old) × (E.taken err.new ≡ E.taken err.old)) }
-    ensures device { IfErr result (λ failure. failure ≡ DeviceFailure
-        → HasBroken (W.taken out.old) (W.taken out.new) (E.taken err.old) (E.taken err.new)) }
-    ensures in_part { OnErr result (((W.taken out.new ≡ W.taken out.old) × (E.taken err.new ≡ E.taken err.old))
-        ⊎ IsRunInPart source.now limits text.now most_printed expected explain stats explain (W.taken out.old) (W.taken out.new) (E.taken err.old) (E.taken err.new)) }
+    ensures done { IfOk result (HasRun source.now limits text.now run.now.most_printed expected run.now.explain run.now.stats
+        (output_state W.taken E.taken outputs.old) (output_state W.taken E.taken outputs.new)) }
+    ensures given_up { IfErr result (IsGivenUp (HasNotRun source.now limits text.now) (IsRunInPart source.now limits text.now run.now.most_printed expected run.now.explain run.now.stats run.now.explain)
+        (output_state W.taken E.taken outputs.old) (output_state W.taken E.taken outputs.new)) }
 {
-    let outcome = run_source(rt, alloc, source, limits, text, most_printed)?;
-    let status = show_outcome(alloc, explain, source, limits, &outcome, out, err)?;
+    let outcome = run_source(rt, alloc, source, limits, text, run.most_printed)?;
+    outputs.ended = Instant::now(rt).ok();
+    let status = show_outcome(alloc, run.explain, source, limits, &outcome, outputs)?;
     let differences = differences_from(expected, source, limits, &outcome);
-    Ok(show_last(stats, differences, &outcome, status, err)?)
+    let most = most_words_of(alloc, run.stats, source, limits, &outcome.history);
+    Ok(show_last(
+        run.stats,
+        most,
+        differences,
+        &outcome,
+        status,
+        &mut outputs.err,
+    )?)
 }
 
-/// Runs a source by the events of a text, prints a line of each and an empty line, then what the run leaves, and answers its status.
+/// Runs a source by the events of a text, prints a line of each and an empty line, then what the run leaves, and returns its status.
 fn show_trace<W: Out, E: Out>(
     alloc: Global,
     source: &[u8],
     limits: Limits,
     text: &[u8],
     explain: bool,
-    out: &mut W,
-    err: &mut E,
+    outputs: &mut Outputs<W, E>,
 ) -> Result<u8, Failure>
-    ensures done { IfOk result (HasTraced source.now limits text.now explain (W.taken out.old)
-        (W.taken out.new) (E.taken err.old) (E.taken err.new)) }
-    ensures failed { IfErr result (HasNotTraced source.now limits text.now) }
-    ensures untouched { IfErr result (λ failure. is_refusal failure ≡ true
-        → (W.taken out.new ≡ W.taken out.old) × (E.taken err.new ≡ E.taken err.old)) }
-    ensures device { IfErr result (λ failure. failure ≡ DeviceFailure
-        → HasBroken (W.taken out.old) (W.taken out.new) (E.taken err.old) (E.taken err.new)) }
-    ensures in_part { OnErr result (((W.taken out.new ≡ W.taken out.old) × (E.taken err.new ≡ E.taken err.old))
-        ⊎ ((IsTraceInPart source.now limits text.now (W.taken out.old) (W.taken out.new) × (E.taken err.new ≡ E.taken err.old))
-        ⊎ IsTracedThenInPart source.now limits text.now explain (W.taken out.old) (W.taken out.new) (E.taken err.old) (E.taken err.new))) }
+    ensures done { IfOk result (HasTraced source.now limits text.now explain
+        (output_state W.taken E.taken outputs.old) (output_state W.taken E.taken outputs.new)) }
+    ensures given_up { IfErr result (IsGivenUp (HasNotTraced source.now limits text.now) (IsTracedUpTo source.now limits text.now explain)
+        (output_state W.taken E.taken outputs.old) (output_state W.taken E.taken outputs.new)) }
 {
     let (mut machine, items) = open(alloc, source, limits, text)?;
-    write_trace(alloc, &mut machine, items.as_slice(), out)?;
-    Ok(show(alloc, explain, &machine, out, err)?)
+    write_trace(alloc, &mut machine, items.as_slice(), &mut outputs.out)?;
+    Ok(show(alloc, explain, &machine, outputs)?)
 }
 
 /// Gives a machine the events of these items, and writes a line of each and an empty line.

@@ -3,38 +3,40 @@
 ghost use Rattle.std.specs.Prelude.{◌≡◌, ◌++◌, IfErr, IfOk, List, ℕ, OnErr, OnOk};
 ghost use Rattle.outputs.specs.Taken.{Fails, Takes};
 ghost use Rattle.source_runs.specs.acceptance.Failures.{message_of, status_of_failure};
-ghost use Rattle.driver.specs.Outcomes.{AreNotesShown, AreNotesShownInPart, IsExplanation, is_told_why};
+ghost use Rattle.driver.specs.Outcomes.{AreNotesShown, AreNotesShownInPart, IsExplanation, has_explanation};
 
 use cil_model::limits::Limits;
 use cil_model::memory::NoMemory;
-use diagnostics::{explain, explain_limits, explain_schedule, note};
-use orders::Order;
+use diagnostics::{explain, explain_error, explain_limits, explain_schedule, note};
+use orders::{Order, RunKind};
 use outputs::{Device, Out};
 use schedule_text::read_schedule;
-use source_runs::{Failure, status_of_failure, tell};
+use source_runs::{Failure, SourceError, status_of_failure, tell};
 use std::alloc::Global;
 
-/// Writes a failure to the standard error, and behind a refusal a text that explains it, where the order asks for one. It answers the
-/// failure's status. An error is a write that failed, and a beginning of the telling is written then. Where the explanation wants memory,
-/// the refusal is told without it.
-pub(crate) fn tell_failure<E: Out>(
+/// Writes a failure to the standard error, and after a refusal a text that explains it, where the order asks for one: of a source by what was
+/// found of it, if that is given. It returns the failure's status. An error is a write that failed, and a prefix of this is written then. Where
+/// memory runs out for the explanation, the refusal is reported without it.
+pub(crate) fn report_failure<E: Out>(
     alloc: Global,
     order: &Order<'_>,
     failure: Failure,
+    found: &Option<SourceError>,
     source: &[u8],
     schedule: &[u8],
     err: &mut E,
 ) -> Result<u8, Device>
     ensures whole { IfOk result (λ status. (status ≡ status_of_failure failure) × ((text : List ℕ)
-        × IsExplanation (is_told_why order.now failure) text × Takes (E.taken err.old) (E.taken err.new) (message_of failure ++ text))) }
+        × IsExplanation (has_explanation order.now failure) text × Takes (E.taken err.old) (E.taken err.new) (message_of failure ++ text))) }
     ensures cut { IfErr result (λ _. (text : List ℕ)
-        × IsExplanation (is_told_why order.now failure) text × Fails (E.taken err.old) (E.taken err.new) (message_of failure ++ text)) }
+        × IsExplanation (has_explanation order.now failure) text × Fails (E.taken err.old) (E.taken err.new) (message_of failure ++ text)) }
 {
     tell(failure, err)?;
-    tell_why(
+    write_reason(
         alloc,
         order,
-        is_told_why(order, failure),
+        has_explanation(order, failure),
+        found,
         source,
         schedule,
         err,
@@ -42,36 +44,38 @@ pub(crate) fn tell_failure<E: Out>(
     Ok(status_of_failure(failure))
 }
 
-/// Whether a failure is told with what explains it.
-fn is_told_why(order: &Order<'_>, failure: Failure) -> bool
-    ensures { result ≡ is_told_why order.now failure }
+/// Whether a failure is reported with what explains it.
+fn has_explanation(order: &Order<'_>, failure: Failure) -> bool
+    ensures { result ≡ has_explanation order.now failure }
 {
     failure.is_refusal() && order.is_explained()
 }
 
-/// Writes what explains the refusal of an order, where it is to be told.
-fn tell_why<E: Out>(
+/// Writes what explains the refusal of an order, if it is to be explained.
+fn write_reason<E: Out>(
     alloc: Global,
     order: &Order<'_>,
-    is_told: bool,
+    is_explained: bool,
+    found: &Option<SourceError>,
     source: &[u8],
     schedule: &[u8],
     err: &mut E,
 ) -> Result<(), Device>
-    ensures whole { OnOk result ((text : List ℕ) × IsExplanation is_told text × Takes (E.taken err.old) (E.taken err.new) text) }
-    ensures cut { OnErr result ((text : List ℕ) × IsExplanation is_told text × Fails (E.taken err.old) (E.taken err.new) text) }
+    ensures whole { OnOk result ((text : List ℕ) × IsExplanation is_explained text × Takes (E.taken err.old) (E.taken err.new) text) }
+    ensures cut { OnErr result ((text : List ℕ) × IsExplanation is_explained text × Fails (E.taken err.old) (E.taken err.new) text) }
 {
-    if is_told {
-        show_explanation(alloc, order, source, schedule, err)
+    if is_explained {
+        show_explanation(alloc, order, found, source, schedule, err)
     } else {
         Ok(())
     }
 }
 
-/// Writes what explains the refusal of an order, or nothing where memory is wanted.
+/// Writes what explains the refusal of an order, or nothing if memory runs out.
 fn show_explanation<E: Out>(
     alloc: Global,
     order: &Order<'_>,
+    found: &Option<SourceError>,
     source: &[u8],
     schedule: &[u8],
     err: &mut E,
@@ -79,7 +83,7 @@ fn show_explanation<E: Out>(
     ensures whole { OnOk result ((text : List ℕ) × Takes (E.taken err.old) (E.taken err.new) text) }
     ensures cut { OnErr result ((text : List ℕ) × Fails (E.taken err.old) (E.taken err.new) text) }
 {
-    let text = explanation(alloc, order, source, schedule).unwrap_or(String::new(alloc));
+    let text = explanation(alloc, order, found, source, schedule).unwrap_or(String::new(alloc));
     err.write_whole(text.as_bytes())
 }
 
@@ -108,25 +112,16 @@ pub(crate) fn show_notes<E: Out>(
 fn explanation(
     alloc: Global,
     order: &Order<'_>,
+    found: &Option<SourceError>,
     source: &[u8],
     schedule: &[u8],
 ) -> Result<String, NoMemory> {
-    if let Some(text) = explain(alloc, order.file().unwrap_or(""), source)? {
+    if let Some(text) = explain_source(alloc, order.file().unwrap_or(""), found, source)? {
         return Ok(text);
     }
     let text = match *order {
-        Order::Run {
-            schedule,
-            limits,
-            ..
-        } => explain_run(alloc, limits, "--schedule", schedule.as_bytes())?,
-        Order::Replay {
-            schedule: name,
-            limits,
-            expected,
-            ..
-        }
-        | Order::Trace {
+        Order::Run(run) => explain_run(alloc, run.kind, schedule)?,
+        Order::Trace {
             schedule: name,
             limits,
             expected,
@@ -137,17 +132,47 @@ fn explanation(
             limits,
             expected,
             ..
-        } => explain_run(alloc, limits.limits_for(expected), name, schedule)?,
-        Order::Threads { limits, .. } | Order::Explore { limits, .. } => {
-            explain_limits(alloc, limits)?
-        }
+        } => explain_given(alloc, limits.limits_for(expected), name, schedule)?,
+        Order::Explore { limits, .. } => explain_limits(alloc, limits)?,
         Order::Check { .. } | Order::Flip(_) => None,
     };
     Ok(text.unwrap_or(String::new(alloc)))
 }
 
-/// What explains that limits or a schedule's text are refused. None where they are not.
+/// What explains the refusal of a source, of which this was found, or is found now. None where it is not refused.
+fn explain_source(
+    alloc: Global,
+    file: &str,
+    found: &Option<SourceError>,
+    source: &[u8],
+) -> Result<Option<String>, NoMemory> {
+    match found {
+        None => explain(alloc, file, source),
+        Some(error) => Ok(Some(explain_error(alloc, file, source, error)?)),
+    }
+}
+
+/// What explains that the limits of a run or its schedule are refused. None where they are not.
 fn explain_run(
+    alloc: Global,
+    kind: RunKind<'_>,
+    schedule: &[u8],
+) -> Result<Option<String>, NoMemory> {
+    match kind {
+        RunKind::Schedule { text, limits } => {
+            explain_given(alloc, limits, "--schedule", text.as_bytes())
+        }
+        RunKind::Replay {
+            schedule: name,
+            limits,
+            expected,
+        } => explain_given(alloc, limits.limits_for(expected), name, schedule),
+        RunKind::Workers { limits, .. } => explain_limits(alloc, limits),
+    }
+}
+
+/// What explains that limits or a schedule's text are refused. None where they are not.
+fn explain_given(
     alloc: Global,
     limits: Limits,
     name: &str,

@@ -1,19 +1,19 @@
 //! Explores all schedules of a source, and prints what it finds.
 
-ghost use Rattle.std.specs.Prelude.{◌≡◌, ◌⊎◌, IfErr, IfOk, OnErr, option_map, true};
+ghost use Rattle.std.specs.Prelude.{◌≡◌, IfErr, IfOk, option_map};
 ghost use Rattle.std.specs.List.{list_all, list_any};
 ghost use Rattle.std.specs.Str.{bytes_eq};
-ghost use Rattle.source_runs.specs.acceptance.Failures.{is_refusal};
 ghost use Rattle.source_runs.specs.acceptance.Sources.{IsNotRun};
-ghost use Rattle.source_runs.specs.acceptance.declared.failure.Failure.TheVariants.{Device as DeviceFailure};
-ghost use Rattle.outputs.specs.Taken.{HasGrown};
-ghost use Rattle.driver.specs.Explorations.{AreSaved, HasExplored, IsExploredInPart, first_other, has_deadlock, is_other, status_of_exploration};
+ghost use Rattle.driver.specs.Explorations.{AreSaved, HasExplored, IsExploredInPart, first_other, is_other, status_of_exploration};
+ghost use Rattle.outcome_search.specs.exploration.Findings.{has_deadlock};
 ghost use Rattle.driver.specs.Outcomes.{HasNotExplored};
+ghost use Rattle.driver.specs.Outputs.{IsGivenUp, output_state};
 ghost use Rattle.driver.specs.Records.{texts_of};
 
+use crate::command_outputs::Outputs;
 use crate::outcome_texts::text_of;
 use crate::recording::{RecordFiles, leave};
-use crate::showing::{are_all_done, is_some_live};
+use crate::showing::are_all_done;
 use cil_model::limits::Limits;
 use cil_model::memory::NoMemory;
 use orders::{Extent, Goal};
@@ -26,29 +26,25 @@ use std::alloc::Global;
 
 /// Explores all schedules of a source, prints its outcomes, leaves the files of the first fault, deadlock or other output if that is asked for,
 /// and returns the status. A failed write leaves what is kept as it was.
-pub(crate) fn show_exploration<W: Out>(
+pub(crate) fn show_exploration<W: Out, E: Out>(
     alloc: Global,
     source: &[u8],
     limits: Limits,
     extent: Extent,
     is_saved: bool,
     explain: bool,
-    out: &mut W,
-    kept: &mut Option<RecordFiles>,
+    outputs: &mut Outputs<W, E>,
 ) -> Result<u8, Failure>
-    ensures done { IfOk result (HasExplored source.now limits extent is_saved explain (W.taken out.old) (W.taken out.new) (texts_of kept.old) (texts_of kept.new)) }
-    ensures failed { IfErr result (HasNotExplored source.now limits) }
-    ensures same { OnErr result (texts_of kept.new ≡ texts_of kept.old) }
-    ensures untouched { IfErr result (λ failure. is_refusal failure ≡ true → W.taken out.new ≡ W.taken out.old) }
-    ensures device { IfErr result (λ failure. failure ≡ DeviceFailure → HasGrown (W.taken out.old).failures (W.taken out.new).failures) }
-    ensures in_part { OnErr result ((W.taken out.new ≡ W.taken out.old)
-        ⊎ IsExploredInPart source.now limits extent explain (W.taken out.old) (W.taken out.new)) }
+    ensures done { IfOk result (HasExplored source.now limits extent is_saved explain
+        (output_state W.taken E.taken outputs.old) (output_state W.taken E.taken outputs.new)) }
+    ensures given_up { IfErr result (IsGivenUp (HasNotExplored source.now limits) (IsExploredInPart source.now limits extent explain)
+        (output_state W.taken E.taken outputs.old) (output_state W.taken E.taken outputs.new)) }
 {
     let exploration = explore(alloc, source, limits, bounds_of(extent))?;
     let text = text_of(alloc, source, limits, extent, explain, &exploration)?;
     let saved = saved_files(alloc, is_saved, source, limits, &exploration.found)?;
-    out.write_whole(text.as_bytes())?;
-    leave(saved, kept);
+    outputs.out.write_whole(text.as_bytes())?;
+    leave(saved, &mut outputs.files);
     Ok(status_of(exploration.is_complete, &exploration.found))
 }
 
@@ -132,5 +128,5 @@ fn status_of(is_complete: bool, found: &[Found]) -> u8
 fn has_deadlock(found: &[Found]) -> bool
     ensures { result ≡ list_any has_deadlock found.now }
 {
-    found.iter().any(|found| is_some_live(&found.ends))
+    found.iter().any(|found| found.has_deadlock())
 }

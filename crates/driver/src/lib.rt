@@ -2,6 +2,7 @@
 //! The contract of `drive` is the main theorem (`IsOutcomeOrCut` in specs/Outcomes.antt).
 #![tactic(auto)]
 
+mod command_outputs;
 mod drawing;
 mod driving;
 mod explaining;
@@ -15,6 +16,7 @@ mod running_threads;
 mod showing;
 mod statistics;
 
+pub use command_outputs::Outputs;
 pub use driving::drive;
 pub use outputs::{Device, Out, WriterOut};
 pub use recording::RecordFiles;

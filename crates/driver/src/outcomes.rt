@@ -5,7 +5,10 @@ ghost use Rattle.std.specs.List.{zip};
 ghost use Rattle.outputs.specs.Taken.{Fails, Takes};
 ghost use Rattle.source_runs.specs.shared_machine.Histories.{events_of, reports_of};
 ghost use Rattle.driver.specs.Outcomes.{AreEndsExplainedFor, IsEndText, IsRunShown, IsRunShownInPart};
+ghost use Rattle.driver.specs.Outputs.{output_state};
+ghost use Rattle.driver.specs.Records.{texts_of};
 
+use crate::command_outputs::Outputs;
 use crate::showing::show;
 use cil_model::limits::Limits;
 use end_explanations::explain_ends;
@@ -21,19 +24,26 @@ pub(crate) fn show_outcome<W: Out, E: Out>(
     source: &[u8],
     limits: Limits,
     outcome: &Outcome,
-    out: &mut W,
-    err: &mut E,
+    outputs: &mut Outputs<W, E>,
 ) -> Result<u8, Device>
     ensures whole { IfOk result (IsRunShown explain source.now limits (events_of outcome.now.history.entries) (reports_of outcome.now.history.entries) outcome.now.machine
-        (W.taken out.old) (W.taken out.new) (E.taken err.old) (E.taken err.new)) }
+        (output_state W.taken E.taken outputs.old) (output_state W.taken E.taken outputs.new)) }
     ensures cut { OnErr result (IsRunShownInPart explain source.now limits (events_of outcome.now.history.entries) (reports_of outcome.now.history.entries) outcome.now.machine
-        (W.taken out.old) (W.taken out.new) (E.taken err.old) (E.taken err.new)) }
+        (output_state W.taken E.taken outputs.old) (output_state W.taken E.taken outputs.new)) }
+    ensures same { texts_of outputs.new.files ≡ texts_of outputs.old.files }
 {
-    let status = show(alloc, explain, &outcome.machine, out, err)?;
+    let status = show(alloc, explain, &outcome.machine, outputs)?;
     if status == 0 {
         return Ok(status);
     }
-    write_ends(alloc, explain, source, limits, &outcome.history, err)?;
+    write_ends(
+        alloc,
+        explain,
+        source,
+        limits,
+        &outcome.history,
+        &mut outputs.err,
+    )?;
     Ok(status)
 }
 

@@ -29,7 +29,7 @@ pub struct RecordFiles {
     pub run: String,
 }
 
-/// What comes of the record of a run.
+/// The record of a run, or why there is none.
 #[derive(Drop)]
 pub(crate) enum Record {
     /// None is asked for.

@@ -4,9 +4,12 @@ ghost use Rattle.std.specs.Prelude.{◌≡◌, ◌++◌, ◌∷◌, [], ℕ, cod
 ghost use Rattle.std.specs.List.{list_all, list_any};
 ghost use Rattle.outputs.specs.Taken.{Fails, Takes};
 ghost use Rattle.source_runs.specs.simulation.threads_monitors.Threads.{end_of};
+ghost use Rattle.driver.specs.Outputs.{output_state, outputs_without_files};
+ghost use Rattle.driver.specs.Records.{texts_of};
 ghost use Rattle.driver.specs.Outcomes.{AreCut, AreThreadsShown, AreThreadsShownInPart, IsMachineShown, IsMachineShownInPart, IsThreadText, accepted_text, flip_text, status_after, stop_text};
 ghost use Rattle.driver.specs.Threads.{end_text, is_done, is_live, line_of, lines_from, status_of};
 
+use crate::command_outputs::Outputs;
 use arrayvec::ArrayVec;
 use cil_model::reports::End;
 use event_trace::explain_threads;
@@ -27,7 +30,7 @@ pub(crate) fn say_accepted<W: Out>(out: &mut W) -> Result<(), Device>
     out.write_whole(b"accepted\n")
 }
 
-/// Prints what came of a run of the flip.
+/// Prints the result of a run of the flip.
 pub(crate) fn show_flip<W: Out>(outcome: FlipOutcome, out: &mut W) -> Result<(), Device>
     ensures whole { OnOk result (Takes (W.taken out.old) (W.taken out.new) (flip_text outcome.kept outcome.retired)) }
     ensures cut { OnErr result (Fails (W.taken out.old) (W.taken out.new) (flip_text outcome.kept outcome.retired)) }
@@ -49,7 +52,7 @@ pub fn emit<W: Out, E: Out>(outcome: &Outcome, out: &mut W, err: &mut E) -> Resu
     ensures whole { OnOk result (Takes (W.taken out.old) (W.taken out.new) outcome.now.machine.printed
         × Takes (E.taken err.old) (E.taken err.new) (lines_from 0 (map end_of outcome.now.machine.threads))) }
     ensures cut { OnErr result (AreCut outcome.now.machine.printed (lines_from 0 (map end_of outcome.now.machine.threads))
-        (W.taken out.old) (W.taken out.new) (E.taken err.old) (E.taken err.new)) }
+        (outputs_without_files (W.taken out.old) (E.taken err.old)) (outputs_without_files (W.taken out.new) (E.taken err.new))) }
 {
     out.write_whole(outcome.console())?;
     write_ends(ends_of(&outcome.machine).as_slice(), err)
@@ -60,14 +63,16 @@ pub(crate) fn show<W: Out, E: Out>(
     alloc: Global,
     explain: bool,
     machine: &Machine,
-    out: &mut W,
-    err: &mut E,
+    outputs: &mut Outputs<W, E>,
 ) -> Result<u8, Device>
-    ensures whole { IfOk result (IsMachineShown explain machine.now (W.taken out.old) (W.taken out.new) (E.taken err.old) (E.taken err.new)) }
-    ensures cut { OnErr result (IsMachineShownInPart explain machine.now (W.taken out.old) (W.taken out.new) (E.taken err.old) (E.taken err.new)) }
+    ensures whole { IfOk result (IsMachineShown explain machine.now
+        (output_state W.taken E.taken outputs.old) (output_state W.taken E.taken outputs.new)) }
+    ensures cut { OnErr result (IsMachineShownInPart explain machine.now
+        (output_state W.taken E.taken outputs.old) (output_state W.taken E.taken outputs.new)) }
+    ensures same { texts_of outputs.new.files ≡ texts_of outputs.old.files }
 {
-    out.write_whole(machine.console())?;
-    show_threads_of(alloc, explain, machine, err)
+    outputs.out.write_whole(machine.console())?;
+    show_threads_of(alloc, explain, machine, &mut outputs.err)
 }
 
 /// Prints how the threads of a run stand, and what explains that where it is asked for, and returns its status.
@@ -174,7 +179,7 @@ fn status_of(ends: &[Option<End>]) -> u8
 }
 
 /// Whether some thread is live.
-pub(crate) fn is_some_live(ends: &[Option<End>]) -> bool
+fn is_some_live(ends: &[Option<End>]) -> bool
     ensures { result ≡ list_any is_live ends.now }
 {
     ends.iter().any(|end| end.is_none())

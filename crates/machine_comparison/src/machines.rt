@@ -18,17 +18,17 @@ use source_runs::{Failure, Machine, accept};
 use std::alloc::Global;
 use std::iter::repeat_n;
 
-/// What the machine told of a run, up to the first event after which the plain machine told something else.
+/// What the machine reported and printed in a run, up to the first event after which the test interpreter differs.
 #[derive(Drop)]
 pub struct Trial {
     pub reports: Vec<Report>,
     pub printed: Vec<u8>,
-    /// What the last event came to on both machines, where they differ.
+    /// The outcome of the last event on both machines, where they differ.
     pub difference: Option<String>,
 }
 
-/// Runs the program of a source by the events of a schedule's text on both machines, and answers what the first event came to
-/// after which they differ in a report, in what was printed, or in how the threads stand; none where they agree. A source, limits or a
+/// Runs the program of a source by the events of a schedule's text on both machines, and returns the outcome of the first event after
+/// which they differ in a report, in what was printed, or in the states of the threads; none where they agree. A source, limits or a
 /// schedule that is refused leaves nothing to compare: none.
 pub fn difference(
     alloc: Global,
@@ -53,9 +53,10 @@ fn compare_by(alloc: Global, source: &[u8], limits: Limits, text: &[u8]) -> Resu
     compare(alloc, source, limits, items.as_slice())
 }
 
-/// The same of the events that items stand for, with all that the machine told; a source or limits that are refused are a failure.
+/// The same of the events that items represent, with all that the machine reported and printed; a source or limits that are refused are a
+/// failure.
 ///
-/// The plain machine is told which births the machine refused.
+/// The test interpreter is given which births the machine refused.
 pub fn compare(
     alloc: Global,
     source: &[u8],
@@ -74,7 +75,8 @@ fn compare_source(
     limits: Limits,
     items: &[Item],
 ) -> Result<Trial, Failure> {
-    let tree = read(alloc, source)?;
+    // The source is accepted, so reading it fails only if memory runs out.
+    let tree = read(alloc, source).map_err(|_| Failure::Memory)?;
     compare_tree(alloc, machine, &tree, limits, items)
 }
 
@@ -121,7 +123,7 @@ fn compare_with(
     }
 }
 
-/// What is told where the plain machine finds no entry point in a source that the machine takes.
+/// What is reported where the test interpreter finds no entry point in a source that the machine accepts.
 fn no_entry_point(alloc: Global) -> Result<Trial, Failure> {
     Ok(Trial {
         reports: Vec::new(alloc),
@@ -161,8 +163,7 @@ fn run(
     })
 }
 
-/// What an event came to. Where both reports are the same, the machines differ in what was printed or in how the threads
-/// stand.
+/// The outcome of an event. Where both reports are the same, the machines differ in what was printed or in the states of the threads.
 fn told(
     alloc: Global,
     number: usize,
@@ -185,8 +186,8 @@ fn told(
 /// The report of a step in which a birth is refused.
 const REFUSED_BIRTH: Report = Report::Ended(End::Fault(Fault::OutOfMemory));
 
-/// What the plain machine has for an event: a step's report. It has no collector, so what came of any other event stands, if it is of
-/// the kind that the event is answered by.
+/// What the test interpreter expects of an event: a step's report. It has no collector, so of any other event it expects the machine's
+/// report, if it is one that the event can have.
 fn expected(
     plain: &mut PlainMachine,
     event: Event,
@@ -203,12 +204,12 @@ fn expected(
     }
 }
 
-/// The report that came, where it is one of these two; else the first of them.
+/// The machine's report, where it is one of these two; otherwise the first of them.
 fn one_of(came: Report, first: Report, second: Report) -> Report {
     if came == second { came } else { first }
 }
 
-/// Whether both tell the same of what was printed and of the threads.
+/// Whether both agree on what was printed and on the threads.
 fn are_alike(machine: &Machine, plain: &PlainMachine) -> bool {
     machine.console() == plain.console()
         && machine.live() == plain.live()

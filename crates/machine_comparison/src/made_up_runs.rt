@@ -1,4 +1,4 @@
-//! Programs that are made up, each run by a schedule that is made up too.
+//! Generated programs, each run by a generated schedule.
 
 use crate::machines::{Trial, compare, difference_in};
 use crate::made_up_sources::{Grammar, source_of};
@@ -11,10 +11,10 @@ use source_runs::Failure;
 use std::alloc::{AllocError, Global};
 use std::{fs, io};
 
-/// Programs that are made up.
+/// The number of generated programs.
 const PROGRAMS: u64 = 200;
 
-/// Events of each schedule.
+/// The number of events of each schedule.
 const EVENTS: u32 = 800;
 
 /// The ends that a thread can have.
@@ -36,7 +36,7 @@ const ENDS: [End; 15] = [
     End::Fault(Fault::ThreadState),
 ];
 
-/// What became of the programs.
+/// The outcomes of the programs.
 #[derive(Drop)]
 struct Tally {
     reports: Vec<Report>,
@@ -63,7 +63,7 @@ impl Tally {
     }
 }
 
-/// Does all programs, and answers how many differ on the two machines or are refused.
+/// Runs all programs, and returns how many differ on the two machines or are refused.
 pub fn try_programs(rt: &HostRuntime) -> Result<usize, Failure> {
     let mut tally = Tally {
         reports: Vec::new(rt.alloc()),
@@ -79,7 +79,7 @@ pub fn try_programs(rt: &HostRuntime) -> Result<usize, Failure> {
     Ok(tally.differing)
 }
 
-/// The same as `difference` by a schedule that is made up, of events of all kinds: the same one for each source.
+/// The same as `difference` by a generated schedule of events of all kinds: the same one for each source.
 pub fn difference_by_chance(
     alloc: Global,
     source: &[u8],
@@ -89,7 +89,7 @@ pub fn difference_by_chance(
     difference_in(compare(alloc, source, limits, items.as_slice()))
 }
 
-/// Does the program of a number. One that is refused counts as one that differs.
+/// Runs the program of a number. One that is refused counts as one that differs.
 fn try_program(
     rt: &HostRuntime,
     grammar: &Grammar,
@@ -137,7 +137,7 @@ fn items_among(alloc: Global, random: &mut Random) -> Result<Vec<Item>, AllocErr
     Ok(items)
 }
 
-/// Mostly a step of the first thread; and so many acknowledgements and events of the collector that it does whole cycles meanwhile.
+/// Mostly a step of the first thread; and enough acknowledgements and events of the collector for it to do whole cycles meanwhile.
 fn event_among(random: &mut Random) -> Event {
     match random.below(100) {
         0..=39 => Event::Step(0),
@@ -148,7 +148,7 @@ fn event_among(random: &mut Random) -> Event {
     }
 }
 
-/// Says in one line what became of the programs.
+/// Prints the outcomes of the programs in one line.
 fn tell(rt: &HostRuntime, tally: &Tally) -> io::Result<()> {
     let events = tally.reports.len();
     let ran = tally.count(Report::Ran);

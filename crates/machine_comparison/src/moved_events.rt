@@ -22,7 +22,7 @@ const CYCLE: &[u8] = b"g a0 g*2 a0 g a0 g a0 g a0 g a0 g a0 g a0 g";
 /// The events of the collector in that cycle that do work.
 const WORKING: usize = 10;
 
-/// Compares both machines on each schedule that comes of a schedule's text by moving one event: by one place, or, where it is a step that
+/// Compares both machines on each schedule that results from a schedule's text by moving one event: by one place, or, where it is a step that
 /// starts a thread, to just before or just after an acknowledgement. Returns the first difference; none where the machines agree, or the
 /// schedule is longer than 200 events.
 pub fn difference_by_moves(
@@ -43,7 +43,7 @@ pub fn difference_by_moves(
     difference_by_starts(alloc, source, limits, events.as_slice())
 }
 
-/// The events of items, an item each: as many as may be moved, and one more where there are more.
+/// The events of items, an item each: at most the number that may be moved, and one more where there are more.
 fn single_events(alloc: Global, items: &[Item]) -> Result<Vec<Item>, AllocError> {
     let mut events = Vec::new(alloc);
     for event in items

@@ -34,7 +34,7 @@ impl Random {
         self.below(100) < times
     }
 
-    /// One of so many places.
+    /// One of `count` places.
     pub fn place(&mut self, count: usize) -> usize {
         self.below(u32::try_from(count).unwrap_or(u32::MAX)) as usize
     }

@@ -16,20 +16,20 @@ const EVENTS: [Event; 5] = [
     Event::Gc,
 ];
 
-/// Events of a schedule.
+/// The number of events of a schedule.
 const LENGTH: usize = 6;
 
-/// The schedules of that length: 5 to the power of 6.
+/// The number of schedules of that length: 5 to the power of 6.
 const SCHEDULES: usize = 15_625;
 
-/// What became of the schedules.
+/// The outcomes of the schedules.
 #[derive(Clone, Copy, Debug)]
 struct Count {
     printing: usize,
     differing: usize,
 }
 
-/// Does all schedules under two budgets, and answers how many differ on the two machines.
+/// Runs all schedules under two budgets, and returns how many differ on the two machines.
 pub fn try_schedules(rt: &HostRuntime) -> Result<usize, Failure> {
     let source = fs::read(rt, "machine/sum.il")?;
     let ample = try_budget(rt, source.as_slice(), 10)?;
@@ -55,7 +55,7 @@ fn try_budget(rt: &HostRuntime, source: &[u8], budget: u32) -> Result<usize, Fai
     Ok(differing)
 }
 
-/// Does the schedule of a number, and counts what became of it.
+/// Runs the schedule of a number, and counts its outcome.
 fn try_schedule(
     rt: &HostRuntime,
     source: &[u8],

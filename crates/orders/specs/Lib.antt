@@ -1,3 +1,4 @@
 pub mod GivenLimits
 pub mod Orders
 pub mod Parts
+pub mod Runs

@@ -1,4 +1,4 @@
-//! Reads the files that an order names.
+//! Reads the files that a command names.
 ghost use Rattle.std.specs.Prelude.{◌≡◌, ◌++◌, IfOk, IfSome, codes, string_bytes};
 ghost use Rattle.orders.specs.Orders.{StandsFor};
 
@@ -8,14 +8,14 @@ use std::io;
 use std::io::Read;
 
 /// The bytes of a source. A longer one than the limit is refused by its length alone, so no more of it is
-/// read than shows that it is longer. An error is the reader's, or want of memory.
+/// read than shows that it is longer. An error is the reader's, or out of memory.
 pub fn read_source<R: Read + Drop>(alloc: Global, reader: R) -> io::Result<Vec<u8>>
     ensures { IfOk result (λ bytes. IfSome (R.remaining reader) (StandsFor bytes.items)) }
 {
     read_text(alloc, reader.take(MOST_SOURCE_BYTES as u64 + 1))
 }
 
-/// The whole text that a reader has left. An error is the reader's, or want of memory.
+/// The whole text that a reader has left. An error is the reader's, or out of memory.
 pub fn read_text<R: Read + Drop>(alloc: Global, mut reader: R) -> io::Result<Vec<u8>>
     ensures { IfOk result (λ bytes. IfSome (R.remaining reader) (λ left. bytes.items ≡ left)) }
 {

@@ -7,11 +7,13 @@ mod files;
 mod given_limits;
 mod order;
 mod part;
+mod run;
 mod workers;
 
 pub use extents::{Extent, Goal};
 pub use files::{read_source, read_text, run_file_name};
 pub use given_limits::GivenLimits;
-pub use order::{LEAST_OUTPUT, MOST_OUTPUT, Order};
+pub use order::Order;
 pub use part::{LAST_NUMBER, Part};
+pub use run::{LEAST_OUTPUT, MOST_OUTPUT, Run, RunKind};
 pub use workers::Workers;

@@ -5,20 +5,13 @@ ghost use Rattle.orders.specs.Orders.{counts, file_of, is_explained, record_file
 use crate::extents::Extent;
 use crate::given_limits::GivenLimits;
 use crate::part::Part;
-use crate::workers::Workers;
+use crate::run::Run;
 use cil_model::limits::Limits;
-use cil_model::stops::StopAt;
 use flip_trial::Sizes;
 use run_files::RunFile;
 
-/// The least bound on the bytes that a program prints.
-pub const LEAST_OUTPUT: u32 = 64;
-
-/// The largest bound on the bytes that a program prints.
-pub const MOST_OUTPUT: u32 = u32::MAX;
-
 /// A command with its files and options, each default filled in. With `explain`, a refusal is told with its place and its rule, and a run
-/// that ends with live threads with where they are and what they wait for. With `most_printed` the program prints no more bytes.
+/// that ends with live threads with where they are and what they wait for.
 #[derive(Clone, Copy)]
 pub enum Order<'a> {
     /// Says whether the source of this file is accepted.
@@ -26,26 +19,8 @@ pub enum Order<'a> {
         file: &'a str,
         explain: bool,
     },
-    /// Runs the source of this file by the events of a schedule text. With `stats`, the numbers of the run are printed at the end.
-    Run {
-        file: &'a str,
-        schedule: &'a str,
-        most_printed: Option<u32>,
-        limits: Limits,
-        explain: bool,
-        stats: bool,
-    },
-    /// Runs the source of this file by the events of the schedule text that another file holds. Where it is known what the `.run` file of a
-    /// record says, limits that are not given are those of that file, and the run is compared with it. With `stats`, as of `Run`.
-    Replay {
-        file: &'a str,
-        schedule: &'a str,
-        most_printed: Option<u32>,
-        limits: GivenLimits,
-        expected: Option<RunFile>,
-        explain: bool,
-        stats: bool,
-    },
+    /// Runs a source, and prints what the run leaves.
+    Run(Run<'a>),
     /// Runs it as a replay does, within the same limits, and prints a line of each event before what the run leaves. The run is not compared.
     Trace {
         file: &'a str,
@@ -63,18 +38,6 @@ pub enum Order<'a> {
         limits: GivenLimits,
         expected: Option<RunFile>,
         explain: bool,
-    },
-    /// Runs the source of this file by workers, each in a thread of its own, until no thread of the program is live, or until `stop_at` says.
-    /// Where a file is named for the record, it is to get the text of the schedule that the run had. With `stats`, as of `Run`.
-    Threads {
-        file: &'a str,
-        workers: Workers,
-        record: Option<&'a str>,
-        stop_at: StopAt,
-        most_printed: Option<u32>,
-        limits: Limits,
-        explain: bool,
-        stats: bool,
     },
     /// Explores all schedules of the source of this file, and prints each outcome with a schedule. Where a file is named, it is to get the
     /// schedule of the first outcome with a blocked thread, with a thread that ended early, or with other printed bytes than the first one.
@@ -95,12 +58,10 @@ impl<'a> Order<'a> {
         ensures { option_map (λ file. file.now) result ≡ file_of self.now }
     {
         match *self {
+            Order::Run(run) => Some(run.file),
             Order::Check { file, .. }
-            | Order::Run { file, .. }
-            | Order::Replay { file, .. }
             | Order::Trace { file, .. }
             | Order::Picture { file, .. }
-            | Order::Threads { file, .. }
             | Order::Explore { file, .. } => Some(file),
             Order::Flip(_) => None,
         }
@@ -111,12 +72,10 @@ impl<'a> Order<'a> {
         ensures { result ≡ is_explained self.now }
     {
         match *self {
+            Order::Run(run) => run.explain,
             Order::Check { explain, .. }
-            | Order::Run { explain, .. }
-            | Order::Replay { explain, .. }
             | Order::Trace { explain, .. }
             | Order::Picture { explain, .. }
-            | Order::Threads { explain, .. }
             | Order::Explore { explain, .. } => explain,
             Order::Flip(_) => false,
         }
@@ -127,14 +86,9 @@ impl<'a> Order<'a> {
         ensures { option_map (λ file. file.now) result ≡ schedule_file_of self.now }
     {
         match *self {
-            Order::Replay { schedule, .. }
-            | Order::Trace { schedule, .. }
-            | Order::Picture { schedule, .. } => Some(schedule),
-            Order::Check { .. }
-            | Order::Run { .. }
-            | Order::Threads { .. }
-            | Order::Explore { .. }
-            | Order::Flip(_) => None,
+            Order::Run(run) => run.kind.schedule_file(),
+            Order::Trace { schedule, .. } | Order::Picture { schedule, .. } => Some(schedule),
+            Order::Check { .. } | Order::Explore { .. } | Order::Flip(_) => None,
         }
     }
 
@@ -143,8 +97,7 @@ impl<'a> Order<'a> {
         ensures { result ≡ counts self.now }
     {
         match *self {
-            Order::Run { stats, .. } | Order::Replay { stats, .. } | Order::Threads { stats, .. } =>
-                stats,
+            Order::Run(run) => run.stats,
             Order::Check { .. }
             | Order::Trace { .. }
             | Order::Picture { .. }
@@ -154,27 +107,11 @@ impl<'a> Order<'a> {
     }
 
     /// A replay, a trace or a picture of which it is known what the `.run` file says. Another command stays as it is.
-    pub fn with_run_file(self, run: RunFile) -> Order<'a>
-        ensures { result ≡ with_run_file self.entry run }
+    pub fn with_run_file(self, known: RunFile) -> Order<'a>
+        ensures { result ≡ with_run_file self.entry known }
     {
         match self {
-            Order::Replay {
-                file,
-                schedule,
-                most_printed,
-                limits,
-                explain,
-                stats,
-                ..
-            } => Order::Replay {
-                file,
-                schedule,
-                most_printed,
-                limits,
-                expected: Some(run),
-                explain,
-                stats,
-            },
+            Order::Run(run) => Order::Run(run.with_run_file(known)),
             Order::Trace {
                 file,
                 schedule,
@@ -185,7 +122,7 @@ impl<'a> Order<'a> {
                 file,
                 schedule,
                 limits,
-                expected: Some(run),
+                expected: Some(known),
                 explain,
             },
             Order::Picture {
@@ -200,7 +137,7 @@ impl<'a> Order<'a> {
                 schedule,
                 part,
                 limits,
-                expected: Some(run),
+                expected: Some(known),
                 explain,
             },
             other => other,
@@ -212,14 +149,10 @@ impl<'a> Order<'a> {
         ensures { option_map (λ file. file.now) result ≡ record_file_of self.now }
     {
         match *self {
-            Order::Threads { record, .. } => record,
+            Order::Run(run) => run.kind.record_file(),
             Order::Explore { save, .. } => save,
-            Order::Check { .. }
-            | Order::Run { .. }
-            | Order::Replay { .. }
-            | Order::Trace { .. }
-            | Order::Picture { .. }
-            | Order::Flip(_) => None,
+            Order::Check { .. } | Order::Trace { .. } | Order::Picture { .. } | Order::Flip(_) =>
+                None,
         }
     }
 }

@@ -25,7 +25,7 @@ impl Part {
         Part { first, last }
     }
 
-    /// The number of its last event in a run of so many, which is none behind them.
+    /// The number of its last event in a run of the given number of events, which is not after them.
     pub fn last_of(self, events: usize) -> usize
         ensures last { result ≡ last_in self.last events }
         ensures within { result ≤ events }
@@ -36,7 +36,7 @@ impl Part {
         }
     }
 
-    /// How many events it has in a run of so many.
+    /// How many events it has in a run of the given number of events.
     pub fn event_count(self, events: usize) -> usize
         ensures count { result ≡ count_in self.first self.last events }
         ensures within { result ≤ events }

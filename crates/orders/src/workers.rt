@@ -10,7 +10,7 @@ pub struct Workers {
 }
 
 impl Workers {
-    /// So many workers: 1 to 16.
+    /// This number of workers: 1 to 16.
     pub fn new(count: u8) -> Workers
         requires { (0 < count) × (count ≤ 16) }
         ensures { result.count ≡ count }

@@ -1,5 +1,5 @@
 -- Counts in a history that is kept as runs.
-use Rattle.std.proofs.Common.{◌≡◌, ℕ, zero, suc, ◌+◌, ◌*◌, ◌-◌, ◌^◌, ◌<◌, Bool, true, false, cond, List, [], ◌∷◌, ◌++◌, length, get_or, take, refl, sym, ap, ap₂, ◌∙◌, append-nil, append_assoc, arith, min}
+use Rattle.std.proofs.Common.{◌≡◌, ℕ, ◌+◌, ◌*◌, ◌-◌, ◌^◌, ◌<◌, Bool, true, false, cond, List, [], ◌∷◌, ◌++◌, length, get_or, take, refl, sym, ap, ◌∙◌, append-nil, append_assoc, arith, min}
 use Rattle.std.proofs.lemmas.List.{take_more}
 use Rattle.std.proofs.lemmas.List.Sums.{sum_by-append, sum_by-cons}
 use Rattle.std.proofs.lemmas.List.Folds.{sum_by-replicate}
@@ -7,7 +7,7 @@ use Rattle.std.specs.List.{count_by, zip}
 use Rattle.std.specs.Prelude.{replicate}
 use Rattle.cil_model.specs.declared.events.Event.{Event}
 use Rattle.cil_model.specs.declared.reports.Report.{Report}
-use Rattle.run_statistics.specs.Counts.{is_counted, number_of}
+use Rattle.run_statistics.specs.Counts.{is_counted}
 use Rattle.run_statistics.specs.declared.quantity.Quantity.{Quantity}
 use Rattle.shared_machine.specs.Histories.{events_of, plain, reports_of}
 use Rattle.shared_machine.specs.declared.history.Entry.{Entry}
@@ -36,13 +36,18 @@ plain-append (x ∷ xs) ys = ap (λ (l : List Entry). replicate x.times x.entry 
 plain_one : (r : Run) → plain (r ∷ []) ≡ replicate r.times r.entry
 plain_one r = append-nil (replicate r.times r.entry)
 
+-- the entries of the runs so far, and those of one run more
+pub plain_more : (runs : List Run) (i : ℕ) (d : Run) → i < length runs → plain (take (i + 1) runs) ≡ plain (take i runs) ++ replicate (get_or runs i d).times (get_or runs i d).entry
+plain_more runs i d below =
+    let r : Run = get_or runs i d in
+    ap plain (take_more runs i d below) ∙ plain-append (take i runs) (r ∷ []) ∙ ap (λ (l : List Entry). plain (take i runs) ++ l) (plain_one r)
+
 -- one run more
 counted_more : (q : Quantity) (runs : List Run) (i : ℕ) (d : Run) → i < length runs
     → counted q (plain (take (i + 1) runs)) ≡ counted q (plain (take i runs)) + (get_or runs i d).times * cond (is_counted_entry q (get_or runs i d).entry) 1 0
 counted_more q runs i d below =
     let r : Run = get_or runs i d in
-    ap (λ (l : List Run). counted q (plain l)) (take_more runs i d below)
-    ∙ ap (counted q) (plain-append (take i runs) (r ∷ []) ∙ ap (λ (l : List Entry). plain (take i runs) ++ l) (plain_one r))
+    ap (counted q) (plain_more runs i d below)
     ∙ sum_by-append (λ (e : Entry). cond (is_counted_entry q e) 1 0) (plain (take i runs)) (replicate r.times r.entry)
     ∙ ap (λ n. counted q (plain (take i runs)) + n) (sum_by-replicate (λ (e : Entry). cond (is_counted_entry q e) 1 0) r.times r.entry)
 

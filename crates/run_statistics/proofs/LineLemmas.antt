@@ -1,5 +1,5 @@
 -- The lines of threads, one after another.
-use Rattle.std.proofs.Common.{◌≡◌, ◌∷◌, codes, ℕ, zero, suc, ◌+◌, ◌<◌, List, [], ◌++◌, refl, sym, ap, ◌∙◌, append_assoc, append-nil, arith, inl, inr, ◌⊎◌, add-one}
+use Rattle.std.proofs.Common.{◌≡◌, ◌∷◌, codes, ℕ, zero, suc, ◌+◌, ◌<◌, List, [], ◌++◌, sym, ap, ◌∙◌, append_assoc, append-nil, arith, inl, inr, ◌⊎◌, add-one}
 use Rattle.std.proofs.Math.Nat.{eq-or-lt_of_le}
 use Rattle.std.specs.Prelude.{OnErr, Result, Ok, Err}
 use Rattle.cil_model.specs.declared.events.Event.{Event}
@@ -41,11 +41,11 @@ steps_around events reports thread (suc last) below = either (eq-or-lt_of_le (om
 two_lines : (a n b s e d k : List ℕ) → a ++ (n ++ (b ++ (s ++ ((e ++ d) ++ (n ++ (b ++ (k ++ e))))))) ≡ (a ++ n ++ b ++ s ++ e) ++ (d ++ n ++ b ++ k ++ e)
 two_lines a n b s e d k = simp append_assoc
 
--- and eleven that are five
-five_lines : (a b d h f k l e c w s r : List ℕ)
-    → (a ++ k) ++ (e ++ ((l ++ (b ++ k)) ++ (c ++ ((l ++ (d ++ k)) ++ (w ++ ((l ++ (h ++ k)) ++ (s ++ ((l ++ (f ++ k)) ++ (r ++ l)))))))))
-    ≡ (a ++ k ++ e ++ l) ++ (b ++ k ++ c ++ l) ++ (d ++ k ++ w ++ l) ++ (h ++ k ++ s ++ l) ++ (f ++ k ++ r ++ l)
-five_lines a b d h f k l e c w s r = simp append_assoc
+-- and fifteen that are five, and between the fourth and the fifth one a line that may be empty
+five_lines : (a b d h f k l e c w s m n o r : List ℕ)
+    → (a ++ k) ++ (e ++ ((l ++ (b ++ k)) ++ (c ++ ((l ++ (d ++ k)) ++ (w ++ ((l ++ (h ++ k)) ++ (s ++ (l ++ (m ++ (n ++ (o ++ ((f ++ k) ++ (r ++ l)))))))))))))
+    ≡ (a ++ k ++ e ++ l) ++ (b ++ k ++ c ++ l) ++ (d ++ k ++ w ++ l) ++ (h ++ k ++ s ++ l) ++ (m ++ (n ++ o)) ++ (f ++ k ++ r ++ l)
+five_lines a b d h f k l e c w s m n o r = simp append_assoc
 
 -- the pieces of the lines of a thread
 pub thread_pieces : {t m b thread made blocked : List ℕ} → t ≡ thread → m ≡ made → b ≡ blocked
@@ -54,9 +54,10 @@ pub thread_pieces : {t m b thread made blocked : List ℕ} → t ≡ thread → 
 thread_pieces {thread = n} {made = m} {blocked = b} e f h = rw (e, f, h) (two_lines (codes "steps of thread ") n (codes ": ") m (10 ∷ []) (codes "blocked steps of thread ") b)
 
 -- the pieces of the other lines
-pub total_pieces : {e c w s r events cycles words heap refused : List ℕ} → e ≡ events → c ≡ cycles → w ≡ words → s ≡ heap → r ≡ refused
-    → codes "events: " ++ (e ++ (10 ∷ codes "collector cycles: " ++ (c ++ (10 ∷ codes "words in use: " ++ (w ++ (10 ∷ codes "heap words: " ++ (s ++ (10 ∷ codes "refused allocations: " ++ (r ++ 10 ∷ [])))))))))
+pub total_pieces : {e c w s r events cycles words heap most refused : List ℕ} (m n o : List ℕ) → e ≡ events → c ≡ cycles → w ≡ words → s ≡ heap → m ++ (n ++ o) ≡ most → r ≡ refused
+    → codes "events: " ++ (e ++ (10 ∷ codes "collector cycles: " ++ (c ++ (10 ∷ codes "words in use: " ++ (w ++ (10 ∷ codes "heap words: " ++ (s ++ (10 ∷ [] ++ (m ++ (n ++ (o ++ (codes "refused allocations: " ++ (r ++ 10 ∷ [])))))))))))))
     ≡ (codes "events" ++ codes ": " ++ events ++ 10 ∷ []) ++ (codes "collector cycles" ++ codes ": " ++ cycles ++ 10 ∷ []) ++ (codes "words in use" ++ codes ": " ++ words ++ 10 ∷ [])
-    ++ (codes "heap words" ++ codes ": " ++ heap ++ 10 ∷ []) ++ (codes "refused allocations" ++ codes ": " ++ refused ++ 10 ∷ [])
-total_pieces {events = e} {cycles = c} {words = w} {heap = s} {refused = r} same same' same'' same''' same'''' =
-    rw (same, same', same'', same''', same'''') (five_lines (codes "events") (codes "collector cycles") (codes "words in use") (codes "heap words") (codes "refused allocations") (codes ": ") (10 ∷ []) e c w s r)
+    ++ (codes "heap words" ++ codes ": " ++ heap ++ 10 ∷ []) ++ most ++ (codes "refused allocations" ++ codes ": " ++ refused ++ 10 ∷ [])
+total_pieces {events = e} {cycles = c} {words = w} {heap = s} {refused = r} m n o same same' same'' same''' most same'''' =
+    rw (same, same', same'', same''', sym most, same'''')
+    (five_lines (codes "events") (codes "collector cycles") (codes "words in use") (codes "heap words") (codes "refused allocations") (codes ": ") (10 ∷ []) e c w s m n o r)

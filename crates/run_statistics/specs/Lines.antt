@@ -1,6 +1,6 @@
 -- The lines that the numbers of a run are written as (this profile).
 use Rattle.std.specs.Fmt.{decimal}
-use Rattle.std.specs.Prelude.{◌+◌, ◌++◌, ◌∷◌, [], ℕ, zero, suc, List, codes, length}
+use Rattle.std.specs.Prelude.{◌+◌, ◌++◌, ◌∷◌, [], ℕ, zero, suc, List, Option, Some, None, codes, length}
 use Rattle.cil_model.specs.declared.events.Event.{Event}
 use Rattle.cil_model.specs.declared.reports.Report.{Report}
 use Rattle.run_statistics.specs.Counts.{number_of}
@@ -31,14 +31,20 @@ words_in_use c = used_space c.objects + used_words c.objects.spaces.new.cells
 abbrev pub heap_words : Content → ℕ
 heap_words c = whole_space c.objects + c.objects.spaces.new.words
 
+-- the line of the most words in use, where that number is known
+abbrev pub most_text : Option ℕ → List ℕ
+most_text None = []
+most_text (Some most) = line_of (codes "most words in use") most
+
 -- the lines of what is not of one thread
-abbrev pub total_text : List Event → List Report → ℕ → ℕ → List ℕ
-total_text events reports words heap = line_of (codes "events") (number_of Events events reports)
+abbrev pub total_text : List Event → List Report → ℕ → ℕ → Option ℕ → List ℕ
+total_text events reports words heap most = line_of (codes "events") (number_of Events events reports)
     ++ line_of (codes "collector cycles") (number_of Cycles events reports)
     ++ line_of (codes "words in use") words
     ++ line_of (codes "heap words") heap
+    ++ most_text most
     ++ line_of (codes "refused allocations") (number_of RefusedAllocations events reports)
 
--- all lines of a run by these events with these reports, which leaves this content
-abbrev pub statistics_text : List Event → List Report → Content → List ℕ
-statistics_text events reports c = steps_text events reports (length c.threads) ++ total_text events reports (words_in_use c) (heap_words c)
+-- all lines of a run by these events with these reports, which leaves this content and had at most this number of words in use
+abbrev pub statistics_text : List Event → List Report → Content → Option ℕ → List ℕ
+statistics_text events reports c most = steps_text events reports (length c.threads) ++ total_text events reports (words_in_use c) (heap_words c) most

@@ -1,4 +1,4 @@
-//! What the layers of the library answer of a source or a schedule, in their own words.
+//! The results of the layers of the library for a source or a schedule, in their own words.
 
 use crate::outcomes::Files;
 use cil_model::trees::Tree;
@@ -10,7 +10,7 @@ use schedule_text::{Item, read_schedule};
 use std::alloc::{AllocError, Global};
 use verifier::verify;
 
-/// The answer to the source of a check, and to the schedule of another order.
+/// The result for the source of a check, and for the schedule of another command.
 pub fn answer(alloc: Global, order: &Order<'_>, files: &Files) -> Result<String, AllocError> {
     match order {
         Order::Check { .. } => source_answer(alloc, files.source.as_slice()),
@@ -18,7 +18,7 @@ pub fn answer(alloc: Global, order: &Order<'_>, files: &Files) -> Result<String,
     }
 }
 
-/// The answer to a source, by the first layer that refuses it.
+/// The result for a source, by the first layer that refuses it.
 fn source_answer(alloc: Global, source: &[u8]) -> Result<String, AllocError> {
     match read(alloc, source) {
         Ok(tree) => tree_answer(alloc, tree),
@@ -50,7 +50,7 @@ fn schedule_answer(alloc: Global, text: &[u8]) -> Result<String, AllocError> {
     }
 }
 
-/// How many events items stand for.
+/// How many events items represent.
 fn count_events(items: &[Item]) -> usize {
     let mut events = 0usize;
     for item in items {

@@ -1,17 +1,21 @@
-//! Calls that no command makes: those of the libraries `call_trials` and `run_trials`, and orders whose outputs fail.
+//! Calls that no command makes: those of the libraries `call_trials` and `run_trials`, and runs of commands whose outputs fail.
 
 use crate::records::NO_LIMITS;
-use driver::{WriterOut, drive};
-use orders::{Order, Part};
+use driver::{Outputs, WriterOut, drive};
+use orders::{Order, Part, Run, RunKind};
 use run_trials::{Call, LIMITS, SUM, calls, run_calls};
 use std::alloc::Global;
 use std::io;
 use std::io::Cursor;
 use std::sync::Wait;
 use std::thread::Threads;
+use std::time::Clock;
 
-/// Makes the calls, says of which something else comes than what is expected, and answers how many these are.
-pub fn try_calls(rt: &HostRuntime, threads: &(impl Threads + Wait + Sync)) -> io::Result<usize> {
+/// Makes the calls, prints which of them have an unexpected outcome, and returns how many these are.
+pub fn try_calls(
+    rt: &HostRuntime,
+    threads: &(impl Threads + Wait + Clock + Sync),
+) -> io::Result<usize> {
     let made = calls(threads, rt.alloc());
     let runs = run_calls(threads, rt.alloc());
     let mut differing = tell_all(rt, &made)?;
@@ -27,7 +31,7 @@ pub fn try_calls(rt: &HostRuntime, threads: &(impl Threads + Wait + Sync)) -> io
     Ok(differing)
 }
 
-/// Says of which of these calls something else came, and answers how many they are.
+/// Prints which of these calls have an unexpected outcome, and returns how many they are.
 fn tell_all(rt: &HostRuntime, made: &[Call]) -> io::Result<usize> {
     let mut differing = 0usize;
     for call in made {
@@ -36,7 +40,7 @@ fn tell_all(rt: &HostRuntime, made: &[Call]) -> io::Result<usize> {
     Ok(differing)
 }
 
-/// Says of a call that something else came of it, and answers 1; nothing and 0 where it is as expected.
+/// Prints that a call has an unexpected outcome, and returns 1; prints nothing and returns 0 where it is as expected.
 fn tell(rt: &HostRuntime, name: &str, is_as_expected: bool) -> io::Result<usize> {
     if is_as_expected {
         return Ok(0);
@@ -45,8 +49,19 @@ fn tell(rt: &HostRuntime, name: &str, is_as_expected: bool) -> io::Result<usize>
     Ok(1)
 }
 
+/// The two outputs of a command.
+fn outputs_of<W, E>(outputs: Outputs<W, E>) -> (W, E) {
+    let Outputs {
+        out,
+        err,
+        files: _files,
+        ended: _,
+    } = outputs;
+    (out, err)
+}
+
 /// Whether the status is 5 where an output takes less than is to be written: of a trace the first line, and of a refusal nothing.
-fn tells_of_outputs(threads: &(impl Threads + Wait + Sync), alloc: Global) -> bool {
+fn tells_of_outputs(threads: &(impl Threads + Wait + Clock + Sync), alloc: Global) -> bool {
     let trace = Order::Trace {
         file: "",
         schedule: "",
@@ -54,31 +69,14 @@ fn tells_of_outputs(threads: &(impl Threads + Wait + Sync), alloc: Global) -> bo
         expected: None,
         explain: false,
     };
-    let mut page = WriterOut::new(Cursor::new([0; 52]));
-    let mut none = WriterOut::new(Cursor::new([0; 0]));
-    let mut err = WriterOut::new(Vec::new(alloc));
-    let mut record = None;
+    let page = WriterOut::new(Cursor::new([0; 52]));
+    let mut outputs = Outputs::new(page, WriterOut::new(Vec::new(alloc)));
     let (source, schedule) = (SUM.as_bytes(), b"s0*3");
-    let traced = drive(
-        threads,
-        alloc,
-        &trace,
-        source,
-        schedule,
-        &mut page,
-        &mut err,
-        &mut record,
-    );
-    let refused = drive(
-        threads,
-        alloc,
-        &trace,
-        b"{",
-        &[],
-        &mut page,
-        &mut none,
-        &mut record,
-    );
+    let traced = drive(threads, alloc, &trace, source, schedule, &mut outputs);
+    let none = WriterOut::new(Cursor::new([0; 0]));
+    let mut failing = Outputs::new(WriterOut::new(Vec::new(alloc)), none);
+    let refused = drive(threads, alloc, &trace, b"{", &[], &mut failing);
+    let (page, err) = outputs_of(outputs);
     traced == 5
         && refused == 5
         && err.into_inner().as_slice() == b"device\n".as_slice()
@@ -88,8 +86,8 @@ fn tells_of_outputs(threads: &(impl Threads + Wait + Sync), alloc: Global) -> bo
 }
 
 /// Whether the status is 5 where an output takes less than a picture has, and a beginning of it is left, and where it takes it and the
-/// standard error takes nothing of how the threads stand.
-fn leaves_a_beginning(threads: &(impl Threads + Wait + Sync), alloc: Global) -> bool {
+/// standard error takes nothing of the states of the threads.
+fn leaves_a_beginning(threads: &(impl Threads + Wait + Clock + Sync), alloc: Global) -> bool {
     let picture = Order::Picture {
         file: "",
         schedule: "",
@@ -98,35 +96,18 @@ fn leaves_a_beginning(threads: &(impl Threads + Wait + Sync), alloc: Global) -> 
         expected: None,
         explain: false,
     };
-    let mut page = WriterOut::new(Cursor::new([0; 60]));
-    let mut whole = WriterOut::new(Vec::new(alloc));
-    let mut none = WriterOut::new(Cursor::new([0; 0]));
-    let mut err = WriterOut::new(Vec::new(alloc));
-    let mut record = None;
+    let page = WriterOut::new(Cursor::new([0; 60]));
+    let mut outputs = Outputs::new(page, WriterOut::new(Vec::new(alloc)));
     let (source, schedule) = (SUM.as_bytes(), b"s0*3");
-    let cut = drive(
-        threads,
-        alloc,
-        &picture,
-        source,
-        schedule,
-        &mut page,
-        &mut err,
-        &mut record,
-    );
-    let untold = drive(
-        threads,
-        alloc,
-        &picture,
-        source,
-        schedule,
-        &mut whole,
-        &mut none,
-        &mut record,
-    );
+    let cut = drive(threads, alloc, &picture, source, schedule, &mut outputs);
+    let none = WriterOut::new(Cursor::new([0; 0]));
+    let mut failing = Outputs::new(WriterOut::new(Vec::new(alloc)), none);
+    let silent = drive(threads, alloc, &picture, source, schedule, &mut failing);
+    let (page, err) = outputs_of(outputs);
+    let (whole, _none) = outputs_of(failing);
     let whole = whole.into_inner();
     cut == 5
-        && untold == 5
+        && silent == 5
         && err.into_inner().as_slice() == b"device\n".as_slice()
         && whole
             .as_slice()
@@ -134,29 +115,22 @@ fn leaves_a_beginning(threads: &(impl Threads + Wait + Sync), alloc: Global) -> 
         && whole.as_slice().ends_with(b"</svg>\n")
 }
 
-/// Whether nothing is written of how the threads stand where the output takes less than the program printed, by a command and by `emit`.
-fn ends_at_a_cut_console(threads: &(impl Threads + Wait + Sync), alloc: Global) -> bool {
-    let run = Order::Run {
+/// Whether nothing is written of the states of the threads where the output takes less than the program printed.
+fn ends_at_a_cut_console(threads: &(impl Threads + Wait + Clock + Sync), alloc: Global) -> bool {
+    let run = Order::Run(Run {
         file: "",
-        schedule: "s0*5",
+        kind: RunKind::Schedule {
+            text: "s0*5",
+            limits: LIMITS,
+        },
         most_printed: None,
-        limits: LIMITS,
         explain: false,
         stats: false,
-    };
-    let mut page = WriterOut::new(Cursor::new([0; 1]));
-    let mut err = WriterOut::new(Vec::new(alloc));
-    let mut record = None;
-    let status = drive(
-        threads,
-        alloc,
-        &run,
-        SUM.as_bytes(),
-        &[],
-        &mut page,
-        &mut err,
-        &mut record,
-    );
+    });
+    let page = WriterOut::new(Cursor::new([0; 1]));
+    let mut outputs = Outputs::new(page, WriterOut::new(Vec::new(alloc)));
+    let status = drive(threads, alloc, &run, SUM.as_bytes(), &[], &mut outputs);
+    let (page, err) = outputs_of(outputs);
     status == 5
         && page.into_inner().get_ref() == b"5"
         && err.into_inner().as_slice() == b"device\n".as_slice()

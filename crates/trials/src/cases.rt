@@ -1,6 +1,6 @@
 //! The parts of a case.
 
-/// A command, the texts that stand for its files, and what has to come of it.
+/// A command, the texts that replace its files, and its expected outcome.
 #[derive(Clone, Copy)]
 pub struct Case<'a> {
     pub name: &'a str,
@@ -18,7 +18,7 @@ pub struct Case<'a> {
     pub wanted: &'a str,
 }
 
-/// The case of a block; none where it has no name, no command or nothing that is wanted.
+/// The case of a block; none where it has no name, no command or no expected outcome.
 pub fn case_of(block: &str) -> Option<Case<'_>> {
     let (given, wanted) = block.split_once("\n--- out\n")?;
     let (given, run) = part_of(given, "\n--- run\n");
@@ -37,7 +37,7 @@ pub fn case_of(block: &str) -> Option<Case<'_>> {
     })
 }
 
-/// What stands before a mark, and what stands behind it where there is one.
+/// The text before a mark, and the text after it where there is a mark.
 fn part_of<'a>(text: &'a str, mark: &str) -> (&'a str, Option<&'a str>) {
     match text.split_once(mark) {
         Some((before, behind)) => (before, Some(behind)),

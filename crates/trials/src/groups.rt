@@ -5,18 +5,19 @@ use crate::outcomes::outcome;
 use std::io::ErrorKind;
 use std::sync::Wait;
 use std::thread::Threads;
+use std::time::Clock;
 use std::{fs, io, str};
 
-/// What begins a case, with its name behind it. What stands before the first is passed over.
+/// What begins a case, followed by its name. The text before the first case is skipped.
 const HEAD: &str = "\n=== ";
 
-/// What comes of a case for which memory is wanting.
+/// The outcome of a case for which memory runs out.
 const MEMORY: &[u8] = b"--- err\nmemory\n--- status 5\n";
 
-/// Does all cases of a group, says how many are as expected, and answers how many are not.
+/// Runs all cases of a group, prints how many there are and how many are not as expected, and returns how many are not.
 pub fn try_group(
     rt: &HostRuntime,
-    threads: &(impl Threads + Wait + Sync),
+    threads: &(impl Threads + Wait + Clock + Sync),
     group: &str,
 ) -> io::Result<usize> {
     let table = fs::read_to_string(rt, format!(in rt.alloc(); "{group}.txt")?.as_str())?;
@@ -32,10 +33,10 @@ pub fn try_group(
     Ok(differing)
 }
 
-/// Does the case of a block of text, and answers whether it is as expected. A block that is no case is not.
+/// Runs the case of a block of text, and returns whether it is as expected. A block that is no case is not.
 fn try_block(
     rt: &HostRuntime,
-    threads: &(impl Threads + Wait + Sync),
+    threads: &(impl Threads + Wait + Clock + Sync),
     block: &str,
 ) -> io::Result<bool> {
     match case_of(block) {
@@ -47,11 +48,11 @@ fn try_block(
     }
 }
 
-/// Does a case, and answers whether it is as expected: as the text of the case, where `= FILE` in its first line stands for the text of that
+/// Runs a case, and returns whether it is as expected: as the text of the case, where `= FILE` in its first line represents the text of that
 /// file.
 fn try_case(
     rt: &HostRuntime,
-    threads: &(impl Threads + Wait + Sync),
+    threads: &(impl Threads + Wait + Clock + Sync),
     case: &Case<'_>,
 ) -> io::Result<bool> {
     let came = outcome(rt, threads, case)?;
@@ -66,7 +67,7 @@ fn try_case(
     }
 }
 
-/// Whether what came is what is wanted. Where it is not, both are printed; want of memory, told alone, is an error instead.
+/// Whether the outcome is the expected one. Where it is not, both are printed; an outcome of out of memory alone is an error instead.
 fn compare(rt: &HostRuntime, name: &str, came: &[u8], wanted: &str) -> io::Result<bool> {
     if came == wanted.as_bytes() {
         return Ok(true);

@@ -52,7 +52,7 @@ fn refusal(alloc: Global, source: &[u8]) -> Result<Option<u16>, Failure> {
     }
 }
 
-/// Cuts a source after each byte before its last brace: without an entry point where just its first line is left, and else no tree.
+/// Cuts a source after each byte before its last brace: it has no entry point where just its first line is left, and otherwise no tree.
 fn try_cuts(alloc: Global, text: &str, count: &mut Count) -> Result<(), Failure> {
     let Some((body, _)) = text.rsplit_once('}') else {
         count.add(false);

@@ -1,6 +1,6 @@
-//! Runs cases: commands of `cilvm` with the texts of their files and what has to come of them, from the groups in `data`; what they
-//! run is compared with the plain machine. Then it makes a few calls that no command makes, and compares both machines on all short
-//! schedules of one program and on programs that are made up.
+//! Runs cases: commands of `cilvm` with the texts of their files and their expected outcomes, from the groups in `data`; what they
+//! run is compared with the test interpreter. Then it makes a few calls that no command makes, and compares both machines on all short
+//! schedules of one program and on generated programs.
 #![tactic(auto)]
 
 mod answers;
@@ -19,8 +19,9 @@ use std::io;
 use std::process::ExitCode;
 use std::sync::Wait;
 use std::thread::Threads;
+use std::time::Clock;
 
-/// The groups of cases. Those of `NAME` stand in the file `NAME.txt`.
+/// The groups of cases. Those of `NAME` are in the file `NAME.txt`.
 const GROUPS: [&str; 21] = [
     "command_line",
     "commands",
@@ -45,7 +46,7 @@ const GROUPS: [&str; 21] = [
     "records",
 ];
 
-/// The status is 0 where all is as expected, 1 where something differs, and 5 where a file is not read or memory is wanted.
+/// The status is 0 where all is as expected, 1 where something differs, and 5 where a file is not read or memory runs out.
 fn main(rt: HostRuntime) -> ExitCode {
     let status = match trials(&rt, &rt) {
         Ok(0) => 0,
@@ -58,8 +59,11 @@ fn main(rt: HostRuntime) -> ExitCode {
     ExitCode::from(status)
 }
 
-/// Does all trials, and answers how many come to something else than what is expected.
-fn trials(rt: &HostRuntime, threads: &(impl Threads + Wait + Sync)) -> Result<usize, Failure> {
+/// Runs all tests, and returns how many have an unexpected outcome.
+fn trials(
+    rt: &HostRuntime,
+    threads: &(impl Threads + Wait + Clock + Sync),
+) -> Result<usize, Failure> {
     let mut differing = 0usize;
     for group in GROUPS {
         differing = differing.saturating_add(groups::try_group(rt, threads, group)?);

@@ -1,32 +1,34 @@
-//! What comes of a case.
+//! The outcome of a case.
 
 use crate::answers::answer;
 use crate::cases::Case;
 use crate::records::add_record;
 use crate::reports::{add_differences, add_run};
 use crate::texts::{expanded, limits_of, words_of};
+use cil_model::limits::Limits;
 use command_line::{LineFault, Malformed, Unread, order};
-use driver::{Failure, RecordFiles, WriterOut, drive, report};
-use orders::{Order, read_source, read_text, run_file_name};
+use driver::{Failure, Outputs, RecordFiles, WriterOut, drive, report};
+use orders::{Order, Run, RunKind, read_source, read_text, run_file_name};
 use std::alloc::Global;
 use std::fs::File;
 use std::io;
 use std::io::Write;
 use std::sync::Wait;
 use std::thread::Threads;
+use std::time::Clock;
 
-/// The bytes of the files of an order.
+/// The bytes of the files of a command.
 #[derive(Drop)]
 pub struct Files {
     pub source: Vec<u8>,
     pub schedule: Vec<u8>,
 }
 
-/// What comes of a case: the standard output, the standard error and the status, as `main` of `cilvm` has them, and the parts
-/// behind them that the case wants.
+/// The outcome of a case: the standard output, the standard error and the status, as `main` of `cilvm` has them, and the parts
+/// after them that the case expects.
 pub fn outcome(
     rt: &HostRuntime,
-    threads: &(impl Threads + Wait + Sync),
+    threads: &(impl Threads + Wait + Clock + Sync),
     case: &Case<'_>,
 ) -> io::Result<Vec<u8>> {
     let alloc = rt.alloc();
@@ -52,48 +54,36 @@ pub fn outcome(
     Ok(out)
 }
 
-/// The order with other limits, where it is a run and some are given.
+/// The command with other limits, where it is a run and some are given.
 fn limited<'a>(order: Order<'a>, limits: Option<&str>) -> Order<'a> {
     let Some(limits) = limits else {
         return order;
     };
-    let limits = limits_of(limits);
     match order {
-        Order::Run {
-            file,
-            schedule,
-            most_printed,
-            explain,
-            stats,
-            ..
-        } => Order::Run {
-            file,
-            schedule,
-            most_printed,
-            limits,
-            explain,
-            stats,
-        },
-        Order::Threads {
-            file,
-            workers,
-            record,
-            stop_at,
-            most_printed,
-            explain,
-            stats,
-            ..
-        } => Order::Threads {
-            file,
-            workers,
-            record,
-            stop_at,
-            most_printed,
-            limits,
-            explain,
-            stats,
-        },
+        Order::Run(run) => Order::Run(Run {
+            kind: limited_kind(run.kind, limits_of(limits)),
+            ..run
+        }),
         other => other,
+    }
+}
+
+/// The kind of a run with other limits, except of a replay.
+fn limited_kind(kind: RunKind<'_>, limits: Limits) -> RunKind<'_> {
+    match kind {
+        RunKind::Schedule { text, .. } => RunKind::Schedule { text, limits },
+        RunKind::Workers {
+            workers,
+            record,
+            stop_at,
+            ..
+        } => RunKind::Workers {
+            workers,
+            record,
+            stop_at,
+            limits,
+        },
+        replay => replay,
     }
 }
 
@@ -104,7 +94,7 @@ fn add_end(out: &mut Vec<u8>, err: &[u8], status: u8) -> io::Result<()> {
     writeln!(out, "--- status {status}")
 }
 
-/// Adds what a file that is not read is told as.
+/// Adds what is reported of a file that is not read.
 fn add_unread(rt: &HostRuntime, unread: &Unread<'_>, out: &mut Vec<u8>) -> io::Result<()> {
     let mut device = WriterOut::new(Vec::new(rt.alloc()));
     let status = report(Failure::from(unread.error), &mut device);
@@ -114,10 +104,10 @@ fn add_unread(rt: &HostRuntime, unread: &Unread<'_>, out: &mut Vec<u8>) -> io::R
     add_end(out, err.as_slice(), status)
 }
 
-/// Carries out an order on its files, and adds what comes of it.
+/// Carries out a command on its files, and adds its outcome.
 fn carry_out(
     rt: &HostRuntime,
-    threads: &(impl Threads + Wait + Sync),
+    threads: &(impl Threads + Wait + Clock + Sync),
     case: &Case<'_>,
     order: &Order<'_>,
     out: &mut Vec<u8>,
@@ -143,7 +133,7 @@ fn carry_out(
     add_differences(rt.alloc(), &order, &files, out)
 }
 
-/// The order with what the `.run` file of the case says, where it has one. None where it is not the text of one.
+/// The command with what the `.run` file of the case says, where it has one. None where it is not the text of one.
 fn with_run_file<'a>(
     alloc: Global,
     case: &Case<'_>,
@@ -170,7 +160,7 @@ fn add_malformed(rt: &HostRuntime, order: &Order<'_>, out: &mut Vec<u8>) -> io::
     add_end(out, err.as_slice(), status)
 }
 
-/// The files of an order: the texts of the case, and else the files that the order names.
+/// The files of a command: the texts of the case, and otherwise the files that the command names.
 fn files_of<'a>(rt: &HostRuntime, case: &Case<'_>, order: &Order<'a>) -> Result<Files, Unread<'a>> {
     let source = match order.file() {
         Some(file) => match source_of(rt, case, file) {
@@ -189,7 +179,7 @@ fn files_of<'a>(rt: &HostRuntime, case: &Case<'_>, order: &Order<'a>) -> Result<
     Ok(Files { source, schedule })
 }
 
-/// The source of a case, and else that of the file.
+/// The source of a case, and otherwise that of the file.
 fn source_of(rt: &HostRuntime, case: &Case<'_>, file: &str) -> io::Result<Vec<u8>> {
     match case.source {
         Some(text) => Ok(expanded(rt.alloc(), text)?),
@@ -197,7 +187,7 @@ fn source_of(rt: &HostRuntime, case: &Case<'_>, file: &str) -> io::Result<Vec<u8
     }
 }
 
-/// The schedule of a case, and else that of the file.
+/// The schedule of a case, and otherwise that of the file.
 fn schedule_of(rt: &HostRuntime, case: &Case<'_>, file: &str) -> io::Result<Vec<u8>> {
     match case.schedule {
         Some(text) => Ok(expanded(rt.alloc(), text)?),
@@ -205,26 +195,25 @@ fn schedule_of(rt: &HostRuntime, case: &Case<'_>, file: &str) -> io::Result<Vec<
     }
 }
 
-/// Adds what the order prints on both outputs, and its status, and answers its record.
+/// Adds what the command prints on both outputs, and its status, and returns its record.
 pub fn add_driven(
     rt: &HostRuntime,
-    threads: &(impl Threads + Wait + Sync),
+    threads: &(impl Threads + Wait + Clock + Sync),
     order: &Order<'_>,
     files: &Files,
     out: &mut Vec<u8>,
 ) -> io::Result<Option<RecordFiles>> {
-    let mut err = WriterOut::new(Vec::new(rt.alloc()));
-    let mut record = None;
+    let err = WriterOut::new(Vec::new(rt.alloc()));
+    let mut outputs = Outputs::new(WriterOut::new(&mut *out), err);
     let status = drive(
         threads,
         rt.alloc(),
         order,
         files.source.as_slice(),
         files.schedule.as_slice(),
-        &mut WriterOut::new(&mut *out),
-        &mut err,
-        &mut record,
+        &mut outputs,
     );
+    let Outputs { err, files, .. } = outputs;
     add_end(out, err.into_inner().as_slice(), status)?;
-    Ok(record)
+    Ok(files)
 }

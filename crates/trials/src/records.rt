@@ -3,10 +3,11 @@
 use crate::cases::Case;
 use crate::outcomes::{Files, add_driven};
 use driver::RecordFiles;
-use orders::{GivenLimits, Order};
+use orders::{GivenLimits, Order, Run, RunKind};
 use std::io;
 use std::sync::Wait;
 use std::thread::Threads;
+use std::time::Clock;
 
 /// No limits, so that those of the `.run` file are used.
 pub const NO_LIMITS: GivenLimits = GivenLimits {
@@ -16,11 +17,11 @@ pub const NO_LIMITS: GivenLimits = GivenLimits {
     depth: None,
 };
 
-/// Adds the record of an order and its `.run` file where the case wants them, and where it wants a replay, what differs from it in the outcome
-/// so far.
+/// Adds the record of a command and its `.run` file where the case expects them, and where it expects a replay, whether its outcome is the same
+/// as the outcome so far, or the other outcome.
 pub fn add_record(
     rt: &HostRuntime,
-    threads: &(impl Threads + Wait + Sync),
+    threads: &(impl Threads + Wait + Clock + Sync),
     case: &Case<'_>,
     order: &Order<'_>,
     files: &Files,
@@ -49,35 +50,24 @@ pub fn add_record(
     Ok(())
 }
 
-/// Replays the record of an order that workers carry out, with its `.run` file, and says that the same comes of it, or else what does.
+/// Replays the record of a command that workers carry out, with its `.run` file, and adds that the outcome is the same, or the other outcome.
 fn add_replay(
     rt: &HostRuntime,
-    threads: &(impl Threads + Wait + Sync),
+    threads: &(impl Threads + Wait + Clock + Sync),
     order: &Order<'_>,
     files: &Files,
     record: RecordFiles,
     out: &mut Vec<u8>,
 ) -> io::Result<()> {
-    let Order::Threads {
-        file,
-        most_printed,
-        limits,
-        explain,
-        stats,
-        ..
-    } = *order
-    else {
+    let Order::Run(run) = *order else {
         return Ok(());
     };
-    let replay = Order::Replay {
-        file,
+    let kind = RunKind::Replay {
         schedule: "",
-        most_printed,
         limits: NO_LIMITS,
         expected: run_files::read(record.run.as_bytes()),
-        explain,
-        stats,
     };
+    let replay = Order::Run(Run { kind, ..run });
     let mut source = Vec::new(rt.alloc());
     source.extend_from_slice(files.source.as_slice())?;
     let schedule = Vec::from_slice(rt.alloc(), record.schedule.as_bytes())?;

@@ -1,11 +1,11 @@
-//! The reports of a run, the words that objects take after it, and what the plain machine tells else.
+//! The reports of a run, the words that objects take after it, and where the test interpreter differs.
 
 use crate::outcomes::Files;
 use cil_model::limits::Limits;
 use cil_model::reports::{End, Report};
 use driver::{Failure, Run, WriterOut, report, run_events};
 use machine_comparison::{difference, difference_by_chance, difference_by_moves};
-use orders::Order;
+use orders::{Order, RunKind};
 use schedule_text::read_schedule;
 use std::alloc::Global;
 use std::io;
@@ -28,30 +28,19 @@ pub fn add_run(
     Ok(())
 }
 
-/// The most bytes that an order's program prints, if there is a bound.
+/// The most bytes that a command's program prints, if there is a bound.
 fn most_printed_of(order: &Order<'_>) -> Option<u32> {
     match *order {
-        Order::Run { most_printed, .. }
-        | Order::Replay { most_printed, .. }
-        | Order::Threads { most_printed, .. } => most_printed,
+        Order::Run(run) => run.most_printed,
         _ => None,
     }
 }
 
-/// The limits and the text of the schedule of an order; none where it has no schedule.
+/// The limits and the text of the schedule of a command; none where it has no schedule.
 fn run_of<'a>(order: &Order<'a>, files: &'a Files) -> Option<(Limits, &'a [u8])> {
     match *order {
-        Order::Run {
-            limits,
-            schedule,
-            ..
-        } => Some((limits, schedule.as_bytes())),
-        Order::Replay {
-            limits,
-            expected,
-            ..
-        }
-        | Order::Trace {
+        Order::Run(run) => run_of_kind(run.kind, files),
+        Order::Trace {
             limits,
             expected,
             ..
@@ -65,7 +54,20 @@ fn run_of<'a>(order: &Order<'a>, files: &'a Files) -> Option<(Limits, &'a [u8])>
     }
 }
 
-/// Adds what the plain machine reports else of the events of a command, of those of a generated schedule, and of the schedules that come of
+/// The limits and the text of the schedule of a run; none where it has no schedule.
+fn run_of_kind<'a>(kind: RunKind<'a>, files: &'a Files) -> Option<(Limits, &'a [u8])> {
+    match kind {
+        RunKind::Schedule { text, limits } => Some((limits, text.as_bytes())),
+        RunKind::Replay {
+            limits,
+            expected,
+            ..
+        } => Some((limits.limits_for(expected), files.schedule.as_slice())),
+        RunKind::Workers { .. } => None,
+    }
+}
+
+/// Adds where the test interpreter differs on the events of a command, on those of a generated schedule, and on the schedules that result from
 /// the command's by moving one event; nothing where both machines agree, or nothing runs.
 pub fn add_differences(
     alloc: Global,
@@ -142,7 +144,7 @@ fn add_events(
     Ok(())
 }
 
-/// Adds the reports with a blank before each: equal ones that follow one another are told once, with `*` and their number behind.
+/// Adds the reports with a blank before each: equal ones that follow one another are written once, followed by `*` and their number.
 fn add_reports(runs: &[Run], out: &mut Vec<u8>) -> io::Result<()> {
     write!(out, "--- reports")?;
     for equal in runs.chunk_by(|one, next| one.entry.report == next.entry.report) {

@@ -1,10 +1,10 @@
-//! The texts of cases, as the bytes, words and numbers that they stand for.
+//! The texts of cases, as the bytes, words and numbers that they represent.
 
 use cil_model::limits::Limits;
 use std::alloc::{AllocError, Global};
 
-/// The bytes of a text of lines, each of which ends in a line feed. A line `@NUMBER TEXT` stands for so many lines of the text, in
-/// which `#` is the line's number from 0 and `#+1` the next one, and `@@NUMBER TEXT` for the same without line feeds.
+/// The bytes of a text of lines, each of which ends in a line feed. A line `@NUMBER TEXT` represents NUMBER lines of the text, in
+/// which `#` is the line's number from 0 and `#+1` the next one, and `@@NUMBER TEXT` represents the same without line feeds.
 pub fn expanded(alloc: Global, text: &str) -> Result<Vec<u8>, AllocError> {
     let mut bytes = Vec::new(alloc);
     for line in text.split('\n') {
@@ -13,7 +13,7 @@ pub fn expanded(alloc: Global, text: &str) -> Result<Vec<u8>, AllocError> {
     Ok(bytes)
 }
 
-/// Adds the lines that a line stands for.
+/// Adds the lines that a line represents.
 fn add_line(alloc: Global, bytes: &mut Vec<u8>, line: &str) -> Result<(), AllocError> {
     if let Some(repeated) = line.strip_prefix("@@") {
         return add_repeated(alloc, bytes, repeated, "");
@@ -26,7 +26,7 @@ fn add_line(alloc: Global, bytes: &mut Vec<u8>, line: &str) -> Result<(), AllocE
     Ok(())
 }
 
-/// Adds the text of `NUMBER TEXT` so many times, with the end behind each.
+/// Adds the text of `NUMBER TEXT` NUMBER times, with the end after each.
 fn add_repeated(
     alloc: Global,
     bytes: &mut Vec<u8>,
@@ -55,7 +55,7 @@ fn add_numbered(
     bytes.extend_from_slice(text.as_bytes())
 }
 
-/// The words of a command: blanks stand between them, and a part between two `'` is one word.
+/// The words of a command: blanks separate them, and a part between two `'` is one word.
 pub fn words_of<'a>(alloc: Global, command: &'a str) -> Result<Vec<&'a str>, AllocError> {
     let mut words = Vec::new(alloc);
     let mut is_quoted = false;
@@ -77,8 +77,8 @@ fn add_words<'a>(words: &mut Vec<&'a str>, part: &'a str) -> Result<(), AllocErr
     Ok(())
 }
 
-/// The limits that three numbers tell, and the most words of a space a fourth, which is the first where it is missing. Another missing one is
-/// 0.
+/// The limits that three numbers give, with the most words of a space by a fourth number, which is the first where it is missing. Another missing
+/// one is 0.
 pub fn limits_of(text: &str) -> Limits {
     let mut words = text.split_whitespace();
     let first = number_of(words.next());

@@ -1,8 +1,7 @@
-use Rattle.std.proofs.Common.{[], ◌≡◌, ◌∙◌, ap, map, subst}
+use Rattle.std.proofs.Common.{[], ◌∙◌, ap, subst}
 use Rattle.source_runs.proofs.acceptance.SourceLemmas.{on_err}
 use Rattle.outputs.specs.Taken.{Fails, Takes}
 use Rattle.outputs.proofs.TakenLaws.{fails_first, fails_second, takes_both}
-use Rattle.source_runs.specs.simulation.threads_monitors.Threads.{end_of}
 use Rattle.driver.specs.Threads.{lines_from, status_of}
 use Rattle.driver.proofs.OutcomeLemmas.{no_thread_text}
 use Rattle.driver.proofs.showing.show_threads_of.Goals as goal

@@ -1,6 +1,6 @@
-use Rattle.std.proofs.Common.{◌≡◌, ◌+◌, ◌∙◌, ◌≤◌, ap, arith, get_or, length, sym}
+use Rattle.std.proofs.Common.{◌∙◌, ◌≤◌, ap, arith, length, sym}
 use Rattle.std.proofs.lemmas.List.{take_all}
-use Rattle.shared_machine.specs.Histories.{events_of, plain, reports_of}
+use Rattle.shared_machine.specs.Histories.{plain}
 use Rattle.run_statistics.proofs.CountLemmas.{capped, counted, counted_pairs, more_no, more_yes}
 use Rattle.run_statistics.proofs.counting.count.Goals as goal
 use Rattle.run_statistics.proofs.counting.count.Goals.{then-includes, else-includes}

@@ -18,13 +18,13 @@ returns-clause-whole g c =
     let h = c.args.outcome.now.history.entries in
     let first = subst (λ n. Takes (g.E.Out.taken c.args.err.now) (g.E.Out.taken c.write_steps.new.err) (steps_text (events_of h) (reports_of h) n)) c.started.ensures.all c.in_ok-write_steps.ensures.whole in
     on_ok_weaker c.write_totals.result (λ more. takes_both _ _ _ _ _ first
-    (subst (λ n. Takes (g.E.Out.taken c.write_steps.new.err) (g.E.Out.taken c.write_totals.new.err) (total_text (events_of h) (reports_of h) n (heap_words c.args.outcome.now.machine))) c.words_in_use.ensures
-    (subst (λ n. Takes (g.E.Out.taken c.write_steps.new.err) (g.E.Out.taken c.write_totals.new.err) (total_text (events_of h) (reports_of h) c.words_in_use.result n)) c.heap_words.ensures more))) c.write_totals.ensures.whole
+    (subst (λ n. Takes (g.E.Out.taken c.write_steps.new.err) (g.E.Out.taken c.write_totals.new.err) (total_text (events_of h) (reports_of h) n (heap_words c.args.outcome.now.machine) c.args.most)) c.words_in_use.ensures
+    (subst (λ n. Takes (g.E.Out.taken c.write_steps.new.err) (g.E.Out.taken c.write_totals.new.err) (total_text (events_of h) (reports_of h) c.words_in_use.result n c.args.most)) c.heap_words.ensures more))) c.write_totals.ensures.whole
 
 pub returns-clause-cut : goal.returns-clause-cut
 returns-clause-cut g c =
     let h = c.args.outcome.now.history.entries in
     let first = subst (λ n. Takes (g.E.Out.taken c.args.err.now) (g.E.Out.taken c.write_steps.new.err) (steps_text (events_of h) (reports_of h) n)) c.started.ensures.all c.in_ok-write_steps.ensures.whole in
     on_err_weaker c.write_totals.result (λ cut. fails_second _ _ _ _ _ first
-    (subst (λ n. Fails (g.E.Out.taken c.write_steps.new.err) (g.E.Out.taken c.write_totals.new.err) (total_text (events_of h) (reports_of h) n (heap_words c.args.outcome.now.machine))) c.words_in_use.ensures
-    (subst (λ n. Fails (g.E.Out.taken c.write_steps.new.err) (g.E.Out.taken c.write_totals.new.err) (total_text (events_of h) (reports_of h) c.words_in_use.result n)) c.heap_words.ensures cut))) c.write_totals.ensures.cut
+    (subst (λ n. Fails (g.E.Out.taken c.write_steps.new.err) (g.E.Out.taken c.write_totals.new.err) (total_text (events_of h) (reports_of h) n (heap_words c.args.outcome.now.machine) c.args.most)) c.words_in_use.ensures
+    (subst (λ n. Fails (g.E.Out.taken c.write_steps.new.err) (g.E.Out.taken c.write_totals.new.err) (total_text (events_of h) (reports_of h) c.words_in_use.result n c.args.most)) c.heap_words.ensures cut))) c.write_totals.ensures.cut

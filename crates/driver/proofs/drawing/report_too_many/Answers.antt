@@ -2,7 +2,7 @@ use Rattle.std.proofs.Common.{◌∙◌, inl, inr, refl, subst}
 use Rattle.source_runs.proofs.acceptance.SourceLemmas.{handed_on, on_err}
 use Rattle.outputs.specs.Taken.{Fails, Takes}
 use Rattle.driver.proofs.OutcomeLemmas.{no_device}
-use Rattle.driver.proofs.drawing.tell_too_many.Goals as goal
+use Rattle.driver.proofs.drawing.report_too_many.Goals as goal
 
 pub returns-in_err-line-clause-cut : goal.returns-in_err-line-clause-cut
 returns-in_err-line-clause-cut g c = on_err c.from_residual.result (inl refl)

@@ -1,19 +1,19 @@
-use Rattle.std.proofs.Common.{[], refl, subst}
+use Rattle.std.proofs.Common.{[], subst}
 use Rattle.outputs.proofs.TakenLaws.{fails_first, fails_second}
 use Rattle.source_runs.specs.acceptance.Failures.{message_of}
 use Rattle.driver.specs.Outcomes.{IsExplanation}
 use Rattle.driver.proofs.OutcomeLemmas.{for_err, no_explanation}
-use Rattle.driver.proofs.explaining.tell_failure.Goals as goal
+use Rattle.driver.proofs.explaining.report_failure.Goals as goal
 
 pub returns-in_err-tell-clause-cut : goal.returns-in_err-tell-clause-cut
 returns-in_err-tell-clause-cut g c =
     for_err c.from_residual.result ([], no_explanation _, fails_first _ _ (message_of c.args.failure) [] c.in_err-tell.ensures.cut)
 
-pub returns-in_err-tell_why-clause-cut : goal.returns-in_err-tell_why-clause-cut
-returns-in_err-tell_why-clause-cut g c =
-    let (text, explains, cut) = c.in_err-tell_why.ensures.cut in
-    for_err c.from_residual-in_err-tell_why.result (
+pub returns-in_err-write_reason-clause-cut : goal.returns-in_err-write_reason-clause-cut
+returns-in_err-write_reason-clause-cut g c =
+    let (text, explains, cut) = c.in_err-write_reason.ensures.cut in
+    for_err c.from_residual-in_err-write_reason.result (
       text,
-      subst (λ told. IsExplanation told text) c.is_told_why.ensures explains,
+      subst (λ reported. IsExplanation reported text) c.has_explanation.ensures explains,
       fails_second _ _ _ (message_of c.args.failure) text c.in_ok-tell.ensures.whole cut,
     )
