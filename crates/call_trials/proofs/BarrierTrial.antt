@@ -1,4 +1,4 @@
--- The conditions of the calls of the trial in each phase, and what each call leaves.
+-- The conditions of the calls of the test in each phase, and what each call leaves.
 use Rattle.std.proofs.Common.{◌≡◌, ◌<◌, Bool, true, length, refl, sym, subst, Option, List}
 use Rattle.std.proofs.lemmas.Bool.{ltb-true}
 use Rattle.std.specs.Prelude.{nat_lt, is_some, IsSome}
@@ -14,7 +14,7 @@ use Rattle.object_memory.specs.Objects.{Objects, monitor_at, object_slots}
 use Rattle.barriers.specs.Barriers.{can_bear, is_monitor_storable, is_static_storable, is_storable, is_word_storable, object_born, stored_int, stored_monitor, stored_ref, stored_static, stored_value}
 use Rattle.call_trials.specs.TrialHeap.{IsSeen, after_birth, after_guest, after_host, after_int, after_ints, after_monitors, after_ref, after_refs, after_static, after_statics, after_value, after_values, fields, guest, guest_copied, host, host_copied, pale, trial_objects, white}
 
--- what is so in each of the eight phases
+-- what holds in each of the eight phases
 in_all : (p : Phase → Bool) → p Idle ≡ true → p Mark ≡ true → p Allocate ≡ true → p Copy ≡ true → p PreFlip ≡ true → p HeapFlip ≡ true → p ThreadFlip ≡ true → p Reclaim ≡ true → (f : Phase) → p f ≡ true
 in_all p a b c d e f g h Idle = a
 in_all p a b c d e f g h Mark = b
@@ -25,7 +25,7 @@ in_all p a b c d e f g h HeapFlip = f
 in_all p a b c d e f g h ThreadFlip = g
 in_all p a b c d e f g h Reclaim = h
 
--- what is so of some values is so of values that equal them
+-- what holds of some values holds of values that equal them
 along_two : {A B : Type 0} (P : A → B → Type 0) {x u : A} {y v : B} → u ≡ x → v ≡ y → P x y → P u v
 along_two P {x} {u} {y} {v} e d p = subst (λ a. P a v) (sym e) (subst (λ b. P x b) (sym d) p)
 

@@ -1,4 +1,4 @@
--- A heap that is made by hand, for a trial of the barriers as they run: what it holds, and what it holds behind each call of the trial.
+-- A heap that is made by hand, for a test of the barriers as they run: what it holds, and what it holds after each call of the test.
 use Rattle.std.specs.Prelude.{◌≡◌, ℕ, ◌+◌, Bool, true, false, List, [], ◌∷◌, length, replicate, Option, Some, None, IsSome, IfSome}
 use Rattle.cil_model.specs.declared.limits.TheConstants.{MOST_WORDS}
 use Rattle.cil_model.specs.declared.phases.Phase.{Phase}
@@ -52,7 +52,7 @@ trial_objects = record {
   literals = Free ∷ [];
 }
 
--- ---- behind each call
+-- ---- after each call
 
 abbrev pub after_ref : Phase → Objects
 after_ref f = stored_ref f trial_objects host 0 guest

@@ -12,7 +12,7 @@ use object_memory::{Addr, Heap, Kind, Monitor, Value, ValueKind};
 use space_block::Block;
 use std::alloc::Global;
 
-/// What is seen of the heap and the static fields in a phase, once each barrier was called. References are told by their words, and
+/// What is seen of the heap and the static fields in a phase, once each barrier was called. References are given by their words, and
 /// 0 is null or none.
 #[derive(Clone, Copy, PartialEq)]
 struct Row {
@@ -168,7 +168,7 @@ const ROWS: [Row; 8] = [
     },
 ];
 
-/// Whether each barrier does in each phase what the row of the phase shows.
+/// Whether each barrier does in each phase what the test case of the phase shows.
 pub fn barriers_do_as_shown(alloc: Global) -> Result<bool, NoMemory> {
     for row in ROWS {
         if !is_as_shown(alloc, &row)? {
@@ -178,7 +178,7 @@ pub fn barriers_do_as_shown(alloc: Global) -> Result<bool, NoMemory> {
     Ok(true)
 }
 
-/// Calls each barrier in a row's phase, over a heap of its own, and compares what is seen then.
+/// Calls each barrier in the phase of a test case, over a heap of its own, and compares what is seen then.
 fn is_as_shown(alloc: Global, row: &Row) -> Result<bool, NoMemory> {
     let mut heap = trial_heap(alloc)?;
     let mut statics = [Value::Ref(Addr::null()), Value::Ref(Addr::null())];
@@ -201,7 +201,7 @@ fn store_slots(heap: &mut Heap, phase: Phase)
     store_int(heap, phase, host_copied, 5, 8);
 }
 
-/// Sets monitors and static fields, and answers what is born then.
+/// Sets monitors and static fields, and returns what is born then.
 fn store_others(heap: &mut Heap, phase: Phase, statics: &mut [Value]) -> Option<Addr>
     requires heap { heap.old ≡ after_ints phase }
     requires statics { statics.old ≡ fields }

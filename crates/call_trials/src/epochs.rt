@@ -6,10 +6,10 @@ use epoch_words::{Epochs, Herald, Post, Seat};
 use std::alloc::{AllocError, Global};
 use std::thread::{Threads, join, yield_now};
 
-/// No waiting loop takes more turns than this.
+/// No waiting loop makes more iterations than this.
 const MOST_TURNS: u32 = 50_000_000;
 
-/// Polls and acknowledges until it has seen `last`, and gives back what it saw then, or 0.
+/// Polls and acknowledges until it has seen `last`, and returns what it saw then, or 0.
 fn follow(epochs: &Epochs, mut seat: Seat, last: u64) -> u64
     requires { seat.table ≡ epochs.now.table }
 {
@@ -24,7 +24,7 @@ fn follow(epochs: &Epochs, mut seat: Seat, last: u64) -> u64
     0
 }
 
-/// Posts until `last` is posted, and gives back how many were.
+/// Posts until `last` is posted, and returns how many were.
 fn lead(epochs: &Epochs, mut herald: Herald, last: u64) -> u64
     requires { herald.table ≡ epochs.now.table }
 {

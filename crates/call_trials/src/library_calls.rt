@@ -40,14 +40,14 @@ pub const LIMITS: Limits = Limits {
     depth: 1,
 };
 
-/// A call that is tried, and whether it came to what is expected.
+/// A call that is tested, and whether its outcome is as expected.
 #[derive(Clone, Copy)]
 pub struct Call {
     pub name: &'static str,
     pub is_as_expected: bool,
 }
 
-/// A call by its name, and whether it came to what is expected.
+/// A call by its name, and whether its outcome is as expected.
 pub fn came_to(name: &'static str, is_as_expected: bool) -> Call
     ensures { (result.name.now ≡ name.now) × (result.is_as_expected ≡ is_as_expected) }
 {
@@ -57,7 +57,7 @@ pub fn came_to(name: &'static str, is_as_expected: bool) -> Call
     }
 }
 
-/// Makes the calls. One that wants memory counts as one that came to something else.
+/// Makes the calls. One that runs out of memory counts as one with another outcome.
 pub fn calls(threads: &(impl Threads + Sync), alloc: Global) -> [Call; 11] {
     [
         came_to(
@@ -171,7 +171,7 @@ fn inserts_events(alloc: Global) -> bool {
         && refused.map(|error| error.number()) == Some(503)
 }
 
-/// Whether characters that no source can hold are written by their octal numbers, and want of memory in words.
+/// Whether characters that no source can hold are written by their octal numbers, and out of memory in words.
 fn writes_characters(alloc: Global) -> Result<bool, NoMemory> {
     let text = Text::new(String::from_str(alloc, "a\t\"b\"\n\\ \u{7f}\u{0}é")?);
     let shown = format!(in alloc;
@@ -214,8 +214,8 @@ fn is_loaded_by_another(alloc: Global) -> Result<bool, NoMemory> {
     Ok(loaded == Some(1) && nothing.is_none())
 }
 
-/// Whether a flip of one word and one seat answers each call as its stage wants it: the word is copied before the first stage is posted and not
-/// after it, no stage is posted before the seat has taken up the one before, and the first copy is retired in the last stage alone.
+/// Whether each call on a flip of one word and one seat returns what the stage requires: the word is copied before the first stage is posted and
+/// not after it, no stage is posted before the seat has taken up the one before, and the first copy is retired in the last stage alone.
 fn takes_a_word_through_all_stages(alloc: Global) -> Result<bool, NoMemory> {
     let (flip, copier, mut writers) = Flip::new(alloc, 1, 1, &[0], 1)?;
     let Some(writer) = writers.pop() else {
@@ -244,7 +244,7 @@ fn takes_a_word_through_all_stages(alloc: Global) -> Result<bool, NoMemory> {
     )
 }
 
-/// Whether the plain machine runs the sum, and shows where it stands. None where the sum has no tree or memory is wanted.
+/// Whether the test interpreter runs the sum, and prints its state. None where the sum has no tree or memory runs out.
 fn runs_plainly(alloc: Global) -> Option<bool> {
     let tree = read(alloc, SUM.as_bytes()).ok()?;
     is_tree_run(alloc, &tree).ok()

@@ -62,9 +62,9 @@ fn finish_both<M: Opening>(
 }
 
 /// Two threads act once each, and the run ends. Whatever the schedule, each worker's entries in the history are those that its ticket had
-/// and the event that it asked for, with the report that it was answered.
+/// and the event that it requested, with the report that was returned to it.
 ///
-/// Only want of memory is an error. None where a worker's ticket is missing.
+/// The only error is out of memory. None where a worker's ticket is missing.
 fn act_both<M: Opening + Send + Sync, R: Threads + Wait + Sync>(
     rt: &R,
     alloc: Global,
@@ -94,7 +94,7 @@ fn act_both<M: Opening + Send + Sync, R: Threads + Wait + Sync>(
     }
 }
 
-/// The same from the opening on: each worker has done one event.
+/// The same from the initial state on: each worker has done one event.
 pub fn run_both<M: Opening + Send + Sync, R: Threads + Wait + Sync>(
     rt: &R,
     alloc: Global,
@@ -193,7 +193,7 @@ pub fn finish_twice<M: Opening>(
     }
 }
 
-/// Ends a run that was refused for want of one ticket, with that ticket.
+/// Ends a run that was refused because one ticket was missing, with that ticket.
 fn finish_again<M: Opening>(
     unfinished: Unfinished<M>,
     ticket: Ticket<M>,

@@ -18,21 +18,21 @@ no_item {X} {A} x xs e = absurd (lost e)
     lost : x ∷ xs ≡ [] → ⊥
     lost h = cc
 
--- ---- what stands at a place
+-- ---- the item at a place
 
--- where nothing stands the list has ended
+-- where there is no item the list has ended
 pub none_is_outside : {X : Type 0} (xs : List X) (n : ℕ) → slice_get xs n ≡ None → length xs ≤ n
 none_is_outside [] n e = omega arith
 none_is_outside (x ∷ xs) zero e = none_is_some x (sym e)
 none_is_outside (x ∷ xs) (suc n) e = let further : length xs ≤ n = none_is_outside xs n e in omega (arith, further)
 
--- what stands at a place stays there when more follows
+-- the item at a place stays there when more follows
 pub get_before : {X : Type 0} (xs more : List X) (n : ℕ) (x : X) → slice_get xs n ≡ Some x → slice_get (xs ++ more) n ≡ Some x
 get_before [] more n x e = none_is_some x e
 get_before (y ∷ ys) more zero x e = e
 get_before (y ∷ ys) more (suc n) x e = get_before ys more n x e
 
--- the last one stands at the end
+-- the last one is at the end
 pub last_is_there : {X : Type 0} (xs : List X) (y : X) → slice_get (xs ++ y ∷ []) (length xs) ≡ Some y
 last_is_there [] y = refl
 last_is_there (x ∷ xs) y = last_is_there xs y
@@ -119,7 +119,7 @@ none_kept test kept (x ∷ xs) h = by_test (kept x) (none_kept test kept xs (or_
     by_test true rest = or_from _ _ (or_parts _ _ h).0 rest
     by_test false rest = rest
 
--- where no item stands twice, none that is kept does
+-- where no item is in the list twice, none that is kept does
 pub once_kept : {X : Type 0} (same : X → X → Bool) (kept : X → Bool) (xs : List X) → has_repeat same xs ≡ false → has_repeat same (filter kept xs) ≡ false
 once_kept same kept [] h = refl
 once_kept same kept (x ∷ xs) h = by_test (kept x) (once_kept same kept xs (or_parts _ _ h).1)

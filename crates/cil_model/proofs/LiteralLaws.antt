@@ -22,7 +22,7 @@ module _ {X : Type 0} (same : X → X → Bool) (laws : IsEquivalence same) wher
   others_more : (y x : X) (es : List X) → others y (es ++ x ∷ []) ≡ others y es ++ (if not (same y x) then x ∷ [] else [])
   others_more y x es = filter-append (λ z. not (same y z)) es (x ∷ [])
 
-  -- a further item stands at the end, where it is the same as none before
+  -- a further item is at the end, where it is the same as none before
   pub each_once_more : (xs : List X) (x : X) → each_once same (xs ++ x ∷ []) ≡ (if list_any (λ z. same z x) (each_once same xs) then each_once same xs else each_once same xs ++ x ∷ [])
   each_once_more [] x = refl
   each_once_more (y ∷ ys) x = ap (λ es. y ∷ others y es) (each_once_more ys x) ∙ by_tests (same y x) refl (list_any (λ z. same z x) (each_once same ys)) refl

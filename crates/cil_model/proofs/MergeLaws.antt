@@ -71,7 +71,7 @@ module _ (tree : Tree) where
           neither (suc j) k e = none j (omega (arith, k)) e
 
   module _ (legal : IsLegal tree) where
-    -- a type that is above both, so many up from the first, and no nearer one is
+    -- a type that is above both, k parents up from the first, and no nearer one is
     abbrev Closest : DeclaredType → DeclaredType → Type 0
     Closest a b = (k : ℕ) × (u : DeclaredType) × (ancestor tree k a ≡ Some u) × ((j : ℕ) × (ancestor tree j b ≡ Some u)) ×
         ((i j : ℕ) (v : DeclaredType) → i < k → ancestor tree i a ≡ Some v → ancestor tree j b ≡ Some v → ⊥)

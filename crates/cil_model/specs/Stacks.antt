@@ -1,8 +1,8 @@
 -- Taking operands off a stack: of values where a program runs, of types where it is verified (I.12.3.2.1).
 use Rattle.std.specs.Prelude.{List, [], ◌∷◌}
 
--- Each takes the topmost operands and goes on with them, in the order in which they were pushed, and with what lies
--- below; or it gives what stands for a missing one.
+-- Each takes the topmost operands and continues with them, in the order in which they were pushed, and with what lies
+-- below; or it gives the result for a missing one.
 abbrev pub take_one : {X R : Type 0} → R → List X → (X → List X → R) → R
 take_one missing [] go = missing
 take_one missing (a ∷ rest) go = go a rest

@@ -77,7 +77,7 @@ pub struct MethodReference {
     pub signature: Signature,
 }
 
-/// An instruction. The text's name of each stands beside it.
+/// An instruction. The name of each in the text is beside it.
 pub enum Instruction {
     /// `nop`
     NoOperation,

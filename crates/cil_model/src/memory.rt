@@ -1,4 +1,4 @@
-//! Want of memory, as the machine tells it.
+//! Out of memory, as the machine reports it.
 
 ghost use Rattle.std.specs.Prelude.{◌≡◌};
 
@@ -6,7 +6,7 @@ use std::alloc::{AllocError, AllocFailed};
 use std::error::Error;
 use std::fmt;
 
-/// No memory was left for what a call had to make. It has one value, so it says nothing of what was asked for.
+/// No memory was left for what a call had to make. It has one value, so it does not say what was requested.
 #[derive(Clone, Copy, Debug, PartialEq, Eq)]
 pub struct NoMemory;
 

@@ -41,7 +41,7 @@ impl Drop for Class {
     }
 }
 
-/// Whether it is an interface; else the base and the listed interfaces (ECMA-335 II.10.1).
+/// Whether it is an interface; otherwise the base and the listed interfaces (ECMA-335 II.10.1).
 #[derive(Drop)]
 pub enum ClassKind {
     Interface,
@@ -103,7 +103,7 @@ pub struct Code {
     pub lines: Sequence<Line>,
 }
 
-/// An instruction, with the labels that stand before it (ECMA-335 II.5.4).
+/// An instruction, with the labels before it (ECMA-335 II.5.4).
 #[derive(Drop)]
 pub struct Line {
     pub labels: Sequence<Text>,

@@ -1,11 +1,11 @@
-//! Types and names of classes, as they stand in the text.
+//! Types and names of classes, as they are written in the text.
 
 ghost use Rattle.std.specs.Prelude.{◌≡◌};
 
 use crate::sequences::Sequence;
 use crate::texts::Text;
 
-/// A class by its name, and the assembly that stands before it in brackets (ECMA-335 II.7.3).
+/// A class by its name, and the assembly that is written before it in brackets (ECMA-335 II.7.3).
 #[derive(PartialEq, Eq, Hash)]
 pub struct ClassName {
     pub assembly: Option<Text>,
@@ -66,7 +66,7 @@ impl Element {
     }
 }
 
-/// A type: the element, and how many pairs of brackets stand after it. `Dog[][]` has two.
+/// A type: the element, and how many pairs of brackets follow it. `Dog[][]` has two.
 #[derive(PartialEq, Eq, Hash)]
 pub struct DeclaredType {
     pub element: Element,

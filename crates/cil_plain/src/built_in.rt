@@ -79,7 +79,7 @@ impl<'a> State<'a> {
         Ok(())
     }
 
-    /// The owner leaves a monitor once; nobody else may.
+    /// The owner leaves a monitor once; no other thread may.
     fn exit(&mut self, name: usize) -> Result<(), Halt> {
         let own = self.turn.thread;
         let monitor = &mut self.heap.object_mut(name)?.monitor;

@@ -50,7 +50,7 @@ impl<'a> State<'a> {
         self.run_method(frame, callee, parameters.len().saturating_add(1))
     }
 
-    /// Runs a method on so many operands: an action of its own, or a frame within the depth.
+    /// Runs a method on this number of operands: an action of its own, or a frame within the depth.
     fn run_method(&mut self, frame: &mut Frame<'a>, found: Found<'a>, count: usize) -> Done {
         if let Some(action) = action_of(self.classes, found) {
             return self.act(frame, action);
@@ -61,7 +61,7 @@ impl<'a> State<'a> {
         Ok(Effect::Call)
     }
 
-    /// `newobj`: a new object, at once where the constructor is built in, else at the end of its frame.
+    /// `newobj`: a new object, at once where the constructor is built in, otherwise at the end of its frame.
     pub fn new_object(
         &mut self,
         frame: &mut Frame<'a>,

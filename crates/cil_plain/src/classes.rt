@@ -92,7 +92,7 @@ pub fn name_of(method: &Method) -> &str {
 
 /// Types.
 impl<'a> Classes<'a> {
-    /// A type that stands in the tree.
+    /// A type that occurs in the tree.
     pub fn type_named(&self, t: &DeclaredType) -> Result<PlainType, Halt> {
         let element = match &t.element {
             Element::Int32 => PlainElement::Int32,
@@ -137,7 +137,7 @@ impl<'a> Classes<'a> {
         false
     }
 
-    /// Whether the class is the wanted one, is below it, or has it as an interface.
+    /// Whether the class is the expected one, is below it, or has it as an interface.
     fn is_class_assignable(&self, class: usize, wanted: usize) -> bool {
         for base in self.chain(class) {
             if *base == wanted || self.lists(*base, wanted) {
@@ -147,7 +147,7 @@ impl<'a> Classes<'a> {
         false
     }
 
-    /// Whether a value of the type may stand where the other is wanted (ECMA-335 I.8.7). Arrays of references may where
+    /// Whether a value of the type may be given where the other is expected (ECMA-335 I.8.7). Arrays of references may where
     /// their elements may.
     pub fn is_assignable(&self, own: PlainType, wanted: PlainType) -> bool {
         if own == wanted {

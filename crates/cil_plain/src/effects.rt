@@ -1,10 +1,10 @@
-//! What an instruction comes to.
+//! The outcome of an instruction.
 
 use crate::values::Value;
 use cil_model::reports::Fault;
 use std::alloc::{AllocError, AllocFailed};
 
-/// Where the thread goes on.
+/// Where the thread continues.
 #[derive(Clone, Copy, Debug)]
 pub enum Effect {
     /// At the next instruction.
@@ -24,13 +24,13 @@ pub enum Halt {
     Blocks,
     /// The thread ends by a fault.
     Raises(Fault),
-    /// An operand is missing or of the wrong kind, or a name stands for nothing.
+    /// An operand is missing or of the wrong kind, or a name refers to nothing.
     Sticks,
     /// Memory ran out.
     NoMemory,
 }
 
-/// What an instruction comes to.
+/// The outcome of an instruction.
 pub type Done = Result<Effect, Halt>;
 
 impl From<AllocError> for Halt {

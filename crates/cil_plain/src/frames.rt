@@ -77,7 +77,7 @@ impl<'a> Frame<'a> {
         Err(Halt::Sticks)
     }
 
-    /// There where the test holds, else to the next instruction.
+    /// There where the test holds, otherwise to the next instruction.
     pub fn jump_if(&self, holds: bool, label: &Text) -> Done {
         if holds {
             self.jump(label)
@@ -96,7 +96,7 @@ impl<'a> Frame<'a> {
         self.stack.last().copied().ok_or(Halt::Sticks)
     }
 
-    /// The value below so many others.
+    /// The value below `count` others.
     pub fn below_top(&self, count: usize) -> Result<Value, Halt> {
         let above = count.saturating_add(1);
         match self.stack.len().checked_sub(above) {
@@ -121,7 +121,7 @@ impl<'a> Frame<'a> {
         Ok(Effect::Next)
     }
 
-    /// Takes so many values off the stack, the first pushed first.
+    /// Takes `count` values off the stack, the first pushed first.
     pub fn take(&mut self, count: usize) -> Result<Vec<Value>, Halt> {
         let height = self.stack.len();
         if count > height {

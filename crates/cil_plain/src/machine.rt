@@ -30,7 +30,7 @@ fn entry_point<'a>(names: &NameTables<'a>) -> Option<Found<'a>> {
     None
 }
 
-/// What came of a call that may be stuck.
+/// The outcome of a call that may be stuck.
 fn unless_stuck<T>(done: Result<T, Halt>) -> Result<Option<T>, NoMemory> {
     match done {
         Ok(it) => Ok(Some(it)),
@@ -58,10 +58,10 @@ impl<'a> PlainMachine<'a> {
     }
 
     /// One step of the thread, in which a birth is refused or not. None where it is stuck: an operand is missing or of the
-    /// wrong kind, or a name stands for nothing, as never in a verified program. A thread that was stuck, or for which memory
+    /// wrong kind, or a name refers to nothing, as never in a verified program. A thread that was stuck, or for which memory
     /// ran out, has to make no further step.
     ///
-    /// `is_refused` counts where a birth is due, and nowhere else.
+    /// `is_refused` counts where a birth is due, and at no other place.
     pub fn step(&mut self, thread: u8, is_refused: bool) -> Result<Option<Report>, NoMemory> {
         unless_stuck(self.state.step(usize::from(thread), is_refused))
     }

@@ -12,7 +12,7 @@ pub struct PlainNames<'a> {
 }
 
 impl<'a> PlainNames<'a> {
-    /// Goes along the bases of each class. Fails for want of memory alone.
+    /// Follows the bases of each class. The only error is out of memory.
     pub fn new(alloc: Global, tables: &'a NameTables<'a>) -> Result<Self, NoMemory> {
         let mut chains = Vec::new(alloc);
         for class in 0..tables.classes.all().len() {

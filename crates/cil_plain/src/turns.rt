@@ -51,7 +51,7 @@ impl<'a> State<'a> {
         Ok(())
     }
 
-    /// The thread goes on, in this frame or in another one.
+    /// The thread continues, in this frame or in another one.
     fn go_on(&mut self, mut frame: Frame<'a>, effect: Effect) -> Result<(), Halt> {
         frame.place = match effect {
             Effect::Jump(place) => place,

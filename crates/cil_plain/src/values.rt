@@ -67,7 +67,7 @@ pub enum PlainElement {
     Class(usize),
 }
 
-/// A type: the element, and how many pairs of brackets stand after it.
+/// A type: the element, and how many pairs of brackets follow it.
 #[derive(Clone, Copy, Debug, PartialEq, Eq)]
 pub struct PlainType {
     pub element: PlainElement,
@@ -91,7 +91,7 @@ impl PlainType {
         }
     }
 
-    /// The type with so many pairs of brackets fewer.
+    /// The type with `brackets` pairs of brackets fewer.
     pub fn without(self, brackets: u32) -> PlainType {
         PlainType {
             element: self.element,

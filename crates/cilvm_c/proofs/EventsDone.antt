@@ -1,4 +1,4 @@
--- Events that a machine has done, one behind another.
+-- Events that a machine has done, one after another.
 use Rattle.std.proofs.Common.{◌≡◌, ◌+◌, ◌<◌, ◌≤◌, ◌∙◌, ℕ, true, false, List, [], ◌∷◌, ◌++◌, Some, length, take, drop, get_or, replicate, refl, sym, ap, subst, arith, slice_get, inl, inr}
 use Rattle.std.proofs.lemmas.Bool.{false≢true}
 use Rattle.std.proofs.lemmas.List.{drop_more, get_or-append-add, get_or-replicate, get_or_append_left, length-append, length-replicate, replicate_more, take-append-drop, take-append-le, take-replicate}
@@ -81,7 +81,7 @@ module _ (c now : Content) (most : ℕ) (e : Event) (n : ℕ) where
 ran_is : (r : Report) → has_ran r ≡ true → r ≡ reports.Ran
 ran_is r h = grind (arith, h)
 
--- so many steps of a thread are made, and all ran
+-- n steps of a thread are made, and all ran
 abbrev pub HaveRun : Content → ℕ → ℕ → Content → Type 0
 HaveRun c t n now = AreTurns c (replicate n (Step t)) now (replicate n reports.Ran)
 
@@ -121,13 +121,13 @@ steps_held c d now printed t most n code few h same held =
     let turns = subst (HaveRun c t n) (sym same) h in
     (replicate n reports.Ran, turns, does_more c now (replicate n (Step t)) (replicate n reports.Ran) turns, inr (inr (few, refl, subst (λ x. IsNotDone x printed (Step t) code) (sym same) held)))
 
--- as many are made as may be
+-- the most steps allowed are made
 pub steps_all : (c now : Content) (printed t most n : ℕ) → n ≡ most → HaveRun c t n now → MakesSteps c printed t most most Ran now
 steps_all c now printed t most n all h =
     let turns = subst (λ m. HaveRun c t m now) all h in
     (replicate most reports.Ran, turns, does_more c now (replicate most (Step t)) (replicate most reports.Ran) turns, inl (refl, refl, refl))
 
--- ---- events whose reports are not told
+-- ---- events with any reports
 
 abbrev pub HasTurned : Content → List Event → Content → Type 0
 HasTurned c events after = (rs : List Report) × AreTurns c events after rs

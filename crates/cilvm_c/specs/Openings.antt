@@ -1,4 +1,4 @@
--- What comes of a source that a host opens (this profile).
+-- The outcome of a source that a host opens (this profile).
 use Rattle.std.specs.Prelude.{◌≡◌, ◌⊎◌, [], ℕ, List, Some, None}
 use Rattle.cil_model.specs.declared.limits.Limits.{Limits}
 use Rattle.interleaving_core.specs.simulation.MachineContents.{Content}
@@ -12,11 +12,12 @@ use Rattle.cilvm_c.specs.declared.limits.HostLimits.{HostLimits}
 abbrev pub run_limits : HostLimits → Limits
 run_limits l = record { words = l.words; max_words = l.max_words; budget = l.budget; depth = l.depth }
 
--- 0 of an accepted source, else the number of why it is not
+-- 0 of an accepted source, otherwise the number of the reason why it is not accepted
 abbrev pub IsChecked : List ℕ → ℕ → Type 0
 IsChecked source code = ((code ≡ 0) × IsLetIn source) ⊎ ((failure : Failure) × (code ≡ failure_code failure) × IsNotAccepted source failure)
 
--- 0 where the session has the machine of an accepted source, before its first event; else it is closed, and the number says why no machine was made
+-- 0 where the session has the machine of an accepted source, before its first event; otherwise it is closed, and the number says why no machine was
+-- made
 abbrev pub IsOpening : List ℕ → Limits → ℕ → ℕ → Held → Type 0
 IsOpening source limits printed code new =
     ((code ≡ 0) × ((c : Content) × (new ≡ record { machine = Some c; most_printed = printed; reason = [] }) × IsMade source limits c))

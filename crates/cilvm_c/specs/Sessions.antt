@@ -27,7 +27,7 @@ abbrev pub printed_by : Option Content → List ℕ
 printed_by None = []
 printed_by (Some c) = c.printed
 
--- so many of the bytes from a place on stand at the beginning of a buffer: as many as it has room for, or all of them
+-- the first n of the bytes from a place on are at the beginning of a buffer: they fill the buffer, or they are all of these bytes
 abbrev pub IsRead : List ℕ → ℕ → List ℕ → ℕ → Type 0
 IsRead bytes from new n = (n ≤ length new) × (take n new ≡ take n (drop from bytes)) × ((n ≡ length new) ⊎ (n ≡ length (drop from bytes)))
 
@@ -37,7 +37,7 @@ IsPrintedRead h from new n after = (after ≡ h) × IsRead (printed_by h.machine
 abbrev pub IsReasonRead : Held → ℕ → List ℕ → ℕ → Held → Type 0
 IsReasonRead h from new n after = (after ≡ h) × IsRead h.reason from new n
 
--- the number of how a thread stands
+-- the number of the state of a thread
 abbrev pub standing_of : Option Content → ℕ → ℕ
 standing_of None t = number_of Closed
 standing_of (Some c) t = number_of (standing_code (end_at c.threads t) (is_live_at c.threads t))

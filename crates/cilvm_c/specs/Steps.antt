@@ -45,14 +45,15 @@ HasDoneOne e h = HasDoneOneBy e h h.machine
 
 -- ---- steps of a thread
 
--- Why there are no more: as many as may be report that they ran; or the last one, before them, reports something else; or the next is not done.
+-- Why there are no more steps: the most allowed are made, and all report that they ran; or the last one made reports something else; or the next
+-- one is not done.
 abbrev pub IsLastStep : Content → ℕ → ℕ → ℕ → ℕ → List Report → Code → Type 0
 IsLastStep after printed t most done reports code =
     ((done ≡ most) × (reports ≡ replicate done RanOf) × (code ≡ Ran))
     ⊎ (((n : ℕ) × (r : Report) × (n < most) × (done ≡ n + 1) × (reports ≡ replicate n RanOf ++ r ∷ []) × (has_ran r ≡ false) × (code ≡ report_code r))
     ⊎ ((done < most) × (reports ≡ replicate done RanOf) × IsNotDone after printed (Step t) code))
 
--- a machine makes so many steps of a thread, and no more than may be
+-- a machine makes `done` steps of a thread, at most `most`
 abbrev pub MakesSteps : Content → ℕ → ℕ → ℕ → ℕ → Code → Content → Type 0
 MakesSteps c printed t most done code after =
     (reports : List Report) × AreTurns c (replicate done (Step t)) after reports × DoesMore c (replicate done (Step t)) reports after × IsLastStep after printed t most done reports code
@@ -76,12 +77,12 @@ HasStepped t h = HasSteppedBy t h h.machine
 abbrev pub HasDoneAll : Content → List Event → Content → Type 0
 HasDoneAll c events after = (reports : List Report) × AreTurns c events after reports × DoesMore c events reports after
 
--- a machine has done so many of these events, and the next is not done
+-- a machine has done the first of these events, up to one that is not done
 abbrev pub IsStopped : Content → ℕ → List Event → Stop → Content → Type 0
 IsStopped c printed events stop after =
     HasDoneAll c (take stop.done events) after × ((e : Event) × (slice_get events stop.done ≡ Some e) × IsNotDone after printed e stop.code)
 
--- all events are done; or so many, and the next is not
+-- all events are done; or the first `done`, and the next is not
 abbrev pub IsRunOn : Content → ℕ → List Event → ℕ → Code → Content → Type 0
 IsRunOn c printed events done code after =
     ((done ≡ length events) × (code ≡ Ran) × HasDoneAll c events after)

@@ -108,7 +108,7 @@ fn steps(session: &mut Session, thread: u8, most: u32, done: &mut u32) -> u32
     session.steps(thread, most, done)
 }
 
-/// Has a thread make steps until one does not report that it ran, at most so many, and returns the last code. `done` says how many were made.
+/// Has a thread make steps until one does not report that it ran, at most `most`, and returns the last code. `done` says how many were made.
 #[unsafe(no_mangle)]
 pub unsafe extern "C" fn cilvm_steps(at: *mut u8, thread: u8, most: u32, done: &mut u32) -> u32
     ghost held: { Held }
@@ -193,7 +193,7 @@ fn end_of(session: &mut Session, thread: u8) -> u32
     session.end_of(thread)
 }
 
-/// How a thread stands: 0 where it is live, 2 where it was never started, and else the code of its end.
+/// The state of a thread: 0 where it is live, 2 where it was never started, and otherwise the code of its end.
 #[unsafe(no_mangle)]
 pub unsafe extern "C" fn cilvm_end_of(at: *mut u8, thread: u8) -> u32
     ghost held: { Held }

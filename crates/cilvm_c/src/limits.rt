@@ -17,7 +17,7 @@ pub struct HostLimits {
     pub budget: u32,
     /// The frames that each thread may have.
     pub depth: u32,
-    /// The bytes that the program may print. Once more stand there, no event is done.
+    /// The bytes that the program may print. Once more are printed, no event is done.
     pub printed: usize,
 }
 

@@ -1,4 +1,4 @@
-//! Events of a machine whose program may print so many bytes.
+//! Events of a machine whose program may print a limited number of bytes.
 
 ghost use Rattle.std.specs.Prelude.{◌≡◌, ◌≤◌, ◌∷◌, [], IfErr, IfOk, OnErr, OnOk, length, replicate};
 ghost use Rattle.interleaving_core.specs.Histories.{DoesMore};
@@ -70,7 +70,7 @@ pub(crate) fn act_by_number(
     number_of(act_by_code(machine, alloc, most_printed, event))
 }
 
-/// Has a thread make at most so many steps, until one does not report that it ran. `done` says how many were made.
+/// Has a thread make at most `most` steps, until one does not report that it ran. `done` says how many were made.
 pub(crate) fn make_steps(
     machine: &mut Machine,
     alloc: Global,
@@ -96,7 +96,7 @@ pub(crate) fn make_steps(
     number_of(Code::Ran)
 }
 
-/// Does the event of an item as often as it says.
+/// Does the event of an item the number of times that the item gives.
 fn repeat(machine: &mut Machine, alloc: Global, most_printed: usize, item: Item) -> Result<(), Stop>
     ensures all { OnOk result (HasDoneAll machine.old (replicate item.count item.event) machine.new) }
     ensures stopped { IfErr result (λ stop. IsStopped machine.old most_printed (replicate item.count item.event) stop machine.new) }
@@ -113,7 +113,7 @@ fn repeat(machine: &mut Machine, alloc: Global, most_printed: usize, item: Item)
     Ok(())
 }
 
-/// Does the events that items stand for, in order, and says how many they are.
+/// Does the events that items represent, in order, and returns how many they are.
 fn run_items(
     machine: &mut Machine,
     alloc: Global,

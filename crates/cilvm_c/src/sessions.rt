@@ -78,7 +78,7 @@ impl Session {
         }
     }
 
-    /// Has a thread make at most so many steps, until one does not report that it ran. `done` says how many were made.
+    /// Has a thread make at most `most` steps, until one does not report that it ran. `done` says how many were made.
     pub(crate) fn steps(&mut self, thread: u8, most: u32, done: &mut u32) -> u32
         ensures { HasStepped thread self.old most done.new result self.new }
     {
@@ -110,7 +110,7 @@ impl Session {
         }
     }
 
-    /// How a thread stands.
+    /// The state of a thread.
     pub(crate) fn end_of(&self, thread: u8) -> u32
         ensures { result ≡ standing_of self.now.machine thread }
     {
@@ -140,7 +140,7 @@ impl Session {
         match &self.machine {
             None => 0,
             Some(machine) => {
-                // No more threads are live than were started, and these are 16 at most.
+                // For the prover alone: no more threads are live than were started, and these are 16 at most.
                 let _started = machine.started();
                 machine.live() as u32
             }
@@ -157,7 +157,7 @@ impl Session {
         }
     }
 
-    /// Copies what was printed, from this place on, as much as the buffer takes, and says how much that is.
+    /// Copies what was printed, from this place on, as much as the buffer takes, and returns how much that is.
     pub(crate) fn read(&self, from: usize, to: &mut [u8]) -> usize
         ensures { IsRead (printed_by self.now.machine) from to.new result }
     {
@@ -174,7 +174,7 @@ impl Session {
         copy_from(self.reason.as_bytes(), from, to)
     }
 
-    /// Gives back all memory of the machine.
+    /// Frees all memory of the machine.
     pub(crate) fn close(&mut self)
         ensures machine { self.new.machine ≡ None }
         ensures reason { self.new.reason ≡ [] }
@@ -184,7 +184,7 @@ impl Session {
     }
 }
 
-/// Copies bytes from this place on, as many as the buffer takes, and says how many.
+/// Copies bytes from this place on, as much as the buffer takes, and returns how many.
 fn copy_from(bytes: &[u8], from: usize, to: &mut [u8]) -> usize
     ensures { IsRead bytes.now from to.new result }
 {
@@ -216,7 +216,7 @@ fn reason_of(alloc: Global, source: &[u8], limits: Limits, failure: Failure) -> 
     }
 }
 
-/// What explains that a source is refused, else that limits are. Empty where neither is.
+/// What explains that a source is refused, otherwise that limits are. Empty where neither is.
 fn explanation(alloc: Global, source: &[u8], limits: Limits) -> Result<String, NoMemory> {
     match explain(alloc, SOURCE_NAME, source)? {
         Some(text) => Ok(text),

@@ -1,4 +1,4 @@
--- The numbers along a chain tell which classes a class is assignable to.
+-- The numbers along a chain determine which classes a class is assignable to.
 use Rattle.std.proofs.Common.{◌≡◌, ◌<◌, ◌≤◌, ◌⊎◌, inl, inr, get_or, ◌==◌, ℕ, Bool, false, ◌||◌, List, [], ◌∷◌, length, slice_get, Option, Some, None, option_map, unwrap_or, refl, sym, ap, ◌∙◌, arith}
 use Rattle.std.specs.Prelude.{filter_map, flat_map}
 use Rattle.std.specs.List.{list_any, cons_option}
@@ -24,7 +24,7 @@ module _ (tree : Tree) where
   abbrev listed : List (List ℕ)
   listed = by_class tree (interface_numbers tree)
 
-  -- the answer for a class stands at its number
+  -- the result for a class is at its number
   pub answer_at : {X : Type 0} (answer : ClassName → X) (c : ClassName) (n : ℕ) → class_number tree c ≡ Some n → slice_get (by_class tree answer) n ≡ Some (answer c)
   answer_at answer c n e = slice_get-map (λ (y : ClassName × Declaration). answer y.0) (declarations tree) n ∙ ap (option_map (λ (y : ClassName × Declaration). answer y.0)) (found_at tree c n e).2
 
@@ -33,7 +33,7 @@ module _ (tree : Tree) where
   row_numbered answer n =
       slice_get-map (λ (y : ClassName × Declaration). answer y.0) (declarations tree) n ∙ sym (option_map_of_map (λ (y : ClassName × Declaration). y.0) answer (slice_get (declarations tree) n))
 
-  -- what a table answers for a class
+  -- the result of a table for a class
   pub answer_of : {X : Type 0} (answer : ClassName → X) (items : List X) (n : ℕ) (c : ClassName) (otherwise : X) → items ≡ by_class tree answer → class_name tree n ≡ Some c → unwrap_or (slice_get items n) otherwise ≡ answer c
   answer_of answer items n c otherwise e h =
       ap (λ xs. unwrap_or (slice_get xs n) otherwise) e ∙

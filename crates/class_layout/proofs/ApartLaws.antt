@@ -38,7 +38,7 @@ kept_from {X} kept (y ∷ ys) p x h = by_test (kept y) p h (λ i. kept_from kept
     by_test true zero k further = (0, k)
     by_test true (suc i) k further = later (further i k)
 
--- an item of two lists behind one another is of the first, or of the second
+-- an item of two lists one after the other is of the first, or of the second
 of_either : {X : Type 0} (xs ys : List X) (i : ℕ) (x : X) → slice_get (xs ++ ys) i ≡ Some x → (slice_get xs i ≡ Some x) ⊎ ((p : ℕ) × (i ≡ length xs + p) × (slice_get ys p ≡ Some x))
 of_either [] ys i x h = inr (i, omega arith, h)
 of_either (z ∷ zs) ys zero x h = inl h
@@ -48,7 +48,7 @@ of_either (z ∷ zs) ys (suc i) x h = by_rest (of_either zs ys i x h)
     by_rest (inl there) = inl there
     by_rest (inr (p, e, there)) = inr (p, omega (arith, e), there)
 
--- what stands at a place of the second stands so far behind the first
+-- the item at a place of the second list is at that place after the first list
 behind : {X : Type 0} (xs ys : List X) (p place : ℕ) → place ≡ length xs + p → slice_get (xs ++ ys) place ≡ slice_get ys p
 behind [] ys p place e =
     let same : place ≡ p = omega (arith, e) in
@@ -58,7 +58,7 @@ behind (x ∷ xs) ys p (suc place) e = behind xs ys p place (omega (arith, e))
 
 -- ---- fields that one class declares
 
--- where no name stands twice, a field is found at its own place
+-- where no name occurs twice, a field is found at its own place
 found_own : (c : ClassName) (f : Field) (fs : List Field) (further : List (FieldKey × DeclaredType)) (i p : ℕ) → has_repeat same_name fs ≡ false → slice_get fs p ≡ Some f → position_from (keyed c f) i (map (key_in c) fs ++ further) ≡ Some (i + p)
 found_own c f [] further i p once at = absurd (none_is_some f at)
 found_own c f (g ∷ gs) further i zero once at =
@@ -75,7 +75,7 @@ module _ (tree : Tree) (legal : IsLegal tree) where
   abbrev IsPlacedAt : ClassName → ℕ → FieldKey × DeclaredType → Type 0
   IsPlacedAt c i e = instance_slot tree e.0 ≡ Some (length (hidden_slots tree c) + i)
 
-  -- a field that the class itself declares lies behind those that it inherits
+  -- a field that the class itself declares lies after those that it inherits
   own_placed : (c : ClassName) (p : ℕ) (e : FieldKey × DeclaredType) → slice_get (keyed_fields tree false c) p ≡ Some e → IsPlacedAt c (length (inherited tree c) + p) e
   own_placed c p e at = by_field (slice_get own p) refl (sym (slice_get-map (key_in c) own p) ∙ at)
     where
@@ -99,7 +99,7 @@ module _ (tree : Tree) (legal : IsLegal tree) where
 
   -- ---- inherited fields
 
-  -- what stands above a class is its base's chain
+  -- what is above a class is its base's chain
   chain_above : (c b : ClassName) → base_of tree c ≡ Some b → above tree c ≡ chain_of tree b
   chain_above c b is =
       ap (drop 1) (sym (chain_ends tree (no_cycle tree legal) c (suc (longest_chain tree)) (omega arith))) ∙ ap (chain_within tree (longest_chain tree)) is
@@ -142,7 +142,7 @@ module _ (tree : Tree) (legal : IsLegal tree) where
       by_part (inr (p, place, there)) further =
           own_placed c p e (sym (ap (λ es. slice_get es p) (append-nil (keyed_fields tree false c))) ∙ there) ∙ ap (λ k. Some (length (hidden_slots tree c) + k)) (sym place)
 
-  -- the slot of a field is its place behind the hidden slot
+  -- the slot of a field is its place after the hidden slot
   pub placed_in : (c : ClassName) (i : ℕ) (e : FieldKey × DeclaredType) → slice_get (instance_fields tree c) i ≡ Some e → IsPlacedAt c i e
   placed_in c = placed_within (length (chain_of tree c)) c (omega arith)
 

@@ -105,7 +105,7 @@ slots_counted n (f ∷ fs) = by_flag f.is_static (λ m. slots_counted m fs)
 -- ---- the static fields of all classes
 
 module _ (tree : Tree) where
-  -- the first free number behind the static fields of some classes
+  -- the first free number after the static fields of some classes
   abbrev pub statics_of : ℕ → List ClassName → ℕ
   statics_of next [] = next
   statics_of next (c ∷ cs) = statics_of (statics_after next (fields_declared tree c)) cs
@@ -123,7 +123,7 @@ module _ (tree : Tree) where
   pub statics_of_grow : (n : ℕ) (cs : List ClassName) → n ≤ statics_of n cs
   statics_of_grow n cs = omega (arith, all_counted n cs)
 
-  -- those of the class of a number, and of all behind it, are counted on
+  -- those of the class of a number, and of all after it, are counted on
   pub counted_on : (next i : ℕ) (c : ClassName) → slice_get (class_names tree) i ≡ Some c → statics_of next (drop i (class_names tree)) ≡ statics_of (statics_after next (fields_declared tree c)) (drop (i + 1) (class_names tree))
   counted_on next i c named = ap (statics_of next) (drop_at (class_names tree) i c named)
 
@@ -141,7 +141,7 @@ module _ (tree : Tree) where
 
   -- ---- the class of a number
 
-  -- some fields by number stand for those of the class with this number
+  -- some fields by number represent those of the class with this number
   pub record AreFieldsOf (i : ℕ) (fields : List ResolvedField) : Type 0 where
     pub entry : ClassName × Declaration
     pub there : slice_get (declarations tree) i ≡ Some entry
@@ -164,7 +164,7 @@ module _ (tree : Tree) where
     pub statics_alike_at : (next : ℕ) → statics_by_flag next (map (λ (f : ResolvedField). f.is_static) fields) ≡ statics_after next (fields_declared tree are.entry.0)
     statics_alike_at next = ap (statics_by_flag next) are.flags ∙ statics_alike next (fields_declared tree are.entry.0)
 
-    -- its slots fit where its row of own fields fits behind the first of them
+    -- its slots fit where its row of own fields fits after the first of them
     pub slots_fit : (own : List (List SlotKind)) (first : ℕ) → own ≡ by_class tree (own_kinds tree) → first + length (unwrap_or (slice_get own i) []) < 2 ^ 64 → slots_by_flag first (map (λ (f : ResolvedField). f.is_static) fields) < 2 ^ 64
     slots_fit own first rows small =
         let row : unwrap_or (slice_get own i) [] ≡ own_kinds tree are.entry.0 = ap (λ xs. unwrap_or (slice_get xs i) []) rows ∙ answer_given tree (own_kinds tree) i [] are.entry are.there in

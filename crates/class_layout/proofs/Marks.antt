@@ -59,7 +59,7 @@ marked_past bits count ns i n l e past (long, at) = (long, λ j h. at j h ∙ ap
     apart : (j : ℕ) → j < count → (n == j) ≡ false
     apart j h = ne_eqb n j (λ q. omega (arith, q, h, past))
 
--- a vector's marks after the loop's last round
+-- a vector's marks after the loop's last iteration
 pub all_marked : (bits : List Bool) (count : ℕ) (ns : List ℕ) (i : ℕ) → length ns ≤ i → i ≤ length ns → AreMarks bits count (take i ns) → AreMarks bits count ns
 all_marked bits count ns i below above h =
     let e : i ≡ length ns = omega (arith, below, above) in

@@ -32,7 +32,7 @@ pub push_takes : {X Z : Type 0} (f : X → Z) (xs : List X) (i : ℕ) (x : X) (y
 push_takes f xs i x ys zs y l e before answered after =
     after ∙ ap (λ vs. vs ++ y ∷ []) before ∙ ap (λ z. map f (take i xs) ++ z ∷ []) answered ∙ sym (map-take_more f xs i x l e)
 
--- a loop that looks for an item: it is found, or sought behind
+-- a loop that looks for an item: it is found, or sought further on
 pub finds_here : {X : Type 0} (sought : X → Bool) (xs : List X) (i : ℕ) (d : X) → i < length xs → sought (get_or xs i d) ≡ true → find sought (drop i xs) ≡ Some (get_or xs i d)
 finds_here sought xs i d l is = ap (find sought) (drop_more xs i d l) ∙ ap (λ b. cond b (Some (get_or xs i d)) (find sought (drop (i + 1) xs))) is
 
@@ -45,7 +45,7 @@ flat_takes f xs i d ys zs l before after =
     after ∙ ap (λ vs. vs ++ f (get_or xs i d)) before ∙ ap (λ vs. flat_map f (take i xs) ++ vs) (sym (append-nil (f (get_or xs i d)))) ∙
     sym (flat_map-append f (take i xs) (get_or xs i d ∷ [])) ∙ ap (flat_map f) (sym (take_more xs i d l))
 
--- the same, behind a list that stands before
+-- the same, after a list that is before it
 pub flat_takes_after : {X Y : Type 0} (f : X → List Y) (xs : List X) (i : ℕ) (d : X) (first ys zs : List Y) → i < length xs → ys ≡ first ++ flat_map f (take i xs) → zs ≡ ys ++ f (get_or xs i d) → zs ≡ first ++ flat_map f (take (i + 1) xs)
 flat_takes_after f xs i d first ys zs l before after =
     after ∙ ap (λ vs. vs ++ f (get_or xs i d)) before ∙ append_assoc first (flat_map f (take i xs)) (f (get_or xs i d)) ∙

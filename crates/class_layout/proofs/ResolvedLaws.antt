@@ -1,4 +1,4 @@
--- What classes by numbers tell of the classes that they stand for.
+-- What classes by numbers determine of the classes that they represent.
 use Rattle.std.proofs.Common.{◌≡◌, ◌<◌, ◌≤◌, ◌+◌, ◌-◌, ◌⊎◌, inl, inr, ℕ, zero, suc, false, List, [], ◌∷◌, ◌++◌, length, map, take, get_or, Option, Some, None, option_map, option_and_then, unwrap_or, slice_get, if◌then◌else◌, refl, sym, ap, subst, ◌∙◌, arith}
 use Rattle.std.specs.Prelude.{filter_map}
 use Rattle.std.specs.List.{cons_option}
@@ -50,7 +50,7 @@ module _ (tree : Tree) where
 
   -- ---- loops over the classes
 
-  -- what is answered for the class of a number
+  -- the result for the class of a number
   pub answer_there : {X : Type 0} (answer : ClassName → X) (n : ℕ) (otherwise : X) → unwrap_or (slice_get (by_class tree answer) n) otherwise ≡ option_map_or (λ (e : ClassName × Declaration). answer e.0) (slice_get (declarations tree) n) otherwise
   answer_there answer n otherwise = ap (λ o. unwrap_or o otherwise) (slice_get-map (λ (e : ClassName × Declaration). answer e.0) (declarations tree) n) ∙ by_entry (slice_get (declarations tree) n)
     where
@@ -68,7 +68,7 @@ module _ (tree : Tree) where
       ap (λ (row : List SlotKind). length row - length (unwrap_or (slice_get (by_class tree (own_kinds tree)) n) [])) (answer_given (slot_kinds tree) n [] e there) ∙
       ap (λ (row : List SlotKind). length (slot_kinds tree e.0) - length row) (answer_given (own_kinds tree) n [] e there)
 
-  -- the class of a number, and the one that it stands for
+  -- the class of a number, and the one that it represents
   pub class_alike : (rs : List ResolvedClass) → AreResolved tree rs → (n : ℕ) (e : ClassName × Declaration) (r : ResolvedClass) → slice_get (declarations tree) n ≡ Some e → slice_get rs n ≡ Some r → IsClass e r
   class_alike rs are n e r there read =
       let found : AlikeTo IsClass (declarations tree) n r = alike_to IsClass (declarations tree) rs n r are read in

@@ -1,4 +1,4 @@
--- Targets told by the numbers of names and signatures are those told by names and signatures.
+-- Targets by the numbers of names and signatures are those by names and signatures.
 use Rattle.std.proofs.Common.{◌≡◌, ◌==◌, ◌<◌, ℕ, zero, suc, ◌+◌, Bool, true, false, ◌&&◌, not, cond, List, [], ◌∷◌, ◌++◌, length, map, Option, Some, None, option_map, option_and_then, unwrap_or, slice_get, if◌then◌else◌, refl, sym, ap, ◌∙◌, arith}
 use Rattle.std.specs.Prelude.{find, flat_map}
 use Rattle.std.specs.List.{position_from}
@@ -183,7 +183,7 @@ module _ (tree : Tree) (k : MethodIdentity) (i : ℕ) (numbered : identity_numbe
           lost : false ≡ true → ⊥
           lost h = cc
 
-  -- a method's number tells whether it has the name and signature
+  -- a method's number determines whether it has the name and signature
   tells : (x : MethodIdentity) → is_known x → (i == identity_number tree x) ≡ same_identity k x
   tells x known = by_same (same_identity k x) refl
     where

@@ -62,7 +62,7 @@ find_own k (x ∷ xs) m h s = by_test (same_identity (identity_of x) k) refl h (
         ap (λ b. cond (b && same_flag false (is_static x.kind)) (Some x) (find (λ (y : Method). same_called (k, false) (called_of y)) xs)) other ∙ further g
 
 module _ (tree : Tree) where
-  -- what a number of a method stands for
+  -- what a number of a method refers to
   abbrev pub stands_at : MemberNumber → Option (ClassName × Method)
   stands_at r = method_at tree (r.class, r.place)
 

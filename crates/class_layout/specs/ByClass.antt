@@ -1,4 +1,4 @@
--- Answers for each class, by the classes' numbers.
+-- Results for each class, by the classes' numbers.
 use Rattle.std.specs.Prelude.{ℕ, zero, suc, Bool, false, List, [], ◌∷◌, map, filter_map, Option, Some, None, option_and_then, slice_get, unwrap_or}
 use Rattle.cil_model.specs.declared.types.ClassName.{ClassName}
 use Rattle.cil_model.specs.declared.trees.Tree.{Tree}
@@ -7,7 +7,7 @@ use Rattle.cil_model.specs.Chains.{base_of, interfaces_declared}
 use Rattle.cil_model.specs.Assignable.{is_class_assignable}
 use Rattle.name_tables.specs.Numbers.{declarations, class_number}
 
--- what is answered for the name of each class
+-- the result for the name of each class
 abbrev pub by_class : {X : Type 0} → Tree → (ClassName → X) → List X
 by_class tree answer = map (λ (e : ClassName × Declaration). answer e.0) (declarations tree)
 
@@ -37,7 +37,7 @@ marked_at rows n m = unwrap_or (slice_get (unwrap_or (slice_get rows n) []) m) f
 abbrev pub base_at : List (Option ℕ) → ℕ → Option ℕ
 base_at bases n = unwrap_or (slice_get bases n) None
 
--- a number, its base, and so on, up to so many (I.8.9.9)
+-- a number, its base, and so on, up to the given number of classes (I.8.9.9)
 abbrev pub chain_by : List (Option ℕ) → ℕ → Option ℕ → List ℕ
 chain_by bases zero n = []
 chain_by bases (suc k) None = []

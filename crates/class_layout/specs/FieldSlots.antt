@@ -9,11 +9,11 @@ use Rattle.name_tables.specs.Numbers.{declarations}
 use Rattle.class_layout.specs.Kinds.{own_kinds, slot_kinds}
 use Rattle.class_layout.specs.declared.kinds.SlotKind.{SlotKind}
 
--- the first free number behind a field that is counted, or one that is not
+-- the first free number after a field that is counted, or one that is not
 abbrev pub number_after : Bool → ℕ → ℕ
 number_after is_counted next = if is_counted then next + 1 else next
 
--- the first free slot behind a field: a static one has none
+-- the first free slot after a field: a static one has none
 abbrev pub slot_after : Bool → ℕ → ℕ
 slot_after is_static next = if is_static then next else next + 1
 
@@ -23,7 +23,7 @@ numbered_fields next_static next_slot [] = []
 numbered_fields next_static next_slot (f ∷ fs) =
     (if f.is_static then next_static else next_slot) ∷ numbered_fields (number_after f.is_static next_static) (slot_after f.is_static next_slot) fs
 
--- the first free number behind the static ones among some fields
+-- the first free number after the static ones among some fields
 abbrev pub statics_after : ℕ → List Field → ℕ
 statics_after next [] = next
 statics_after next (f ∷ fs) = statics_after (number_after f.is_static next) fs
@@ -49,12 +49,12 @@ numbered_by_flag next_static next_slot [] = []
 numbered_by_flag next_static next_slot (b ∷ bs) =
     (if b then next_static else next_slot) ∷ numbered_by_flag (number_after b next_static) (slot_after b next_slot) bs
 
--- the first free number behind the static ones
+-- the first free number after the static ones
 abbrev pub statics_by_flag : ℕ → List Bool → ℕ
 statics_by_flag next [] = next
 statics_by_flag next (b ∷ bs) = statics_by_flag (number_after b next) bs
 
--- the first free slot behind the instance ones
+-- the first free slot after the instance ones
 abbrev pub slots_by_flag : ℕ → List Bool → ℕ
 slots_by_flag next [] = next
 slots_by_flag next (b ∷ bs) = slots_by_flag (slot_after b next) bs

@@ -1,4 +1,4 @@
--- Which method a virtual call runs, told by numbers alone: of classes, and of names and signatures (II.10.3, II.12.2).
+-- Which method a virtual call runs, determined by numbers alone: of classes, and of names and signatures (II.10.3, II.12.2).
 use Rattle.std.specs.Prelude.{ℕ, ◌==◌, Bool, true, false, ◌&&◌, not, if◌then◌else◌, List, [], ◌∷◌, map, find, slice_get, unwrap_or, Option, Some, None, option_map, option_and_then}
 use Rattle.std.specs.List.{position_from}
 use Rattle.std.specs.Option.{option_map_or}
@@ -79,7 +79,7 @@ abbrev pub slot_along : List ResolvedClass → ℕ → List ℕ → Option ℕ
 slot_along classes i [] = None
 slot_along classes i (n ∷ ns) = slot_from classes i n (slot_along classes i ns)
 
--- the nearest class whose method fills a slot as seen from a class, by what is so as seen from its base
+-- the nearest class whose method fills a slot as seen from a class, by what holds as seen from its base
 abbrev pub filler_from : List ResolvedClass → ℕ → ℕ → Bool → Option ℕ → Option ℕ
 filler_from classes i n fills below = if fills then option_map_or (λ (r : Role). Some n) (role_at classes i n) below else below
 

@@ -1,4 +1,4 @@
--- Which method a virtual call runs, told by numbers (II.10.3, II.12.2; where an interface is listed again, this profile).
+-- Which method a virtual call runs, determined by numbers (II.10.3, II.12.2; where an interface is listed again, this profile).
 use Rattle.std.specs.Prelude.{ℕ, ◌==◌, Bool, false, if◌then◌else◌, List, [], ◌∷◌, map, find, slice_get, unwrap_or, Option, Some, None, option_map, option_and_then}
 use Rattle.std.specs.List.{list_any}
 use Rattle.std.specs.Option.{option_map_or}
@@ -19,7 +19,7 @@ use Rattle.class_layout.specs.declared.targets.Targets.TheVariants.{Itself, ByCl
 abbrev pub chain_at : Tree → ℕ → List ℕ
 chain_at tree n = option_map_or (λ (e : ClassName × Declaration). chain_numbers tree e.0) (slice_get (declarations tree) n) []
 
--- the nearest class whose method fills a slot as seen from a class, by what is so as seen from its base (II.10.3)
+-- the nearest class whose method fills a slot as seen from a class, by what holds as seen from its base (II.10.3)
 abbrev pub filler_over : Tree → MethodIdentity → ℕ → Bool → Option ℕ → Option ℕ
 filler_over tree k n fills below = if fills then option_map_or (λ (m : Method). Some n) (method_found tree k n) below else below
 

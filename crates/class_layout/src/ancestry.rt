@@ -1,4 +1,4 @@
-//! Which types may stand for which, by the numbers of their classes (ECMA-335 I.8.7).
+//! Which types may be given for which, by the numbers of their classes (ECMA-335 I.8.7).
 
 ghost use Rattle.std.specs.Prelude.{◌≡◌, ◌<◌, ◌==◌, ℕ, IfOk, Some, map, length, flat_map, slice_get};
 ghost use Rattle.std.specs.List.{list_any};
@@ -17,7 +17,7 @@ use resolved_code::type_tests::TypeTest;
 use resolved_code::types::NumberedType;
 use std::alloc::Global;
 
-/// For each class, whether it may stand for each class.
+/// For each class, whether it may be given for each class.
 #[derive(Drop)]
 pub struct Ancestry {
     pub rows: Vec<Vec<bool>>,
@@ -70,7 +70,7 @@ impl Ancestry {
     ghost use Rattle.class_layout.specs.Laid.{IsAncestry};
     ghost use Rattle.cil_model.specs.declared.trees.Tree.{Tree};
 
-    /// Fails for want of memory alone.
+    /// The only error is out of memory.
     pub fn new(alloc: Global, classes: &Classes) -> Result<Self, NoMemory>
         ensures { IfOk result (λ table. IsAncestry classes.now.program.now table) }
     {
@@ -79,14 +79,14 @@ impl Ancestry {
         })
     }
 
-    /// Whether a class may stand for another.
+    /// Whether a class may be given for another.
     fn is_class_assignable(&self, from: usize, to: usize) -> bool
         ensures { result ≡ marked_at (map (λ row. row.items) self.now.rows.items) from to }
     {
         flag_at(row_at(self.rows.as_slice(), from), to)
     }
 
-    /// Whether a value of the first type may stand where the second is wanted.
+    /// Whether a value of the first type may be given where the second is expected.
     pub fn is_assignable(&self, from: NumberedType, to: NumberedType) -> bool
         ensures { (tree : Tree) → IsAncestry tree self.now → (a b : DeclaredType) → type_at tree from ≡ Some a → type_at tree to ≡ Some b → result ≡ is_assignable tree a b }
     {

@@ -45,7 +45,7 @@ fn base_at(classes: &[ResolvedClass], class: usize) -> Option<usize>
     }
 }
 
-/// The numbers of a class's chain, the class itself first, up to so many.
+/// The numbers of a class's chain, the class itself first, up to `longest` classes.
 fn chain(
     alloc: Global,
     classes: &[ResolvedClass],
@@ -84,7 +84,7 @@ fn chains(
 }
 
 impl<'p> Classes<'p> {
-    /// The classes of a program. Fails for want of memory alone.
+    /// The classes of a program. The only error is out of memory.
     pub fn new(alloc: Global, program: &'p Program) -> Result<Self, NoMemory>
         ensures program { IfOk result (λ classes. classes.program.now ≡ program.now) }
         ensures resolved { IfOk result (λ classes. AreResolved classes.program.now classes.all.now) }

@@ -26,7 +26,7 @@ use name_tables::lookups::MemberNumber;
 use resolved_code::types::NumberedType;
 use std::alloc::Global;
 
-/// Where the fields of a program lie, which methods its virtual calls run, and which types stand for others. Contracts say whose
+/// Where the fields of a program lie, which methods its virtual calls run, and which types may be given for others. Contracts say whose
 /// layout it is by `IsLayout`.
 pub struct Layout {
     ancestry: Ancestry,
@@ -51,7 +51,7 @@ impl Layout {
     ghost use Rattle.class_layout.specs.Laid.{IsLayout};
     ghost use Rattle.class_layout.specs.Kinds.{kind_of};
 
-    /// The layout of a program. Fails for want of memory alone.
+    /// The layout of a program. The only error is out of memory.
     pub(crate) fn new(alloc: Global, classes: &Classes) -> Result<Self, NoMemory>
         requires { AreResolved classes.now.program.now classes.now.all.now }
         ensures { IfOk result (λ layout. IsLayout classes.now.program.now layout) }
@@ -67,8 +67,8 @@ impl Layout {
         })
     }
 
-    /// Whether a value of the first type may stand where the second is wanted (ECMA-335 I.8.7). An array may stand for one of as many
-    /// brackets where its element may stand for the other's, and for `object` with fewer.
+    /// Whether a value of the first type may be given where the second is expected (ECMA-335 I.8.7). An array may be given for one with as many
+    /// brackets where its element may be given for the other's, and for `object` with fewer.
     pub fn assignable(&self, from: NumberedType, to: NumberedType) -> bool
         ensures { (tree : Tree) → IsLayout tree self.now → (a b : DeclaredType) → type_at tree from ≡ Some a → type_at tree to ≡ Some b → result ≡ is_assignable tree a b }
     {

@@ -1,5 +1,5 @@
 //! Computes where the fields of a legal program lie, which method each call runs, and which types are assignable, as tables of numbers.
-//! What a `Layout` answers is exactly what the definitions say, of every class, field, method and pair of types that the program has. No two
+//! What a `Layout` returns is exactly what the definitions say, of every class, field, method and pair of types that the program has. No two
 //! instance fields of an object have the same slot, whichever class of the chain declares them, and a slot holds what its field holds
 //! (`slots_are_apart`).
 #![tactic(auto)]

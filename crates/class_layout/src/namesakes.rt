@@ -61,7 +61,7 @@ fn nearest_lister(classes: &Classes, interface: usize, chain: &[usize]) -> Optio
 }
 
 impl<'p> Namesakes<'p> {
-    /// Fails for want of memory alone.
+    /// The only error is out of memory.
     pub fn new(alloc: Global, classes: &'p Classes<'p>, identity: usize) -> Result<Self, NoMemory>
         ensures classes { IfOk result (λ methods. methods.classes.now ≡ classes.now) }
         ensures identity { IfOk result (λ methods. methods.identity ≡ identity) }
@@ -104,7 +104,7 @@ impl<'p> Namesakes<'p> {
         slot
     }
 
-    /// The nearest class whose method fills a slot as seen from a class, where it is known as seen from its base. `fills` tells
+    /// The nearest class whose method fills a slot as seen from a class, where it is known as seen from its base. `fills` says
     /// whether the class's own method fills that very slot.
     fn filler_over(&self, class: usize, fills: bool, below: Option<usize>) -> Option<usize>
         ensures { result ≡ filler_from self.now.classes.now.all.now self.now.identity class fills below }

@@ -9,7 +9,7 @@ use cil_model::memory::NoMemory;
 use resolved_code::Program;
 use std::alloc::Global;
 
-/// The layout of a program. Fails for want of memory alone.
+/// The layout of a program. The only error is out of memory.
 pub fn lay_out(alloc: Global, program: &Program) -> Result<Layout, NoMemory>
     ensures { IfOk result (λ layout. IsLayout program.now layout) }
 {

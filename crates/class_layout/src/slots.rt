@@ -13,7 +13,7 @@ use cil_model::memory::NoMemory;
 use resolved_code::classes::ResolvedField;
 use std::alloc::Global;
 
-/// The first free number behind a field that is counted, or one that is not.
+/// The first free number after a field that is counted, or one that is not.
 fn number_after(is_counted: bool, next: usize) -> usize
     requires { number_after is_counted next < 2 ^ 64 }
     ensures { result ≡ number_after is_counted next }
@@ -56,7 +56,7 @@ fn field_row(
     Ok(numbers)
 }
 
-/// The first free number behind the static ones among some fields.
+/// The first free number after the static ones among some fields.
 fn statics_after(first: usize, fields: &[ResolvedField]) -> usize
     requires { statics_by_flag first (map (λ f. f.is_static) fields.now) < 2 ^ 64 }
     ensures { result ≡ statics_by_flag first (map (λ f. f.is_static) fields.now) }
@@ -68,7 +68,7 @@ fn statics_after(first: usize, fields: &[ResolvedField]) -> usize
     next
 }
 
-/// The slot of the first instance field that a class itself declares: behind those that it inherits.
+/// The slot of the first instance field that a class itself declares: after those that it inherits.
 fn first_slot(own: &[Vec<SlotKind>], kinds: &[Vec<SlotKind>], class: usize) -> usize
     ensures behind { result ≡ slot_behind (map (λ row. row.items) kinds.now) (map (λ row. row.items) own.now) class }
     ensures fits { result + length (unwrap_or (slice_get (map (λ row. row.items) own.now) class) []) < 2 ^ 64 }

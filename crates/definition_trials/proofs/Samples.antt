@@ -1,3 +1,3 @@
--- The programs and the state on which definitions are tried out.
+-- The programs and the state on which definitions are tested.
 pub mod Programs
 pub mod FarmProgram

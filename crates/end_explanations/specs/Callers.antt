@@ -4,8 +4,8 @@ use Rattle.cil_model.specs.declared.events.Event.{Event}
 use Rattle.cil_model.specs.declared.events.Event.TheVariants.{Step, Ack, Gc}
 use Rattle.event_trace.specs.interleaving_core.declared.positions.Position.{Position}
 
--- A step that adds a frame calls: where the thread was before it is a caller, the innermost, which is the last. Else there are as many callers as frames below the
--- running one.
+-- A step that adds a frame calls: where the thread was before it is a caller, the innermost, which is the last. Otherwise one caller is left for
+-- each frame below the running one.
 abbrev pub callers_after : List Position → Position → Position → List Position
 callers_after callers before after = if nat_lt before.frames after.frames then callers ++ before ∷ [] else take (after.frames - 1) callers
 

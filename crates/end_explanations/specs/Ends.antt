@@ -23,13 +23,13 @@ use Rattle.end_explanations.specs.declared.texts.TheConstants.{MOST_CALLERS}
 
 -- ---- which threads end early
 
--- why a report ends a thread whose budget has so many steps, before its first method returns
+-- why a report ends a thread, whose budget has the given number of steps, before its first method returns
 abbrev pub cause : ℕ → Report → Option Cause
 cause budget (Ended Budget) = Some (BudgetCause budget)
 cause budget (Ended (Fault fault)) = Some (FaultCause fault)
 cause budget _ = None
 
--- the thread that an event with this report ends so
+-- the thread that an event with this report ends like that
 abbrev pub early_end : ℕ → Event → Report → Option EarlyEnd
 early_end budget (Step t) r = option_map (λ (why : Cause). record { thread = t; cause = why }) (cause budget r)
 early_end budget (Ack t) r = None
@@ -47,7 +47,7 @@ end_lines t why at line None = codes "thread " ++ decimal t ++ codes ": " ++ cau
 end_lines t why at line (Some awaited) =
     codes "thread " ++ decimal t ++ codes ": " ++ cause_text why ++ 10 ∷ codes "  at " ++ located_text at line ++ codes ", waits for " ++ awaited ++ 10 ∷ []
 
--- the same, of a content before the thread's last step, where this is the source
+-- the same, of the machine state before the thread's last step, for a program with this source
 abbrev pub end_text : List ℕ → Content → EarlyEnd → List ℕ
 end_text source c e =
     let at = position_at c.threads e.thread in
@@ -57,7 +57,7 @@ end_text source c e =
 abbrev pub caller_text : List ℕ → Content → Position → List ℕ
 caller_text source c p = codes "  called from " ++ located_text (found_at c.tree p) (line_of source p) ++ 10 ∷ []
 
--- the lines of so many innermost callers, of which the innermost is the first
+-- the lines of the n innermost callers, of which the innermost is the first
 abbrev pub caller_lines : List ℕ → Content → List Position → ℕ → List ℕ
 caller_lines source c callers zero = []
 caller_lines source c callers (suc n) = caller_lines source c callers n ++ option_map_or (caller_text source c) (slice_get callers (length callers - 1 - n)) []

@@ -25,7 +25,7 @@ pub record Known : Type 0 where
 abbrev pub beginning : Known
 beginning = record { callers = replicate MOST_THREADS []; printed = []; text = [] }
 
--- a thread is deadlocked, and was not printed so
+-- a thread is deadlocked, and was not printed as deadlocked
 abbrev pub is_new : List Bool → List Bool → ℕ → Bool
 is_new printed deadlocked t = is_in deadlocked t && not (is_in printed t)
 
@@ -37,19 +37,20 @@ new_deadlock c printed deadlocked t = if is_new printed deadlocked t then deadlo
 abbrev pub printed_after : List Bool → List Bool → ℕ → List Bool
 printed_after printed deadlocked t = if is_new printed deadlocked t then deadlocked else printed
 
--- the text gets that on a thread that ends from a content, in a program with this source, and on the threads that are deadlocked then, where it is new that this thread is
+-- the text gets the lines on a thread that ends from a machine state, in a program with this source, and the line on the threads that are deadlocked
+-- then, where it is new that this thread is
 pub record IsEndExplained (source : List ℕ) (c : Content) (before : Known) (end : EarlyEnd) (after : Known) : Type 0 where
   pub deadlocked : List Bool
   pub is_deadlock : IsDeadlockOf c deadlocked
   pub text : after.text ≡ before.text ++ end_text source c end ++ callers_text source c (callers_of before.callers end.thread) ++ new_deadlock c before.printed deadlocked end.thread
   pub printed : after.printed ≡ printed_after before.printed deadlocked end.thread
 
--- only an event that ends a thread so gets a text
+-- only an event that ends a thread like that gets a text
 abbrev pub IsEventExplained : List ℕ → Content → Known → Option EarlyEnd → Known → Type 0
 IsEventExplained source c before None after = (after.text ≡ before.text) × (after.printed ≡ before.printed)
 IsEventExplained source c before (Some end) after = IsEndExplained source c before end after
 
--- an event with its report is performed, from one content and what is known to the next ones
+-- an event with its report is performed, from one machine state and what is known to the next ones
 pub record IsReplayed (source : List ℕ) (c : Content) (before : Known) (e : Event × Report) (next : Content) (after : Known) : Type 0 where
   pub turn : IsTurn c e.0 (next, e.1)
   pub explained : IsEventExplained source c before (early_end c.limits.budget e.0 e.1) after
@@ -60,7 +61,7 @@ abbrev pub AreReplayed : List ℕ → Content → Known → List (Event × Repor
 AreReplayed source c before [] last after = (last ≡ c) × (after ≡ before)
 AreReplayed source c before (e ∷ es) last after = (next : Content) × (known : Known) × IsReplayed source c before e next known × AreReplayed source next known es last after
 
--- the text on the threads that end so in these events with their reports, from this content on, in a program with this source
+-- the text on the threads that end early in these events with their reports, from this machine state on, in a program with this source
 abbrev pub AreEndsExplained : List ℕ → Content → List (Event × Report) → List ℕ → Type 0
 AreEndsExplained source c events text = (last : Content) × (after : Known) × AreReplayed source c beginning events last after × (text ≡ after.text)
 

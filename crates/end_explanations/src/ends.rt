@@ -42,7 +42,7 @@ pub(crate) struct EarlyEnd {
     pub(crate) cause: Cause,
 }
 
-/// The thread that an event ends by a fault or its budget, which has so many steps. None if it ends no thread, or one whose first method returns.
+/// The thread that an event ends by a fault or its budget, of `budget` steps. None if it ends no thread, or one whose first method returns.
 pub(crate) fn early_end(event: Event, report: Report, budget: u32) -> Option<EarlyEnd>
     ensures { result ≡ early_end budget event report }
 {

@@ -89,7 +89,7 @@ fn line_at(method: &Method, index: usize) -> Option<&Line>
     lines_of(method).get(index)
 }
 
-/// The instruction at a position of the program that a machine runs, with its line. Only want of memory is an error.
+/// The instruction at a position of the program that a machine runs, with its line. The only error is out of memory.
 pub(crate) fn locate<'a>(
     machine: &'a Machine,
     names: &'a Names<'_>,

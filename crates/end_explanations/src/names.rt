@@ -22,7 +22,7 @@ pub(crate) struct Names<'s> {
 }
 
 impl<'s> Names<'s> {
-    /// The names of a program, by its tree and its source. Only want of memory is an error.
+    /// The names of a program, by its tree and its source. The only error is out of memory.
     pub(crate) fn new(alloc: Global, tree: &Tree, source: &'s [u8]) -> Result<Names<'s>, NoMemory>
         ensures places { IfOk result (λ names. ArePlacesOf tree.now names.methods) }
         ensures classes { IfOk result (λ names. map built_in_entry names.classes ≡ built_ins) }

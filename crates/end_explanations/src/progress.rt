@@ -118,7 +118,7 @@ impl Progress {
     }
 }
 
-/// Whether a thread is deadlocked that was not printed so.
+/// Whether a thread is deadlocked that was not printed as deadlocked.
 fn is_new(printed: &[bool], deadlocked: &[bool], thread: u8) -> bool
     ensures { result ≡ is_new printed.now deadlocked.now thread }
 {

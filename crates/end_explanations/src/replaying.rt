@@ -25,7 +25,7 @@ pub enum ReplayError {
     /// Memory ran out, for an event or for the text.
     #[error("out of memory")]
     Memory,
-    /// The machine reports something else of an event than the history: it was not in the state in which the history began.
+    /// The machine's report of an event differs from the history's: the machine was not in the state in which the history began.
     #[error("not the machine of this history")]
     OtherReport,
 }
@@ -63,7 +63,7 @@ impl From<AllocError> for ReplayError {
 /// earlier thread has printed it.
 ///
 /// # Errors
-/// `Memory` if memory runs out. `OtherReport` if the machine reports something else of an event than the history. The machine has done some of the
+/// `Memory` if memory runs out. `OtherReport` if the machine's report of an event differs from the history's. The machine has done some of the
 /// events then.
 pub fn explain_ends(
     alloc: Global,

@@ -17,7 +17,7 @@ use Rattle.epoch_words.specs.declared.word_table.View.TheVariants.{OfSeat, OfHer
 abbrev Table : Type 0
 Table = State (Unit {0}) View
 
--- what every other view knows goes on to hold, while the words become `after`
+-- what every other view knows continues to hold, while the words become `after`
 abbrev KeepsOthers : ℕ → ℕ → List ℕ → List ℕ → ℕ → Type 0
 KeepsOthers workers places before after mover = (j : ℕ) (v : View) → j ≢ mover → Knows before workers places j v → Knows after workers places j v
 

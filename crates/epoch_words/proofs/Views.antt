@@ -21,7 +21,7 @@ module _ {A : Type 0} where
   changed P l mover w mine others j v e = ⊎_elim (λ (t : (j ≡ mover) × (w ≡ v)). subst (λ (z : ℕ × A). P z.0 z.1) (λ i. (sym t.0 i, t.1 i)) mine)
       (λ (t : (j ≢ mover) × (get_elem? l j ≡ some v)). others j v t.0 t.1) (at_set l mover j w v e)
 
-  -- the views once w stands after them
+  -- the views with w after them
   pub longer : (P : ℕ → A → Type 0) (l : List A) (w : A) → P (length l) w → ((j : ℕ) (v : A) → get_elem? l j ≡ some v → P j v) → (j : ℕ) (v : A) → get_elem? (l ++ w ∷ []) j ≡ some v → P j v
   longer P l w last others j v e = ⊎_elim (λ (old : get_elem? l j ≡ some v). others j v old)
       (λ (t : (j ≡ length l) × (w ≡ v)). subst (λ (z : ℕ × A). P z.0 z.1) (λ i. (sym t.0 i, t.1 i)) last) (at_end l w v j e)

@@ -9,7 +9,7 @@ use Rattle.epoch_words.specs.declared.word_table.SeatView.{SeatView}
 use Rattle.epoch_words.specs.declared.word_table.View.{View}
 use Rattle.epoch_words.specs.declared.word_table.View.TheVariants.{OfSeat, OfHerald}
 
--- the herald once so many seats are given out, before any step
+-- the herald once this number of seats is given out, before any step
 abbrev pub dealt_herald : ℕ → ℕ → HeraldView
 dealt_herald workers dealt = record { posted = 0; dealt = dealt; found = replicate workers 0; looks = 0; looked_at = 0 }
 
@@ -29,7 +29,7 @@ pub record IsSeatView (words : List ℕ) (workers place : ℕ) (seat : SeatView)
   pub seen_polled : seat.seen ≤ seat.polled
   pub polled_posted : seat.polled ≤ slice_index words workers
 
--- What the herald knows, whose view has the place 0 of so many: the posted number, and that no seat's number has fallen below what was found.
+-- What the herald knows, whose view has the place 0 of all places: the posted number, and that no seat's number has fallen below what was found.
 pub record IsHeraldView (words : List ℕ) (workers places place : ℕ) (herald : HeraldView) : Type 0 where
   pub place_is : place ≡ 0
   pub places_are : places ≡ herald.dealt + 1
@@ -42,7 +42,7 @@ abbrev pub Knows : List ℕ → ℕ → ℕ → ℕ → View → Type 0
 Knows words workers places place (OfSeat seat) = IsSeatView words workers place seat
 Knows words workers places place (OfHerald herald) = IsHeraldView words workers places place herald
 
--- Every step keeps this: the words are paced, and what each holder of a token knows is so.
+-- Every step keeps this: the words are paced, and what each holder of a token knows is true.
 pub record KeepsEpochs (workers : ℕ) (table : State (Unit {0}) View) : Type 0 where
   pub words_are : length table.words ≡ workers + 1
   pub paced : IsPaced workers table.words

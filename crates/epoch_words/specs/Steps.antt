@@ -1,4 +1,4 @@
--- The four kinds of step, and the giving out of a seat: what each tells its holder, and what the holder knows after it (this profile).
+-- The four kinds of step, and the giving out of a seat: what each reports to its holder, and what the holder knows after it (this profile).
 use Rattle.std.specs.Prelude.{◌≡◌, ℕ, ◌+◌, ◌≤◌, [], slice_index, slice_set}
 use Rattle.atomic_table.specs.Table.{Me, Step}
 use Rattle.epoch_words.specs.Tokens.{IsPostedOrOneLess}
@@ -14,12 +14,12 @@ Holder = Me (Unit {0}) View
 abbrev pub WordStep : Type 0
 WordStep = Step (Unit {0})
 
--- what a seat knows (of a herald's view nothing is asked)
+-- what a seat knows (nothing is required of a herald's view)
 abbrev pub seat_part : View → SeatView
 seat_part (OfSeat seat) = seat
 seat_part (OfHerald herald) = record { index = 0; seen = 0; polled = 0; polls = 0 }
 
--- what the herald knows (of a seat's view nothing is asked)
+-- what the herald knows (nothing is required of a seat's view)
 abbrev pub herald_part : View → HeraldView
 herald_part (OfSeat seat) = record { posted = 0; dealt = 0; found = []; looks = 0; looked_at = 0 }
 herald_part (OfHerald herald) = herald

@@ -39,11 +39,11 @@ opening_seats table workers = map (opening_seat table) (range_with_len 0 workers
 abbrev pub opening_herald : TableId → ℕ → HeraldValue
 opening_herald table workers = record { table = table; posted = 0; found = replicate workers 0; looks = 0; looked_at = 0 }
 
--- Each of so many seats was found to have seen the posted number.
+-- Each of this number of seats was found to have seen the posted number.
 abbrev pub FoundAll : ℕ → ℕ → List ℕ → Type 0
 FoundAll workers posted found = (j : ℕ) → j < workers → slice_index found j ≡ posted
 
--- The seat of the last look is the first of so many that was found not to have seen the posted number.
+-- The seat of the last look is the first one that was found not to have seen the posted number.
 abbrev pub FoundLate : ℕ → ℕ → List ℕ → ℕ → Type 0
 FoundLate workers posted found looked_at = (looked_at < workers) × FoundAll looked_at posted found × (slice_index found looked_at < posted)
 

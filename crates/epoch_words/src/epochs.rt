@@ -101,7 +101,7 @@ impl Model for Herald {
         × (length known.found + 1 ≡ h.token.table_id.words) };
 }
 
-/// The words of so many seats, all 0, and the herald's token.
+/// The words of this number of seats, all 0, and the herald's token.
 fn lay_words(alloc: Global, workers: usize) -> Result<(WordTable, Token), AllocError>
     ensures words { IfOk result (λ laid. (laid.0.shared.table_id.words ≡ workers + 1) × (laid.0.shared.key ≡ workers)) }
     ensures token { IfOk result (λ laid. (laid.1.table_id ≡ laid.0.shared.table_id) × (laid.1.me ≡ (opening_view workers, []))) }
@@ -134,9 +134,9 @@ fn herald_of(token: Token, workers: usize) -> Herald
 }
 
 impl Epochs {
-    /// Epochs for so many workers, with the herald and a seat for each worker, in order. All numbers begin at 0.
+    /// Epochs for this number of workers, with the herald and a seat for each worker, in order. All numbers begin at 0.
     ///
-    /// Only want of memory is an error. No other call takes memory.
+    /// The only error is out of memory. No other call takes memory.
     pub fn new(alloc: Global, workers: usize) -> Result<(Epochs, Herald, Vec<Seat>), AllocError>
         ensures epochs { IfOk result (λ made. made.0.workers ≡ workers) }
         ensures herald { IfOk result (λ made. made.1 ≡ opening_herald made.0.table workers) }

@@ -35,7 +35,7 @@ pub enum View {
     OfHerald(HeraldView),
 }
 
-/// The rule that every step keeps. It is told the number of seats.
+/// The rule that every step keeps. It is given the number of seats.
 pub struct EpochRule;
 
 impl TableRule<(), View, usize> for EpochRule {

@@ -1,4 +1,4 @@
--- So many rounds leave the greatest set of threads that wait for one another.
+-- More rounds than there are threads leave the greatest set of threads that wait for one another.
 use Rattle.std.proofs.Common.{◌≡◌, ◌≤◌, ◌<◌, ◌+◌, ◌⊎◌, ◌&&◌, ◌||◌, not, ℕ, zero, suc, Bool, true, false, List, length, replicate, Option, Some, None, option_map, slice_get, unwrap_or, refl, inl, inr, sym, ap, ◌∙◌, subst, arith}
 use Rattle.std.specs.Option.{option_map_or}
 use Rattle.std.proofs.lemmas.List.{length-replicate}
@@ -28,7 +28,7 @@ use Rattle.event_trace.proofs.RoundLaws.{count, count_within, in_is, is_in_truly
 no_start : (t : ℕ) → 0 + t ≡ t
 no_start t = omega arith
 
--- what stands in a list of truths
+-- the items of a list of truths
 all_true : (n t : ℕ) → t < n → slice_get (replicate n true) t ≡ Some true
 all_true zero t below = absurd (omega (arith, below))
 all_true (suc n) zero below = refl
@@ -51,7 +51,7 @@ module _ (c : Content) (s : State) (r : Represents c s) where
   ended : (owner : ℕ) → ((thread : StateThread) × (slice_get s.threads owner ≡ Some thread)) → is_live_at c.threads owner ≡ false → HasEnded s owner
   ended owner (x, there) h = (x, there, sym (ap (λ o. unwrap_or (option_map is_live_thread o) false) there) ∙ (sym (lives_alike c s r owner) ∙ h))
 
-  -- and the other way round
+  -- and conversely
   not_live : (owner : ℕ) → HasEnded s owner → is_live_at c.threads owner ≡ false
   not_live owner (x, there, over) = lives_alike c s r owner ∙ (ap (λ o. unwrap_or (option_map is_live_thread o) false) there ∙ over)
 
@@ -131,7 +131,7 @@ module _ (c : Content) (s : State) (r : Represents c s) where
 
 -- ---- rounds
 
--- after some rounds: the deadlocked threads are in the set, which no round changes any more, or as many threads are out of it
+-- after some rounds: the deadlocked threads are in the set, which no round changes any more, or at least one thread for each round is out of it
 pub record RoundsSoFar (c : Content) (rounds : ℕ) (set : List Bool) : Type 0 where
   pub each : length set ≡ length c.threads
   pub above : (s : State) → (r : Represents c s) → IsAbove c s r set

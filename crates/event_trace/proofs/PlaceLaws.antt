@@ -19,7 +19,7 @@ use Rattle.event_trace.specs.Places.{built_in_method, method_by, methods_by, sou
 use Rattle.event_trace.specs.declared.method_places.MethodPlace.{MethodPlace}
 use Rattle.event_trace.specs.declared.method_places.MethodPlace.TheVariants.{BuiltIn, Source}
 
--- ---- lists of which each item stands for one of another
+-- ---- lists whose items correspond one by one to those of another list
 
 -- the item of a number
 pub at_number : {P X : Type 0} (f : P → Option X) (ps : List P) (xs : List X) (n : ℕ) → map f ps ≡ map Some xs → option_and_then f (slice_get ps n) ≡ slice_get xs n

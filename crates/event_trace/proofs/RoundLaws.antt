@@ -10,7 +10,7 @@ count (true ∷ xs) = suc (count xs)
 count (false ∷ xs) = count xs
 
 module _ (test : ℕ → Bool) where
-  -- as many entries
+  -- the same number of entries
   pub passing_length : (n : ℕ) (xs : List Bool) → length (passing test n xs) ≡ length xs
   passing_length n [] = refl
   passing_length n (x ∷ xs) = ap suc (passing_length (n + 1) xs)
@@ -21,7 +21,7 @@ module _ (test : ℕ → Bool) where
   no_more : (n : ℕ) → n + 0 ≡ n
   no_more n = omega arith
 
-  -- what stands at a place
+  -- the item at a place
   pub passing_at : (n t : ℕ) (xs : List Bool) → slice_get (passing test n xs) t ≡ option_map (λ x. x && test (n + t)) (slice_get xs t)
   passing_at n t [] = refl
   passing_at n zero (x ∷ xs) = ap (λ k. Some (x && test k)) (sym (no_more n))

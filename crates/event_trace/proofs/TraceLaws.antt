@@ -199,7 +199,7 @@ stopped_at c d after all es n e rest pending out so_far new split is h (inr done
       begun = inl (begins_rest out so_far new h.text pending line h.held done.2);
     }
 
--- memory is wanted for an event, or for its line, and a beginning of what was pending is written
+-- memory runs out for an event, or for its line, and a beginning of what was pending is written
 pub event_cut : (n : ℕ) (e : Event) (c after : Content) (pending : List ℕ) (out new : Option (List ℕ)) → (after ≡ c) ⊎ ((r : Report) × IsTurn c e (after, r)) → AppendsBeginning out new pending → IsEventCut n e c after pending out new
 event_cut n e c after pending out new (inl same) k = inl (same, k)
 event_cut n e c after pending out new (inr done) k = inr (done.0, done.1, begins_first out new pending (line_of n e done.0 c after) k)

@@ -98,7 +98,7 @@ own_column (Some phase) = phase_text phase
 abbrev pub heap_columns : HeapColumns → List ℕ
 heap_columns h = decimal h.old_words ++ 9 ∷ decimal h.new_words ++ 9 ∷ phase_text h.posted ++ 9 ∷ own_column h.own
 
--- their values for a content and the thread of an event
+-- their values for a machine state and the thread of an event
 abbrev pub heap_for : Content → Event → HeapColumns
 heap_for c e = record {
   old_words = used_space c.objects;
@@ -116,7 +116,7 @@ event_columns e = decimal e.number ++ 9 ∷ event_text e.event ++ 9 ∷ report_t
 abbrev pub columns_text : EventColumns → Option ((ClassName × Method) × ℕ) → Option Position → HeapColumns → List ℕ
 columns_text event before after heap = event_columns event ++ 9 ∷ instruction_column before ++ 9 ∷ size_columns after ++ 9 ∷ heap_columns heap ++ 10 ∷ []
 
--- the line of an event from one content to the next
+-- the line of an event from one machine state to the next
 abbrev pub line_of : ℕ → Event → Report → Content → Content → List ℕ
 line_of n e r before after =
     columns_text (record { number = n; event = e; report = r }) (option_and_then (found_at before.tree) (position_for before e)) (position_for after e) (heap_for after e)

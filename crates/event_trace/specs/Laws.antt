@@ -17,7 +17,7 @@ pub record IsLineOf (columns : List (List ℕ)) (line : List ℕ) : Type 0 where
 abbrev pub LinesHaveColumns : Type 0
 LinesHaveColumns = (n : ℕ) (e : Event) (r : Report) (before after : Content) → (columns : List (List ℕ)) × (length columns ≡ 10) × IsLineOf columns (line_of n e r before after)
 
--- what stands before the first empty line, of bytes that begin a line or go on with one
+-- the bytes before the first empty line, where the list begins a line, or continues one that has bytes already
 abbrev pub before_empty_line : Bool → List ℕ → List ℕ
 before_empty_line begins [] = []
 before_empty_line begins (x ∷ bytes) =

@@ -17,9 +17,9 @@ AreTraced n c (e ∷ es) after [] text = ⊥
 AreTraced n c (e ∷ es) after (r ∷ rs) text =
     (next : Content) × (more : List ℕ) × IsTurn c e (next, r) × (text ≡ line_of n e r c next ++ more) × AreTraced (n + 1) next es after rs more
 
--- The events are done in order, from one content to another, each with a report. A writer has taken a line of each, numbered from 1, and an
--- empty line after them. The reference machine's run over the steps among them is never stuck, gives the steps' reports, and comes to a
--- state that the machine represents.
+-- The events are done in order, from one machine state to another, each with a report. A writer has taken a line of each, numbered from 1, and
+-- an empty line after them. The reference machine's run over the steps among them is never stuck, gives the steps' reports, and ends in a state
+-- that the machine represents.
 pub record IsTraced (old : Content) (events : List Event) (new : Content) (reports : List Report) (out out' : Option (List ℕ)) : Type 0 where
   pub text : List ℕ
   pub lines : AreTraced 1 old events new reports text

@@ -126,8 +126,8 @@ fn add_number(text: &mut String, before: usize, thread: usize) -> Result<(), NoM
     Ok(())
 }
 
-/// Appends the numbers of the threads of a set in ascending order, as `0, 2`, and returns how many there are. Only want of memory is an error; a
-/// part of the numbers may then stand in the text.
+/// Appends the numbers of the threads of a set in ascending order, as `0, 2`, and returns how many there are. The only error is out of memory;
+/// the text may then have a part of the numbers.
 pub fn add_thread_numbers(text: &mut String, set: &[bool]) -> Result<usize, NoMemory>
     ensures added { OnOk result (string_bytes text.new ≡ string_bytes text.old ++ numbers_below set.now (length set.now)) }
     ensures count { IfOk result (λ count. count ≡ count_below set.now (length set.now)) }
@@ -142,7 +142,7 @@ pub fn add_thread_numbers(text: &mut String, set: &[bool]) -> Result<usize, NoMe
     Ok(count)
 }
 
-/// Adds the line of the deadlocked threads, where there are any. Only want of memory is an error.
+/// Adds the line of the deadlocked threads, where there are any. The only error is out of memory.
 pub fn add_deadlock(
     alloc: Global,
     text: &mut String,
@@ -177,11 +177,11 @@ pub fn add_deadlock(
 /// ```
 ///
 /// A thread is deadlocked that waits for the end of a deadlocked thread, or for a monitor that a deadlocked thread holds, or one that has
-/// ended: none of them goes on, whatever events follow, up to the step that uses up the budget of one. `deadlock` stands where all live
-/// threads are deadlocked, so that none can go on; `partial deadlock` where another live thread can. Without either line some live thread
-/// can go on, if there is one.
+/// ended: none of them advances, whatever events follow, up to the step that uses up the budget of one. The line begins `deadlock` if all live
+/// threads are deadlocked, so that none can advance, and `partial deadlock` if another live thread can. Without either line some live thread
+/// can advance, if there is one.
 ///
-/// Only want of memory is an error.
+/// The only error is out of memory.
 pub fn explain_threads(alloc: Global, machine: &Machine) -> Result<String, NoMemory>
     ensures { IfOk result (λ text. (deadlocked : List Bool) × IsDeadlockOf machine.now deadlocked × (string_bytes text ≡ threads_text machine.now deadlocked)) }
 {

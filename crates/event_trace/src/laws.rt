@@ -3,7 +3,7 @@
 ghost use Rattle.event_trace.specs.Laws.{LinesHaveColumns, LinesStandBefore};
 
 /// The line of an event is ten columns of printable ASCII, with a tab between two and a line feed after them, whatever the event, the
-/// report and the contents of the machine.
+/// report and the states of the machine.
 pub fn lines_have_columns()
     ensures { LinesHaveColumns }
 {}

@@ -37,7 +37,7 @@ pub struct MethodPlaces {
 impl MethodPlaces {
     ghost use Rattle.event_trace.specs.Places.{ArePlacesOf};
 
-    /// The places of the methods of a tree. Fails for want of memory alone.
+    /// The places of the methods of a tree. The only error is out of memory.
     pub fn new(alloc: Global, tree: &Tree) -> Result<Self, NoMemory>
         ensures { IfOk result (ArePlacesOf tree.now) }
     {

@@ -1,4 +1,4 @@
-//! Runs a machine by the events that items stand for, and writes a line of each.
+//! Runs a machine by the events that items represent, and writes a line of each.
 
 ghost use Rattle.std.specs.Prelude.{◌≡◌, ◌⊎◌, ◌+◌, ◌++◌, IfErr, IfOk, OnErr, OnOk, List, option_and_then, option_map};
 ghost use Rattle.cil_model.specs.declared.reports.Report.{Report as AnyReport};
@@ -27,7 +27,7 @@ use outputs::Out;
 use schedule_text::Item;
 use std::alloc::Global;
 
-/// Does the events that these items stand for in order, as `Machine::run` does, and writes a line of each, and an empty line after the
+/// Does the events that these items represent in order, as `Machine::run` does, and writes a line of each, and an empty line after the
 /// last.
 ///
 /// A line has ten columns, with a tab between two: the number of the event, from 1; the event as a schedule writes it; its report; the
@@ -37,9 +37,9 @@ use std::alloc::Global;
 /// is printable ASCII.
 ///
 /// Lines are put together and written in pieces of 32 KiB or more, what is left of them at the end. It takes memory for a list of where
-/// each method is declared, for a piece and one line, and no more than the machine itself for events. It stops at the first want of memory,
-/// where it writes what it has put together, at the first write that fails, and, with `Memory`, before an event whose number no `usize`
-/// holds. Some of the first events are done then, and a beginning of their lines is written, and no empty line unless all of them are done.
+/// each method is declared, for a piece and one line, and no more than the machine itself for events. It stops when memory runs out, and then
+/// writes what it has put together; at the first write that fails; and, with `Memory`, before an event whose number no `usize` holds. Some of
+/// the first events are done then, and a beginning of their lines is written, and no empty line unless all of them are done.
 pub fn trace<W: Out>(
     alloc: Global,
     machine: &mut Machine,
@@ -77,8 +77,8 @@ fn next_number(number: usize) -> Result<usize, TraceError>
     }
 }
 
-/// Does one event, and appends the line of its number to those that are pending, which are written once they fill a piece. Where memory
-/// is wanted they are written too.
+/// Does one event, and appends the line of its number to those that are pending, which are written once they fill a piece. If memory runs
+/// out they are written too.
 fn trace_event<W: Out>(
     alloc: Global,
     machine: &mut Machine,

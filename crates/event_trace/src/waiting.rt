@@ -42,7 +42,7 @@ fn is_kept(machine: &Machine, set: &[bool], thread: u8) -> bool
     is_in(set, thread) && stays(machine, set, thread)
 }
 
-/// The set without the threads that are not held up by it. It has as many entries as threads were started.
+/// The set without the threads that are not held up by it. It has an entry for each thread that was started.
 fn after_round(alloc: Global, machine: &Machine, set: &[bool]) -> Result<Vec<bool>, NoMemory>
     requires { length set.now ≡ length machine.now.threads }
     ensures { IfOk result (λ next. next.items ≡ after_round machine.now set.now) }
@@ -57,8 +57,8 @@ fn after_round(alloc: Global, machine: &Machine, set: &[bool]) -> Result<Vec<boo
 /// Which threads are deadlocked, of each that was started, by number: those of the greatest set of threads each of which waits for the end
 /// of a thread of the set, or for a monitor that a thread of the set holds, or one that has ended.
 ///
-/// None of them goes on, whatever events follow, up to the step that uses up the budget of one. The machine does nothing. Only want of
-/// memory is an error.
+/// None of them advances, whatever events follow, up to the step that uses up the budget of one. The machine does nothing. The only error
+/// is out of memory.
 pub fn deadlocked_threads(alloc: Global, machine: &Machine) -> Result<Vec<bool>, NoMemory>
     ensures { IfOk result (λ deadlocked. IsDeadlockOf machine.now deadlocked.items) }
 {

@@ -1,4 +1,4 @@
--- The lemmas of the steps, in the form that a call asks for.
+-- The lemmas of the steps, in the form that a call requires.
 use Rattle.std.proofs.Common.{true, false, Some, None, ◌≡◌, ℕ, ◌+◌, ◌<◌, ◌≤◌, [], ◌∷◌, ◌++◌, length, get_or, set, sym, ap, ◌∙◌, subst, arith}
 use mathlib.Core.Option.{none}
 use Rattle.atomic_table.specs.Table.{State, step, Allows}
@@ -12,7 +12,7 @@ use Rattle.epoch_words.specs.Tokens.{FoundAll, IsPostedOrOneLess}
 use Rattle.flip_table.specs.Steps.{Holder, loading_writer, looking_copier, LoadsFirst, LoadsSecond, StoresFirst, StoresSecond, StoresAlone, PollsStage, TakesUp, LoadsToCopy, StoresCopy, LoadsToCheck, FindsStage, PostsStage, Retires}
 use Rattle.flip_table.proofs.StepsKeep as keep
 
--- a step that tells A tells what follows from A
+-- a step that reports A reports what follows from A
 allows_then : (holds : State (Unit {0}) View → Type 0) (slots id : ℕ) (me : Holder) (i : ℕ) (f : ℕ → ℕ) (A B : ℕ → Holder → Type 0) → Allows holds slots id me i f A → ((x : ℕ) (after : Holder) → A x after → B x after) → Allows holds slots id me i f B
 allows_then holds slots id me i f A B allowed follows s r deep at fits = let t = allowed s r deep at fits in (t.0, t.1, t.2, t.3, follows _ _ t.4)
 

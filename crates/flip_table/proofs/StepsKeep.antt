@@ -62,7 +62,7 @@ module _ (plan : PlanView) where
   abbrev Paced : List ℕ → Type 0
   Paced ws = (j : ℕ) → j < n → IsPostedOrOneLess (taken ws j) (stage ws)
 
-  -- what every other view knows goes on to hold
+  -- what every other view knows continues to hold
   abbrev KeepsOthers : ℕ → List ℕ → List ℕ → ℕ → Type 0
   KeepsOthers places before after mover = (j : ℕ) (v : View) → j ≢ mover → Knows before plan places j v → Knows after plan places j v
 

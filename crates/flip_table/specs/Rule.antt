@@ -11,7 +11,7 @@ use Rattle.flip_table.specs.declared.slot_table.View.{View}
 use Rattle.flip_table.specs.declared.slot_table.View.TheVariants.{OfWriter, OfCopier}
 use Rattle.flip_table.specs.declared.slot_table.WriterView.{WriterView}
 
--- what stands in a first copy that was retired
+-- the word in a first copy that was retired
 abbrev pub retired_mark : ℕ
 retired_mark = 65536
 
@@ -62,7 +62,7 @@ pub record IsWriterView (words : List ℕ) (plan : PlanView) (place : ℕ) (q : 
   pub wrote_written : (k : ℕ) → k < length plan.owners → IsAmong q.wrote k (slice_index q.written k)
   pub settled : 1 < q.taken_up → q.pending ≡ None
 
--- What the copier knows, whose view has the place 0 of so many.
+-- What the copier knows, whose view has the place 0 of all places.
 pub record IsCopierView (words : List ℕ) (plan : PlanView) (places place : ℕ) (p : CopierView) : Type 0 where
   pub plan_is : p.plan ≡ plan
   pub place_is : place ≡ 0
@@ -95,7 +95,7 @@ pub record KeepsFlip (plan : PlanView) (table : State (Unit {0}) View) : Type 0 
   pub twins : (k : ℕ) (q : WriterView) → k < length plan.owners → get_elem? table.views (slice_index plan.owners k + 1) ≡ some (OfWriter q)
       → IsTwin (slice_index table.words k) (slice_index table.words (length plan.owners + k)) k q copier
 
--- the copier once so many writers are given out, before any step
+-- the copier once this number of writers is given out, before any step
 abbrev pub dealt_copier : PlanView → ℕ → CopierView
 dealt_copier plan dealt = record {
   plan = plan;

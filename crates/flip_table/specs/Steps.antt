@@ -1,4 +1,4 @@
--- The kinds of step: what each tells its holder, and what the holder knows after it (this profile).
+-- The kinds of step: what each reports to its holder, and what the holder knows after it (this profile).
 use Rattle.std.specs.Prelude.{true, false, Some, None, ◌≡◌, ◌≢◌, ℕ, ◌+◌, ◌<◌, ◌≤◌, [], ◌∷◌, ◌++◌, length, slice_index, slice_set}
 use Rattle.atomic_table.specs.Table.{Me, Step}
 use Rattle.flip_table.specs.Rule.{forward, opening_writer}
@@ -18,12 +18,12 @@ WordStep = Step (Unit {0})
 abbrev no_plan : PlanView
 no_plan = record { owners = []; seats = 0; limit = 0 }
 
--- what a writer knows (of the copier's view nothing is asked)
+-- what a writer knows (nothing is required of the copier's view)
 abbrev pub writer_part : View → WriterView
 writer_part (OfWriter q) = q
 writer_part (OfCopier p) = record { plan = no_plan; index = 0; taken_up = 0; polled = 0; polls = 0; loads = 0; loaded_word = 0; loaded = 0; written = []; wrote = []; pending = None }
 
--- what the copier knows (of a writer's view nothing is asked)
+-- what the copier knows (nothing is required of a writer's view)
 abbrev pub copier_part : View → CopierView
 copier_part (OfWriter q) = record {
   plan = no_plan;

@@ -17,7 +17,7 @@ use atomic_table::Table;
 use std::alloc::{AllocError, Global};
 use std::marker::Model;
 
-/// What stands in a first copy that was retired.
+/// The word in a first copy that was retired.
 pub const RETIRED_MARK: u64 = 65_536;
 
 /// A second copy says a value by its multiple of this.
@@ -168,7 +168,7 @@ fn forward(value: u64) -> u64
 impl FlipTable {
     /// A table of this plan, with the copier and a writer for each seat, in order. Every slot is null, and every stage 0.
     ///
-    /// Only want of memory is an error. No other call takes memory.
+    /// The only error is out of memory. No other call takes memory.
     pub fn new(alloc: Global, plan: Plan) -> Result<(FlipTable, Copier, Vec<Writer>), AllocError>
         requires sizes { (vec_len plan.writer_of ≤ 4096) × (plan.seats ≤ 16) }
         requires owned { All (λ j. j < plan.seats) plan.writer_of.items }
@@ -211,7 +211,7 @@ impl FlipTable {
         (value, writer)
     }
 
-    /// Loads the second copy of a slot, from stage 1 on, and answers the value whose forward stands there: a value below
+    /// Loads the second copy of a slot, from stage 1 on, and returns the value whose forward is there: a value below
     /// the limit, and in a slot of the writer's own what it last wrote.
     pub fn load_second(&self, mut writer: Writer, slot: usize) -> (u64, Writer)
         requires table { IsWriterOf self.now writer × (slot < length self.now.plan.owners) }

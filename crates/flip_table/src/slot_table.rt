@@ -88,7 +88,7 @@ pub enum View {
     OfCopier(CopierView),
 }
 
-/// The rule that every step keeps. It is told the plan.
+/// The rule that every step keeps. It is given the plan.
 pub struct FlipRule;
 
 impl TableRule<(), View, Plan> for FlipRule {

@@ -90,7 +90,7 @@ kept_by_all sizes flip kept writers of are e = e ∙ ap (λ (owned : ℕ). sizes
     within : All (λ seat. seat < flip.plan.seats) flip.plan.owners
     within = rw of.seats_are (owners_within sizes flip.plan.owners of.places_are of.dealt)
 
--- so many loads can be counted
+-- this number of loads can be counted
 pub kept_fits : (sizes : Sizes) → sizes.rounds * place_count sizes < 2 ^ 64
 kept_fits sizes = let some_objects = sizes.some_objects in let some_slots = sizes.some_slots in
     let objects : sizes.objects ≤ 256 = omega arith in let slots : sizes.slots ≤ 16 = omega arith in let places : place_count sizes ≤ 256 * 16 = mul-le-mul objects slots in

@@ -1,4 +1,4 @@
--- What the flip of a trial is, and what a seat owns in it (this profile).
+-- What the flip of a stress run is, and what a seat owns in it (this profile).
 use Rattle.std.specs.Prelude.{◌≡◌, ℕ, ◌*◌, ◌%◌, ◌<◌, length, count_by, nat_eq, slice_index}
 use Rattle.flip_trial.specs.declared.sizes.Sizes.{Sizes}
 use Rattle.word_flip.specs.Tokens.{CopierValue, FlipValue, WriterValue}

@@ -1,4 +1,4 @@
-//! What the copier does in a trial.
+//! What the copier does in a stress run.
 
 ghost use Rattle.std.specs.Prelude.{◌≡◌, ◌+◌, ◌*◌, ◌<◌, ◌≤◌, true};
 ghost use Rattle.word_flip.specs.Tokens.{IsCopierOf};
@@ -8,7 +8,7 @@ use crate::seat::{MOST_TURNS, yield_after};
 use crate::sizes::{Sizes, Slot};
 use word_flip::{Advance, Copier, Copy, Flip, Retire};
 
-/// What the copier came to.
+/// The outcome of the copier's work.
 #[derive(Drop)]
 pub(crate) struct CopierReport {
     /// How many first copies were retired.
@@ -17,7 +17,7 @@ pub(crate) struct CopierReport {
     pub finished: bool,
 }
 
-/// Copies a slot until it is copied, and answers whether that came in time.
+/// Copies a slot until it is copied, and returns whether that was in time.
 fn copy_slot(flip: &Flip, copier: Copier, sizes: Sizes, slot: Slot) -> (bool, Copier)
     requires flip { IsFlipOf sizes flip.now × IsCopierOf flip.now copier }
     requires slot { (slot.object < sizes.objects) × (slot.slot < sizes.slots) }
@@ -35,7 +35,7 @@ fn copy_slot(flip: &Flip, copier: Copier, sizes: Sizes, slot: Slot) -> (bool, Co
     (false, copier)
 }
 
-/// Copies each slot, in order, and answers whether each was copied in time.
+/// Copies each slot, in order, and returns whether each was copied in time.
 fn copy_all(flip: &Flip, copier: Copier, sizes: Sizes) -> (bool, Copier)
     requires { IsFlipOf sizes flip.now × IsCopierOf flip.now copier }
     ensures { IsSameCopier copier result.1 }
@@ -51,7 +51,7 @@ fn copy_all(flip: &Flip, copier: Copier, sizes: Sizes) -> (bool, Copier)
     (true, copier)
 }
 
-/// Advances to the last stage, and answers whether that came in time.
+/// Advances to the last stage, and returns whether that was in time.
 fn advance_all(flip: &Flip, copier: Copier) -> (bool, Copier)
     requires { IsCopierOf flip.now copier }
     ensures { IsSameCopier copier result.1 }
@@ -68,7 +68,7 @@ fn advance_all(flip: &Flip, copier: Copier) -> (bool, Copier)
     (false, copier)
 }
 
-/// Retires the first copy of a slot, and answers whether that came in time.
+/// Retires the first copy of a slot, and returns whether that was in time.
 fn retire_slot(flip: &Flip, copier: Copier, sizes: Sizes, slot: Slot) -> (bool, Copier)
     requires flip { IsFlipOf sizes flip.now × IsCopierOf flip.now copier }
     requires slot { (slot.object < sizes.objects) × (slot.slot < sizes.slots) }

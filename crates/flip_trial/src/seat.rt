@@ -1,4 +1,4 @@
-//! What a seat does in a trial.
+//! What a seat does in a stress run.
 
 ghost use Rattle.std.specs.Prelude.{◌≡◌, ◌+◌, ◌*◌, ◌<◌, ◌≤◌, ◌%◌, true};
 ghost use Rattle.word_flip.specs.Tokens.{IsWriterOf};
@@ -8,10 +8,10 @@ use crate::sizes::Sizes;
 use std::thread::yield_now;
 use word_flip::{Flip, Writer};
 
-/// No waiting loop takes more turns than this.
+/// No waiting loop makes more iterations than this.
 pub(crate) const MOST_TURNS: u32 = 1_000_000;
 
-/// The most yields in a turn.
+/// The most yields in an iteration.
 const MOST_YIELDS: u32 = 64;
 
 /// The last stage.
@@ -26,7 +26,7 @@ pub(crate) struct SeatReport {
     pub reclaims: bool,
 }
 
-/// Stores an object to the place, loads it, and answers whether the load gave the same.
+/// Stores an object to the place, loads it, and returns whether the load gave the same.
 fn keep(flip: &Flip, writer: Writer, sizes: Sizes, place: usize, round: u16) -> (bool, Writer)
     requires flip { IsFlipOf sizes flip.now }
     requires writer { IsWriterOf flip.now writer }
@@ -63,16 +63,16 @@ fn keep_all(flip: &Flip, writer: Writer, sizes: Sizes, round: u16) -> (u64, Writ
     (kept, writer)
 }
 
-/// Lets other threads of the host run after a turn of a waiting loop: it yields once after the first turn, once more after each later one, and
-/// at most 64 times. So where processors are few or taken away, a million turns last as long as the others need, and not as long as the
-/// loop needs.
+/// Lets other threads of the host run after an iteration of a waiting loop: it yields once after the first iteration, once more after each later
+/// one, and at most 64 times. So where processors are few or taken away, a million iterations last as long as the others need, and not as long as
+/// the loop needs.
 pub(crate) fn yield_after(turn: u32) {
     for _ in 0..=turn.min(MOST_YIELDS - 1) {
         yield_now();
     }
 }
 
-/// Takes up the posted stage until it is the last, and answers whether it came in time.
+/// Takes up the posted stage until it is the last, and returns whether it came in time.
 fn await_reclaim(flip: &Flip, writer: Writer) -> bool
     requires { IsWriterOf flip.now writer }
 {

@@ -1,8 +1,8 @@
-//! The sizes of a trial.
+//! The sizes of a stress run.
 
 ghost use Rattle.std.specs.Prelude.{◌≡◌, ◌+◌, ◌*◌, ◌<◌, ◌≤◌};
 
-/// The sizes of a trial.
+/// The sizes of a stress run.
 #[derive(Clone, Copy)]
 pub struct Sizes {
     /// How many seats there are: 1 to 16.

@@ -1,4 +1,4 @@
-//! The trial.
+//! The stress run.
 
 ghost use Rattle.std.specs.Prelude.{◌≡◌, ◌+◌, ◌*◌, ◌%◌, ◌<◌, ◌≤◌, ◌^◌, ℕ, All, IfOk, true, sum_by, vec_len, slice_index};
 ghost use Rattle.std.specs.Arc.{arc_value};
@@ -16,7 +16,7 @@ use std::thread;
 use std::thread::{Promise, PromisedHandle, Threads};
 use word_flip::{Copier, Flip, Writer};
 
-/// What a trial gave.
+/// The results of a stress run.
 #[derive(Clone, Copy)]
 pub struct Outcome {
     /// How often a load gave what its seat had stored just before.
@@ -74,7 +74,7 @@ fn start_seat(
     Ok(thread)
 }
 
-/// Waits for threads whose reports nobody needs.
+/// Waits for threads whose reports are not needed.
 fn abandon(rt: &impl Threads, threads: Vec<SeatThread>) {
     for thread in threads {
         thread.join(rt);
@@ -136,7 +136,7 @@ fn open(alloc: Global, sizes: Sizes) -> Result<(Flip, Copier, Vec<Writer>), Allo
     )
 }
 
-/// What a trial gave, by what its seats and its copier found.
+/// The results of a stress run, by what its seats and its copier found.
 fn outcome_of(seats: &SeatReport, copied: &CopierReport) -> Outcome
     ensures kept { result.kept ≡ seats.now.kept }
     ensures retired { result.retired ≡ copied.now.retired }
@@ -171,12 +171,12 @@ fn run_flip(
     Ok(outcome_of(&seats, &copied))
 }
 
-/// Runs a trial: each seat, in a thread of its own, stores an object to each of its slots, loads it, and takes up the
+/// Makes a stress run: each seat, in a thread of its own, stores an object to each of its slots, loads it, and takes up the
 /// posted stage, round by round, while the calling thread copies each slot, advances to the last stage and retires each
 /// first copy.
 ///
-/// Each loop that waits takes at most 1,000,000 turns, and yields up to 64 times after each. All threads are joined. Want of memory, or of a thread, is the
-/// only error.
+/// Each loop that waits makes at most 1,000,000 iterations, and yields up to 64 times after each. All threads are joined. The only errors are out of
+/// memory, and a thread that can't be started.
 pub fn run(rt: &impl Threads, alloc: Global, sizes: Sizes) -> Result<Outcome, AllocError>
     ensures kept { IfOk result (λ outcome. outcome.kept ≡ sizes.rounds * place_count sizes) }
     ensures retired { IfOk result (λ outcome. outcome.finished ≡ true → outcome.retired ≡ place_count sizes) }

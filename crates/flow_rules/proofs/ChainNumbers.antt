@@ -73,7 +73,7 @@ module _ (tree : Tree) where
         stands_along (class_named tree to) (total - i) (Some (class_named tree n)) ≡ all → true ≡ all
     found_here total i n to k all h at l is rest = sym (along total i n to k true h at l is) ∙ rest
 
-    -- the base's number stands for the base
+    -- the base's number refers to the base
     based : (n m : ℕ) (k : ResolvedClass) → IsClassAt tree n k → k.base ≡ Some m → base_of tree (class_named tree n) ≡ Some (class_named tree m)
     based n m k at e = by_base (base_of tree (class_named tree n)) (sym (ap (option_map (class_name tree)) e) ∙ base_at tree legal n k at)
       where

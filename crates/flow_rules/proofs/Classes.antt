@@ -53,7 +53,7 @@ module _ (tree : Tree) where
     pub one_number : (n m : ℕ) (c : ClassName) → class_name tree n ≡ Some c → class_name tree m ≡ Some c → n ≡ m
     one_number n m c e f = let h : Some n ≡ Some m = sym (own_number n c e) ∙ own_number m c f in cc
 
-    -- what stands at a class's number is what its name declares
+    -- what is at a class's number is what its name declares
     pub own_declaration : (n : ℕ) (c : ClassName) (d : Declaration) → slice_get (declarations tree) n ≡ Some (c, d) → declaration_of tree c ≡ Some d
     own_declaration n c d e =
         let number : class_number tree c ≡ Some n = own_number n c (ap (option_map (λ (x : ClassName × Declaration). x.0)) e) in
@@ -61,14 +61,14 @@ module _ (tree : Tree) where
         let pairs : (c, found.0) ≡ (c, d) = same_Some (c, found.0) (c, d) (sym found.2 ∙ e) in
         found.1 ∙ ap (λ (x : ClassName × Declaration). Some x.1) pairs
 
-    -- what stands at a class's number, where the classes are resolved
+    -- what is at a class's number, where the classes are resolved
     pub class_at : (classes : List ResolvedClass) → AreResolved tree classes → (n : ℕ) (k : ResolvedClass) → slice_get classes n ≡ Some k →
         (c : ClassName) × (d : Declaration) × (slice_get (declarations tree) n ≡ Some (c, d)) × IsResolvedClass tree d k
     class_at classes alike n k e =
         let found : AlikeTo (λ (x : ClassName × Declaration) (r : ResolvedClass). IsResolvedClass tree x.1 r) (declarations tree) n k = alike_to (λ (x : ClassName × Declaration) (r : ResolvedClass). IsResolvedClass tree x.1 r) (declarations tree) classes n k alike e in
         (found.item.0, found.item.1, found.there, found.alike)
 
-  -- the declarations are as many as the classes
+  -- there are as many declarations as classes
   pub class_count : (classes : List ResolvedClass) → AreResolved tree classes → length classes ≡ length tree.classes + 5
   class_count classes alike =
       let all : length (declarations tree) ≡ length classes = alike_length (λ (x : ClassName × Declaration) r. IsResolvedClass tree x.1 r) (declarations tree) classes alike in

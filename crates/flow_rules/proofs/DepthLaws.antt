@@ -51,7 +51,7 @@ module _ (tree : Tree) where
 
   -- ---- both chains are climbed together
 
-  -- none of the first so many is common
+  -- none of the first k is common
   abbrev pub NoneYet : ℕ → DeclaredType → DeclaredType → Type 0
   NoneYet k a b = (j : ℕ) (v : DeclaredType) → j < k → ancestor tree j a ≡ Some v → ancestor tree j b ≡ Some v → ⊥
 

@@ -29,7 +29,7 @@ module _ (tree : Tree) where
       by_name None h = absurd (cc h)
       by_name (Some c) h = refl
 
-  -- a known type stands for the one that it has the name of
+  -- a known type represents the one that it has the name of
   pub type_stands : (n m : NumberedType) → is_known tree n.element ≡ true → type_named tree n ≡ type_named tree m → type_at tree n ≡ Some (type_named tree m)
   type_stands n m k e =
       ap (option_map (λ (x : Element). let t : DeclaredType = record { element = x; brackets = n.brackets } in t)) (element_stands n.element k) ∙ ap Some e

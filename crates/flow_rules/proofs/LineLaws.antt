@@ -17,14 +17,14 @@ use Rattle.flow_rules.specs.Merging.{IsDepth, IsUp, IsLine, AreLines}
 use Rattle.flow_rules.proofs.Climbing.{next, closest, type_ends}
 use Rattle.flow_rules.proofs.DepthLaws.{common_height}
 
--- one more item behind others
+-- one more item after others
 item_more : {X : Type 0} (P : ℕ → X → Type 0) (xs : List X) (y : X) → ((n : ℕ) (x : X) → slice_get xs n ≡ Some x → P n x) → P (length xs) y → (n : ℕ) (x : X) → slice_get (xs ++ y ∷ []) n ≡ Some x → P n x
 item_more P [] y h here zero x e = subst (P 0) (same_Some y x e) here
 item_more P [] y h here (suc n) x e = absurd (none-some x e)
 item_more P (z ∷ zs) y h here zero x e = h zero x e
 item_more P (z ∷ zs) y h here (suc n) x e = item_more (λ m. P (suc m)) zs y (λ m. h (suc m)) here n x e
 
--- one more row behind others
+-- one more row after others
 row_more : {X : Type 0} (P : ℕ → List X → Type 0) (rows : List (List X)) (row : List X) → ((n : ℕ) → P n (slice_index_or rows n [])) → P (length rows) row → ((n : ℕ) → P n []) → (n : ℕ) → P n (slice_index_or (rows ++ row ∷ []) n [])
 row_more P [] row h here none zero = here
 row_more P [] row h here none (suc n) = none (suc n)
@@ -76,7 +76,7 @@ module _ (tree : Tree) where
   pub merged_second : (a b : NumberedType) → IsBelow tree (Declared (type_named tree a)) (Declared (type_named tree b)) → IsMerge tree (Declared (type_named tree a)) (Declared (type_named tree b)) (Declared (type_named tree b))
   merged_second a b h = record { above_first = h; above_second = (0, refl); least = λ other k l. l }
 
-  -- ---- the types above one, by its line and behind it
+  -- ---- the types above one, by its line and beyond it
 
   pub object_behind : (last steps fewer k m : ℕ) (t top : NumberedType) → ancestor tree last (type_named tree t) ≡ Some (typed (element_named tree top.element) k) →
       ((brackets : ℕ) → parent tree (typed (element_named tree top.element) (brackets + 1)) ≡ Some (typed Named.Object brackets)) → steps ≡ last + fewer → 0 < fewer → m + fewer ≡ k → ancestor tree steps (type_named tree t) ≡ Some (typed Named.Object m)
@@ -97,7 +97,7 @@ module _ (tree : Tree) where
       by_parent None h e' further = (0, (a, refl, h))
       by_parent (Some p) h e' further = let it = further p e' in (suc it.0, (it.1.0, ap (option_and_then (ancestor tree it.0)) h ∙ it.1.1, it.1.2))
 
-  -- an ancestor stands at one height
+  -- an ancestor is at one height
   one_height : IsLegal tree → (b u : DeclaredType) (p q : ℕ) → ancestor tree p b ≡ Some u → ancestor tree q b ≡ Some u → p ≡ q
   one_height legal b u p q e f =
       let depth = depth_of (longest_chain tree + b.brackets + 2) b (type_ends tree legal b.element b.brackets (longest_chain tree + b.brackets + 2) (omega arith)) in

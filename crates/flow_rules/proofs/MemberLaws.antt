@@ -64,7 +64,7 @@ module _ (tree : Tree) where
       let passes : IsTrue (same_method_name m.name r.name && same_signature m.signature r.signature && same_flag (is_static m.kind) (not b)) = nearest_passes (λ (g : Method). same_method_name g.name r.name && same_signature g.signature r.signature && same_flag (is_static g.kind) (not b)) (methods_declared tree) (classes_searched tree r.name r.owner) c m e in
       same_signature_equal m.signature r.signature (both_second _ _ (both_first _ _ passes))
 
-  -- ---- types that numbers stand for
+  -- ---- types that numbers represent
 
   pub element_is_named : (e : NumberedElement) (d : Element) → element_at tree e ≡ Some d → element_named tree e ≡ d
   element_is_named Int32 d h = same_Some _ d h

@@ -1,4 +1,4 @@
--- What holds of each instruction that an operation stands for holds of the one at hand.
+-- What holds of each instruction that an operation represents holds of the given one.
 use Rattle.std.proofs.Common.{List}
 use Rattle.cil_model.specs.declared.instructions.Instruction.{Instruction}
 use Rattle.cil_model.specs.declared.trees.Tree.{Tree}

@@ -12,7 +12,7 @@ use Rattle.resolved_code.specs.declared.classes.ResolvedKind.TheVariants.{Static
 use Rattle.flow_rules.specs.Named.{type_named, types_named}
 use Rattle.flow_rules.specs.declared.mismatches.FlowError.{FlowError}
 
--- the answer is a number of the type
+-- the result is a number of the type
 abbrev pub GivesType : Tree → Result NumberedType FlowError → DeclaredType → Type 0
 GivesType tree (Ok n) t = type_named tree n ≡ t
 GivesType tree (Err e) t = ⊥
@@ -24,7 +24,7 @@ is_abstract_kind (Instance body) = false
 is_abstract_kind (Virtual is_new_slot body) = false
 is_abstract_kind (Abstract is_new_slot) = true
 
--- a method of this signature, abstract where the one that it stands for is
+-- a method of this signature, abstract where the one that it represents is
 pub record IsCallable (tree : Tree) (signature : Signature) (named : Method) (found : ResolvedMethod) : Type 0 where
   pub parameters : types_named tree found.parameters ≡ signature.parameters
   pub return_type : option_map (type_named tree) found.return_type ≡ signature.return_type

@@ -1,4 +1,4 @@
--- What a merge answers.
+-- The results of a merge.
 use Rattle.std.specs.Prelude.{◌≡◌, ◌+◌, ℕ, List, [], Option, Some, None, slice_get, slice_index_or}
 use Rattle.cil_model.specs.declared.types.ClassName.{ClassName}
 use Rattle.cil_model.specs.declared.types.DeclaredType.{DeclaredType}
@@ -28,11 +28,11 @@ pub record AreClasses (tree : Tree) (classes : List ResolvedClass) : Type 0 wher
 abbrev pub IsClassAt : Tree → ℕ → ResolvedClass → Type 0
 IsClassAt tree n class = (name : ClassName) × (declared : Declaration) × (slice_get (declarations tree) n ≡ Some (name, declared)) × IsResolvedClass tree declared class
 
--- the type has so many parents above it
+-- the type has n parents above it
 abbrev pub IsDepth : Tree → DeclaredType → ℕ → Type 0
 IsDepth tree t n = (top : DeclaredType) × (ancestor tree n t ≡ Some top) × (parent tree top ≡ None)
 
--- two types stand on the way up from another, the second above the first
+-- two types are on the way up from another, the second above the first
 abbrev pub IsFork : Tree → DeclaredType → DeclaredType → DeclaredType → Type 0
 IsFork tree t below above = (n : ℕ) × (ancestor tree n t ≡ Some below) × (ancestor tree (n + 1) t ≡ Some above)
 
@@ -40,11 +40,11 @@ IsFork tree t below above = (n : ℕ) × (ancestor tree n t ≡ Some below) × (
 abbrev pub AreLevel : Tree → DeclaredType → DeclaredType → Type 0
 AreLevel tree a b = (n : ℕ) × IsDepth tree a n × IsDepth tree b n
 
--- an element is so many parents above another, whatever brackets stand after both
+-- an element is n parents above another, with any brackets after both
 abbrev pub IsUp : Tree → NumberedElement → ℕ → NumberedElement → Type 0
 IsUp tree below n above = (brackets : ℕ) → ancestor tree n (record { element = element_named tree below; brackets = brackets }) ≡ Some (record { element = element_named tree above; brackets = brackets })
 
--- each element stands as many parents above the one of a class as its place says
+-- each element is as many parents above the one of a class as its place says
 abbrev pub IsLine : Tree → ℕ → List NumberedElement → Type 0
 IsLine tree class line = (n : ℕ) (above : NumberedElement) → slice_get line n ≡ Some above → IsUp tree (Class class) n above
 

@@ -1,4 +1,4 @@
--- The types that numbered ones stand for. A number that is no class's, which no resolved code has, stands for System.Object's.
+-- The types that numbered ones represent. A number that is no class's, which no resolved code has, represents System.Object's.
 use Rattle.std.specs.Prelude.{ℕ, Bool, true, List, is_some, map}
 use Rattle.std.specs.Option.{option_map_or}
 use Rattle.cil_model.specs.declared.types.ClassName.{ClassName}

@@ -1,4 +1,4 @@
--- What holds of every instruction that an operation stands for.
+-- What holds of every instruction that an operation represents.
 use Rattle.std.specs.Prelude.{◌≡◌, ℕ, true, false, List, Some}
 use Rattle.cil_model.specs.declared.types.ClassName.{ClassName}
 use Rattle.cil_model.specs.declared.types.DeclaredType.{DeclaredType}
@@ -15,7 +15,7 @@ use Rattle.resolved_code.specs.declared.operations.Operation.{Operation}
 use Rattle.resolved_code.specs.declared.operations.Operation.TheVariants as Resolved
 use Rattle.flow_rules.specs.Named.{type_named}
 
--- the property, of each instruction with the operands that the numbers stand for
+-- the property, of each instruction with the operands that the numbers represent
 abbrev pub OfEach : Tree → (Instruction → Type 0) → Operation → Type 0
 OfEach tree P Resolved.NoOperation = P Named.NoOperation
 OfEach tree P (Resolved.LoadInt32 z) = P (Named.LoadInt32 z)

@@ -164,8 +164,8 @@ pub fn store_element_reference(stack: &mut TypeStack) -> Result<(), FlowError>
     keep_where(is_allowed, Mismatch::OperandTypes(array, value), stack)
 }
 
-/// `newarr`, of this element type. An array of 2^32 brackets, which no source is long enough for, has no number and is answered as
-/// want of memory.
+/// `newarr`, of this element type. An array of 2^32 brackets, which no source is long enough for, has no number and is reported as
+/// out of memory.
 pub fn new_array(element: NumberedType, stack: &mut TypeStack) -> Result<(), FlowError>
     ensures { (m : MethodTypes) (t : DeclaredType) → type_named m.types.now element ≡ t → IsAfter m.types.now result stack.new (flow_of m (Named.NewArray t) stack.old) }
 {

@@ -84,9 +84,9 @@ fn step(method: &MethodTypes, operation: &Operation, stack: &mut TypeStack) -> R
     }
 }
 
-/// Does to a stack of types what the flow rule says of the instruction that an operation stands for. At a mismatch the rule has no
-/// answer: the instruction has no place on such a stack. After an error the stack holds some of what it held, and is of no use.
-/// Whether the stack is higher than `.maxstack` is not asked here.
+/// Does to a stack of types what the flow rule says of the instruction that an operation represents. At a mismatch the rule has no
+/// result: the instruction has no place on such a stack. After an error the stack holds some of what it held, and is of no use.
+/// Whether the stack is higher than `.maxstack` is not checked here.
 pub fn flow(
     method: &MethodTypes,
     operation: &Operation,

@@ -66,7 +66,7 @@ impl<'a> Lines<'a> {
         }
     }
 
-    /// How long the line of an element is, with the element itself. Its contract says nothing: the place that it leads to is tried.
+    /// How long the line of an element is, with the element itself. Its contract says nothing: the place that it leads to is tested.
     pub fn length_from(&self, element: NumberedElement) -> usize {
         match element {
             NumberedElement::Class(class) => self.line(class).len(),
@@ -75,7 +75,7 @@ impl<'a> Lines<'a> {
         }
     }
 
-    /// How many types there are from one on to its top. Its contract says nothing: where it leads to is tried.
+    /// How many types there are from one on to its top. Its contract says nothing: the type that it leads to is tested.
     pub fn height(&self, t: NumberedType) -> usize {
         (t.brackets as usize).saturating_add(self.length_from(t.element))
     }
@@ -103,7 +103,7 @@ impl<'a> Lines<'a> {
         }
     }
 
-    /// Whether an element stands at a place of the line of a class.
+    /// Whether an element is at a place of the line of a class.
     fn is_up(&self, class: usize, place: usize, wanted: NumberedElement) -> bool
         ensures { result ≡ true → IsUp self.now.tree.now (Class class) place wanted }
     {
@@ -113,7 +113,7 @@ impl<'a> Lines<'a> {
         }
     }
 
-    /// Whether an element stands in the line of a class.
+    /// Whether an element is in the line of a class.
     fn is_element_above(&self, above: NumberedElement, class: usize) -> bool
         ensures { result ≡ true → (place : ℕ) × IsUp self.now.tree.now (Class class) place above }
     {

@@ -3,7 +3,7 @@
 use crate::type_tree::TypeTree;
 use resolved_code::types::NumberedType;
 
-/// What the flow rule asks of a method: the types of its program, those of its arguments and locals, and the type that it returns;
+/// What the flow rule requires of a method: the types of its program, those of its arguments and locals, and the type that it returns;
 /// none is `void`.
 pub struct MethodTypes<'a> {
     pub types: &'a TypeTree<'a>,

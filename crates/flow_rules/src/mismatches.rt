@@ -14,7 +14,7 @@ pub enum Mismatch {
     OperandType(StackEntry),
     /// The instruction takes no two operands of these types together.
     OperandTypes(StackEntry, StackEntry),
-    /// The first can't stand where the second is wanted.
+    /// The first can't be given where the second is expected.
     NotAssignable(StackEntry, NumberedType),
     /// The method has no argument or no local of this number.
     NoSuchPlace(i64),

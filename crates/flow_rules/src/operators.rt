@@ -31,7 +31,7 @@ pub const INT64: StackEntry = StackEntry::Declared(NumberedType {
     brackets: 0,
 });
 
-/// Puts an entry on the stack. Fails for want of memory alone.
+/// Puts an entry on the stack. The only error is out of memory.
 #[tactic(auto, using(crate::proofs::Shorts::after_push))]
 pub fn put(entry: StackEntry, stack: &mut TypeStack) -> Result<(), FlowError>
     ensures { (tree : Tree) → IsAfter tree result stack.new (Some (stack_type tree entry ∷ stack_types tree stack.old)) }

@@ -35,7 +35,7 @@ impl TypeStack {
         }
     }
 
-    /// Puts an entry on top. Fails for want of memory alone.
+    /// Puts an entry on top. The only error is out of memory.
     pub fn push(&mut self, entry: StackEntry) -> Result<(), FlowError>
         ensures pushed { OnOk result (self.new ≡ entry ∷ self.old) }
         ensures err { IfErr result (λ e. e ≡ OutOfMemory) }

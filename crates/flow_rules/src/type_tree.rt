@@ -52,7 +52,7 @@ impl<'a> Model for TypeTree<'a> {
 }
 
 impl<'a> TypeTree<'a> {
-    /// The types of a legal program with these classes. Goes along the bases of each class once. Fails for want of memory alone.
+    /// The types of a legal program with these classes. Follows the bases of each class once. The only error is out of memory.
     pub fn new(
         tree: &'a Tree,
         classes: &'a [ResolvedClass],
@@ -72,7 +72,7 @@ impl<'a> TypeTree<'a> {
         })
     }
 
-    /// The element above another, whatever brackets stand after both; none above an element that has one only behind brackets.
+    /// The element above another, with any brackets after both; none above an element that has one only with brackets after it.
     fn element_above(&self, element: NumberedElement) -> Option<NumberedElement>
         ensures { IfSome result (λ above. (brackets : ℕ) → parent_at self.now (element_named self.now element) brackets ≡ Some (record { element = element_named self.now above; brackets = brackets })) }
     {
@@ -87,7 +87,7 @@ impl<'a> TypeTree<'a> {
         self.classes.len()
     }
 
-    /// The elements from a class's on, each above the one before it. Fails for want of memory alone.
+    /// The elements from a class's on, each above the one before it. The only error is out of memory.
     fn line_from(&self, class: usize, alloc: Global) -> Result<Vec<NumberedElement>, NoMemory>
         ensures { IfOk result (λ line. IsLine self.now class line.items) }
     {
@@ -103,7 +103,7 @@ impl<'a> TypeTree<'a> {
         Ok(line)
     }
 
-    /// The same of each class. Fails for want of memory alone.
+    /// The same of each class. The only error is out of memory.
     fn rows(&self, alloc: Global) -> Result<Vec<Vec<NumberedElement>>, NoMemory>
         ensures { IfOk result (λ rows. AreLines self.now (map (λ row. row.items) rows.items)) }
     {
@@ -201,7 +201,7 @@ impl<'a> TypeTree<'a> {
         most
     }
 
-    /// The type that is so many parents up.
+    /// The type that is `steps` parents up.
     fn ancestor(&self, t: NumberedType, steps: usize) -> Option<NumberedType>
         requires { is_known self.now t.element ≡ true }
         ensures named { option_map (type_named self.now) result ≡ ancestor self.now steps (type_named self.now t) }
@@ -235,7 +235,7 @@ impl<'a> TypeTree<'a> {
         None
     }
 
-    /// The type that is so many parents up, where it is seen at once: in the line of its element, or behind it `object` with fewer
+    /// The type that is `steps` parents up, where it is seen at once: in the line of its element, or beyond it `object` with fewer
     /// brackets.
     fn up(&self, t: NumberedType, steps: usize) -> Option<NumberedType>
         ensures { IfSome result (λ above. ancestor self.now steps (type_named self.now t) ≡ Some (type_named self.now above)) }
@@ -249,7 +249,7 @@ impl<'a> TypeTree<'a> {
         }
     }
 
-    /// The `object` that is so many parents up, behind the line of a type's element.
+    /// The `object` that is `steps` parents up, beyond the line of a type's element.
     fn object_up(&self, t: NumberedType, steps: usize) -> Option<NumberedType>
         ensures { IfSome result (λ above. ancestor self.now steps (type_named self.now t) ≡ Some (type_named self.now above)) }
     {
@@ -269,7 +269,7 @@ impl<'a> TypeTree<'a> {
         one == other
     }
 
-    /// How many types two others share, counted from their tops, by halves. Its contract says nothing: where it leads to is tried.
+    /// How many types two others share, counted from their tops, by halves. Its contract says nothing: the types that it leads to are tested.
     fn shared(&self, first: NumberedType, second: NumberedType) -> usize {
         let mut least = 0;
         let mut most = self.lines.height(first).min(self.lines.height(second));
@@ -284,7 +284,7 @@ impl<'a> TypeTree<'a> {
         least
     }
 
-    /// The last type on the way up from another that is not among so many at its top, and the first that is, where they are seen.
+    /// The last type on the way up from another that is not among the `shared` types at its top, and the first that is, where they are seen.
     fn fork(&self, t: NumberedType, shared: usize) -> Option<Fork>
         ensures legal { IfSome result (λ _. IsLegal self.now) }
         ensures known { IfSome result (λ fork. is_known self.now fork.below.element ≡ true) }
@@ -314,7 +314,7 @@ impl<'a> TypeTree<'a> {
         Some(one.above)
     }
 
-    /// The closest type above two others. Mostly they are one, or one of them is above the other, or it is seen where they meet. Else
+    /// The closest type above two others. Mostly they are one, or one of them is above the other, or it is seen where they meet. Otherwise
     /// the deeper one is brought to the depth of the other, and both chains are climbed.
     fn merged_types(&self, first: NumberedType, second: NumberedType) -> Option<NumberedType>
         requires first { is_known self.now first.element ≡ true }
@@ -347,7 +347,7 @@ impl<'a> TypeTree<'a> {
         self.classes.len().saturating_sub(2)
     }
 
-    /// Whether a class is another, or lists it, or has a base of which that is so.
+    /// Whether a class is another, or lists it, or has a base of which that holds.
     fn is_class_assignable(&self, from: usize, to: usize) -> bool
         requires from { is_known self.now (Class from) ≡ true }
         requires to { is_known self.now (Class to) ≡ true }
@@ -369,7 +369,7 @@ impl<'a> TypeTree<'a> {
         false
     }
 
-    /// Whether a value of the first type may stand where the second is wanted (ECMA-335 I.8.7).
+    /// Whether a value of the first type may be given where the second is expected (ECMA-335 I.8.7).
     pub fn is_assignable(&self, from: NumberedType, to: NumberedType) -> bool
         ensures { result ≡ is_assignable self.now (type_named self.now from) (type_named self.now to) }
     {
@@ -415,7 +415,7 @@ fn is_or_lists(number: usize, class: &ResolvedClass, wanted: usize) -> bool
     number == wanted || class.interfaces.as_slice().contains(&wanted)
 }
 
-/// Null lies below every reference, and below nothing else.
+/// Null lies below every reference, and below no other type.
 fn merged_with_null(t: NumberedType) -> Option<StackEntry>
     ensures first { (tree : Tree) → IsMerged tree Null (Declared t) result }
     ensures second { (tree : Tree) → IsMerged tree (Declared t) Null result }
@@ -435,7 +435,7 @@ fn is_same(one: NumberedType, other: NumberedType) -> bool
     one == other
 }
 
-/// Whether an element has another above it, whatever brackets stand after both.
+/// Whether an element has another above it, with any brackets after both.
 fn has_element_above(element: NumberedElement) -> bool
     ensures { result ≡ false → (tree : Tree) (brackets : ℕ) → parent tree (record { element = element_named tree element; brackets = brackets + 1 }) ≡ Some (record { element = Named.Object; brackets = brackets }) }
 {
@@ -445,7 +445,7 @@ fn has_element_above(element: NumberedElement) -> bool
     }
 }
 
-/// `object` with so many brackets less.
+/// `object` with the given number of brackets less.
 fn fewer_brackets(brackets: u32, fewer: usize) -> Option<NumberedType>
     ensures { IfSome result (λ t. (t.element ≡ Object) × (t.brackets + fewer ≡ brackets)) }
 {

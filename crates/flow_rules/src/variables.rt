@@ -16,7 +16,7 @@ use crate::type_stack::TypeStack;
 use crate::type_tree::TypeTree;
 use resolved_code::types::NumberedType;
 
-/// Whether an entry may be given where a type is wanted (ECMA-335 III.1.8.1.2.3).
+/// Whether an entry may be given where a type is expected (ECMA-335 III.1.8.1.2.3).
 fn fits(types: &TypeTree, entry: StackEntry, wanted: NumberedType) -> bool
     ensures { result ≡ fits types.now (stack_type types.now entry) (type_named types.now wanted) }
 {

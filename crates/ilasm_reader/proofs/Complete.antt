@@ -135,7 +135,7 @@ no_brackets ts e = rw e refl
 
 -- ---- flags
 
--- a word that may stand before what no such word begins
+-- a word that may be written before what no such word begins
 pub flag_complete : (w : List ℕ) (b : Bool) (ts rest : List Token) → word_at w rest ≡ None → present b (word w) ts rest → flag_at w ts ≡ (b, rest)
 unfolding flag_at
 flag_complete w true ts rest n p = choice_at _ _ (word_complete w p) refl
@@ -145,13 +145,13 @@ pub skip_complete : (w : List ℕ) (ts rest : List Token) → word_at w rest ≡
 skip_complete w ts rest n (inl p) = ap (λ (y : Bool × List Token). y.1) (flag_complete w true ts rest n p)
 skip_complete w ts rest n (inr p) = ap (λ (y : Bool × List Token). y.1) (flag_complete w false ts rest n p)
 
--- ---- what may stand behind an optional part
+-- ---- what may follow an optional part
 
--- behind a type and its forgotten name
+-- after a type and its forgotten name
 abbrev pub EndsItem : List Token → Type 0
 EndsItem ts = (name_at ts ≡ None) × (brackets_at ts ≡ None)
 
--- behind a type
+-- after a type
 abbrev pub EndsType : List Token → Type 0
 EndsType ts = brackets_at ts ≡ None
 
@@ -207,7 +207,7 @@ pub empty_block_complete : {ts mid rest : List Token} → sign OpenBrace ts mid 
 unfolding empty_block_at
 empty_block_complete p q = bind_at _ (sign_complete OpenBrace p) (sign_complete CloseBrace q)
 
--- one part behind another
+-- one part after another
 pub pair_given : {A B : Type 0} (first : Parser A) (second : Parser B) {x : A} {y : B} {ts mid rest : List Token} → first ts ≡ Some (x, mid) → second mid ≡ Some (y, rest) → pair_at first second ts ≡ Some ((x, y), rest)
 unfolding pair_at
 pair_given first second p q = bind_at _ p (bind_at _ q refl)
@@ -353,7 +353,7 @@ unfolding has_32_bits
 fits_32 (pos n) f = le-leb n 2147483647 (omega (arith, f.sfits))
 fits_32 (negsuc n) f = le-leb n 2147483647 (omega (arith, f.sfits))
 
--- what may stand behind an instruction: no bracket
+-- what may follow an instruction: no bracket
 operands_complete : (f : Form) → CompleteBefore EndsType (operands_at f) (operands f)
 unfolding operands_at virtual_call creation
 operands_complete (forms.Bare which) x ts rest e (i, p) = rw (i, p) refl
@@ -373,7 +373,7 @@ operands_complete forms.CallVirtual x ts rest e (c, n, s, i, (a, p, q)) =
 operands_complete forms.NewObject x ts rest e (c, ps, i, (a, p, q)) =
     bind_at _ (instance_method_complete (constructor_reference c ps) ts a rest p q) (rw i (bind_at _ refl refl))
 
--- the name of an instruction, and what stands behind it
+-- the name of an instruction, and what follows it
 pub record Spelled (i : Instruction) (ts rest : List Token) : Type 0 where
   pub word_is : List ℕ
   pub form : Form

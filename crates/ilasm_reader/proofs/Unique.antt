@@ -1,4 +1,4 @@
--- A source has one answer.
+-- A source has one result.
 use Rattle.std.proofs.Common.{◌≡◌, ℕ, List, Bool, true, false, refl, ap, subst}
 use Rattle.cil_model.specs.declared.tokens.Token.{Token}
 use Rattle.cil_model.specs.declared.trees.Tree.{Tree}

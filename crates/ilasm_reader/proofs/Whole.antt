@@ -48,7 +48,7 @@ line_complete x ts rest e (a, p, q) =
     bind_at _ (many_complete starts_label label_at (λ l. name l ▸ sign Colon) (λ _. Unit {0}) label_sound (λ y us vs _ r. label_complete y us vs r) label_first x.labels ts a tt (instruction_no_label x.instruction a rest q) p)
     (bind_at _ (instruction_complete x.instruction a rest e q) refl)
 
--- behind the locals, or behind a line
+-- after the locals, or after a line
 abbrev EndsLine : List Token → Type 0
 EndsLine ts = (word_at (codes ".locals") ts ≡ None) × EndsType ts
 
@@ -147,7 +147,7 @@ virtual_words_complete n m ts a b c rest p q r s =
     no_newslot true a b c q r = word_no_word (codes "newslot") (codes "abstract") refl q
     no_newslot false a b c q r = word_no_word (codes "newslot") (codes "virtual") refl (q ∙ r)
 
--- none of the words that begin other kinds stands before a virtual or an abstract method
+-- none of the words that begin other kinds is before a virtual or an abstract method
 first_virtual : (n m : Bool) (ts a b c : List Token) → present n (word (codes "newslot")) ts a → present m (word (codes "abstract")) a b → word (codes "virtual") b c
     → (v : List ℕ) → bytes_eq (codes "newslot") v ≡ false → bytes_eq (codes "abstract") v ≡ false → bytes_eq (codes "virtual") v ≡ false → word_at v ts ≡ None
 first_virtual true m ts a b c p q r v e f g = word_no_word v (codes "newslot") e p
@@ -286,7 +286,7 @@ extern_first : (x : List ℕ) (ts rest : List Token) → extern x ts rest → (s
 unfolding starts_extern
 extern_first x ts rest (a, p, (b, q, r)) = (choice_at _ _ (word_complete (codes ".assembly") p) (rw (word_complete (codes "extern") q) refl), tt)
 
--- no assembly stands before the classes
+-- no assembly is before the classes
 classes_begin : (xs : List Class) (ts : List Token) → each class_of xs ts [] → word_at (codes ".assembly") ts ≡ None
 classes_begin [] ts p = rw p (end_no_word (codes ".assembly"))
 classes_begin (x ∷ xs) ts (a, (b, p, q), r) = word_no_word (codes ".assembly") (codes ".class") refl p

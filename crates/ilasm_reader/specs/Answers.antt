@@ -1,4 +1,4 @@
--- What reading a source answers.
+-- The results of reading a source.
 use Rattle.std.specs.Prelude.{◌≡◌, ℕ, false, List, Result, Ok, Err}
 use Rattle.cil_model.specs.declared.trees.Tree.{Tree}
 use Rattle.cil_model.specs.Sources.{is_too_long, has_foreign_byte, IsAnswer, HasTree, TooLong as IsTooLong, Foreign, NoToken as HasNoToken, NoTree as HasNoTree}
@@ -13,7 +13,7 @@ numbered (NoTree offset expected) = 103
 numbered TooLong = 104
 numbered OutOfMemory = 105
 
--- what each answer says of the source; memory runs out only where neither the length nor a byte was refused
+-- what each result says of the source; memory runs out only where neither the length nor a byte was refused
 abbrev pub IsReadAnswer : List ℕ → Result Tree ReadError → Type 0
 IsReadAnswer source (Ok tree) = IsAnswer source (HasTree tree)
 IsReadAnswer source (Err TooLong) = IsAnswer source IsTooLong

@@ -1,4 +1,4 @@
--- What stands behind an instruction's name, and the names themselves.
+-- What follows an instruction's name, and the names themselves.
 use Rattle.std.proofs.Common.{◌≡◌, ◌&&◌, ◌||◌, ℕ, suc, ℤ, List, [], ◌∷◌, Option, Some, None, Bool, true, false, refl, subst, inl, inr, arith, FitsSigned, Contains}
 use Rattle.std.specs.Prelude.{codes, bytes_eq}
 use Rattle.std.specs.List.{list_any}
@@ -33,7 +33,7 @@ use Rattle.ilasm_tokens.specs.Vocabulary.{use_of}
 use Rattle.ilasm_tokens.proofs.Reserved.{both, of_entries}
 use Rattle.ilasm_reader.specs.Parsing.{bare, with_integer, jump, with_field, with_type, form_of}
 
--- what stands behind the name of an instruction
+-- what follows the name of an instruction
 abbrev pub operands : Form → Instruction → Span
 operands (Bare which) i ts rest = (i ≡ bare which) × (ts ≡ rest)
 operands Int32 i ts rest = (z : ℤ) × (i ≡ instructions.LoadInt32 z) × FitsSigned w32 z × (ts ≡ Integer z ∷ rest)
@@ -96,7 +96,7 @@ long_name Call = codes "call"
 long_name CallVirtual = codes "callvirt"
 long_name NewObject = codes "newobj"
 
--- the entry stands in a list of short forms
+-- the entry is in a list of short forms
 abbrev is_entry : List ℕ → ℤ → List ℕ × ℤ → Bool
 is_entry w z e = bytes_eq e.0 w && int_eq e.1 z
 

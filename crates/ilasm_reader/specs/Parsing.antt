@@ -55,7 +55,7 @@ unfoldable pub word_at : List ℕ → List Token → Option (List Token)
 word_at w [] = None
 word_at w (t ∷ rest) = choice (reserved_in t) (λ found. if bytes_eq found w then Some rest else None) None
 
--- reserved words, one behind the other
+-- reserved words, one after the other
 unfoldable pub words_at : List (List ℕ) → List Token → Option (List Token)
 words_at [] ts = Some ts
 words_at (w ∷ []) ts = word_at w ts
@@ -94,18 +94,18 @@ unfoldable pub quoted_at : Parser (List ℕ)
 quoted_at [] = None
 quoted_at (t ∷ rest) = choice (quoted_in t) (λ found. Some (found, rest)) None
 
--- what a function answers that takes something where it stands, and nothing where it does not: whether it stands there
+-- what a function returns that takes something where it is present, and nothing where it is not: whether it is present
 abbrev pub Takes : {S : Type 0} → Bool → List S → List S → Option (List S) → Type 0
 Takes true before behind read = read ≡ Some behind
 Takes false before behind read = (read ≡ None) × (behind ≡ before)
 
--- whether a word stands here, and what is behind it
+-- whether a word is here, and what is after it
 unfoldable pub flag_at : List ℕ → List Token → Bool × List Token
 flag_at w ts = choice (word_at w ts) (λ rest. (true, rest)) (false, ts)
 
--- ---- one part behind another
+-- ---- one part after another
 
--- what was read, if a symbol stands behind it
+-- what was read, if a symbol follows it
 unfoldable pub before_sign_at : {A : Type 0} → A → symbols.Symbol → Parser A
 before_sign_at x s ts = do
   rest ← sign_at s ts
@@ -132,7 +132,7 @@ commas_at parses ts = do
   first ← parses ts
   with_front (first.0 ∷ []) (many starts_comma (after_comma parses) first.1)
 
--- behind an opening parenthesis
+-- after an opening parenthesis
 unfoldable pub closed_commas_at : {A : Type 0} → Parser A → Parser (List A)
 closed_commas_at parses ts = do
   items ← commas_at parses ts
@@ -149,20 +149,20 @@ empty_block_at ts = do
   inside ← sign_at OpenBrace ts
   sign_at CloseBrace inside
 
--- whether a block goes on
+-- whether a block continues
 unfoldable pub in_block : List Token → Bool
 in_block [] = false
 in_block (t ∷ rest) = is_none (sign_at CloseBrace (t ∷ rest))
 
 -- ---- names and types
 
--- the name of an assembly, behind an opening bracket
+-- the name of an assembly, after an opening bracket
 unfoldable pub assembly_name_at : Parser (List ℕ)
 assembly_name_at ts = do
   name ← name_at ts
   before_sign_at name.0 CloseBracket name.1
 
--- behind an opening bracket
+-- after an opening bracket
 unfoldable pub class_of_assembly_at : Parser ClassName
 class_of_assembly_at ts = do
   names ← pair_at assembly_name_at name_at ts
@@ -210,7 +210,7 @@ return_type_at ts = choice (word_at (codes "void") ts) (λ rest. Some (None, res
 
 -- ---- what instructions name
 
--- the name of a field, behind `::`
+-- the name of a field, after `::`
 unfoldable pub field_of_owner_at : Parser (List ℕ)
 field_of_owner_at ts = do
   rest ← sign_at DoubleColon ts
@@ -226,7 +226,7 @@ method_name_at ts = choice (word_at (codes ".ctor") ts) (λ rest. Some (Construc
   name ← name_at ts
   Some (Named name.0, name.1))
 
--- the name of a method, behind `::`
+-- the name of a method, after `::`
 unfoldable pub method_of_owner_at : Parser MethodName
 method_of_owner_at ts = do
   rest ← sign_at DoubleColon ts
@@ -238,7 +238,7 @@ method_reference_at ts = do
   parts ← pair_at class_name_at (pair_at method_of_owner_at (parentheses_at type_at)) return_type.1
   Some (record { owner = parts.0.0; name = parts.0.1.0; signature = record { parameters = parts.0.1.1; return_type = return_type.0 } }, parts.1)
 
--- behind `instance`
+-- after `instance`
 unfoldable pub instance_method_at : Parser MethodReference
 instance_method_at ts = do
   rest ← word_at (codes "instance") ts
@@ -371,7 +371,7 @@ line_at ts = do
   instruction ← instruction_at labels.1
   Some (record { labels = labels.0; instruction = instruction.0 }, instruction.1)
 
--- behind `.locals`
+-- after `.locals`
 unfoldable pub some_locals_at : Parser (List DeclaredType)
 some_locals_at ts = do
   behind ← word_at (codes "init") ts
@@ -414,7 +414,7 @@ virtual_words_at ts = do
   rest ← word_at (codes "instance") behind
   Some (if (flag_at (codes "abstract") (flag_at (codes "newslot") ts).1).0 then Abstract (flag_at (codes "newslot") ts).0 else Virtual (flag_at (codes "newslot") ts).0, rest)
 
--- behind `specialname`
+-- after `specialname`
 unfoldable pub constructor_words_at : List Token → Option (List Token)
 constructor_words_at ts = do
   rest ← word_at (codes "rtspecialname") ts
@@ -469,7 +469,7 @@ body_at (Abstract is_new_slot) ts = do
   Some (kinds.Abstract is_new_slot, rest)
 body_at beginning ts = code_body_at beginning ts
 
--- the body behind `cil managed`
+-- the body after `cil managed`
 unfoldable pub managed_body_at : Beginning → Parser MethodKind
 managed_body_at beginning ts = do
   managed ← word_at (codes "cil") ts

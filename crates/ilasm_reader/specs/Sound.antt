@@ -107,7 +107,7 @@ perhaps false R ts rest p = inr p
 skipped : (w : List ℕ) (ts : List Token) → maybe (word w) ts (flag_at w ts).1 × (length (flag_at w ts).1 ≤ length ts)
 skipped w ts = let p = flag_sound w ts in (perhaps (flag_at w ts).0 (word w) ts (flag_at w ts).1 p.0, p.1)
 
--- ---- one part behind another
+-- ---- one part after another
 
 yields_pair : {A B : Type 0} (first : Parser A) (second : Parser B) {ts : List Token} {P : A × List Token → Type 0} {Q : List Token → B × List Token → Type 0}
     → Yields (first ts) P → ((mid : List Token) → Yields (second mid) (Q mid)) → Yields (pair_at first second ts) (λ y. (mid : List Token) × P (y.0.0, mid) × Q mid (y.0.1, y.1))
@@ -352,7 +352,7 @@ code_sound ts =
 
 -- ---- methods
 
--- the words that a beginning stands for
+-- the words that a beginning represents
 abbrev pub beginning : Beginning → Span
 beginning Static = word (codes "static")
 beginning Instance = word (codes "instance")
@@ -386,7 +386,7 @@ first_words_sound ts =
     (λ a p. yields_bind (constructor_words_sound a) (λ b q. yields_some ((a, p.0, q.0), omega (arith, p.1, q.1))))
     (virtual_words_sound ts)))
 
--- what may be a method's return type and name behind its beginning
+-- what may be a method's return type and name after its beginning
 abbrev pub IsHead : Beginning → Option DeclaredType × MethodName → Type 0
 IsHead Constructor h = h ≡ (None, ConstructorName)
 IsHead _ h = (n : List ℕ) × (h.1 ≡ Named n)
@@ -412,7 +412,7 @@ head_sound (Abstract is_new_slot) ts = named_head (Abstract is_new_slot) (λ h n
 pub parameters_sound : Sound (parentheses_at parameter_at) (parentheses parameter)
 parameters_sound = parentheses_sound parameter_at parameter parameter_sound
 
--- a name and a signature behind a beginning
+-- a name and a signature after a beginning
 abbrev signature_behind : Beginning → MethodName × Signature → Span
 signature_behind b x ts rest = IsHead b (x.1.return_type, x.0) × (ret x.1.return_type ▸ method_name x.0 ▸ parentheses parameter x.1.parameters) ts rest
 

@@ -23,7 +23,7 @@ use std::alloc::Global;
 /// How many members, classes or assemblies memory is taken for at first.
 const FEW: usize = 4;
 
-/// Takes the words before a field's type, and tells whether it is static.
+/// Takes the words before a field's type, and returns whether it is static.
 #[tactic(auto, unfolding(crate::specs::Parsing::field_words_at, crate::specs::Parsing::words_at, ilasm_tokens::specs::Steps::bind))]
 fn field_words(tokens: &mut Tokens<'_>) -> Result<bool, Failure>
     ensures { Gives (λ x. (x, tokens.new.now)) result (field_words_at tokens.old.now) }
@@ -104,7 +104,7 @@ impl Starts for AnyMember {
     }
 }
 
-/// Members in braces. Where one more may stand, the grammar has what is told as expected.
+/// Members in braces. Where one more may be written, the grammar has what is given as `expected`.
 #[tactic(auto, unfolding(crate::specs::Parsing::block_at, crate::specs::Parsing::before_sign_at, ilasm_tokens::specs::Steps::bind))]
 fn block<P: Starts>(
     alloc: Global,
@@ -131,7 +131,7 @@ fn implements(alloc: Global, tokens: &mut Tokens<'_>) -> Result<Sequence<ClassNa
     }
 }
 
-/// Takes the words before an interface's name, behind `.class`.
+/// Takes the words before an interface's name, after `.class`.
 #[tactic(auto, unfolding(crate::specs::Parsing::interface_words_at, crate::specs::Parsing::words_at, ilasm_tokens::specs::Steps::bind))]
 fn interface_words(tokens: &mut Tokens<'_>) -> Result<(), Failure>
     ensures { Gives (λ _. tokens.new.now) result (interface_words_at tokens.old.now) }
@@ -159,7 +159,7 @@ impl Parse for InterfaceMembers {
     ghost consumes = { λ ts x rest e. ((interface_members_sound ts).out (x, rest) e).1 };
 }
 
-/// An interface, behind the word `.class`.
+/// An interface, after the word `.class`.
 #[tactic(auto, unfolding(crate::specs::Parsing::interface_at, ilasm_tokens::specs::Steps::bind))]
 fn interface(alloc: Global, tokens: &mut Tokens<'_>) -> Result<Class, Failure>
     ensures { Gives (λ x. (x, tokens.new.now)) result (interface_at tokens.old.now) }
@@ -174,7 +174,7 @@ fn interface(alloc: Global, tokens: &mut Tokens<'_>) -> Result<Class, Failure>
     })
 }
 
-/// What stands before `auto`, behind `abstract` or without it.
+/// What is written before `auto`, after `abstract` or without it.
 fn attributes_behind(is_abstract: bool) -> Expected {
     if is_abstract {
         Expected::Word(b"auto")
@@ -183,7 +183,7 @@ fn attributes_behind(is_abstract: bool) -> Expected {
     }
 }
 
-/// Takes the words before the name of a class that is no interface, and tells whether it is abstract.
+/// Takes the words before the name of a class that is no interface, and returns whether it is abstract.
 #[tactic(auto, unfolding(crate::specs::Parsing::class_words_at, ilasm_tokens::specs::Steps::bind))]
 fn class_words(tokens: &mut Tokens<'_>) -> Result<bool, Failure>
     ensures { Gives (λ x. (x, tokens.new.now)) result (class_words_at tokens.old.now) }
@@ -234,7 +234,7 @@ impl Parse for ClassBody {
     ghost consumes = { λ ts x rest e. ((class_body_sound ts).out (x, rest) e).1 };
 }
 
-/// A class that is no interface, behind the word `.class`.
+/// A class that is no interface, after the word `.class`.
 #[tactic(auto, unfolding(crate::specs::Parsing::plain_class_at, ilasm_tokens::specs::Steps::bind))]
 fn plain_class(alloc: Global, tokens: &mut Tokens<'_>) -> Result<Class, Failure>
     ensures { Gives (λ x. (x, tokens.new.now)) result (plain_class_at tokens.old.now) }
@@ -285,7 +285,7 @@ impl Starts for AnyClass {
     }
 }
 
-/// The name of an assembly, and an empty block. Where no name stands, the grammar has what is told as expected.
+/// The name of an assembly, and an empty block. Where there is no name, the grammar has what is given as `expected`.
 #[tactic(auto, unfolding(crate::specs::Parsing::named_assembly_at, ilasm_tokens::specs::Steps::bind))]
 fn named_assembly(
     alloc: Global,
@@ -340,7 +340,7 @@ fn assembly(alloc: Global, tokens: &mut Tokens<'_>) -> Result<Option<Text>, Fail
     Ok(Some(name))
 }
 
-/// What stands where the first class may begin, behind the source's own assembly or without it.
+/// What is expected where the first class may begin, after the source's own assembly or without it.
 fn classes_behind(has_assembly: bool) -> Expected {
     if has_assembly {
         Expected::Class
@@ -349,12 +349,12 @@ fn classes_behind(has_assembly: bool) -> Expected {
     }
 }
 
-/// What stands where a class may begin, behind so many; `start` behind none.
+/// What is expected where a class may begin, after this number of classes; `start` after none.
 fn class_behind(classes: usize, start: Expected) -> Expected {
     if classes == 0 { start } else { Expected::Class }
 }
 
-/// As many classes as stand here. Where the first may begin, the grammar has what is told as `start`.
+/// All classes that follow here. Where the first may begin, the grammar has what is given as `start`.
 fn classes(
     alloc: Global,
     tokens: &mut Tokens<'_>,

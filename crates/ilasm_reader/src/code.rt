@@ -51,7 +51,7 @@ impl Starts for Label {
     }
 }
 
-/// What stands where a line goes on that has so many labels.
+/// What is expected where a line continues after this number of labels.
 fn line_behind(labels: usize) -> Expected {
     if labels == 0 {
         Expected::Line
@@ -92,7 +92,7 @@ impl Starts for CodeLine {
     }
 }
 
-/// The types of the locals, behind `.locals`.
+/// The types of the locals, after `.locals`.
 #[tactic(auto, unfolding(crate::specs::Parsing::some_locals_at, ilasm_tokens::specs::Steps::bind))]
 fn some_locals(alloc: Global, tokens: &mut Tokens<'_>) -> Result<Sequence<DeclaredType>, Failure>
     ensures { Gives (λ x. (x, tokens.new.now)) result (some_locals_at tokens.old.now) }
@@ -114,7 +114,7 @@ fn locals(alloc: Global, tokens: &mut Tokens<'_>) -> Result<Sequence<DeclaredTyp
     }
 }
 
-/// What stands where the code of a method begins, behind `.entrypoint` or without it.
+/// What is expected where the code of a method begins, after `.entrypoint` or without it.
 fn start_of_code(is_entry_point: bool) -> Expected {
     if is_entry_point {
         Expected::Word(b".maxstack")
@@ -123,7 +123,7 @@ fn start_of_code(is_entry_point: bool) -> Expected {
     }
 }
 
-/// How high the stack may be, behind `.entrypoint` or without it.
+/// How high the stack may be, after `.entrypoint` or without it.
 #[tactic(auto, unfolding(crate::specs::Parsing::max_stack_at, ilasm_tokens::specs::Steps::bind))]
 fn max_stack(tokens: &mut Tokens<'_>, is_entry_point: bool) -> Result<i64, Failure>
     ensures { Gives (λ x. (x, tokens.new.now)) result (max_stack_at tokens.old.now) }
@@ -132,7 +132,7 @@ fn max_stack(tokens: &mut Tokens<'_>, is_entry_point: bool) -> Result<i64, Failu
     integer(tokens, Expected::Integer)
 }
 
-/// How many reserved words stand before the end of a block. No more lines do, since each has the name of an instruction.
+/// How many reserved words there are before the end of a block. There are no more lines than that, since each has the name of an instruction.
 fn words_ahead(tokens: Tokens<'_>) -> usize
     ensures { result ≤ length tokens.now }
 {

@@ -91,7 +91,7 @@ fn with_type(which: WithType, its_type: DeclaredType) -> Instruction
     }
 }
 
-/// The instruction `ldc.i4`, behind its name.
+/// The instruction `ldc.i4`, after its name.
 #[tactic(auto, unfolding(crate::specs::Parsing::operands_at, crate::specs::Parsing::has_32_bits, ilasm_tokens::specs::Steps::bind))]
 fn load_int32(tokens: &mut Tokens<'_>) -> Result<Instruction, Failure>
     ensures { Gives (λ x. (x, tokens.new.now)) result (operands_at Int32 tokens.old.now) }
@@ -107,7 +107,7 @@ fn load_int32(tokens: &mut Tokens<'_>) -> Result<Instruction, Failure>
     }
 }
 
-/// What stands behind `call`, with the word `instance` or without it.
+/// What follows `call`, with the word `instance` or without it.
 fn called_behind(is_instance: bool) -> Expected {
     if is_instance {
         Expected::ReturnType
@@ -116,7 +116,7 @@ fn called_behind(is_instance: bool) -> Expected {
     }
 }
 
-/// The instruction `call`, behind its name.
+/// The instruction `call`, after its name.
 #[tactic(auto, unfolding(crate::specs::Parsing::operands_at, ilasm_tokens::specs::Steps::bind))]
 fn call(alloc: Global, tokens: &mut Tokens<'_>) -> Result<Instruction, Failure>
     ensures { Gives (λ x. (x, tokens.new.now)) result (operands_at Call tokens.old.now) }
@@ -149,7 +149,7 @@ fn virtual_call(method: MethodReference) -> Option<Instruction>
     }
 }
 
-/// The instruction `callvirt`, behind its name.
+/// The instruction `callvirt`, after its name.
 #[tactic(auto, unfolding(crate::specs::Parsing::operands_at, ilasm_tokens::specs::Steps::bind))]
 fn call_virtual(alloc: Global, tokens: &mut Tokens<'_>) -> Result<Instruction, Failure>
     ensures { Gives (λ x. (x, tokens.new.now)) result (operands_at CallVirtual tokens.old.now) }
@@ -185,7 +185,7 @@ fn creation(method: MethodReference) -> Option<Instruction>
     }
 }
 
-/// The instruction `newobj`, behind its name.
+/// The instruction `newobj`, after its name.
 #[tactic(auto, unfolding(crate::specs::Parsing::operands_at, ilasm_tokens::specs::Steps::bind))]
 fn new_object(alloc: Global, tokens: &mut Tokens<'_>) -> Result<Instruction, Failure>
     ensures { Gives (λ x. (x, tokens.new.now)) result (operands_at NewObject tokens.old.now) }
@@ -201,7 +201,7 @@ fn new_object(alloc: Global, tokens: &mut Tokens<'_>) -> Result<Instruction, Fai
     }
 }
 
-/// An instruction, behind its name.
+/// An instruction, after its name.
 #[tactic(auto, unfolding(crate::specs::Parsing::operands_at, ilasm_tokens::specs::Steps::bind))]
 fn instruction_of(
     alloc: Global,
@@ -243,7 +243,7 @@ fn instruction_of(
     }
 }
 
-/// An instruction. Where there is none, the grammar has what is told as expected.
+/// An instruction. Where there is none, the grammar has what is given as `expected`.
 #[tactic(auto, unfolding(crate::specs::Parsing::instruction_at, crate::specs::Parsing::form_of, ilasm_tokens::specs::Steps::bind))]
 pub fn instruction(
     alloc: Global,

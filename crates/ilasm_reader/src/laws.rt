@@ -1,4 +1,4 @@
-//! Laws of what is answered of a source. The functions have empty bodies; their contracts are the laws.
+//! Laws of the results for a source. The functions have empty bodies; their contracts are the laws.
 
 ghost use Rattle.std.specs.Prelude.{◌≡◌, ℕ, List};
 ghost use Rattle.cil_model.specs.declared.tokens.Token.{Token};
@@ -11,7 +11,7 @@ pub fn trees_are_unique()
     ensures { (tokens : List Token) (t u : trees.Tree) → IsUnit tokens t → IsUnit tokens u → t ≡ u }
 {}
 
-/// A source has at most one answer. So each refusal comes exactly when its definition holds, and a source has at most one tree.
+/// A source has at most one result. So each refusal is returned exactly when its definition holds, and a source has at most one tree.
 pub fn answers_are_unique()
     ensures { (source : List ℕ) (a b : SourceAnswer) → IsAnswer source a → IsAnswer source b → a ≡ b }
 {}

@@ -12,7 +12,7 @@ use ilasm_tokens::failure::Failure;
 use ilasm_tokens::source_tokens::Tokens;
 use std::alloc::Global;
 
-/// A part of the grammar that stands in lists.
+/// A part of the grammar that is written in lists.
 pub trait Parse {
     ghost use Rattle.cil_model.specs.declared.tokens.Token.{Token};
 
@@ -29,7 +29,7 @@ pub trait Parse {
     ghost consumes: { Consumes parsed_at };
 }
 
-/// One part behind another.
+/// One part after another.
 impl<P: Parse, Q: Parse> Parse for (P, Q) {
     ghost use Rattle.ilasm_reader.specs.Parsing.{pair_at};
     ghost use Rattle.ilasm_reader.specs.Sound.{pair_consumes};
@@ -48,18 +48,18 @@ impl<P: Parse, Q: Parse> Parse for (P, Q) {
     ghost consumes = { pair_consumes P.consumes Q.consumes };
 }
 
-/// A part that stands in a list without commas.
+/// A part that is written in a list without commas.
 pub trait Starts: Parse {
     ghost use Rattle.cil_model.specs.declared.tokens.Token.{Token};
 
     ghost starts_at: { List Token → Bool };
 
-    /// Whether one more stands here.
+    /// Whether one more follows here.
     fn starts(tokens: Tokens<'_>) -> bool
         ensures { result ≡ starts_at tokens.now };
 }
 
-/// As many as stand here, one after the other, of which the first starts here. Memory for `expected` is taken at once.
+/// All that follow here, one after the other, of which the first starts here. Memory for `expected` is taken at once.
 fn some<P: Starts>(
     alloc: Global,
     tokens: &mut Tokens<'_>,
@@ -78,7 +78,7 @@ fn some<P: Starts>(
     Ok(Sequence::new(items))
 }
 
-/// As many as stand here, one after the other. If there are some, memory for `expected` is taken at once.
+/// All that follow here, one after the other. If there are some, memory for `expected` is taken at once.
 pub fn many<P: Starts>(
     alloc: Global,
     tokens: &mut Tokens<'_>,
@@ -100,7 +100,7 @@ fn starts_comma(tokens: Tokens<'_>) -> bool
     starts_symbol(tokens, Symbol::Comma)
 }
 
-/// The part behind a comma.
+/// The part after a comma.
 #[tactic(auto, unfolding(crate::specs::Parsing::after_comma, ilasm_tokens::specs::Steps::bind))]
 fn after_comma<P: Parse>(alloc: Global, tokens: &mut Tokens<'_>) -> Result<P::Tree, Failure>
     ensures { Gives (λ x. (x, tokens.new.now)) result (after_comma P.parsed_at tokens.old.now) }
@@ -109,7 +109,7 @@ fn after_comma<P: Parse>(alloc: Global, tokens: &mut Tokens<'_>) -> Result<P::Tr
     P::parse(alloc, tokens)
 }
 
-/// How many commas stand before the end of a list, which is a parenthesis or a brace.
+/// How many commas there are before the end of a list, which is a parenthesis or a brace.
 fn commas_ahead(tokens: Tokens<'_>) -> usize
     ensures { result ≤ length tokens.now }
 {
@@ -143,7 +143,7 @@ pub fn commas<P: Parse>(
     Ok(Sequence::new(items))
 }
 
-/// One or more behind an opening parenthesis, with commas between, to the closing one.
+/// One or more after an opening parenthesis, with commas between, to the closing one.
 #[tactic(auto, unfolding(crate::specs::Parsing::closed_commas_at, crate::specs::Parsing::before_sign_at, ilasm_tokens::specs::Steps::bind))]
 pub fn closed_commas<P: Parse>(
     alloc: Global,
@@ -172,7 +172,7 @@ pub fn parentheses<P: Parse>(
     closed_commas::<P>(alloc, tokens)
 }
 
-/// Whether a block goes on: its end is neither here nor missing.
+/// Whether a block continues: its end is neither here nor missing.
 #[tactic(auto, unfolding(crate::specs::Parsing::in_block))]
 pub fn in_block(tokens: Tokens<'_>) -> bool
     ensures { result ≡ in_block tokens.now }

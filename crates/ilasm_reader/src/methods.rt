@@ -26,7 +26,7 @@ pub enum Beginning {
     Constructor,
 }
 
-/// What stands before `virtual`, behind these words.
+/// What is written before `virtual`, after these words.
 fn virtual_behind(is_new_slot: bool, is_abstract: bool) -> Expected {
     match (is_new_slot, is_abstract) {
         (false, false) => Expected::MethodKind,
@@ -51,7 +51,7 @@ fn virtual_words(tokens: &mut Tokens<'_>) -> Result<Beginning, Failure>
     })
 }
 
-/// Takes the words of a constructor, behind the first.
+/// Takes the words of a constructor, after the first.
 #[tactic(auto, unfolding(crate::specs::Parsing::constructor_words_at, crate::specs::Parsing::words_at, ilasm_tokens::specs::Steps::bind))]
 fn constructor_words(tokens: &mut Tokens<'_>) -> Result<(), Failure>
     ensures { Gives (λ _. tokens.new.now) result (constructor_words_at tokens.old.now) }
@@ -77,7 +77,7 @@ fn first_words(tokens: &mut Tokens<'_>) -> Result<Beginning, Failure>
     virtual_words(tokens)
 }
 
-/// All words before a method's return type. Where no method begins, the grammar has what is told as expected.
+/// All words before a method's return type. Where no method begins, the grammar has what is given as `expected`.
 #[tactic(auto, unfolding(crate::specs::Parsing::method_words_at, ilasm_tokens::specs::Steps::bind))]
 fn method_words(tokens: &mut Tokens<'_>, expected: Expected) -> Result<Beginning, Failure>
     ensures { Gives (λ x. (x, tokens.new.now)) result (method_words_at tokens.old.now) }
@@ -154,7 +154,7 @@ fn kind_with(beginning: Beginning, code: Code) -> MethodKind
     }
 }
 
-/// The kind of a method that has code, with the code that stands here.
+/// The kind of a method that has code, with the code that follows here.
 #[tactic(auto, unfolding(crate::specs::Parsing::code_body_at, ilasm_tokens::specs::Steps::bind))]
 fn code_body(
     alloc: Global,
@@ -167,7 +167,7 @@ fn code_body(
     Ok(kind_with(beginning, code))
 }
 
-/// The kind, with the code that stands here; an abstract method has an empty block.
+/// The kind, with the code that follows here; an abstract method has an empty block.
 #[tactic(auto, unfolding(crate::specs::Parsing::body_at, ilasm_tokens::specs::Steps::bind))]
 fn body(alloc: Global, beginning: Beginning, tokens: &mut Tokens<'_>) -> Result<MethodKind, Failure>
     ensures { Gives (λ x. (x, tokens.new.now)) result (body_at beginning tokens.old.now) }
@@ -179,7 +179,7 @@ fn body(alloc: Global, beginning: Beginning, tokens: &mut Tokens<'_>) -> Result<
     Ok(MethodKind::Abstract { is_new_slot })
 }
 
-/// The kind, behind the words before a body.
+/// The kind, after the words before a body.
 #[tactic(auto, unfolding(crate::specs::Parsing::managed_body_at, ilasm_tokens::specs::Steps::bind))]
 fn managed_body(
     alloc: Global,
@@ -193,7 +193,7 @@ fn managed_body(
     body(alloc, beginning, tokens)
 }
 
-/// A method. Where none begins, the grammar has what is told as expected.
+/// A method. Where none begins, the grammar has what is given as `expected`.
 #[tactic(auto, unfolding(crate::specs::Parsing::method_at, ilasm_tokens::specs::Steps::bind))]
 pub fn method(alloc: Global, tokens: &mut Tokens<'_>, expected: Expected) -> Result<Method, Failure>
     ensures { Gives (λ x. (x, tokens.new.now)) result (method_at tokens.old.now) }

@@ -16,7 +16,7 @@ use ilasm_tokens::failure::Failure;
 use ilasm_tokens::source_tokens::Tokens;
 use std::alloc::Global;
 
-/// A label that an instruction goes to.
+/// A label that an instruction branches to.
 pub struct Target;
 
 impl Parse for Target {
@@ -33,7 +33,7 @@ impl Parse for Target {
     ghost consumes = { λ ts x rest e. ((name_sound ts).out (x, rest) e).1 };
 }
 
-/// The name of a field, behind `::`.
+/// The name of a field, after `::`.
 struct FieldOfOwner;
 
 impl Parse for FieldOfOwner {
@@ -78,7 +78,7 @@ fn method_name(alloc: Global, tokens: &mut Tokens<'_>) -> Result<MethodName, Fai
     Ok(MethodName::Named(name))
 }
 
-/// The name of a method, behind `::`.
+/// The name of a method, after `::`.
 struct MethodOfOwner;
 
 impl Parse for MethodOfOwner {
@@ -114,7 +114,7 @@ impl Parse for ParameterTypes {
     ghost consumes = { λ ts x rest e. ((parameter_types_sound ts).out (x, rest) e).1 };
 }
 
-/// `type owner::name(types)`, with a name or `.ctor`. Where no type stands, the grammar has what is told as expected.
+/// `type owner::name(types)`, with a name or `.ctor`. Where there is no type, the grammar has what is given as `expected`.
 #[tactic(auto, unfolding(crate::specs::Parsing::method_reference_at, ilasm_tokens::specs::Steps::bind))]
 pub fn method_reference(
     alloc: Global,
@@ -137,7 +137,7 @@ pub fn method_reference(
     })
 }
 
-/// A method behind the word `instance`.
+/// A method after the word `instance`.
 #[tactic(auto, unfolding(crate::specs::Parsing::instance_method_at, ilasm_tokens::specs::Steps::bind))]
 pub fn instance_method(alloc: Global, tokens: &mut Tokens<'_>) -> Result<MethodReference, Failure>
     ensures { Gives (λ x. (x, tokens.new.now)) result (instance_method_at tokens.old.now) }

@@ -31,7 +31,7 @@ pub enum ReadError {
 
 impl ReadError {
     /// The number by which a user knows the refusal (this profile): 101 for a byte above 127, 102 where no token begins,
-    /// 103 for no sentence, 104 for too many bytes, 105 for want of memory.
+    /// 103 for no sentence, 104 for too many bytes, 105 for out of memory.
     pub fn number(&self) -> u16
         ensures { result ≡ numbered self.now }
     {
@@ -77,8 +77,8 @@ fn has_foreign_byte(source: &[u8]) -> bool
 
 /// The tree of a source (ECMA-335 II.5; the grammar is this profile's).
 ///
-/// The first refusal that holds is answered: its length is looked at first, then its bytes, then its tokens, and then its
-/// tree. Want of memory may stand in place of a tree, of `NoToken` and of `NoTree`, and never of `TooLong` and `NotAscii`,
+/// The first refusal that holds is returned: its length is looked at first, then its bytes, then its tokens, and then its
+/// tree. Out of memory may be returned in place of a tree, of `NoToken` and of `NoTree`, and never of `TooLong` and `NotAscii`,
 /// which are decided before any memory is taken. The time is linear in the length of the source, and no call is as deep as
 /// a list is long.
 pub fn read(alloc: Global, source: &[u8]) -> Result<Tree, ReadError>

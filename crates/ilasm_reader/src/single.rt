@@ -11,7 +11,7 @@ use ilasm_tokens::failure::Failure;
 use ilasm_tokens::source_tokens::Tokens;
 use std::alloc::Global;
 
-/// Takes a reserved word, if it stands here, and tells whether it does.
+/// Takes a reserved word, if it is here, and returns whether it is.
 #[tactic(auto, unfolding(crate::specs::Parsing::word_at, crate::specs::Parsing::flag_at, ilasm_tokens::specs::Steps::choice))]
 pub fn take_word(tokens: &mut Tokens<'_>, word: &[u8]) -> bool
     ensures taken { Takes result tokens.old.now tokens.new.now (word_at word.now tokens.old.now) }
@@ -26,7 +26,7 @@ pub fn take_word(tokens: &mut Tokens<'_>, word: &[u8]) -> bool
     }
 }
 
-/// Takes a symbol, if it stands here, and tells whether it does.
+/// Takes a symbol, if it is here, and returns whether it is.
 #[tactic(auto, unfolding(crate::specs::Parsing::sign_at, ilasm_tokens::specs::Steps::choice))]
 pub fn take_symbol(tokens: &mut Tokens<'_>, symbol: Symbol) -> bool
     ensures { Takes result tokens.old.now tokens.new.now (sign_at symbol tokens.old.now) }
@@ -40,7 +40,7 @@ pub fn take_symbol(tokens: &mut Tokens<'_>, symbol: Symbol) -> bool
     }
 }
 
-/// Takes a name, if one stands here, and tells whether one does.
+/// Takes a name, if one is here, and returns whether one is.
 #[tactic(auto, unfolding(crate::specs::Parsing::name_at, ilasm_tokens::specs::Steps::choice))]
 pub fn take_name(tokens: &mut Tokens<'_>) -> bool
     ensures { Takes result tokens.old.now tokens.new.now (option_map (λ x. x.1) (name_at tokens.old.now)) }
@@ -54,7 +54,7 @@ pub fn take_name(tokens: &mut Tokens<'_>) -> bool
     }
 }
 
-/// Whether a reserved word stands here.
+/// Whether a reserved word is here.
 pub fn starts_word(tokens: Tokens<'_>, word: &[u8]) -> bool
     ensures { result ≡ is_some (word_at word.now tokens.now) }
 {
@@ -62,7 +62,7 @@ pub fn starts_word(tokens: Tokens<'_>, word: &[u8]) -> bool
     take_word(&mut ahead, word)
 }
 
-/// Whether a symbol stands here.
+/// Whether a symbol is here.
 pub fn starts_symbol(tokens: Tokens<'_>, symbol: Symbol) -> bool
     ensures { result ≡ is_some (sign_at symbol tokens.now) }
 {
@@ -70,7 +70,7 @@ pub fn starts_symbol(tokens: Tokens<'_>, symbol: Symbol) -> bool
     take_symbol(&mut ahead, symbol)
 }
 
-/// Takes a reserved word, which must stand here. Where it does not, the grammar has what is told as expected.
+/// Takes a reserved word, which must be here. Where it is not, the grammar has what is given as `expected`.
 pub fn expect_word_of(
     tokens: &mut Tokens<'_>,
     word: &[u8],
@@ -88,14 +88,14 @@ pub fn expect_word_of(
     }
 }
 
-/// Takes a reserved word, which alone may stand here.
+/// Takes a reserved word, which alone may be here.
 pub fn expect_word(tokens: &mut Tokens<'_>, word: &'static [u8]) -> Result<(), Failure>
     ensures { Gives (λ _. tokens.new.now) result (word_at word.now tokens.old.now) }
 {
     expect_word_of(tokens, word, Expected::Word(word))
 }
 
-/// Takes reserved words, one behind the other, each of which alone may stand in its place.
+/// Takes reserved words, one after the other, each of which alone may be in its place.
 pub fn expect_words(tokens: &mut Tokens<'_>, words: &[&'static [u8]]) -> Result<(), Failure>
     ensures { Gives (λ _. tokens.new.now) result (words_at (map (λ word. word.now) words.now) tokens.old.now) }
 {
@@ -105,7 +105,7 @@ pub fn expect_words(tokens: &mut Tokens<'_>, words: &[&'static [u8]]) -> Result<
     Ok(())
 }
 
-/// Takes a symbol, which must stand here. Where it does not, the grammar has what is told as expected.
+/// Takes a symbol, which must be here. Where it is not, the grammar has what is given as `expected`.
 pub fn expect_symbol_of(
     tokens: &mut Tokens<'_>,
     symbol: Symbol,
@@ -123,7 +123,7 @@ pub fn expect_symbol_of(
     }
 }
 
-/// Takes a symbol, which alone may stand here.
+/// Takes a symbol, which alone may be here.
 pub fn expect_symbol(tokens: &mut Tokens<'_>, symbol: Symbol) -> Result<(), Failure>
     ensures { Gives (λ _. tokens.new.now) result (sign_at symbol tokens.old.now) }
 {
@@ -139,7 +139,7 @@ pub fn empty_block(tokens: &mut Tokens<'_>) -> Result<(), Failure>
     expect_symbol(tokens, Symbol::CloseBrace)
 }
 
-/// A reserved word. Where there is none, the grammar has what is told as expected.
+/// A reserved word. Where there is none, the grammar has what is given as `expected`.
 #[tactic(auto, unfolding(crate::specs::Parsing::any_word_at, ilasm_tokens::specs::Steps::choice))]
 pub fn any_word<'a>(tokens: &mut Tokens<'a>, expected: Expected) -> Result<&'a [u8], Failure>
     ensures { Gives (λ x. (x.now, tokens.new.now)) result (any_word_at tokens.old.now) }
@@ -157,7 +157,7 @@ pub fn any_word<'a>(tokens: &mut Tokens<'a>, expected: Expected) -> Result<&'a [
     Ok(found)
 }
 
-/// A name. Where there is none, the grammar has what is told as expected.
+/// A name. Where there is none, the grammar has what is given as `expected`.
 #[tactic(auto, unfolding(crate::specs::Parsing::name_at, ilasm_tokens::specs::Steps::choice))]
 pub fn name(alloc: Global, tokens: &mut Tokens<'_>, expected: Expected) -> Result<Text, Failure>
     ensures { Gives (λ x. (x, tokens.new.now)) result (name_at tokens.old.now) }
@@ -175,7 +175,7 @@ pub fn name(alloc: Global, tokens: &mut Tokens<'_>, expected: Expected) -> Resul
     Ok(found)
 }
 
-/// An integer. Where there is none, the grammar has what is told as expected.
+/// An integer. Where there is none, the grammar has what is given as `expected`.
 #[tactic(auto, unfolding(crate::specs::Parsing::integer_at, ilasm_tokens::specs::Steps::choice))]
 pub fn integer(tokens: &mut Tokens<'_>, expected: Expected) -> Result<i64, Failure>
     ensures { Gives (λ x. (x, tokens.new.now)) result (integer_at tokens.old.now) }

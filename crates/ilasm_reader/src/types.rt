@@ -14,7 +14,7 @@ use ilasm_tokens::failure::Failure;
 use ilasm_tokens::source_tokens::Tokens;
 use std::alloc::Global;
 
-/// The name of an assembly, behind an opening bracket.
+/// The name of an assembly, after an opening bracket.
 struct AssemblyName;
 
 impl Parse for AssemblyName {
@@ -68,7 +68,7 @@ impl Parse for PlainName {
     ghost consumes = { λ ts x rest e. ((name_sound ts).out (x, rest) e).1 };
 }
 
-/// A class behind an opening bracket: the name of its assembly, and its own.
+/// A class after an opening bracket: the name of its assembly, and its own.
 #[tactic(auto, unfolding(crate::specs::Parsing::class_of_assembly_at, ilasm_tokens::specs::Steps::bind))]
 fn class_of_assembly(alloc: Global, tokens: &mut Tokens<'_>) -> Result<ClassName, Failure>
     ensures { Gives (λ x. (x, tokens.new.now)) result (class_of_assembly_at tokens.old.now) }
@@ -78,7 +78,7 @@ fn class_of_assembly(alloc: Global, tokens: &mut Tokens<'_>) -> Result<ClassName
     Ok(ClassName { assembly, name })
 }
 
-/// A class by its name, perhaps behind the name of an assembly in brackets.
+/// A class by its name, perhaps after the name of an assembly in brackets.
 pub struct ClassReference;
 
 impl Parse for ClassReference {
@@ -122,7 +122,7 @@ fn element(alloc: Global, tokens: &mut Tokens<'_>, expected: Expected) -> Result
     Ok(Element::Class(ClassReference::parse(alloc, tokens)?))
 }
 
-/// Takes a pair of brackets with nothing between, if it stands here, and tells whether it does.
+/// Takes a pair of brackets with nothing between, if it is here, and returns whether it is.
 #[tactic(auto, unfolding(crate::specs::Parsing::brackets_at, ilasm_tokens::specs::Steps::bind))]
 fn take_brackets(tokens: &mut Tokens<'_>) -> bool
     ensures { Takes result tokens.old.now tokens.new.now (brackets_at tokens.old.now) }
@@ -152,7 +152,7 @@ fn take_all_brackets(tokens: &mut Tokens<'_>) -> Result<u32, Failure>
     Ok(count)
 }
 
-/// A type. Where there is none, the grammar has what is told as expected.
+/// A type. Where there is none, the grammar has what is given as `expected`.
 #[tactic(auto, unfolding(crate::specs::Parsing::type_at, ilasm_tokens::specs::Steps::bind))]
 fn declared_type(
     alloc: Global,
@@ -203,7 +203,7 @@ impl Parse for Parameter {
     ghost consumes = { λ ts x rest e. ((parameter_sound ts).out (x, rest) e).1 };
 }
 
-/// A type, or `void`. Where there is neither, the grammar has what is told as expected.
+/// A type, or `void`. Where there is neither, the grammar has what is given as `expected`.
 #[tactic(auto, unfolding(crate::specs::Parsing::return_type_at, ilasm_tokens::specs::Steps::bind, ilasm_tokens::specs::Steps::choice))]
 pub fn return_type(
     alloc: Global,

@@ -66,7 +66,7 @@ module _ {S A : Type 0} (starts : List S → Bool) (parses : ParserOf S A) where
       ] in
       go reading.fuel reading.enough reading.whole
 
--- a parser that gives what the grammar has, before what may stand behind it
+-- a parser that gives what the grammar has, before what may follow it
 abbrev pub CompleteBefore : {S A : Type 0} → (List S → Type 0) → ParserOf S A → (A → SpanOf S) → Type 0
 CompleteBefore {S} {A} Ends parses R = (x : A) (ts rest : List S) → Ends rest → R x ts rest → parses ts ≡ Some (x, rest)
 

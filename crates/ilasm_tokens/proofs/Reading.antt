@@ -329,7 +329,7 @@ lexeme_complete (Symbol s) bs rest p = symbol_complete s bs rest p
 
 -- ---- sources
 
--- what is behind a slash may be given back with it
+-- what is after a slash may be given back with it
 unfoldable held : Place → ℕ
 held slash = 1
 held _ = 0

@@ -1,4 +1,4 @@
--- What is behind white space and comments, by the bytes that stand at the front.
+-- What is after white space and comments, by the bytes at the front.
 use Rattle.std.proofs.Common.{◌≡◌, ◌≢◌, ◌≤◌, ◌<◌, ◌-◌, ◌==◌, ℕ, Bool, true, false, List, [], ◌∷◌, length, take, drop, get_or, None, Some, refl, ap, sym, ◌∙◌, arith}
 use Rattle.std.specs.Prelude.{if◌then◌else◌}
 use Rattle.std.proofs.Math.Seq.{take-length}
@@ -6,7 +6,7 @@ use Rattle.std.proofs.lemmas.Bool.{ne_eqb}
 use Rattle.cil_model.specs.Lexemes.{is_white, skip_gap, between, slash, in_line, in_block, star}
 use Rattle.ilasm_tokens.proofs.Text.{block_place}
 
--- what is behind the first byte
+-- what is after the first byte
 abbrev pub behind : List ℕ → List ℕ
 behind bs = take (length bs - 1) (drop 1 bs)
 

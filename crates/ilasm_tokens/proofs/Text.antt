@@ -46,7 +46,7 @@ word_is_ascii (b ∷ bs) =
 pub ascii_is_utf8 : (bs : List ℕ) → All (λ b. b < 128) bs → IsUtf8 bs
 ascii_is_utf8 bs all = IsUtf8-from_ascii bs (IsAscii-from_all bs all)
 
--- what stands behind a literal is what stands behind the last of its characters
+-- what is after a literal is what is after the last of its characters
 pub behind_front : (xs : List ℕ) (r : Option (List ℕ × List ℕ)) → behind_quote (with_front xs r) ≡ behind_quote r
 unfolding with_front behind_quote
 behind_front xs (Some x) = refl
@@ -90,7 +90,7 @@ at_quote bs rest e = rw (by_character bs, e) refl
 pub no_character : (bs : List ℕ) → character_at bs ≡ None → quoted_from false bs ≡ None
 no_character bs e = rw (by_character bs, e) refl
 
--- what is behind the literal is also behind what is left of it
+-- what is after the literal is also after what is left of it
 pub passes : (bs rest : List ℕ) (c : ℕ) (whole : Option (List ℕ)) → Some (Some c, rest) ≡ character_at bs → behind_quote (quoted_from false bs) ≡ whole → behind_quote (quoted_from false rest) ≡ whole
 passes bs rest c whole e so_far = sym (behind_front (c ∷ []) (quoted_from false rest)) ∙ ap behind_quote (sym (at_character bs rest c (sym e))) ∙ so_far
 
@@ -116,7 +116,7 @@ unfolding bind behind_quote
 none_from (Some x) e = absurd cc
 none_from None e = refl
 
--- the token of a literal, by what is behind it
+-- the token of a literal, by what is after it
 pub literal_before : (bs rest : List ℕ) → behind_quote (quoted_from false bs) ≡ Some rest → quoted_token bs ≡ Some (Quoted (characters_of bs), rest)
 unfolding quoted_token characters_of
 literal_before bs rest e = literal_of (quoted_from false bs) rest e

@@ -1,4 +1,4 @@
--- What is answered of a source's tokens.
+-- The results for a source's tokens.
 use Rattle.std.specs.Prelude.{ℕ, List, Result, Ok, Err}
 use Rattle.cil_model.specs.declared.tokens.Token.{Token}
 use Rattle.cil_model.specs.Lexemes.{AreTokens}

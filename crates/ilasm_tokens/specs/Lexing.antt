@@ -34,7 +34,7 @@ kind_of c =
 unfoldable pub run_at : Lexer (List ℕ)
 run_at bs = Some (take (prefix_len is_word_byte bs) bs, drop (prefix_len is_word_byte bs) bs)
 
--- a word and what is behind it, as a token
+-- a word and what is after it, as a token
 unfoldable pub word_token : Lexer Token
 word_token bs = do
   w ← run_at bs
@@ -60,7 +60,7 @@ integer_token is_negative bs = do
   value ← integer_of is_negative digits.0
   Some (Integer value, digits.1)
 
--- the characters up to the quote, and what is behind that; from behind a backslash, or not
+-- the characters up to the quote, and what is after that; from after a backslash, or not
 unfoldable pub quoted_from : Bool → Lexer (List ℕ)
 quoted_from is_escaped [] = None
 quoted_from true (c ∷ cs) = do
@@ -82,12 +82,12 @@ escaped_at (c ∷ cs) = do
   character ← escaped c
   Some (Some character, cs)
 
--- a character of a literal, or no character for the quote that ends it, and what is behind
+-- a character of a literal, or no character for the quote that ends it, and what is after it
 unfoldable pub character_at : List ℕ → Option (Option ℕ × List ℕ)
 character_at [] = None
 character_at (c ∷ cs) = if c == 34 then Some (None, cs) else (if c == 92 then escaped_at cs else (if is_plain c then Some (Some c, cs) else None))
 
--- what is behind the quote
+-- what is after the quote
 unfoldable pub behind_quote : Option (List ℕ × List ℕ) → Option (List ℕ)
 behind_quote None = None
 behind_quote (Some characters) = Some characters.1
@@ -116,7 +116,7 @@ spaced_lexeme_at bs = do
   rest ← skip_gap between token.1
   Some (token.0, rest)
 
--- what is left behind so many tokens
+-- what is left after n tokens
 unfoldable pub behind_tokens : ℕ → List ℕ → Option (List ℕ)
 behind_tokens zero bs = Some bs
 behind_tokens (suc n) bs = do

@@ -13,7 +13,7 @@ infixl 10 ◌>>=◌
 abbrev pub ◌>>=◌ : {A B : Type 0} → Option A → (A → Option B) → Option B
 r >>= f = bind r f
 
--- with what is there, or else without
+-- with what is there, and otherwise without
 unfoldable pub choice : {A B : Type 0} → Option A → (A → B) → B → B
 choice (Some x) f d = f x
 choice None f d = d
@@ -27,7 +27,7 @@ abbrev pub Gives : {X Y : Type 0} → (X → Y) → Result X Failure → Option 
 Gives view (Ok x) read = read ≡ Some (view x)
 Gives view (Err e) read = Fails e read
 
--- a value, and what is left behind it
+-- a value, and what is left after it
 abbrev pub ParserOf : Type 0 → Type 0 → Type 0
 ParserOf S A = List S → Option (A × List S)
 

@@ -69,14 +69,14 @@ pub fn is_white(byte: u8) -> bool
     matches!(byte, b'\t' | b'\n' | b'\r' | b' ')
 }
 
-/// A byte of a string literal that stands for itself.
+/// A byte of a string literal that represents itself.
 pub fn is_plain(byte: u8) -> bool
     ensures { result ≡ is_plain byte }
 {
     byte >= b' ' && byte <= b'~' && byte != b'"' && byte != b'\\'
 }
 
-/// The byte for which a backslash and this byte stand.
+/// The byte that a backslash and this byte represent.
 pub fn escaped(byte: u8) -> Option<u8>
     ensures { result ≡ escaped byte }
 {

@@ -22,39 +22,39 @@ pub enum Expected {
     Type,
     /// A type or `void`.
     ReturnType,
-    /// What stands behind `call`: `instance`, or what the method returns.
+    /// What follows `call`: `instance`, or what the method returns.
     CalledMethod,
-    /// What stands behind `callvirt`: a method that is no constructor.
+    /// What follows `callvirt`: a method that is no constructor.
     VirtualMethod,
-    /// What stands behind `newobj`: a constructor.
+    /// What follows `newobj`: a constructor.
     Constructor,
-    /// What stands behind `.assembly`: `extern`, or the name of the source's own.
+    /// What follows `.assembly`: `extern`, or the name of the source's own.
     AssemblyName,
     /// An assembly, a class, or the end of the source.
     Declaration,
     /// A class, or the end of the source.
     Class,
-    /// What stands behind `.class`: `interface` or `public`.
+    /// What follows `.class`: `interface` or `public`.
     ClassHead,
-    /// What stands behind `.class public`: `abstract` or `auto`.
+    /// What follows `.class public`: `abstract` or `auto`.
     ClassAttributes,
     /// A member of a class, or the end of its block.
     Member,
     /// A member of an interface, which is a method, or the end of its block.
     InterfaceMember,
-    /// What stands behind `.method public`: the words that tell the method's kind.
+    /// What follows `.method public`: the words that determine the method's kind.
     MethodKind,
-    /// What stands behind `newslot`: `virtual` or `abstract virtual`.
+    /// What follows `newslot`: `virtual` or `abstract virtual`.
     VirtualWords,
     /// `cil managed`.
     CilManaged,
     /// `.entrypoint` or `.maxstack`.
     CodeStart,
-    /// An instruction, perhaps behind labels, or the end of the code.
+    /// An instruction, perhaps after labels, or the end of the code.
     Line,
-    /// An instruction behind a label, or one more label.
+    /// An instruction after a label, or one more label.
     LabelledLine,
-    /// The colon behind a label: what stands before it is no instruction.
+    /// The colon after a label: what is before it is no instruction.
     LabelColon,
     /// A comma, or this mark, with which the list ends.
     ListEnd(Symbol),

@@ -16,7 +16,7 @@ pub enum Failure {
 }
 
 impl Failure {
-    /// No token begins where so many items are left.
+    /// No token begins where this number of items is left.
     pub fn no_token(left: usize) -> Self
         ensures { result ≡ Refused left Token }
     {

@@ -141,7 +141,7 @@ fn integer_of(is_negative: bool, digits: &[u8]) -> Option<i64>
     }
 }
 
-/// An integer, behind its sign. It began where `left` bytes were left.
+/// An integer, after its sign. It began where `left` bytes were left.
 #[tactic(auto, unfolding(crate::specs::Lexing::integer_token, crate::specs::Lexing::run_at, crate::specs::Steps::bind))]
 fn integer(
     is_negative: bool,
@@ -157,7 +157,7 @@ fn integer(
     Ok((SourceToken::of_integer(value), rest))
 }
 
-/// A character of a literal, or `None` in its place for the quote that ends it, and what is left behind.
+/// A character of a literal, or `None` in its place for the quote that ends it, and what is left after it.
 #[tactic(auto, unfolding(crate::specs::Lexing::character_at, crate::specs::Lexing::escaped_at, crate::specs::Steps::bind))]
 fn character(bytes: &[u8]) -> Option<(Option<u8>, &[u8])>
     ensures shorter { IfSome result (λ x. length x.1.now < length bytes.now) }
@@ -172,7 +172,7 @@ fn character(bytes: &[u8]) -> Option<(Option<u8>, &[u8])>
     }
 }
 
-/// What is left behind the quote that ends a literal; `None` where none does, or where something stands before it that is
+/// What is left after the quote that ends a literal; `None` where none does, or where something is before it that is
 /// no character.
 #[tactic(auto, using(crate::proofs::Text::passes, crate::proofs::Text::at_quote, crate::proofs::Text::no_character), unfolding(crate::specs::Lexing::behind_quote))]
 fn after_quote(bytes: &[u8]) -> Option<&[u8]>
@@ -188,7 +188,7 @@ fn after_quote(bytes: &[u8]) -> Option<&[u8]>
     None
 }
 
-/// The characters of a literal up to its quote, and what is left behind that. It is refused where it has no end.
+/// The characters of a literal up to its quote, and what is left after that. It is refused where it has no end.
 #[tactic(auto, using(crate::proofs::Text::takes, crate::proofs::Text::at_end, crate::proofs::Text::at_fault), unfolding(crate::specs::Steps::with_front))]
 fn characters(alloc: Global, bytes: &[u8]) -> Result<(Vec<u8>, &[u8]), Failure>
     ensures ascii { IfOk result (λ x. All (λ b. b < 128) x.0.items) }
@@ -218,7 +218,7 @@ pub fn text_of_literal(alloc: Global, bytes: &[u8]) -> Result<Text, AllocError>
     }
 }
 
-/// A string literal, behind its first quote, where `left` bytes were left.
+/// A string literal, after its first quote, where `left` bytes were left.
 #[tactic(auto, using(crate::proofs::Text::literal_before, crate::proofs::Text::no_literal))]
 fn quoted(bytes: &[u8], left: usize) -> Result<(SourceToken<'_>, &[u8]), Failure>
     ensures { Gives (λ x. (x.0, x.1.now)) result (quoted_token bytes.now) }
@@ -229,7 +229,7 @@ fn quoted(bytes: &[u8], left: usize) -> Result<(SourceToken<'_>, &[u8]), Failure
     }
 }
 
-/// One colon or two, behind the first.
+/// One colon or two, after the first.
 #[tactic(auto, unfolding(crate::specs::Lexing::colon_token))]
 fn colon(bytes: &[u8]) -> (SourceToken<'_>, &[u8])
     ensures { colon_token bytes.now ≡ Some (result.0, result.1.now) }
@@ -240,7 +240,7 @@ fn colon(bytes: &[u8]) -> (SourceToken<'_>, &[u8])
     }
 }
 
-/// The longest token that the bytes begin with, and what is left behind it.
+/// The longest token that the bytes begin with, and what is left after it.
 #[tactic(auto, unfolding(crate::specs::Lexing::lexeme_at, crate::specs::Lexing::token_by))]
 pub fn lexeme(bytes: &[u8]) -> Result<(SourceToken<'_>, &[u8]), Failure>
     ensures { Gives (λ x. (x.0, x.1.now)) result (lexeme_at bytes.now) }

@@ -11,10 +11,10 @@ use crate::spaces::after_spaces;
 use cil_model::sequences::Sequence;
 use std::alloc::Global;
 
-/// A token with the white space behind it seldom has fewer bytes, so memory for as many tokens is taken at once.
+/// A token with the white space after it seldom has fewer bytes, so memory for as many tokens is taken at once.
 const BYTES_A_TOKEN: usize = 4;
 
-/// A token, and what is left behind the white space and comments that follow it.
+/// A token, and what is left after the white space and comments that follow it.
 #[tactic(auto, unfolding(crate::specs::Lexing::spaced_lexeme_at, crate::specs::Steps::bind))]
 fn spaced_lexeme(bytes: &[u8]) -> Result<(SourceToken<'_>, &[u8]), Failure>
     ensures { Gives (λ x. (x.0, x.1.now)) result (spaced_lexeme_at bytes.now) }
@@ -38,7 +38,7 @@ pub fn tokens(alloc: Global, source: &[u8]) -> Result<Sequence<SourceToken<'_>>,
     Ok(Sequence::new(tokens))
 }
 
-/// Where the token of this number begins, counted in bytes, or the end of the source behind its last token. Tokens are
+/// Where the token of this number begins, counted in bytes, or the end of the source after its last token. Tokens are
 /// counted from 0. It is refused where the source has no such place, since too few tokens can be read.
 pub fn token_offset(source: &[u8], number: usize) -> Result<usize, Failure>
     ensures { Gives (λ offset. offset) result (offset_of number source.now) }

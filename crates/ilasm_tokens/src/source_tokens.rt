@@ -19,13 +19,13 @@ pub struct SourceToken<'s> {
 /// Tokens that are still to be read.
 pub type Tokens<'s> = &'s [SourceToken<'s>];
 
-/// How a token stands in the source.
+/// How a token is written in the source.
 #[derive(Clone, Copy)]
 enum Part<'s> {
     Reserved(&'s [u8]),
     Name(&'s [u8]),
     Integer(i64),
-    /// A string literal, from behind its first quote on to the source's end.
+    /// A string literal, from after its first quote on to the source's end.
     Quoted(&'s [u8]),
     Symbol(Symbol),
 }
@@ -71,7 +71,7 @@ impl<'s> SourceToken<'s> {
         }
     }
 
-    /// A string literal, from behind its first quote on; what is behind its last quote is no part of it.
+    /// A string literal, from after its first quote on; what is after its last quote is no part of it.
     pub fn of_literal(bytes: &'s [u8]) -> Self
         ensures { result ≡ Quoted (characters_of bytes.now) }
     {

@@ -7,7 +7,7 @@ ghost use Rattle.ilasm_tokens.specs.Steps.{Gives};
 use crate::bytes::is_white;
 use crate::failure::Failure;
 
-/// What is left behind a comment that goes on to the end of the line.
+/// What is left after a comment that continues to the end of the line.
 fn after_line(bytes: &[u8]) -> &[u8]
     ensures within { length result.now ≤ length bytes.now }
     ensures value { skip_gap in_line bytes.now ≡ skip_gap between result.now }
@@ -22,7 +22,7 @@ fn after_line(bytes: &[u8]) -> &[u8]
     rest
 }
 
-/// What is left behind a comment that goes on to the next `*/`.
+/// What is left after a comment that continues to the next `*/`.
 fn after_block(bytes: &[u8]) -> Option<&[u8]>
     ensures within { IfSome result (λ r. length r.now ≤ length bytes.now) }
     ensures value { MatchOption result (skip_gap in_block bytes.now ≡ None) (λ r. skip_gap in_block bytes.now ≡ skip_gap between r.now) }
@@ -39,7 +39,7 @@ fn after_block(bytes: &[u8]) -> Option<&[u8]>
     None
 }
 
-/// What is left behind white space and comments.
+/// What is left after white space and comments.
 pub fn after_spaces(bytes: &[u8]) -> Result<&[u8], Failure>
     ensures { Gives (λ r. r.now) result (skip_gap between bytes.now) }
 {

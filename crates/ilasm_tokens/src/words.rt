@@ -523,7 +523,7 @@ static BUCKETS_56_TO_63: Group = [
     &[(b"public", WordUse::Grammar)],
 ];
 
-/// The bucket in which a word stands, if it is reserved: the sum of its bytes, modulo the number of buckets.
+/// The bucket that a word is in, if it is reserved: the sum of its bytes, modulo the number of buckets.
 fn bucket_of(word: &[u8]) -> usize
     ensures bound { result < 64 }
     ensures value { result ≡ bucket_from 0 word.now }

@@ -51,12 +51,12 @@ either : (b : Bool) → (b ≡ true) ⊎ (b ≡ false)
 either true = inl refl
 either false = inr refl
 
--- what comes next is listed, where it is told to be
+-- the next class is listed, where the test says so
 pub told_listed : (bases : List (Option ℕ)) (listed : List Bool) (classes : List ℕ) → length listed ≡ length bases → ((class : ℕ) → is_met listed class ≡ true → 0 < times classes class) → (next : Option ℕ) → is_listed_next listed next ≡ true → IsListedNext bases classes next
 told_listed bases listed classes width are next told class e within =
     are class (get_or_default listed class false true (omega (arith, width, within)) ∙ sym (ap (is_listed_next listed) e) ∙ told)
 
--- what comes next is a class that is not listed, where it is told not to be
+-- the next class is one that is not listed, where the test says so
 told_endless : (bases : List (Option ℕ)) (listed : List Bool) → length listed ≡ length bases → (next : Option ℕ) → is_listed_next listed next ≡ false → (class : ℕ) × (next ≡ Some class) × (class < length bases) × (is_met listed class ≡ false)
 told_endless bases listed width None told = let wrong : true ≡ false = told in cc wrong
 told_endless bases listed width (Some class) told = elim (cases_lt class (length listed)) [

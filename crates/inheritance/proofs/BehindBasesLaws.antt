@@ -1,4 +1,4 @@
--- Laws of classes that are listed behind their bases.
+-- Laws of classes that are listed after their bases.
 use Rattle.std.proofs.Common.{◌≡◌, ◌≢◌, ◌≤◌, ◌<◌, ◌+◌, ◌⊎◌, inl, inr, ℕ, zero, suc, Bool, true, false, cond, ◌==◌, List, [], ◌∷◌, ◌++◌, reverse, take, Option, Some, None, length, slice_get, slice_set, refl, sym, ap, subst, ◌∙◌, arith}
 use Rattle.std.specs.List.{sum_by}
 use Rattle.std.proofs.lemmas.Bool.{cases_lt, eq-eqb}
@@ -11,7 +11,7 @@ use Rattle.inheritance.specs.Lines.{base_in, Ends}
 use Rattle.inheritance.specs.BehindBases.{times, IsPath, is_met, HasMet}
 use Rattle.inheritance.proofs.LineLaws.{EndsFrom, ends_from_none, ends_step}
 
--- ---- how often a class stands in a list
+-- ---- how often a class occurs in a list
 
 abbrev pub one_at : ℕ → ℕ → ℕ
 one_at x class = cond (x == class) 1 0
@@ -49,7 +49,7 @@ pub path_on : (bases : List (Option ℕ)) (first : Option ℕ) (path : List ℕ)
 path_on bases first [] class is = (is, refl)
 path_on bases first (x ∷ path) class is = (is.0, path_on bases (base_in bases x) path class is.1)
 
--- each class of a path has the next as its base, the last what comes behind
+-- each class of a path has the next as its base, and the last has what comes after the path
 pub path_base : (bases : List (Option ℕ)) (first : Option ℕ) (path : List ℕ) (next : Option ℕ) → IsPath bases first path next → (class : ℕ) → 0 < times path class → (base_in bases class ≡ next) ⊎ ((base : ℕ) × (base_in bases class ≡ Some base) × (0 < times path base))
 path_base bases first [] next is class h = absurd (omega (arith, h))
 path_base bases first (x ∷ path) next is class h = by_place (one_cases x class) (path_base bases (base_in bases x) path next is.1 class)
@@ -67,7 +67,7 @@ path_base bases first (x ∷ path) next is class h = by_place (one_cases x class
 
 -- ---- the order
 
--- what stands at a place of a longer list
+-- what is at a place of a longer list
 at_end : (xs : List ℕ) (y place c : ℕ) → slice_get (xs ++ y ∷ []) place ≡ Some c → ((place < length xs) × (slice_get xs place ≡ Some c)) ⊎ ((place ≡ length xs) × (c ≡ y))
 at_end [] y zero c e = inr (refl, sym (same_Some y c e))
 at_end [] y (suc place) c e = absurd (none-some c e)
@@ -80,7 +80,7 @@ at_end (x ∷ xs) y (suc place) c e = elim (at_end xs y place c e) [
 take_before : (xs : List ℕ) (y place : ℕ) → place ≡ length xs → take place (xs ++ y ∷ []) ≡ xs
 take_before xs y place e = ap (λ n. take n (xs ++ y ∷ [])) e ∙ take-append_seam xs (y ∷ [])
 
--- each of these classes stands once, behind its base, and its bases end
+-- each of these classes occurs once, after its base, and its bases end
 pub record IsOrder (bases : List (Option ℕ)) (classes : List ℕ) : Type 0 where
   pub behind : (place class base : ℕ) → slice_get classes place ≡ Some class → base_in bases class ≡ Some base → base < length bases → 0 < times (take place classes) base
   pub once : (class : ℕ) → times classes class ≤ 1

@@ -144,7 +144,7 @@ module _ (old mid new : List (List Change)) (key first : ℕ) (keys : List ℕ) 
         (λ e. let same : q ≡ key = eqb-true q key e in is ∙ as_before source earlier (omega (arith, same, h)) ∙ ap (λ k. found_from old source k first) (sym same));
   }
 
--- ---- rows behind vectors
+-- ---- rows of vectors
 
 pub row_of : {X Y : Type 0} (f : X → Y) (xs : List X) (i : ℕ) (x : X) (d : Y) → i < length xs → x ≡ get_or xs i x → get_or (map f xs) i d ≡ f x
 row_of f xs i x d h e = get_or-map f xs i x d h ∙ ap f (sym e)
@@ -159,7 +159,7 @@ row_past f xs i d h = get_or_past (map f xs) i d (omega (arith, h, length-map xs
 
 -- ---- halves
 
--- the first half, then the item behind it, then the others
+-- the first half, then the item after it, then the others
 pub halves : {X : Type 0} (xs ys zs : List X) (m : ℕ) (d : X) → ys ≡ take m xs → zs ≡ drop m xs → 1 ≤ length zs → xs ≡ ys ++ get_or zs 0 d ∷ take (length zs - 1) (drop 1 zs)
 halves xs ys zs m d e f h =
     let front : zs ≡ get_or zs 0 d ∷ take (length zs - 1) (drop 1 zs) = drop-cons zs 0 d (omega (arith, h)) ∙ ap (λ r. get_or zs 0 d ∷ r) (sym (take_rest zs 1)) in

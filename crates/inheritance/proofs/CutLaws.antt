@@ -16,7 +16,7 @@ FindsNothing at bases o = (n : ℕ) → nearest at (line_within bases n o) ≡ N
 pub none_from_none : (at : ℕ → Option ℕ) (bases : List (Option ℕ)) → FindsNothing at bases None
 none_from_none at bases n = ap (nearest at) (line_of_none bases n)
 
--- where nothing is found, the first class has nothing, nor have those behind it
+-- where nothing is found, the first class has nothing, nor have those after it
 pub first_has_nothing : (at : ℕ → Option ℕ) (class : ℕ) (rest : List ℕ) → nearest at (class ∷ rest) ≡ None → (at class ≡ None) × (nearest at rest ≡ None)
 first_has_nothing at class rest e = by_place (at class) refl e
   where
@@ -71,7 +71,7 @@ module _ (at : ℕ → Option ℕ) (bases cut : List (Option ℕ)) (parts : List
   one_further : (m class : ℕ) (o : Option ℕ) → at class ≡ None → base_in bases class ≡ o → nearest at (line_within bases (suc m) (Some class)) ≡ nearest at (line_within bases m o)
   one_further m class o e f = found_behind at class (line_within bases m (base_in bases class)) e ∙ ap (λ b. nearest at (line_within bases m b)) f
 
-  -- the line goes on behind a part in which nothing is found
+  -- the line continues after a part in which nothing is found
   abbrev GoesOnBehind : ℕ → Type 0
   GoesOnBehind m = (class : ℕ) (part : Part) → part_in parts class ≡ Some part → FindsNothing at cut (Some class) → part.length ≤ m → nearest at (line_within bases m (Some class)) ≡ nearest at (line_within bases (m - part.length) (base_in bases part.last))
 
@@ -95,7 +95,7 @@ module _ (at : ℕ → Option ℕ) (bases cut : List (Option ℕ)) (parts : List
           let later = more base next n.3 (rest_finds_nothing class base n.2 h) (omega (arith, one, k)) in
           one_further m class (Some base) (has_nothing class h) (has class base n.2) ∙ later ∙ ap (λ x. nearest at (line_within bases x (base_in bases next.last))) less ∙ ap (λ c. nearest at (line_within bases (suc m - part.length) (base_in bases c))) (sym n.4)
 
-  -- what is found in a part is found along the bases, among as many classes as stand before it there
+  -- what is found in a part is found along the bases, among the number of classes that are before it there
   abbrev IsFoundInPart : ℕ → Type 0
   IsFoundInPart n = (left class : ℕ) (part : Part) (p : ℕ × ℕ) (rest : Part) → part_in parts class ≡ Some part → nearest at (line_within cut n (Some class)) ≡ Some p → part_in parts p.0 ≡ Some rest → part.length < rest.length + left → nearest at (line_within bases left (Some class)) ≡ Some p
 
@@ -122,7 +122,7 @@ module _ (at : ℕ → Option ℕ) (bases cut : List (Option ℕ)) (parts : List
           let some : 0 < left = omega (arith, h, ap (λ (q : Part). q.length) own) in
           here left place a some ∙ ap Some same
 
-  -- nothing is found along bases that go round, where nothing is found in the part of the class nor in that of the base behind it
+  -- nothing is found along cyclic bases, where nothing is found in the part of the class nor in that of the base after it
   abbrev GoesRound : ℕ → Type 0
   GoesRound last = (base : ℕ) → base_in bases last ≡ Some base → (next : Part) × (part_in parts base ≡ Some next) × (next.last ≡ last) × FindsNothing at cut (Some base)
 

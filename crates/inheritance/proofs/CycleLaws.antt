@@ -1,4 +1,4 @@
--- Laws of bases that lead round.
+-- Laws of cyclic inheritance.
 use Rattle.std.proofs.Common.{◌≡◌, ℕ, zero, suc, List, Option, Some, None, option_and_then, refl, sym, ap, subst, ◌∙◌}
 use Rattle.std.proofs.lemmas.Option.{same_Some, none-some}
 use Rattle.inheritance.specs.Lines.{base_in}

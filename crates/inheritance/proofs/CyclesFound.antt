@@ -10,7 +10,7 @@ use Rattle.inheritance.specs.Lines.{base_in}
 use Rattle.inheritance.specs.Cycles.{IsOwnBase, IsLeastOwnBase, Leads, IsClosed, walk_at, IsMarked, MarksOwnBases, HasWalked}
 use Rattle.inheritance.proofs.CycleLaws.{first_base, own_further, closed_back}
 
--- walks from all classes below a start, and walks round from the classes that these met again
+-- walks from all classes below a start, and walks around the cycles from the classes that these met again
 pub record HaveWalked (bases walks marks : List (Option ℕ)) (start : ℕ) : Type 0 where
   pub walks_width : length walks ≡ length bases
   pub marks_width : length marks ≡ length bases
@@ -22,7 +22,7 @@ pub record HaveWalked (bases walks marks : List (Option ℕ)) (start : ℕ) : Ty
   pub own : (c : ℕ) → IsMarked marks c → IsOwnBase bases c
   pub found : (c : ℕ) → IsMarked walks c → IsOwnBase bases c → IsMarked marks c
 
--- so many classes of which none is marked
+-- n classes of which none is marked
 abbrev none_of : ℕ → List (Option ℕ)
 none_of n = replicate n None
 
@@ -78,7 +78,7 @@ module _ (bases walks marks : List (Option ℕ)) (start : ℕ) (is : HaveWalked 
     | inr g ↦ (let e : start ≡ c = omega (arith, g, l) in subst (IsMarked walks') e (walked.begun (omega (arith, within, width))))
   ]
 
-  -- what is on a cycle and newly gone along leads to the class that was met again
+  -- what is on a cycle and newly followed leads to the class that was met again
   met_by : (c : ℕ) → IsMarked walks' c → IsOwnBase bases c → IsMarked marks c ⊎ ((class : ℕ) × (met ≡ Some class) × Leads bases c class)
   met_by c m own = by_mark (walk_at walks c) refl
     where
@@ -148,7 +148,7 @@ none_met bases e class m = is_none (length bases) class m.0 m.1
 pub met_some : (classes : List ℕ) (class : ℕ) (marks : List (Option ℕ)) → MetNone (classes ++ class ∷ []) marks
 met_some classes class marks e = let wrong : length (classes ++ class ∷ []) ≡ 0 = ap length e in absurd (omega (arith, wrong, length_push classes class))
 
--- so that no bases lead round
+-- so that there is no cyclic inheritance
 pub none_round : (bases marks : List (Option ℕ)) (classes : List ℕ) → MarksOwnBases bases marks → MetNone classes marks → classes ≡ [] → (class : ℕ) → IsOwnBase bases class → ⊥
 none_round bases marks classes exact none e class own = none e class ((exact class).1 own)
 

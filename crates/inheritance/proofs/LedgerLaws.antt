@@ -75,7 +75,7 @@ module _ (forest : Forest) where
     standing = standing_later rows entries t current r.standing;
   }
 
-  -- ---- where the keys of a class find something else
+  -- ---- where the keys of a class find another declaration
 
   module _ (t : ℕ) (rows new : List (List Change)) (entries : List (Option Entry)) (current : Option ℕ) (r : IsRightBefore forest t rows entries current)
       (class : ℕ) (source : Source) (a : AddsChanges rows new (slice_index_or (map (λ v. v.items) forest.declared.items) class []) 0 source t) where

@@ -59,7 +59,7 @@ module _ (bases : List (Option ℕ)) (class : ℕ) where
 
 -- ---- whether bases end
 
--- one class more than so many finds no further one, from a class or from nowhere on
+-- one class more than the given number finds no further one, from a class or from nowhere on
 abbrev pub EndsFrom : List (Option ℕ) → ℕ → Option ℕ → Type 0
 EndsFrom bases n class = line_within bases (suc n) class ≡ line_within bases n class
 

@@ -60,11 +60,11 @@ module _ (test : Option (ℕ × ℕ) → Bool) (ends : List ℕ) (t : ℕ) (insi
   abbrev passes : Option Declared → Bool
   passes o = test (pair_of o)
 
-  -- a change up to the time, which noted an end behind it
+  -- a change up to the time, which noted an end after it
   abbrev IsCovered : Type 0
   IsCovered = (s : ℕ) × (s ≤ t) × (t < slice_index_or ends s 0)
 
-  -- what passes is found behind a change up to the time
+  -- what passes is found after a change up to the time
   pub covered : (c : Change) (cs : List Change) → AreNoted test ends (c ∷ cs) → is_ordered cs ≡ true → c.time ≤ t → passes (known c.found t cs) ≡ true → IsCovered
   covered c [] noted ordered early h = let end : length ends ≤ slice_index_or ends c.time 0 = noted.0 h (omega (arith, early, inside)) in (c.time, early, omega (arith, end, inside))
   covered c (d ∷ ds) noted ordered early h = by_time (covered d ds noted.1 (both_second _ _ ordered)) (nat_le d.time t) refl
@@ -77,7 +77,7 @@ module _ (test : Option (ℕ × ℕ) → Bool) (ends : List ℕ) (t : ℕ) (insi
           let end : d.time ≤ slice_index_or ends c.time 0 = noted.0 (sym (ap passes late) ∙ h) (omega (arith, early, inside)) in
           (c.time, early, omega (arith, end, past))
 
--- nothing that passes is found at a time that no noted end is behind
+-- nothing that passes is found at a time that has no noted end after it
 pub none_sought : (test : Option (ℕ × ℕ) → Bool) (ends reach : List ℕ) (cs : List Change) (t : ℕ) → AreNoted test ends (at_first ∷ cs) → is_ordered cs ≡ true → IsReach ends reach → length reach ≡ length ends → t < length reach →
     slice_index_or reach t 0 ≤ t → test (pair_of (known None t cs)) ≡ false
 none_sought test ends reach cs t noted ordered reaches width inside low = by_value (test (pair_of (known None t cs))) refl
@@ -90,7 +90,7 @@ none_sought test ends reach cs t noted ordered reaches width inside low = by_val
         let high : slice_index_or ends found.0 0 ≤ slice_index_or reach t 0 = (reaches t inside).covers found.0 (omega (arith, found.1)) in
         absurd (omega (arith, high, low, found.2))
 
--- ---- what is found till an end
+-- ---- what is found until an end
 
 pub holds_both : (P : ℕ → Type 0) (a b c : List ℕ) → HoldsTill P a b → HoldsTill P b c → HoldsTill P a c
 holds_both P a b c h k = λ s t early low high. by_end s t early low high (leb_tells (suc t) (slice_index_or b s 0))
@@ -186,14 +186,14 @@ reach_tells p keys t end beyond up_to = by_time (nat_lt t end) refl
     by_time true e = let high : suc t ≤ end = leb-true (suc t) end e in beyond (omega (arith, high))
     by_time false e = let low : end < suc t = leb-false (suc t) end e in by_any (omega (arith, low)) (list_any p keys) refl
 
--- ---- answers
+-- ---- results
 
--- what is told of a class
+-- the result for a class
 pub record IsAnswer (test : Option (ℕ × ℕ) → Bool) (forest : Forest) (keys : List ℕ) (class : ℕ) (answer : Bool) : Type 0 where
   pub told : Ends forest.bases.items forest.most class → answer ≡ finds_some test forest keys class
   pub ended : answer ≡ false → Ends forest.bases.items forest.most class
 
--- one more answer behind others
+-- one more result after others
 pub more_answers : (P : ℕ → Bool → Type 0) (xs : List Bool) (b : Bool) → ((k : ℕ) (v : Bool) → slice_get xs k ≡ Some v → P k v) → P (length xs) b → (k : ℕ) (v : Bool) → slice_get (xs ++ b ∷ []) k ≡ Some v → P k v
 more_answers P [] b h here zero v e = subst (P zero) (same_Some b v e) here
 more_answers P [] b h here (suc k) v e = absurd (none-some v e)

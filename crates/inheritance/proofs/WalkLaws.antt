@@ -1,4 +1,4 @@
--- Laws of walks along bases, which mark each class to which they come first.
+-- Laws of walks along bases, which mark each class that they reach first.
 use Rattle.std.proofs.Common.{◌≡◌, ◌≢◌, ◌<◌, ◌≤◌, ◌⊎◌, inl, inr, ℕ, zero, suc, Bool, true, false, ◌==◌, List, Option, Some, None, length, slice_set, is_some, not, refl, sym, ap, subst, ◌∙◌, arith}
 use Rattle.std.proofs.lemmas.Bool.Decides.{eqb_tells}
 use Rattle.std.proofs.lemmas.List.{get_or-set_same, get_or-set_other, length-set}
@@ -27,11 +27,11 @@ unmarked (Some walk) = 0
 abbrev pub LeadsOn : List (Option ℕ) → ℕ → ℕ → Type 0
 LeadsOn bases c d = (n : ℕ) × (along bases (suc n) c ≡ Some d)
 
--- a class that the walk came to first, and from which it went on to another
+-- a class that the walk reached first, and from which it continued to another
 abbrev pub IsNew : List (Option ℕ) → List (Option ℕ) → ℕ → ℕ → ℕ → ℕ → ℕ → Type 0
 IsNew bases old first walk class c w = ((w ≡ walk) × Leads bases first c) × (walk_at old c ≡ None) × LeadsOn bases c class
 
--- a walk that has come to a class, which it has not marked yet
+-- a walk that has reached a class, which it has not marked yet
 pub record IsWalking (bases old : List (Option ℕ)) (first walk : ℕ) (marks : List (Option ℕ)) (class : ℕ) : Type 0 where
   pub width : length marks ≡ length old
   pub kept : (c w : ℕ) → walk_at old c ≡ Some w → walk_at marks c ≡ Some w
@@ -117,7 +117,7 @@ module _ (bases old : List (Option ℕ)) (first walk : ℕ) (marks : List (Optio
           by_before (inl e) = by_base (is.based c d (marked.0, e) new f)
           by_before (inr e) = inr (same_Some d next (sym f ∙ ap (base_in bases) e.0 ∙ base))
 
-  -- where the class has no base, the walk ends, and has met nothing that is its own base
+  -- where the class has no base, the walk ends, and has met no class that is among its own base classes
   pub walk_stops : base_in bases class ≡ None → HasWalked bases old first walk marks' None
   walk_stops ends = record {
     width = length-set marks class (Some walk) ∙ is.width;
@@ -191,7 +191,7 @@ module _ (bases old : List (Option ℕ)) (first walk : ℕ) (marks : List (Optio
       by_mark (inl e) = inl e
       by_mark (inr n) = inr n.0
 
-  -- a class that came first in this walk leads on to the last one
+  -- a class that was first reached in this walk leads on to the last one
   leads_to_end : (c : ℕ) → IsMarked marks c → walk_at old c ≡ None → LeadsOn bases c class
   leads_to_end c marked none = by_mark (is.newly c marked.0 marked.1)
     where
@@ -202,7 +202,7 @@ module _ (bases old : List (Option ℕ)) (first walk : ℕ) (marks : List (Optio
   begun_at_end : IsMarked marks class → IsMarked marks first
   begun_at_end m = elim is.begun [ inl e ↦ subst (IsMarked marks) (sym e) m | inr n ↦ n ]
 
-  -- where the walk ends behind all classes, it met nothing that is its own base
+  -- where the walk ends after all classes, it met no class that is among its own base classes
   pub walk_ended : length marks ≤ class → base_in bases class ≡ None → HasWalked bases old first walk marks None
   walk_ended past none = record {
     width = is.width;
@@ -218,7 +218,7 @@ module _ (bases old : List (Option ℕ)) (first walk : ℕ) (marks : List (Optio
         absurd (none-some first.0 (sym none ∙ first.1));
   }
 
-  -- where it ends at a class that it marked itself, that is its own base
+  -- where it ends at a class that it marked itself, that class is among its own base classes
   pub walk_met : walk_at old class ≡ None → IsMarked marks class → HasWalked bases old first walk marks (Some class)
   walk_met none marked = record {
     width = is.width;
@@ -230,7 +230,7 @@ module _ (bases old : List (Option ℕ)) (first walk : ℕ) (marks : List (Optio
     covered = λ closed c m new own. let on = leads_to_end c m new in (class, refl, (suc on.0, on.1));
   }
 
-  -- where it ends at a class that an earlier walk marked, it met nothing new that is its own base
+  -- where it ends at a class that an earlier walk marked, it met no new class that is among its own base classes
   pub walk_joined : IsMarked old class → HasWalked bases old first walk marks None
   walk_joined before = record {
     width = is.width;

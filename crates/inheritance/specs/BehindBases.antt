@@ -1,20 +1,20 @@
--- Classes, each behind its base.
+-- Classes, each after its base.
 use Rattle.std.specs.Prelude.{◌≡◌, ◌≤◌, ◌<◌, ◌⊎◌, ◌==◌, ℕ, Bool, true, false, List, [], ◌∷◌, take, length, Option, Some, slice_get, slice_index_or}
 use Rattle.std.specs.List.{count_by}
 use Rattle.std.specs.Option.{option_map_or}
 use Rattle.inheritance.specs.Lines.{base_in, Ends}
 
--- how often a class stands in a list
+-- how often a class occurs in a list
 abbrev pub times : List ℕ → ℕ → ℕ
 times classes class = count_by (λ c. c == class) classes
 
--- the classes whose bases end, each once, and behind its base where that is a class
+-- the classes whose bases end, each once, and after its base where that is a class
 pub record AreBehindBases (bases : List (Option ℕ)) (classes : List ℕ) : Type 0 where
   pub behind : (place class base : ℕ) → slice_get classes place ≡ Some class → base_in bases class ≡ Some base → base < length bases → 0 < times (take place classes) base
   pub once : (class most : ℕ) → class < length bases → Ends bases most class → times classes class ≡ 1
   pub others : (class : ℕ) → (times classes class ≡ 0) ⊎ ((class < length bases) × ((most : ℕ) × Ends bases most class))
 
--- a class, its base, and so on, with what comes behind the last of them
+-- a class, its base, and so on, with what comes after the last of them
 abbrev pub IsPath : List (Option ℕ) → Option ℕ → List ℕ → Option ℕ → Type 0
 IsPath bases first [] next = first ≡ next
 IsPath bases first (class ∷ classes) next = (first ≡ Some class) × IsPath bases (base_in bases class) classes next

@@ -12,7 +12,7 @@ abbrev pub known : Option Declared → ℕ → List Change → Option Declared
 known before time [] = before
 known before time (c ∷ cs) = known (if nat_le c.time time then c.found else before) time cs
 
--- no change is of a later time than one behind it
+-- no change is of a later time than one after it
 abbrev pub is_ordered : List Change → Bool
 is_ordered [] = true
 is_ordered (c ∷ cs) = list_all (λ (d : Change). nat_le c.time d.time) cs && is_ordered cs
@@ -60,7 +60,7 @@ is_earlier time Nothing = true
 is_earlier time (Class class) = true
 is_earlier time (Time earlier) = nat_le (earlier + 1) time
 
--- each of these keys finds something else from a time on, by the first place at which it stands
+-- each of these keys finds another declaration from a time on, by the first place at which it occurs
 pub record AddsChanges (old new : List (List Change)) (keys : List ℕ) (first : ℕ) (source : Source) (time : ℕ) : Type 0 where
   pub width : length new ≡ length old
   pub up_to : AreUpTo time old → AreUpTo time new

@@ -19,7 +19,7 @@ pub record IsCut (forest cut : Forest) : Type 0 where
 abbrev pub part_in : List (Option Part) → ℕ → Option Part
 part_in parts class = slice_index_or parts class None
 
--- the part of a class's line: the class alone where it has no base, else one class more than that of its base
+-- the part of a class's line: the class alone where it has no base, otherwise one class more than that of its base
 abbrev pub part_of : List (Option Part) → ℕ → Option ℕ → Option Part
 part_of parts class None = Some (record { last = class; length = 1 })
 part_of parts class (Some base) = option_map (λ (p : Part). record { last = p.last; length = p.length + 1 }) (part_in parts base)

@@ -2,7 +2,7 @@
 use Rattle.std.specs.Prelude.{◌≡◌, ◌≤◌, ◌<◌, ◌⊎◌, ◌↔◌, ℕ, zero, suc, List, length, Option, Some, None, option_and_then, slice_index_or}
 use Rattle.inheritance.specs.Lines.{base_in}
 
--- the class that is so many bases further on
+-- the class that is n bases further on
 abbrev pub along : List (Option ℕ) → ℕ → ℕ → Option ℕ
 along bases zero class = Some class
 along bases (suc n) class = option_and_then (along bases n) (base_in bases class)
@@ -24,7 +24,7 @@ Leads bases c d = (n : ℕ) × (along bases n c ≡ Some d)
 abbrev pub IsClosed : List (Option ℕ) → (ℕ → Type 0) → Type 0
 IsClosed bases IsIn = (c d b : ℕ) → IsIn c → base_in bases c ≡ Some d → base_in bases d ≡ Some b → IsIn d
 
--- the walk that came to a class first
+-- the walk that reached a class first
 abbrev pub walk_at : List (Option ℕ) → ℕ → Option ℕ
 walk_at marks class = slice_index_or marks class None
 
@@ -35,7 +35,8 @@ IsMarked marks class = (walk : ℕ) × (walk_at marks class ≡ Some walk)
 abbrev pub MarksOwnBases : List (Option ℕ) → List (Option ℕ) → Type 0
 MarksOwnBases bases marks = (class : ℕ) → IsMarked marks class ↔ IsOwnBase bases class
 
--- what a walk from a class on leaves: all that it marks comes behind that class, a class that it meets again is its own base, and all that are their own base and came first in this walk lead to it
+-- what a walk from a class on leaves: all that it marks is reached from that class, a class that it meets again is among its own base classes, and all
+-- classes that are among their own base classes and were first reached in this walk lead to it
 pub record HasWalked (bases old : List (Option ℕ)) (first walk : ℕ) (marks : List (Option ℕ)) (met : Option ℕ) : Type 0 where
   pub width : length marks ≡ length old
   pub kept : (c w : ℕ) → walk_at old c ≡ Some w → walk_at marks c ≡ Some w

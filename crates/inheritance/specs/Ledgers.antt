@@ -1,4 +1,4 @@
--- What is known while the classes are gone through.
+-- What is known while the classes are visited.
 use Rattle.std.specs.Prelude.{◌≡◌, ◌≤◌, ◌<◌, ℕ, List, length, map, Option, None, Some, option_map, slice_index_or}
 use Rattle.inheritance.specs.declared.changes.Declared.{Declared}
 use Rattle.inheritance.specs.declared.changes.Change.{Change}
@@ -15,7 +15,7 @@ use Rattle.inheritance.specs.Lines.{base_in, line_within, Ends, place_in, neares
 abbrev pub pair_of : Option Declared → Option (ℕ × ℕ)
 pair_of found = option_map (λ (d : Declared). (d.class, d.place)) found
 
--- the nearest class with a key, from a class on, among so many
+-- the nearest class with a key, from a class on, among the given number of classes
 abbrev pub nearest_from : Forest → ℕ → ℕ → Option ℕ → Option (ℕ × ℕ)
 nearest_from forest key n class = nearest (place_in (map (λ v. v.items) forest.declared.items) key) (line_within forest.bases.items n class)
 

@@ -13,7 +13,7 @@ line_within bases zero class = []
 line_within bases (suc n) None = []
 line_within bases (suc n) (Some class) = class ∷ line_within bases n (base_in bases class)
 
--- one class more than so many finds no further one
+-- one class more than the given number finds no further one
 abbrev pub Ends : List (Option ℕ) → ℕ → ℕ → Type 0
 Ends bases most class = line_within bases (suc most) (Some class) ≡ line_within bases most (Some class)
 

@@ -26,12 +26,12 @@ finds_at test rows keys time = list_any (λ key. test (pair_of (known_of rows ke
 abbrev pub at_first : Change
 at_first = record { time = 0; found = None }
 
--- the time from which on these changes say something else, where that is before a last time
+-- the time from which on these changes find another declaration, where that is before a last time
 abbrev pub next_time : ℕ → List Change → ℕ
 next_time last [] = last
 next_time last (c ∷ cs) = c.time
 
--- at the time of each change that finds what passes a test, it is noted till when it does
+-- at the time of each change that finds what passes a test, it is noted until when it does
 abbrev pub AreNoted : (Option (ℕ × ℕ) → Bool) → List ℕ → List Change → Type 0
 AreNoted test ends [] = Unit {0}
 AreNoted test ends (c ∷ cs) = (test (pair_of c.found) ≡ true → c.time < length ends → next_time (length ends) cs ≤ slice_index_or ends c.time 0) × AreNoted test ends cs
@@ -41,11 +41,11 @@ pub record AreLater (old new : List ℕ) : Type 0 where
   pub width : length new ≡ length old
   pub later : (t : ℕ) → slice_index_or old t 0 ≤ slice_index_or new t 0
 
--- a fact of each time that an end is newly behind, from the time on at which that end is noted
+-- a fact of each time that a new end is after, from the time on at which that end is noted
 abbrev pub HoldsTill : (ℕ → Type 0) → List ℕ → List ℕ → Type 0
 HoldsTill P old new = (s t : ℕ) → s ≤ t → slice_index_or old s 0 ≤ t → t < slice_index_or new s 0 → P t
 
--- the latest of so many ends, the first ones; 0 where none is later
+-- the latest of the given number of ends, the first ones; 0 where none is later
 pub record IsLatest (ends : List ℕ) (count latest : ℕ) : Type 0 where
   pub covers : (s : ℕ) → s < count → slice_index_or ends s 0 ≤ latest
   pub comes : 0 < latest → (s : ℕ) × (s < count) × (slice_index_or ends s 0 ≡ latest)

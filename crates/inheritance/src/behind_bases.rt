@@ -1,4 +1,4 @@
-//! Classes, each behind its base.
+//! Classes, each after its base.
 
 ghost use Rattle.std.specs.Prelude.{◌≡◌, ◌++◌, ◌<◌, ℕ, [], true, false, Some, None, IfOk, reverse, length};
 ghost use Rattle.inheritance.specs.BehindBases.{is_met, is_listed_next, AreBehindBases, HasMet, IsMetNext, MarksMore};
@@ -19,8 +19,8 @@ fn not_met(met: &[bool], next: Option<usize>) -> Option<usize>
     }
 }
 
-/// Puts a class, its base, and so on, on a path, as far as they are not met yet, and tells what comes behind them. Fails for want of
-/// memory alone.
+/// Puts a class, its base, and so on, on a path, as far as they are not met yet, and returns what comes after them. The only error is
+/// out of memory.
 fn walk_up(
     bases: &[Option<usize>],
     met: &mut [bool],
@@ -40,7 +40,7 @@ fn walk_up(
     Ok(next)
 }
 
-/// Whether what comes behind a path is listed, or no class.
+/// Whether what comes after a path is listed, or no class.
 fn is_listed_next(listed: &[bool], next: Option<usize>) -> bool
     ensures { result ≡ is_listed_next listed.now next }
 {
@@ -53,7 +53,7 @@ fn is_listed_next(listed: &[bool], next: Option<usize>) -> bool
     }
 }
 
-/// Lists the classes of a path, the last first, and leaves the path empty. Fails for want of memory alone.
+/// Lists the classes of a path, the last first, and leaves the path empty. The only error is out of memory.
 fn list_back(
     path: &mut Vec<usize>,
     listed: &mut [bool],
@@ -72,8 +72,8 @@ fn list_back(
     Ok(())
 }
 
-/// The classes whose bases end, each once, and behind its base where that is a class. Takes time with the number of classes. Fails for
-/// want of memory alone.
+/// The classes whose bases end, each once, and after its base where that is a class. Takes time with the number of classes. The only
+/// error is out of memory.
 pub fn classes_behind_bases(alloc: Global, bases: &[Option<usize>]) -> Result<Vec<usize>, NoMemory>
     ensures { IfOk result (λ classes. AreBehindBases bases.now classes.items) }
 {

@@ -1,4 +1,4 @@
-//! What keys find, as it changes while the classes are gone through.
+//! What keys find, as it changes while the classes are visited.
 
 ghost use Rattle.std.specs.Prelude.{◌≡◌, ◌<◌, true, None, OnOk, length, map};
 ghost use Rattle.inheritance.specs.Changes.{changes_of, is_ordered, known, known_of, found_from, is_earlier, AreOrdered, AreUpTo, AddsChange, AddsChanges};
@@ -68,7 +68,7 @@ pub(crate) fn found_at(changes: &[Vec<Change>], key: usize, time: usize) -> Opti
     latest(changes_of(changes, key), time)
 }
 
-/// Notes what a key finds from a time on, where there is such a key. Fails for want of memory alone.
+/// Notes what a key finds from a time on, where there is such a key. The only error is out of memory.
 fn record(changes: &mut Vec<Vec<Change>>, key: usize, change: Change) -> Result<(), NoMemory>
     ensures { OnOk result (AddsChange (map (λ v. v.items) changes.old.items) (map (λ v. v.items) changes.new.items) key change) }
 {
@@ -90,7 +90,7 @@ fn found_from(changes: &[Vec<Change>], source: Source, key: usize, place: usize)
 }
 
 /// Notes what the keys that a class declares find from a time on. A key that it declares twice is found at the first place.
-/// Fails for want of memory alone.
+/// The only error is out of memory.
 pub(crate) fn record_all(
     changes: &mut Vec<Vec<Change>>,
     keys: &[usize],

@@ -18,8 +18,8 @@ pub(crate) struct Part {
     pub length: usize,
 }
 
-/// The same classes, but that each cycle of bases is cut: one class of it has no base. A line that goes round is made of two parts
-/// without a cycle, that of its first class and that of the base at which it goes on.
+/// The same classes, but that each cycle of bases is cut: one class of it has no base. A cyclic line is made of two parts
+/// without a cycle, that of its first class and that of the base at which it continues.
 pub struct CutCycles {
     pub cut: Inheritance,
     pub(crate) parts: Vec<Option<Part>>,
@@ -36,7 +36,7 @@ impl Drop for CutCycles {
     }
 }
 
-/// Bases without those of some classes. Fails for want of memory alone.
+/// Bases without those of some classes. The only error is out of memory.
 fn cut_bases(
     alloc: Global,
     bases: &[Option<usize>],
@@ -65,7 +65,7 @@ fn copies_of(alloc: Global, rows: &[Vec<usize>]) -> Result<Vec<Vec<usize>>, NoMe
     Ok(copies)
 }
 
-/// The same classes without the bases of some. Fails for want of memory alone.
+/// The same classes without the bases of some. The only error is out of memory.
 pub(crate) fn cut_forest(
     alloc: Global,
     forest: &Forest,
@@ -107,7 +107,7 @@ fn part_of(parts: &[Option<Part>], class: usize, base: Option<usize>) -> Option<
     })
 }
 
-/// The parts of all lines that end. Fails for want of memory alone.
+/// The parts of all lines that end. The only error is out of memory.
 pub(crate) fn parts_of(
     alloc: Global,
     bases: &[Option<usize>],

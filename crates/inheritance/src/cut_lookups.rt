@@ -1,4 +1,4 @@
-//! What keys find where bases lead round, by the cycles that are cut.
+//! What keys find where inheritance is cyclic, by the cycles that are cut.
 
 ghost use Rattle.std.specs.Prelude.{◌≡◌, ◌<◌, ℕ, Some, None, IfOk};
 ghost use Rattle.std.specs.Option.{ForSome};
@@ -16,8 +16,8 @@ use cil_model::memory::NoMemory;
 use std::alloc::Global;
 
 impl CutCycles {
-    /// Cuts each cycle of bases at one class; none only where no bases lead round. Takes time and memory with the number of classes and of
-    /// declarations, but for logarithms. Fails for want of memory alone.
+    /// Cuts each cycle of bases at one class; none only where there is no cyclic inheritance. Takes time and memory with the number of classes and of
+    /// declarations, but for logarithms. The only error is out of memory.
     pub fn new(alloc: Global, forest: &Forest) -> Result<Option<Self>, NoMemory>
         ensures cut { IfOk result (λ found. ForSome found (λ cycles. IsCut forest.now cycles.cut.forest)) }
         ensures none { IfOk result (λ found. found ≡ None → (class : ℕ) → IsOwnBase forest.now.bases.items class → ⊥) }
@@ -41,7 +41,7 @@ impl CutCycles {
         }
     }
 
-    /// What a key finds in the part of a class's line, where that is among so many classes. An error where it is not known.
+    /// What a key finds in the part of a class's line, where that is among the given number of classes. An error where it is not known.
     fn nearest_in_part(
         &self,
         forest: &Forest,
@@ -66,7 +66,7 @@ impl CutCycles {
         }
     }
 
-    /// What a key finds behind the part of a class's line, in which it finds nothing. An error where it is not known.
+    /// What a key finds after the part of a class's line, in which it finds nothing. An error where it is not known.
     fn nearest_behind(
         &self,
         forest: &Forest,
@@ -109,9 +109,9 @@ impl CutCycles {
         }
     }
 
-    /// The nearest class that declares a key, from a class on, with the place of the key, among as many classes as are looked at, whether
+    /// The nearest class that declares a key, from a class on, with the place of the key, within the number of classes that are looked at, whether
     /// the bases of the class end or not. Takes time with the logarithm of the number of classes that declare the key. Where the parts of
-    /// the class's line do not tell, it would go along the bases; they always do, which no contract says.
+    /// the class's line do not determine it, it would follow the bases; they always do, which no contract says.
     pub fn nearest(&self, forest: &Forest, class: usize, key: usize) -> Option<Declared>
         requires cut { IsCut forest.now self.now.cut.forest }
         requires within { key < forest.now.keys }

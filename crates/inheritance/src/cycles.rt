@@ -1,4 +1,4 @@
-//! Bases that lead round.
+//! Cyclic inheritance.
 
 ghost use Rattle.std.specs.Prelude.{◌≡◌, ℕ, [], Some, IfOk, is_some, length};
 ghost use Rattle.std.specs.List.{position};
@@ -18,7 +18,7 @@ pub(crate) fn entry_at(entries: &[Option<usize>], class: usize) -> Option<usize>
     }
 }
 
-/// The class at which a walk along bases meets itself. Each class that it comes to is marked with the number of the walk, and it ends
+/// The class at which a walk along bases meets itself. Each class that it reaches is marked with the number of the walk, and it ends
 /// at a class that is marked.
 fn met_again(
     bases: &[Option<usize>],
@@ -51,8 +51,8 @@ pub(crate) struct Cycles {
 }
 
 impl Cycles {
-    /// Goes along all bases: a class at which a walk meets itself is on a cycle, which is then gone round once more and marked. Takes
-    /// time with the number of classes. Fails for want of memory alone.
+    /// Follows all bases: a class at which a walk meets itself is on a cycle, which is then followed once more and marked. Takes
+    /// time with the number of classes. The only error is out of memory.
     pub(crate) fn new(alloc: Global, bases: &[Option<usize>]) -> Result<Self, NoMemory>
         ensures marks { IfOk result (λ cycles. MarksOwnBases bases.now cycles.marks.items) }
         ensures classes { IfOk result (λ cycles. cycles.classes.items ≡ [] → (class : ℕ) → IsOwnBase bases.now class → ⊥) }
@@ -77,8 +77,8 @@ fn first_marked(marks: &[Option<usize>]) -> Option<usize>
     marks.iter().position(|mark| mark.is_some())
 }
 
-/// The least class that bases lead back to; none where there is none. Takes time with the number of classes. Fails for want of memory
-/// alone.
+/// The least class that bases lead back to; none where there is none. Takes time with the number of classes. The only error is out of
+/// memory.
 pub fn least_own_base(alloc: Global, bases: &[Option<usize>]) -> Result<Option<usize>, NoMemory>
     ensures { IfOk result (λ least. IsLeastOwnBase bases.now least) }
 {

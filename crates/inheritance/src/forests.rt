@@ -35,7 +35,7 @@ impl Forest {
         }
     }
 
-    /// Whether the bases of a class end, found by going along them.
+    /// Whether the bases of a class end, found by following them.
     pub(crate) fn ends_along(&self, first: usize) -> bool
         ensures { IsTrue result ↔ Ends self.now.bases.items self.now.most first }
     {

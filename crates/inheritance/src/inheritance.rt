@@ -14,11 +14,11 @@ use crate::tours::tour;
 use cil_model::memory::NoMemory;
 use std::alloc::Global;
 
-/// The bases of a class do not end among as many classes as are looked at.
+/// The bases of a class do not end within the number of classes that are looked at.
 #[derive(Clone, Copy)]
 pub struct Endless;
 
-/// What each key finds from each class on: the class itself where it declares the key, else its base, and so on.
+/// What each key finds from each class on: the class itself where it declares the key, otherwise its base, and so on.
 pub struct Inheritance {
     pub forest: Forest,
     pub(crate) ledger: Ledger,
@@ -42,7 +42,7 @@ impl Drop for Inheritance {
     }
 }
 
-/// Goes through all classes whose bases end. Fails for want of memory alone.
+/// Visits all classes whose bases end. The only error is out of memory.
 fn search(alloc: Global, forest: &Forest) -> Result<Ledger, NoMemory>
     ensures { IfOk result (λ ledger. IsDone forest.now ledger) }
 {
@@ -55,7 +55,7 @@ fn search(alloc: Global, forest: &Forest) -> Result<Ledger, NoMemory>
 }
 
 impl Inheritance {
-    /// Takes time and memory with the number of classes and of declarations, but for logarithms. Fails for want of memory alone.
+    /// Takes time and memory with the number of classes and of declarations, but for logarithms. The only error is out of memory.
     pub fn new(alloc: Global, forest: Forest) -> Result<Self, NoMemory>
         ensures { IfOk result (λ inheritance. inheritance.forest ≡ forest) }
     {
@@ -70,7 +70,7 @@ impl Inheritance {
 
     /// The nearest class that declares a key, from a class on, with the place of the key. `Endless` exactly where the bases of the class
     /// do not end. Takes time with the logarithm of the number of classes that declare the key. Where the search
-    /// had left out a class whose bases end, it would go along them; it leaves out none, which no contract says.
+    /// had left out a class whose bases end, it would follow them; it leaves out none, which no contract says.
     pub fn nearest(&self, class: usize, key: usize) -> Result<Option<Declared>, Endless>
         requires { key < self.now.forest.keys }
         ensures found { IfOk result (λ found. pair_of found ≡ nearest_from self.now.forest key self.now.forest.most (Some class)) }
@@ -84,7 +84,7 @@ impl Inheritance {
         }
     }
 
-    /// Whether the bases of a class end among as many classes as are looked at.
+    /// Whether the bases of a class end within the number of classes that are looked at.
     pub fn ends(&self, class: usize) -> bool
         ensures { IsTrue result ↔ Ends self.now.forest.bases.items self.now.forest.most class }
     {

@@ -1,4 +1,4 @@
-//! What is known while the classes are gone through, each behind its base.
+//! What is known while the classes are visited, each after its base.
 
 ghost use Rattle.std.specs.Prelude.{◌≡◌, ◌+◌, [], OnOk, IfOk, map, replicate};
 
@@ -36,7 +36,7 @@ fn empty_rows(alloc: Global, keys: usize) -> Result<Vec<Vec<Change>>, NoMemory>
 impl Ledger {
     ghost use Rattle.inheritance.specs.Ledgers.{entry_in, IsRight, height_of, source_of};
 
-    /// Nothing is entered yet. Fails for want of memory alone.
+    /// Nothing is entered yet. The only error is out of memory.
     pub fn new(alloc: Global, forest: &Forest) -> Result<Self, NoMemory>
         ensures { IfOk result (λ ledger. IsRight forest.now 0 ledger) }
     {
@@ -83,8 +83,8 @@ impl Ledger {
         }
     }
 
-    /// Goes to a class from its base. A class with another base, or with too many behind it, is left alone. Fails for want of
-    /// memory alone.
+    /// Goes to a class from its base. A class with another base, or with too many classes after it, is left alone. The only error is
+    /// out of memory.
     fn enter(&mut self, forest: &Forest, class: usize, time: usize) -> Result<(), NoMemory>
         requires { IsRight forest.now time self.old }
         ensures { OnOk result (IsRight forest.now (time + 1) self.new) }
@@ -111,7 +111,7 @@ impl Ledger {
         }
     }
 
-    /// Goes back to the base of the current class. Fails for want of memory alone.
+    /// Goes back to the base of the current class. The only error is out of memory.
     fn leave(&mut self, forest: &Forest, time: usize) -> Result<(), NoMemory>
         requires { IsRight forest.now time self.old }
         ensures { OnOk result (IsRight forest.now (time + 1) self.new) }
@@ -126,7 +126,7 @@ impl Ledger {
         Ok(())
     }
 
-    /// Makes a step. Fails for want of memory alone.
+    /// Makes a step. The only error is out of memory.
     pub fn step(&mut self, forest: &Forest, step: Step, time: usize) -> Result<(), NoMemory>
         requires { IsRight forest.now time self.old }
         ensures { OnOk result (IsRight forest.now (time + 1) self.new) }

@@ -6,12 +6,13 @@
 //! The algorithm: one tour of the forest of classes (an Euler tour: enter a class after its base, leave it after its derived classes). Each key keeps
 //! its changes by time: a class that declares it is entered (it finds that class), or left (it finds again what its base found). What a key finds
 //! from a class on is its last change before the class was entered, found by halves. A cycle is cut at one class (`CutCycles`): a chain that runs
-//! into it is two parts that end, so it takes two such look-ups. `finds_marked` and `finds_nothing` ask it of all classes in one walk over changes.
-//! `least_own_base` finds in one walk along all bases the least class that they lead back to; `classes_behind_bases` lists the classes whose bases
-//! end, each after its base.
+//! into it is two parts that end, so it takes two such look-ups. `finds_marked` and `finds_nothing` determine it for all classes in one walk over
+//! changes. `least_own_base` finds in one walk along all bases the least class that they lead back to; `classes_behind_bases` lists the classes whose
+//! bases end, each after its base.
 //!
-//! The bound: tables take time and memory with the classes and declarations, times a logarithm; a look-up takes the logarithm of the number of classes that
-//! declare the key. Results are proved whatever the order of the tour; that it reaches every class whose bases end, and so the bound, no contract says.
+//! The bound: tables take time and memory with the classes and declarations, times a logarithm; a look-up takes the logarithm of the number of classes
+//! that declare the key. Results are proved whatever the order of the tour; that it reaches every class whose bases end, and so the bound, no contract
+//! says.
 #![tactic(auto)]
 
 mod behind_bases;

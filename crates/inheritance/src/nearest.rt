@@ -1,4 +1,4 @@
-//! The nearest declaration of a key, found by going along bases.
+//! The nearest declaration of a key, found by following bases.
 
 ghost use Rattle.std.specs.Prelude.{◌≡◌, ◌==◌, Some};
 ghost use Rattle.std.specs.List.{position_from};
@@ -26,8 +26,8 @@ fn place_of(keys: &[usize], key: usize) -> Option<usize>
 }
 
 impl Forest {
-    /// The nearest class that declares a key, from a class on, with the place of the key, found by going along the bases: what is
-    /// found among as many classes as are looked at. Takes time with these classes and what they declare.
+    /// The nearest class that declares a key, from a class on, with the place of the key, found by following the bases: what is
+    /// found within the number of classes that are looked at. Takes time with these classes and what they declare.
     pub fn nearest_along(&self, first: usize, key: usize) -> Option<Declared>
         ensures { pair_of result ≡ nearest_from self.now key self.now.most (Some first) }
     {

@@ -57,7 +57,7 @@ fn raise(ends: &mut [usize], time: usize, end: usize)
     }
 }
 
-/// Notes till when a change holds, at its time, where it finds what is sought.
+/// Notes until when a change holds, at its time, where it finds what is sought.
 fn note(ends: &mut [usize], sought: Sought, change: Change, end: usize)
     ensures later { AreLater ends.old ends.new }
     ensures noted { is_sought sought.entry (pair_of change.found) ≡ true → change.time < length ends.old → end ≤ slice_index_or ends.new change.time 0 }
@@ -68,7 +68,7 @@ fn note(ends: &mut [usize], sought: Sought, change: Change, end: usize)
     }
 }
 
-/// Notes till when a key finds what is sought, at the time from which on it does.
+/// Notes until when a key finds what is sought, at the time from which on it does.
 fn note_row(ends: &mut [usize], row: &[Change], sought: Sought)
     requires { is_ordered row.now ≡ true }
     ensures later { AreLater ends.old ends.new }
@@ -100,7 +100,7 @@ fn note_rows(ends: &mut [usize], rows: &[Vec<Change>], keys: &[usize], sought: S
     }
 }
 
-/// The latest of all ends up to each time. Fails for want of memory alone.
+/// The latest of all ends up to each time. The only error is out of memory.
 fn reach_of(alloc: Global, ends: &[usize]) -> Result<Vec<usize>, NoMemory>
     ensures reach { IfOk result (λ reach. IsReach ends.now reach.items) }
     ensures width { IfOk result (λ reach. length reach.items ≡ length ends.now) }
@@ -127,7 +127,7 @@ fn numbers_below(alloc: Global, end: usize) -> Result<Vec<usize>, NoMemory>
 }
 
 impl Inheritance {
-    /// The times up to which one of some keys finds what is sought, by times. Fails for want of memory alone.
+    /// The times up to which one of some keys finds what is sought, by times. The only error is out of memory.
     fn reach(&self, alloc: Global, keys: &[usize], sought: Sought) -> Result<Vec<usize>, NoMemory>
         ensures { IfOk result (λ reach. IsReachOf (is_sought sought.entry) (map (λ v. v.items) self.now.ledger.changes.items) keys.now reach.items) }
     {
@@ -141,7 +141,7 @@ impl Inheritance {
         reach_of(alloc, ends.as_slice())
     }
 
-    /// Whether one of some keys finds what is sought from a class on, found by going along the bases for each key.
+    /// Whether one of some keys finds what is sought from a class on, found by following the bases for each key.
     fn finds_along(&self, keys: &[usize], sought: Sought, class: usize) -> bool
         ensures { result ≡ finds_some (is_sought sought.entry) self.now.forest keys.now class }
     {
@@ -169,8 +169,8 @@ impl Inheritance {
         !self.ends(class) || self.finds_along(keys, sought, class)
     }
 
-    /// Of each class, whether one of some keys finds what is sought from it on; so it is said too where the class's bases do not end.
-    /// Fails for want of memory alone.
+    /// Of each class, whether one of some keys finds what is sought from it on; the result is also true where the class's bases do not end.
+    /// The only error is out of memory.
     fn finds(&self, alloc: Global, keys: &[usize], sought: Sought) -> Result<Vec<bool>, NoMemory>
         requires { list_all (λ k. nat_lt k self.now.forest.keys) keys.now ≡ true }
         ensures width { IfOk result (λ found. length found.items ≡ length self.now.forest.bases.items) }
@@ -185,9 +185,9 @@ impl Inheritance {
         Ok(found)
     }
 
-    /// Of each class, whether some key finds, from it on, a declaration that is marked, by its class and place; so it is said too
+    /// Of each class, whether some key finds, from it on, a declaration that is marked, by its class and place; the result is also true
     /// where the class's bases do not end. Takes time with the number of classes, of declarations and of keys, where the search entered
-    /// every class whose bases end. Fails for want of memory alone.
+    /// every class whose bases end. The only error is out of memory.
     pub fn finds_marked(&self, alloc: Global, marks: &[Vec<bool>]) -> Result<Vec<bool>, NoMemory>
         ensures width { IfOk result (λ found. length found.items ≡ length self.now.forest.bases.items) }
         ensures marked { IfOk result (λ found. (class : ℕ) → slice_get found.items class ≡ Some true → Ends self.now.forest.bases.items self.now.forest.most class → FindsMarked (map (λ v. v.items) marks.now) self.now.forest class) }
@@ -198,9 +198,9 @@ impl Inheritance {
         self.finds(alloc, keys.as_slice(), Sought::Marked(marks))
     }
 
-    /// Of each class, whether one of some keys finds nothing from it on; so it is said too where the class's bases do not end. Takes
+    /// Of each class, whether one of some keys finds nothing from it on; the result is also true where the class's bases do not end. Takes
     /// time with the number of classes, of keys and of declarations of these, where the search entered every class whose bases end.
-    /// Fails for want of memory alone.
+    /// The only error is out of memory.
     pub fn finds_nothing(&self, alloc: Global, keys: &[usize]) -> Result<Vec<bool>, NoMemory>
         requires { list_all (λ k. nat_lt k self.now.forest.keys) keys.now ≡ true }
         ensures width { IfOk result (λ found. length found.items ≡ length self.now.forest.bases.items) }

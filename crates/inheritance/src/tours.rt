@@ -1,4 +1,4 @@
-//! The order in which classes are gone through.
+//! The order in which classes are visited.
 
 use crate::cycles::entry_at;
 use cil_model::memory::NoMemory;
@@ -16,7 +16,7 @@ pub(crate) enum Step {
 /// The classes without a base, and those that have each class as their base, as chains.
 #[derive(Drop)]
 struct Children {
-    /// The first class that has a class as its base; behind these, the first without a base.
+    /// The first class that has a class as its base; after these, the first without a base.
     first: Vec<Option<usize>>,
     /// The next class with the same base.
     next: Vec<Option<usize>>,
@@ -37,7 +37,7 @@ impl Children {
     }
 }
 
-/// A search through all classes whose bases end, each behind its base. Its contract says nothing, since what is found is right
+/// A search through all classes whose bases end, each after its base. Its contract says nothing, since what is found is right
 /// whatever the steps are: it is found fast for the classes that they enter.
 pub(crate) fn tour(alloc: Global, bases: &[Option<usize>]) -> Result<Vec<Step>, NoMemory> {
     let children = Children::new(alloc, bases)?;

@@ -9,7 +9,7 @@ module _ {A : Type 0} (text : A → List ℕ) (ts : List A) (x : A) (xs : List A
   pub listed_first : text x ≡ listed text (take 1 ts)
   listed_first = sym (append-nil (text x)) ∙ ap (λ l. listed text (take 1 l)) (sym is)
 
-  -- the first and so many behind it
+  -- the first and i after it
   so_many : (i : ℕ) → take (i + 1) ts ≡ x ∷ take i xs
   so_many i = ap (λ n. take n ts) (add-one i) ∙ ap (take (suc i)) is
 

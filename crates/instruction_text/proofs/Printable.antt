@@ -35,7 +35,7 @@ use Rattle.instruction_text.specs.Texts.{assembly_text, brackets_text, class_tex
 pub record Printable (cs : List ℕ) : Type 0 where
   pub is : IsPrintable cs
 
--- ---- one text behind another
+-- ---- one text after another
 
 -- letters that are written out
 pub word : (cs : List ℕ) → IsPrintable cs → Printable cs
@@ -138,7 +138,7 @@ printable_method_name (Named name) = printable_characters name
 printable_field : (r : FieldReference) → Printable (field_text r)
 printable_field r = both (both (both (both (printable_type r.field_type) (word (codes " ") refl)) (printable_class r.owner)) (word (codes "::") refl)) (printable_characters r.name)
 
--- what stands before a method's name
+-- what is before a method's name
 before_name : (t : Option DeclaredType) (owner : ClassName) → Printable (return_text t ++ codes " " ++ class_text owner ++ codes "::")
 before_name t owner = both (both (both (printable_return t) (word (codes " ") refl)) (printable_class owner)) (word (codes "::") refl)
 

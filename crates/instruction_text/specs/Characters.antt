@@ -15,7 +15,7 @@ IsPrintable cs = list_all is_printable cs ≡ true
 abbrev pub octal_text : ℕ → List ℕ
 octal_text c = decimal (c / 64) ++ decimal (c / 8 % 8) ++ decimal (c % 8)
 
--- a line feed, a tab, a quote and a backslash stand behind a backslash, and so do the octal digits of what is not printable
+-- a line feed, a tab, a quote and a backslash are written after a backslash, and so are the octal digits of what is not printable
 abbrev pub character_text : ℕ → List ℕ
 character_text c =
     if c == 10 then 92 ∷ 110 ∷ []

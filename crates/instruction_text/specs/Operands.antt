@@ -1,4 +1,4 @@
--- What the parts of the texts write that stand behind the word of an instruction.
+-- The texts of what follows the word of an instruction.
 use Rattle.std.specs.Prelude.{ℕ, List}
 use Rattle.std.specs.Fmt.{signed_decimal}
 use Rattle.instruction_text.specs.declared.instructions.Operand.{Operand}

@@ -38,7 +38,7 @@ element_text Object = codes "object"
 element_text String = codes "string"
 element_text (Class c) = codes "class " ++ class_text c
 
--- so many pairs of brackets
+-- n pairs of brackets
 abbrev pub brackets_text : ℕ → List ℕ
 brackets_text zero = []
 brackets_text (suc n) = brackets_text n ++ codes "[]"
@@ -78,7 +78,7 @@ constructor_text owner parameters = codes "void " ++ class_text owner ++ codes "
 abbrev pub labels_text : List (List ℕ) → List ℕ
 labels_text labels = codes "(" ++ listed characters_text labels ++ codes ")"
 
--- the word of an instruction, with what stands between it and an operand
+-- the word of an instruction, with what is between it and an operand
 abbrev pub word_text : Instruction → List ℕ
 word_text NoOperation = codes "nop"
 word_text (LoadInt32 z) = codes "ldc.i4"
@@ -152,6 +152,6 @@ operand_text (CallVirtual owner name signature) = Some (virtual_text owner name 
 operand_text (NewObject owner parameters) = Some (constructor_text owner parameters)
 operand_text _ = None
 
--- an instruction in its long form: its word, and behind a space its operand, if it has one
+-- an instruction in its long form: its word, and after a space its operand, if it has one
 abbrev pub instruction_text : Instruction → List ℕ
 instruction_text instruction = word_text instruction ++ option_map_or (λ operand. codes " " ++ operand) (operand_text instruction) []

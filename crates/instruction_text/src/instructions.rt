@@ -19,7 +19,7 @@ use std::fmt::Display;
 /// An instruction as ilasm writes it, in its long form, with one space before an operand (ECMA-335 III): `ldc.i4 2`, `br L1`,
 /// `call void [mscorlib]System.Console::WriteLine(int32)`.
 ///
-/// It is one line of printable ASCII: in names and string literals a backslash and what stands for it takes the place of each other
+/// It is one line of printable ASCII: in names and string literals a backslash and what represents it takes the place of each other
 /// byte.
 #[derive(Clone, Copy)]
 pub struct InstructionText<'a>(pub &'a Instruction);
@@ -39,7 +39,7 @@ impl<'a> fmt::Display for InstructionText<'a> {
     }
 }
 
-/// What stands behind the word of an instruction.
+/// What follows the word of an instruction.
 #[derive(Clone, Copy)]
 enum Operand<'a> {
     Number(i64),
@@ -134,7 +134,7 @@ fn operand_of(instruction: &Instruction) -> Option<Operand<'_>>
     Some(operand)
 }
 
-/// The word of an instruction, with what stands between it and an operand.
+/// The word of an instruction, with what is between it and an operand.
 fn word_of(instruction: &Instruction) -> &'static str
     ensures { result.now ≡ word_text instruction.now }
 {

@@ -1,4 +1,4 @@
-//! Classes and types, as they stand in the text.
+//! Classes and types, as they are written in the text.
 
 use crate::characters::CharactersText;
 use cil_model::types::{ClassName, DeclaredType, Element};

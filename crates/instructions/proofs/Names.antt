@@ -32,7 +32,7 @@ module _ (tree : Tree) where
   element_there String known = refl
   element_there (Class n) known = ap (option_map _) (named_at (class_name tree n) known)
 
-  -- the type of the objects of a class, by an element that stands for it
+  -- the type of the objects of a class, by an element that represents it
   pub class_type : (n : ℕ) (r : NumberedElement) (t : DeclaredType) → (is_some (class_name tree n) ≡ true → element_named tree r ≡ element_of_class (class_named tree n)) → (is_some (class_name tree n) ≡ true → is_known tree r ≡ true)
       → option_map type_of_class (class_name tree n) ≡ Some t → type_at tree (record { element = r; brackets = 0 }) ≡ Some t
   class_type n r t named known e = by_name (class_name tree n) refl e

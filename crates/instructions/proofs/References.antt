@@ -1,4 +1,4 @@
--- What comparisons of references and exits from monitors come to, where their rules have an answer.
+-- The outcome of comparisons of references and of exits from monitors, where their rules have a result.
 use Rattle.std.proofs.Common.{◌≡◌, ◌==◌, Bool, true, false, ◌&&◌, ◌||◌, if◌then◌else◌, is_some, slice_get, List, [], ◌∷◌, Some, None, refl, sym, ap, ◌∙◌, subst}
 use Rattle.std.specs.Prelude.{IsSome}
 use Rattle.cil_model.specs.declared.instructions.BranchComparison.{BranchComparison}
@@ -48,7 +48,7 @@ module _ (phase : Phase) (o : Objects) (a b : Addr) where
 
 -- ---- exits
 
--- where the thread doesn't go on its operand stays
+-- where the thread doesn't continue its operand stays
 carried_stays : (m n : Frames) (x : Objects × Effect) → (x.1 ≡ GoesOn → ⊥) → carried m n x ≡ Some (m, x.0, x.1)
 carried_stays m n (o, GoesOn) other = absurd (other refl)
 carried_stays m n (o, Returns) other = refl

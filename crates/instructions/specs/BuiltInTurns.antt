@@ -1,4 +1,4 @@
--- What the built-in members that need no other thread do (Partition IV). A rule has no answer where an operand is missing or of another
+-- What the built-in members that need no other thread do (Partition IV). A rule has no result where an operand is missing or of another
 -- kind, or where there is no such object or literal: no verified program comes there.
 use Rattle.std.specs.Prelude.{ℕ, ◌-◌, ◌^◌, ◌==◌, Bool, false, ◌&&◌, ◌||◌, if◌then◌else◌, nat_lt, is_some, List, [], ◌∷◌, ◌++◌, Option, Some, None, option_map, slice_get}
 use Rattle.std.specs.Fmt.{signed_decimal}
@@ -25,7 +25,7 @@ abbrev pub reference_from : List Value → Frames → (Addr → Frames → Objec
 reference_from (Ref a ∷ rest) m go = go a (with_stack m rest)
 reference_from _ m go = None
 
--- where the effect lets the thread go on, the operand is gone; else the frames stay
+-- where the effect lets the thread continue, the operand is gone; otherwise the frames stay
 abbrev pub carried : Frames → Frames → Objects × Effect → ObjectTurn
 carried m popped (o, GoesOn) = beside o (onward popped)
 carried m popped (o, e) = Some (m, o, e)
@@ -58,7 +58,7 @@ line_of literals (Int64 z) = Some (signed_decimal z ++ 10 ∷ [])
 line_of literals (Ref a) = option_map (λ text. text ++ 10 ∷ []) (text_at literals a)
 line_of literals (Native z) = None
 
--- prints a line and goes on
+-- prints a line and advances
 abbrev pub printed : List ℕ → List ℕ → Frames → Option (Frames × List ℕ × Effect)
 printed line console m = option_map (λ (t : Frames × Effect). (t.0, console ++ line, t.1)) (onward m)
 

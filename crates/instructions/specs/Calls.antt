@@ -1,4 +1,4 @@
--- What calls and returns do to frames (III.3.19, III.4.21, III.3.57). A rule has no answer where an operand is missing or of another
+-- What calls and returns do to frames (III.3.19, III.4.21, III.3.57). A rule has no result where an operand is missing or of another
 -- kind, or where there is no room for it: no verified program comes there.
 use Rattle.std.specs.Prelude.{ℕ, ◌+◌, ◌-◌, ◌==◌, Bool, true, false, ◌&&◌, if◌then◌else◌, nat_lt, nat_le, List, ◌∷◌, length, Option, Some, None}
 use Rattle.cil_model.specs.declared.limits.TheConstants.{MOST_INSTRUCTIONS}
@@ -16,7 +16,7 @@ use Rattle.instructions.specs.Frames.{Turn, with_top}
 use Rattle.instructions.specs.ObjectTurns.{ObjectTurn, bears, beside, born}
 use Rattle.instructions.specs.declared.calls.Callee.{Callee}
 
--- goes on once the frame is at the instruction behind
+-- continues once the frame is at the next instruction
 abbrev pub behind : Frames → (Frames → Turn) → Turn
 behind m go = if nat_lt m.running.place MOST_INSTRUCTIONS then go (with_place m (m.running.place + 1)) else None
 
@@ -31,7 +31,7 @@ pub record Called : Type 0 where
 abbrev pub called : Callee → Called
 called c = record { method = c.method; arguments = c.arguments; locals = c.locals.now }
 
--- as many frames as there may be
+-- the number of frames is at its limit
 abbrev pub is_full : Frames → Bool
 is_full m = length m.below + 1 == m.depth
 
@@ -41,7 +41,7 @@ entered callee object m =
     if nat_lt (length m.below + 1) m.depth && nat_le callee.arguments (length m.running.stack) && nat_le (callee.arguments + length callee.locals) m.room
     then Some (with_call m callee.method callee.arguments callee.locals object, GoesOn) else None
 
--- call (III.3.19): the caller is at the instruction behind when it runs again
+-- call (III.3.19): the caller is at the next instruction when it runs again
 abbrev pub call_turn : Called → Frames → Turn
 call_turn callee m = if is_full m then Some (m, Raises StackOverflow) else behind m (entered callee None)
 
@@ -68,7 +68,7 @@ new_plain_object_turn phase class slots m o = bears phase o (Instance class) slo
 
 -- ---- returns
 
--- the frame below goes on with what it is given; without one below the thread is done
+-- the frame below continues with what it is given; without one below the thread is done
 abbrev pub gives : Option Value → Frames → Turn
 gives v m = if length m.below == 0 then Some (m, Returns) else given_to v (returned m)
   where

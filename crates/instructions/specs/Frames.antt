@@ -1,4 +1,4 @@
--- What instructions that change frames alone do to them (III.3; the limits are this profile's). A rule has no answer where an
+-- What instructions that change frames alone do to them (III.3; the limits are this profile's). A rule has no result where an
 -- operand is missing or of another kind, or where the frame has no room: no verified program comes there.
 use Rattle.std.specs.Prelude.{ℕ, ◌+◌, ℤ, pos, Bool, true, false, not, ◌==◌, if◌then◌else◌, nat_lt, List, [], ◌∷◌, length, Option, Some, None, Result, Ok, Err, slice_get}
 use Rattle.std.specs.Int.{w32, cast_unsigned}
@@ -23,7 +23,7 @@ use Rattle.threads_monitors.specs.declared.effects.Effect.TheVariants.{GoesOn, R
 use Rattle.reference_machine.specs.Values.{Int32 as Int32Value, Int64 as Int64Value}
 use Rattle.reference_machine.specs.Arithmetic.{Operand, I4, I8, NativeInt, Object, binary_of, unary_of, shift_of, is_set_of, convert_32_of, convert_64_of, one_or_zero_of, compared, branch_values}
 
--- the frames after an instruction, and what it comes to; or it has no answer
+-- the frames after an instruction, and its outcome; or it has no result
 abbrev pub Turn : Type 0
 Turn = Option (Frames × Effect)
 
@@ -33,7 +33,7 @@ Turn = Option (Frames × Effect)
 abbrev pub jump : ℕ → Frames → Turn
 jump place m = if nat_lt place MOST_INSTRUCTIONS then Some (with_place m place, GoesOn) else None
 
--- on to the instruction behind
+-- on to the next instruction
 abbrev pub onward : Frames → Turn
 onward m = if nat_lt m.running.place MOST_INSTRUCTIONS then Some (with_place m (m.running.place + 1), GoesOn) else None
 
@@ -42,11 +42,11 @@ abbrev pub branch_if : Bool → ℕ → Frames → Turn
 branch_if true place m = jump place m
 branch_if false place m = onward m
 
--- pushes a value and goes on
+-- pushes a value and advances
 abbrev pub leaves : Value → Frames → Turn
 leaves v m = if nat_lt (size m.running) m.room then onward (with_stack m (v ∷ m.running.stack)) else None
 
--- goes on with the topmost value, which is taken
+-- continues with the topmost value, which is taken
 abbrev pub top_of : {R : Type 0} → List Value → Frames → (Value → Frames → Option R) → Option R
 top_of [] m go = None
 top_of (v ∷ rest) m go = go v (with_stack m rest)
@@ -54,7 +54,7 @@ top_of (v ∷ rest) m go = go v (with_stack m rest)
 abbrev pub with_top : {R : Type 0} → Frames → (Value → Frames → Option R) → Option R
 with_top m go = top_of m.running.stack m go
 
--- goes on with what is there
+-- continues with what is there
 abbrev pub given : {X R : Type 0} → Option X → (X → Option R) → Option R
 given None go = None
 given (Some x) go = go x
@@ -171,7 +171,7 @@ branch_false_turn place m = with_top m (λ v n. given (is_set v) (λ holds. bran
 abbrev pub branch_compare_turn : Phase → BranchComparison → ℕ → Frames → Objects → Turn
 branch_compare_turn phase op place m o = with_top m (λ w n. with_top n (λ v k. given (branch_test phase o op v w) (λ holds. branch_if holds place k)))
 
--- to the place of that number, counted as unsigned, or on to the instruction behind (III.3.66)
+-- to the place of that number, counted as unsigned, or on to the next instruction (III.3.66)
 abbrev pub to_place : Option ℕ → Frames → Turn
 to_place None m = onward m
 to_place (Some place) m = jump place m

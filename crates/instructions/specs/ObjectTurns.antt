@@ -1,4 +1,4 @@
--- What instructions do to objects, arrays and static fields (III.4). A rule has no answer where an operand is missing or of another
+-- What instructions do to objects, arrays and static fields (III.4). A rule has no result where an operand is missing or of another
 -- kind, or where there is no such object or slot: no verified program comes there.
 use Rattle.std.specs.Prelude.{ℕ, ◌==◌, ◌&&◌, ℤ, pos, negsuc, if◌then◌else◌, nat_lt, List, length, Option, Some, None, option_map, slice_get}
 use Rattle.cil_model.specs.declared.reports.Fault.TheVariants.{NullReference, IndexOutOfRange, Overflow, OutOfMemory}
@@ -19,11 +19,11 @@ use Rattle.threads_monitors.specs.declared.effects.Effect.{Effect}
 use Rattle.threads_monitors.specs.declared.effects.Effect.TheVariants.{Raises}
 use Rattle.instructions.specs.Frames.{Turn, given, with_top, leaves, onward}
 
--- the frames and the objects after an instruction, and what it comes to; or it has no answer
+-- the frames and the objects after an instruction, and its outcome; or it has no result
 abbrev pub ObjectTurn : Type 0
 ObjectTurn = Option (Frames × Objects × Effect)
 
--- a turn of the frames beside these objects
+-- a transition of the frames beside these objects
 abbrev pub beside : Objects → Turn → ObjectTurn
 beside o turn = option_map (λ (t : Frames × Effect). (t.0, o, t.1)) turn
 
@@ -53,7 +53,7 @@ slots_of o a = option_map (λ (c : Cell). c.slots) (object_cell o a)
 abbrev pub load_slot : ValueKind → ℕ → Addr → Frames → Objects → ObjectTurn
 load_slot kind slot a m o = given (slots_of o a) (λ slots. given (slice_get slots slot) (λ w. beside o (leaves (value_in kind w) m)))
 
--- stores to a slot, by the phase of the thread, and goes on
+-- stores to a slot, by the phase of the thread, and advances
 abbrev pub store_slot : Phase → Value → ℕ → Addr → Frames → Objects → ObjectTurn
 store_slot phase v slot a m o = given (slots_of o a) (λ slots. given (slice_get slots slot) (λ w.
     if is_storable phase o a slot v then beside (stored_value phase o a slot v) (onward m) else None))
@@ -68,7 +68,7 @@ store_field_turn phase slot m o = with_top m (λ v n. with_top n (λ object k. o
 
 -- ---- arrays
 
--- the place of an element among so many, where there is one
+-- the place of an element among this number of elements, where there is one
 abbrev pub place_in : ℤ → ℕ → Option ℕ
 place_in (negsuc n) count = None
 place_in (pos n) count = if nat_lt n count then Some n else None
@@ -101,7 +101,7 @@ leaves_born (Some a) m = leaves (Ref a) m
 abbrev pub born : Frames → Objects × Option Addr → ObjectTurn
 born m birth = beside birth.0 (leaves_born birth.1 m)
 
--- goes on with what a birth gives, by the phase of the thread
+-- continues with what a birth gives, by the phase of the thread
 abbrev pub bears : Phase → Objects → Kind → ℕ → (Objects × Option Addr → ObjectTurn) → ObjectTurn
 bears phase o kind slots go = if can_bear phase o then go (object_born phase o kind slots) else None
 
@@ -120,11 +120,11 @@ new_array_turn phase element m o = with_top m (λ v n. index_of v (λ z. new_arr
 abbrev pub load_static_turn : ℕ → Frames → List Value → Turn
 load_static_turn number m statics = given (slice_get statics number) (λ v. leaves v m)
 
--- the frames, the objects with the static fields after an instruction, and what it comes to; or it has no answer
+-- the frames, the objects with the static fields after an instruction, and its outcome; or it has no result
 abbrev pub StaticTurn : Type 0
 StaticTurn = Option (Frames × (Objects × List Value) × Effect)
 
--- a turn of the frames beside these objects and static fields
+-- a transition of the frames beside these objects and static fields
 abbrev pub beside_statics : Objects × List Value → Turn → StaticTurn
 beside_statics memory turn = option_map (λ (t : Frames × Effect). (t.0, memory, t.1)) turn
 

@@ -1,4 +1,4 @@
--- What casts and stores of references do, by the classes of objects (III.4.3, III.4.6, III.4.27). A rule has no answer where an operand
+-- What casts and stores of references do, by the classes of objects (III.4.3, III.4.6, III.4.27). A rule has no result where an operand
 -- is missing or of another kind, or where there is no such object or type: no verified program comes there.
 use Rattle.std.specs.Prelude.{ℕ, ◌==◌, Bool, true, if◌then◌else◌, length, Option, Some, None, option_map, option_and_then}
 use Rattle.std.specs.Option.{option_map_or}

@@ -25,7 +25,7 @@ pub fn binary(frames: &mut FrameMemory, operation: BinaryOperation) -> Effect
     leave_result(frames, binary_result(operation, first, second))
 }
 
-/// Does the same where it raises no fault, and answers true. Else nothing changes.
+/// Does the same where it raises no fault, and returns true. Otherwise it returns false and nothing changes.
 pub fn binary_unless_faulty(frames: &mut FrameMemory, operation: BinaryOperation) -> bool
     requires { IsSome (binary_turn operation frames.old) }
     ensures done { result ≡ true → binary_turn operation frames.old ≡ Some (frames.new, GoesOnOf) }
@@ -86,7 +86,7 @@ pub fn shift(frames: &mut FrameMemory, operation: ShiftOperation) -> Effect
     }
 }
 
-/// `ceq`, `cgt` and `clt` (ECMA-335 III.3.21, III.3.22, III.3.25). Of references the heap tells whether they are equal.
+/// `ceq`, `cgt` and `clt` (ECMA-335 III.3.21, III.3.22, III.3.25). Of references the heap determines whether they are equal.
 pub fn compare(frames: &mut FrameMemory, heap: &Heap, phase: Phase, operation: Comparison) -> Effect
     requires { IsSome (compare_turn phase operation frames.old heap.now) }
     ensures { Some (frames.new, result) ≡ compare_turn phase operation frames.old heap.now }

@@ -22,7 +22,7 @@ pub fn index(value: Value) -> i64
     }
 }
 
-/// The place of an element among so many. None where there is no such element.
+/// The place of an element among the given number of elements. None where there is no such element.
 pub fn place_in(index: i64, count: u32) -> Option<u32>
     ensures { result ≡ place_in index count }
 {

@@ -10,8 +10,8 @@ use cil_model::reports::Fault;
 use object_memory::{Heap, Kind};
 use threads_monitors::{Effect, FrameMemory};
 
-/// `newobj` (ECMA-335 III.4.21) of a class, by its number and the number of its slots, with a constructor that has code. Where there
-/// are as many frames as there may be, it raises `StackOverflow`, and then, where the birth is refused, `OutOfMemory`.
+/// `newobj` (ECMA-335 III.4.21) of a class, by its number and the number of its slots, with a constructor that has code. Where the number of frames
+/// is at its limit, it raises `StackOverflow`, and then, where the birth is refused, `OutOfMemory`.
 pub fn new_object(
     frames: &mut FrameMemory,
     heap: &mut Heap,

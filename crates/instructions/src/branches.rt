@@ -43,8 +43,7 @@ fn is_set(value: Value) -> bool
     }
 }
 
-/// `beq`, `bne.un`, `bge`, `bgt`, `ble` and `blt` (ECMA-335 III.3.5 to III.3.14). Of references the heap tells whether they are
-/// equal.
+/// `beq`, `bne.un`, `bge`, `bgt`, `ble` and `blt` (ECMA-335 III.3.5 to III.3.14). Of references the heap determines whether they are equal.
 pub fn branch_compare(
     frames: &mut FrameMemory,
     heap: &Heap,
@@ -113,7 +112,7 @@ fn integers_branch(operation: BranchComparison, first: Value, second: Value) -> 
     }
 }
 
-/// The place of that number, counted as unsigned. None where there are not so many.
+/// The place of that number, counted as unsigned. None where there is no such place.
 fn numbered_place(places: &[usize], number: i32) -> Option<usize>
     ensures { result ≡ slice_get places.now (cast_unsigned w32 number) }
 {

@@ -15,8 +15,8 @@ pub struct Callee<'a> {
     pub locals: &'a [ValueKind],
 }
 
-/// `call` of a method with code (ECMA-335 III.3.19), and `callvirt` of the one that was chosen. Where there are as many frames
-/// as there may be, it raises `StackOverflow`. It takes no memory.
+/// `call` of a method with code (ECMA-335 III.3.19), and `callvirt` of the one that was chosen. Where the number of frames is at its limit, it raises
+/// `StackOverflow`. It takes no memory.
 pub fn call(frames: &mut FrameMemory, callee: Callee) -> Effect
     requires { IsSome (call_turn (called callee) frames.old) }
     ensures { Some (frames.new, result) ≡ call_turn (called callee.entry) frames.old }

@@ -16,7 +16,7 @@ pub trait Integer: Copy {
     // how many bytes it has
     ghost width: { Width };
 
-    // the number that it stands for
+    // the number that it represents
     ghost number: { Self → ℤ };
 
     // what lies on a stack for it

@@ -1,4 +1,4 @@
-//! Where a frame goes on, and what it leaves on its stack.
+//! Where a frame continues, and what it leaves on its stack.
 
 ghost use Rattle.std.specs.Prelude.{◌≡◌, IsSome, Some};
 ghost use Rattle.instructions.specs.Frames.{jump, onward, branch_if, leaves, leaves_result};
@@ -7,7 +7,7 @@ use cil_model::reports::Fault;
 use object_memory::Value;
 use threads_monitors::{Effect, FrameMemory};
 
-/// Goes on at a place of the running method.
+/// Continues at a place of the running method.
 pub fn jump(frames: &mut FrameMemory, place: usize) -> Effect
     requires { IsSome (jump place frames.old) }
     ensures { Some (frames.new, result) ≡ jump place frames.old }
@@ -16,7 +16,7 @@ pub fn jump(frames: &mut FrameMemory, place: usize) -> Effect
     Effect::GoesOn
 }
 
-/// Goes on to the instruction behind.
+/// Advances to the next instruction.
 pub fn go_on(frames: &mut FrameMemory) -> Effect
     requires { IsSome (onward frames.old) }
     ensures { Some (frames.new, result) ≡ onward frames.old }
@@ -25,7 +25,7 @@ pub fn go_on(frames: &mut FrameMemory) -> Effect
     Effect::GoesOn
 }
 
-/// Goes on at the place where the test holds, and else to the instruction behind.
+/// Continues at the place where the test holds, and otherwise advances to the next instruction.
 pub fn branch_if(frames: &mut FrameMemory, holds: bool, place: usize) -> Effect
     requires { IsSome (branch_if holds place frames.old) }
     ensures { Some (frames.new, result) ≡ branch_if holds place frames.old }
@@ -37,7 +37,7 @@ pub fn branch_if(frames: &mut FrameMemory, holds: bool, place: usize) -> Effect
     }
 }
 
-/// Pushes a value and goes on.
+/// Pushes a value and advances.
 pub fn leave(frames: &mut FrameMemory, value: Value) -> Effect
     requires { IsSome (leaves value frames.old) }
     ensures { Some (frames.new, result) ≡ leaves value frames.old }
@@ -46,7 +46,7 @@ pub fn leave(frames: &mut FrameMemory, value: Value) -> Effect
     go_on(frames)
 }
 
-/// Pushes a result and goes on, or raises its fault.
+/// Pushes a result and advances, or raises its fault.
 pub fn leave_result(frames: &mut FrameMemory, outcome: Result<Value, Fault>) -> Effect
     requires { IsSome (leaves_result frames.old outcome) }
     ensures { Some (frames.new, result) ≡ leaves_result frames.old outcome }

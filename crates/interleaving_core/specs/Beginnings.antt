@@ -1,4 +1,4 @@
--- The initial content of a machine, from the parts that depend on its program (this profile).
+-- The initial state of a machine, from the parts that depend on its program (this profile).
 use Rattle.std.specs.Prelude.{ℕ, List}
 use Rattle.cil_model.specs.declared.limits.Limits.{Limits}
 use Rattle.cil_model.specs.declared.trees.Tree.{Tree}

@@ -1,4 +1,4 @@
--- A step of a thread in two halves: its instruction, and what that comes to. This is where the first one ends.
+-- A step of a thread in two halves: its instruction, and the outcome of that. This is where the first one ends.
 use Rattle.std.specs.Prelude.{◌≡◌, ℕ, Some, slice_get}
 use Rattle.threads_monitors.specs.Frames.{Frames}
 use Rattle.simulation.specs.interpreter.Instructions.{IsDone, Answer}

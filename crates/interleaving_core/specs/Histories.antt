@@ -1,4 +1,4 @@
--- What a machine has done since it was made, and that it goes on so (this profile).
+-- What a machine has done since it was made, and that it continues so (this profile).
 use Rattle.std.specs.Prelude.{◌≡◌, ◌++◌, true, List, Some}
 use Rattle.std.specs.List.{zip}
 use Rattle.cil_model.specs.Ranges.{are_in_range}

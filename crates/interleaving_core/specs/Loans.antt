@@ -16,11 +16,11 @@ pub record Lent : Type 0 where
   pub frame : Frame
   pub done : ℕ
 
--- from some frame a thread that has so many steps left can go on by local instructions, as long as a step is left
+-- from some frame a thread that has this number of steps left can advance by local instructions, as long as a step is left
 abbrev pub CanGoOnLocally : Tree → (left : ℕ) → Frame → Type 0
 CanGoOnLocally tree left f = (n : ℕ) (g : Frame) → n < left → AreLocalSteps tree frame_room n f g → IsReadySomewhere tree frame_room g
 
--- the frame is so many local instructions from its origin, and a step is left behind them
+-- the frame is `done` local instructions from its origin, and a step is left after them
 pub record IsLent (l : Lent) : Type 0 where
   pub steps : AreLocalSteps l.tree frame_room l.done l.origin l.frame
   pub less : l.done < l.left
@@ -30,12 +30,12 @@ pub record IsLent (l : Lent) : Type 0 where
 abbrev pub Stops : Lent → Type 0
 Stops l = EndsLocal l.tree frame_room l.frame ⊎ (l.left ≡ l.done + 1)
 
--- so many more local instructions were done
+-- n more local instructions were done
 pub record RanOn (old : Lent) (n : ℕ) (new : Lent) : Type 0 where
   pub steps : AreLocalSteps old.tree frame_room n old.frame new.frame
   pub is : new ≡ record old { frame = new.frame; done = old.done + n }
 
--- at most so many, and fewer only where no further one is done
+-- at most this number, and fewer only where no further one is done
 pub record RanLocally (old : Lent) (most : ℕ) (new : Lent) : Type 0 where
   pub count : ℕ
   pub few : count ≤ most

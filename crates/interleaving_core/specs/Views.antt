@@ -18,11 +18,11 @@ use Rattle.simulation.specs.Sound.{IsSound as IsSoundContent}
 use Rattle.simulation.specs.Ready.{IsReady, IsAnswerable}
 use Rattle.interleaving_core.specs.declared.engine.Engine.{Engine}
 
--- the content of an engine
+-- the machine state of an engine
 abbrev pub content_of : Engine → Content
 content_of e = record { tree = e.program; limits = e.limits; threads = e.threads.items; posts = e.posts; progress = e.progress; objects = e.store.heap; statics = e.store.statics.items; printed = e.store.console.items }
 
--- the content is sound, each live thread is ready, and what its instruction asks of other threads can be answered
+-- the machine state is sound, each live thread is ready, and what its instruction asks of other threads can be answered
 pub record CanGoOn (e : Engine) : Type 0 where
   pub limits : IsTrue (are_in_range e.limits)
   pub content : IsSoundContent (content_of e)
@@ -35,7 +35,7 @@ pub record CanGoOn (e : Engine) : Type 0 where
 abbrev pub end_at : List Thread → ℕ → Option End
 end_at threads n = option_and_then end_of (slice_get threads n)
 
--- there are no more threads than there may be, and the content represents a state of the reference machine
+-- there are no more threads than there may be, and the machine state represents a state of the reference machine
 pub record IsSound (e : Engine) : Type 0 where
   pub state : State
   pub represents : Represents (content_of e) state

@@ -72,7 +72,7 @@ standing_wait c t (Ended e) = None
 abbrev pub wait_at : Content → ℕ → Option Wait
 wait_at c t = option_and_then (λ (x : Thread). standing_wait c t x.standing) (slice_get c.threads t)
 
--- what lies at the address that a frame is about to enter or to join, where it does that: a monitor, or the slot that tells a thread
+-- what lies at the address that a frame is about to enter or to join, where it does that: a monitor, or the slot that identifies a thread
 pub record HasObject (tree : Tree) (o : Objects) (m : Frames) : Type 0 where
   pub place : IsSome (line_at tree m)
   pub monitor : (op : Operation) → IsAt tree m op → action_at tree m ≡ Some Enter → (a : Addr) → top_reference m.running.stack ≡ Some a → a ≢ null → IsSome (monitor_at o a)

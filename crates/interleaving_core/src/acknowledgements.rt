@@ -40,7 +40,7 @@ impl Engine {
         }
     }
 
-    /// Whether an acknowledgement of the thread answers a round of marking.
+    /// Whether an acknowledgement of the thread is one of a round of marking.
     fn answers_round(&self, thread: u8) -> bool
         ensures { result ≡ answers_round (content_of self.now) thread }
     {
@@ -82,7 +82,7 @@ impl Engine {
         }
     }
 
-    /// Marks what the frames of a thread that answers a round hold. Nothing else changes.
+    /// Marks what the frames of a thread that acknowledges a round hold. Nothing else changes.
     fn mark_held(&mut self, thread: u8)
         requires sound { IsSoundContent (content_of self.old) }
         requires answers { answers_round (content_of self.old) thread ≡ true }

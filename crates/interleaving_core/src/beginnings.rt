@@ -40,6 +40,7 @@ pub(crate) fn beginning(program: &LoadedProgram, limits: Limits, method: u32) ->
     ensures method { result.method ≡ method }
     ensures begins { (found : ClassName × NamedMethod) → slice_get (all_methods program.now) method ≡ Some found → (arguments : List AnyValue) → new_thread result arguments ≡ thread_at limits found arguments method }
 {
+    // For the prover alone: it brings in that the program is legal.
     let _legal = program.program().tree();
     Beginning {
         method,
@@ -64,6 +65,7 @@ pub(crate) fn beginning_on<'a>(
     ensures fits { 16 + length result.locals.now ≤ result.room }
     ensures begins { thread_for program.now limits heap.now object ≡ Some (new_thread result (Ref object ∷ [])) }
 {
+    // For the prover alone: it brings in that the program is legal.
     let _legal = program.program().tree();
     let class = class_number(heap, object);
     let method = program.target(program.number(RUN), class);

@@ -25,8 +25,8 @@ use simulation::collector_code::{
 use std::alloc::Global;
 
 impl Engine {
-    /// An event of the collector. It waits where a live thread has not acknowledged the posted phase. Want of memory, which the event
-    /// that opens a cycle alone can meet, changes nothing.
+    /// An event of the collector. It waits where a live thread has not acknowledged the posted phase. Running out of memory, which only the event
+    /// that opens a cycle can cause, changes nothing.
     pub(crate) fn collect(&mut self, alloc: Global) -> Result<Report, NoMemory>
         requires limits { are_in_range self.old.limits ≡ true }
         requires sound { IsSoundContent (content_of self.old) }
@@ -70,7 +70,7 @@ impl Engine {
     }
 
     /// The words of the block that a cycle opens with: twice those of the only one where more than half of it is used, within the limit;
-    /// else as many.
+    /// else the same number.
     fn opening_words(&self) -> usize
         requires sound { IsSoundContent (content_of self.now) }
         ensures { result ≡ opening_words (content_of self.now) }
@@ -132,7 +132,7 @@ impl Engine {
         self.end_round()
     }
 
-    /// Nothing is grey: marking is closed, a round waits for its answers, or the next one is posted.
+    /// Nothing is grey: marking is closed, a round waits for its acknowledgements, or the next one is posted.
     fn end_round(&mut self) -> Report
         requires posted { self.old.posts.posted ≡ MarkOf }
         requires seen { all_seen self.old.posts ≡ true }

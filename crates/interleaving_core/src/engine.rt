@@ -72,7 +72,7 @@ impl Drop for Engine {
 }
 
 impl Engine {
-    /// What an event does. Want of memory, which a print, a start or the opening of a cycle alone can meet, changes nothing.
+    /// What an event does. Running out of memory, which only a print, a start or the opening of a cycle can cause, changes nothing.
     #[inline(always)]
     pub fn step(&mut self, alloc: Global, event: Event) -> Result<Report, NoMemory>
         requires ready { CanGoOn self.old }
@@ -199,7 +199,7 @@ impl Engine {
         report
     }
 
-    /// Starts a thread on an object for the thread of a number, whose seat it is given, or tells why there is none. `NoMemory` where there
+    /// Starts a thread on an object for the thread of a number, whose seat it is given, or reports why there is none. `NoMemory` where there
     /// is none for its frames; nothing is changed then.
     fn start(&mut self, alloc: Global, starter: u8, object: Addr) -> Result<Effect, NoMemory>
         requires limits { are_in_range self.old.limits ≡ true }

@@ -101,7 +101,7 @@ fn room_for_frame(alloc: Global) -> Result<FrameMemory, NoMemory>
 }
 
 impl LoanRoom {
-    /// Memory for a loan of a frame of this program. Only want of memory is an error.
+    /// Memory for a loan of a frame of this program. The only error is out of memory.
     pub(crate) fn new(alloc: Global, program: LoadedProgram) -> Result<LoanRoom, NoMemory>
         ensures { IfOk result (λ room. room ≡ program) }
     {
@@ -117,7 +117,7 @@ impl LoanRoom {
         })
     }
 
-    /// A loan of the frame that runs, of a thread that has so many steps left.
+    /// A loan of the frame that runs, of a thread that has the given number of steps left.
     pub(crate) fn fill(self, frames: &FrameMemory, thread: u8, left: u32) -> Loan
         requires room { frames.now.room ≡ frame_room }
         requires some { 0 < left }
@@ -155,10 +155,11 @@ impl Loan {
     pub fn laws(&self)
         ensures { IsLent self.now }
     {
+        // For the prover alone: it brings in the laws of the loan.
         let _done = &self.done;
     }
 
-    /// Does local instructions on the frame, so many at most. It stops before one that is not local or that would raise a fault, and before
+    /// Does local instructions on the frame, at most the given number. It stops before one that is not local or that would raise a fault, and before
     /// the last one of the thread's budget. It takes no memory and no lock.
     pub fn run(&mut self, most: u32)
         ensures { RanLocally self.old most self.new }
@@ -182,7 +183,7 @@ impl Loan {
         LoanRoom { rooms }
     }
 
-    /// Whether a thread stands as it did when the loan began: live, with as many steps left, and with the frame that was lent.
+    /// Whether a thread stands as it did when the loan began: live, with the same number of steps left, and with the frame that was lent.
     pub(crate) fn is_origin_in(&self, thread: &Thread) -> bool
         requires room { (left : ℕ) (m : Frames) → thread.now ≡ live_thread left m → m.room ≡ frame_room }
         ensures yes { IsTrue result → (m : Frames) × (thread.now ≡ live_thread self.now.left m) × (m.running ≡ self.now.origin) }
@@ -196,7 +197,7 @@ impl Loan {
         }
     }
 
-    /// Has a thread that stands as it did when the loan began stand where the loan is, with as many steps less.
+    /// Brings a thread that stands as it did when the loan began to where the loan is, with one step less for each instruction that was done.
     pub(crate) fn give_back_to(&self, thread: &mut Thread)
         requires { (m : Frames) × (thread.old ≡ live_thread self.now.left m) × (m.room ≡ frame_room) }
         ensures { (m : Frames) → thread.old ≡ live_thread self.now.left m → thread.new ≡ live_thread (self.now.left - self.now.done) (with_running m self.now.frame) }

@@ -61,7 +61,7 @@ pub enum Refused {
 }
 
 impl Refused {
-    /// The number that the program prints: 401, or 402 for want of memory.
+    /// The number that the program prints: 401, or 402 when memory runs out.
     pub fn number(&self) -> u16
         ensures { result ≡ number_of self.now }
     {
@@ -123,6 +123,7 @@ impl Machine {
         ensures begins { OnOk result (opening_content self.old.tree self.old.limits ≡ Some self.new) }
         ensures refused { OnErr result (self.new ≡ self.old) }
     {
+        // For the prover alone: it brings in the laws of the field.
         let _engine = &self.engine;
         self.engine.reopen(alloc)
     }
@@ -132,7 +133,7 @@ impl Machine {
     /// Whatever it has done since it was made, it has then done this event too: the reference machine has the same reports, no cycle of the collector had
     /// more working events than its bound, and where this event ends a cycle, no more words are in use than are owed.
     ///
-    /// Want of memory, which a print, a start or the opening of a cycle alone can meet, changes nothing and isn't counted.
+    /// Running out of memory, which only a print, a start or the opening of a cycle can cause, changes nothing and isn't counted.
     #[inline(always)]
     pub fn step(&mut self, alloc: Global, event: Event) -> Result<Report, NoMemory>
         ensures turns { IfOk result (λ report. IsTurn self.old event (self.new, report)) }
@@ -147,8 +148,8 @@ impl Machine {
 
     /// Does the events in order, and appends the report of each.
     ///
-    /// It stops at the first want of memory, the growth of `reports` included, which comes before its event. The events before it are done
-    /// then, each with its report, and the reference machine has done the same.
+    /// It stops when memory runs out for the first time, the growth of `reports` included, which comes before its event. The events before it are
+    /// done then, each with its report, and the reference machine has done the same.
     pub fn run(
         &mut self,
         alloc: Global,
@@ -166,6 +167,7 @@ impl Machine {
             × FollowsReference self.old self.new (zip (take count events.now) (drop (length reports.old.items) reports.new.items))
             × DoesMore self.old (take count events.now) (drop (length reports.old.items) reports.new.items) self.new) }
     {
+        // For the prover alone: it brings in the laws of the field.
         let _engine = &self.engine;
         for event in events {
             reports.reserve(1)?;
@@ -174,10 +176,11 @@ impl Machine {
         Ok(())
     }
 
-    /// Memory for a loan of one of its threads' top frames, with a share of its program. Only want of memory is an error.
+    /// Memory for a loan of one of its threads' top frames, with a share of its program. The only error is out of memory.
     pub fn loan_room(&self, alloc: Global) -> Result<LoanRoom, NoMemory>
         ensures { IfOk result (λ room. room ≡ self.now.tree) }
     {
+        // For the prover alone: it brings in the laws of the field.
         let _engine = &self.engine;
         LoanRoom::new(alloc, self.engine.program.share()?)
     }
@@ -188,6 +191,7 @@ impl Machine {
         requires tree { room ≡ self.now.tree }
         ensures { Begins self.now thread result }
     {
+        // For the prover alone: it brings in the laws of the field.
         let _engine = &self.engine;
         self.engine.lend(thread, room)
     }
@@ -197,20 +201,22 @@ impl Machine {
         ensures live { (left : ℕ) (m : Frames) → slice_get self.now.threads thread ≡ Some (live_thread left m) → IsNextLocal self.now.tree m.room m.running result }
         ensures others { is_live_at self.now.threads thread ≡ false → result ≡ false }
     {
+        // For the prover alone: it brings in the laws of the field.
         let _engine = &self.engine;
         self.engine.is_next_local(thread)
     }
 
-    /// Whether the thread of a loan stands as it did when the loan began: live, with as many steps left, and with the frame that was lent.
+    /// Whether the thread of a loan stands as it did when the loan began: live, with the same number of steps left, and with the frame that was lent.
     pub fn is_at_origin(&self, loan: &Loan) -> bool
         ensures { IsTrue result ↔ IsAtOrigin self.now loan.now }
     {
+        // For the prover alone: it brings in the laws of the field.
         let _engine = &self.engine;
         self.engine.is_at_origin(loan)
     }
 
-    /// Ends a loan whose thread stands as it did when the loan began, and gives its memory back: the instructions that were done on the lent
-    /// frame are as many steps of the thread, each of which reports that it ran, and none of them printed. It takes no memory.
+    /// Ends a loan whose thread stands as it did when the loan began, and gives its memory back: each instruction that was done on the lent frame is
+    /// one step of the thread, which reports that it ran, and none of them printed. It takes no memory.
     pub fn take_back(&mut self, loan: Loan) -> LoanRoom
         requires tree { loan.tree ≡ self.old.tree }
         requires origin { IsAtOrigin self.old loan }
@@ -237,6 +243,7 @@ impl Machine {
         ensures length { result ≡ length (next_print self.now event) }
         ensures printed { (after : Content × AnyReport) → IsTurn self.now event after → length after.0.printed ≤ length self.now.printed + result }
     {
+        // For the prover alone: it brings in the laws of the field.
         let _engine = &self.engine;
         self.engine.print_length(event)
     }
@@ -248,7 +255,7 @@ impl Machine {
         self.engine.end_of(thread)
     }
 
-    /// How each thread that was started has ended, in the order of their numbers: none where it is live. Only want of memory is an error.
+    /// How each thread that was started has ended, in the order of their numbers: none where it is live. The only error is out of memory.
     pub fn ends(&self, alloc: Global) -> Result<Vec<Option<End>>, AllocError>
         ensures { IfOk result (λ ends. ends.items ≡ map end_of self.now.threads) }
     {
@@ -279,6 +286,7 @@ impl Machine {
     pub fn wait_of(&self, thread: u8) -> Option<Wait>
         ensures { result ≡ wait_at self.now thread }
     {
+        // For the prover alone: it brings in the laws of the field.
         let _engine = &self.engine;
         self.engine.wait_of(thread)
     }
@@ -290,6 +298,7 @@ impl Machine {
     pub fn monitor_of(&self, thread: u8) -> Option<Addr>
         ensures { result ≡ next_monitor self.now thread }
     {
+        // For the prover alone: it brings in the laws of the field.
         let _engine = &self.engine;
         self.engine.monitor_of(thread)
     }
@@ -298,10 +307,11 @@ impl Machine {
     /// its own, and so of a literal. None of an old object without a copy, of null, of what is no object's address, and of all but
     /// literals while no cycle is open. From `ThreadFlip` on each object that a thread can still reach has one.
     ///
-    /// It may be asked of any address. While a cycle is open it takes as long as there are objects; it takes no memory.
+    /// It may be asked of any address. While a cycle is open its time is proportional to the number of objects; it takes no memory.
     pub fn forwarded(&self, address: Addr) -> Option<Addr>
         ensures { result ≡ forwarded self.now.objects address }
     {
+        // For the prover alone: it brings in the laws of the field.
         let _engine = &self.engine;
         self.engine.forwarded(address)
     }
@@ -311,6 +321,7 @@ impl Machine {
     pub fn is_same(&self, first: Addr, second: Addr) -> bool
         ensures { result ≡ are_same CopyOf self.now.objects first second }
     {
+        // For the prover alone: it brings in the laws of the field.
         let _engine = &self.engine;
         self.engine.is_same(first, second)
     }
@@ -383,12 +394,13 @@ impl Machine {
     }
 
     /// The words of the old space, or the only one, and of the new one: 0 where there is none. The first space has those of the limit; the
-    /// one that a cycle opens with has as many as the one before, or twice as many where more than half of that is used, but no more than
-    /// the limit says.
+    /// one that a cycle opens with has the size of the one before, or twice that size where more than half of it is used, but no more than the limit
+    /// says.
     pub fn sizes(&self) -> (u32, u32)
         ensures sizes { result ≡ (whole_space self.now.objects, self.now.objects.spaces.new.words) }
         ensures most { (result.0 ≤ self.now.limits.max_words) × (result.1 ≤ self.now.limits.max_words) }
     {
+        // For the prover alone: it brings in the laws of the field.
         let _engine = &self.engine;
         let (old, new) = self.engine.sizes();
         (old as u32, new as u32)

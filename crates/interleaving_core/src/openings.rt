@@ -61,7 +61,7 @@ fn opening_statics(alloc: Global, classes: &[Class]) -> Result<Vec<Value>, NoMem
     Ok(statics)
 }
 
-/// A heap without objects, beside so many literals.
+/// A heap without objects, beside the given number of literals.
 fn opening_heap(alloc: Global, words: u32, literals: usize) -> Result<Heap, NoMemory>
     ensures { IfOk result (λ h. h ≡ no_objects words literals) }
 {

@@ -8,7 +8,7 @@ use threads_monitors::{FrameMemory, Standing};
 /// Where a live thread is.
 #[derive(Clone, Copy)]
 pub struct Position {
-    /// The number of the method that runs, among the methods of all classes: those of each class in source order, class behind class,
+    /// The number of the method that runs, among the methods of all classes: those of each class in source order, class after class,
     /// the built-in ones first.
     pub method: u32,
     /// The place of the next instruction in that method, from 0.

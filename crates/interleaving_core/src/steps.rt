@@ -39,7 +39,7 @@ pub(crate) fn instruct(
     instruction(program, mutator, frames, store)
 }
 
-/// Takes the operand of what was asked for, once that is done, and goes on to the instruction behind. Otherwise all stays.
+/// Takes the operand of what was asked for, once that is done, and advances to the next instruction. Otherwise all stays.
 fn take_operand(frames: &mut FrameMemory, effect: Effect)
     requires operand { 0 < length frames.old.running.stack }
     requires behind { frames.old.running.place < MOST_INSTRUCTIONS }
@@ -74,7 +74,7 @@ pub(crate) fn leave_if_ended(posts: &mut Posts, number: u8, report: Report)
     }
 }
 
-/// Gives a thread its starter's seat, where the start has come to that. Otherwise all stays.
+/// Gives a thread its starter's seat, where the start was done. Otherwise all stays.
 pub(crate) fn seat_started(posts: &mut Posts, effect: Effect, thread: usize, starter: u8)
     ensures { posts.new ≡ seated effect posts.old thread starter }
 {

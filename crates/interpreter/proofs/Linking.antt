@@ -35,7 +35,7 @@ module _ (tree : Tree) (mutator : Mutator) (m : Frames) (o : Objects) (ss : List
   pub link_does : (op : Operation) (l : LinkedInstruction) → link_of tree m op ≡ Some l → operation_turn tree mutator op m o ss c ≡ turn l
   link_does op l is = ap (λ x. given x turn) is
 
-  -- where it has an answer it has a link, and any linked form of it is that
+  -- where it has a result it has a link, and any linked form of it is that
   pub link_is : (found : ClassName × Method) → method_of tree m ≡ Some found → (op : Operation) (l : LinkedInstruction) → IsLinked tree (has_value found) op l → IsSome (operation_turn tree mutator op m o ss c) → link_of tree m op ≡ Some l
   link_is found at op l is there =
       let wanted = given_some (link_of tree m op) turn there in

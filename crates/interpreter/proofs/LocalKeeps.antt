@@ -1,4 +1,4 @@
--- What local instructions keep: the frames below, the room, and the method that runs. All but operations on two integers go on.
+-- What local instructions keep: the frames below, the room, and the method that runs. All but operations on two integers advance.
 use Rattle.std.proofs.Common.{◌≡◌, ℕ, ℤ, pos, negsuc, Bool, true, false, if◌then◌else◌, List, [], ◌∷◌, Option, Some, None, Result, Ok, Err, refl, ap, ◌∙◌, subst}
 use Rattle.std.specs.Prelude.{◌+◌, nat_lt, not, length, slice_get}
 use Rattle.std.specs.Int.{w32, cast_unsigned}
@@ -19,7 +19,7 @@ use Rattle.instructions.specs.Frames.{Turn, binary_result, branch_if, given, in_
 use Rattle.instructions.specs.LocalTurns.{integers_branch, integers_compared}
 use Rattle.interpreter.specs.Local.{local_link_turn}
 
--- frames after an instruction, with what it comes to: only the running frame is another, of the same method; a plain instruction goes on
+-- frames after an instruction, with its outcome: only the running frame is another, of the same method; a plain instruction advances
 pub record Keeps (plain : Bool) (m : Frames) (x : Frames × Effect) : Type 0 where
   pub frames : x.0 ≡ with_running m x.0.running
   pub method : x.0.running.method ≡ m.running.method

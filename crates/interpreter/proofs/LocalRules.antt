@@ -57,7 +57,7 @@ module _ (below : List Frame) (depth : ℕ) where
   branch_moves true place m = jump_moves place m
   branch_moves false place m = onward_moves m
 
-  -- what goes on with the topmost value
+  -- what continues with the topmost value
   top_moves : (m : Frames) (go go' : Value → Frames → Turn) → ((v : Value) (k : Frames) → go' v (moved k) ≡ moved_turn (go v k)) → with_top (moved m) go' ≡ moved_turn (with_top m go)
   top_moves m go go' moves = by_stack m.running.stack
     where

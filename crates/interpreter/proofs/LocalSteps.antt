@@ -25,7 +25,7 @@ use Rattle.interpreter.proofs.Executing.{linked_here}
 use Rattle.interpreter.proofs.Linking.{link_does, link_is}
 use Rattle.interpreter.proofs.LocalRules.{local_is, local_moves, moved_turn}
 
--- where a turn is told by another, it has an answer where that has one
+-- where a transition is given by another, it has a result where that has one
 framed_some : (o : Objects) (ss : List Value) (c : List ℕ) (t : Turn) → IsSome (of_frames o ss c t) → IsSome t
 framed_some o ss c None h = absurd cc
 framed_some o ss c (Some x) h = refl
@@ -55,7 +55,7 @@ module _ (tree : Tree) (room : ℕ) (f : Frame) (l : LinkedInstruction) (at : Is
   pub is_alike : is_local_link l ≡ is_local tree (alone room f) op
   is_alike = sym (ap (λ x. option_map_or is_local_link x false) linked)
 
-  -- a local one has an answer on the frame alone
+  -- a local one has a result on the frame alone
   pub has_local : is_local_link l ≡ true → IsSome (local_link_turn l (alone room f))
   has_local local =
       let there : IsSome (linked_turn tree ready.mutator l somewhere ready.objects ready.statics ready.printed) =

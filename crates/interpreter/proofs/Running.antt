@@ -31,7 +31,7 @@ pub mapped_there : {X Y : Type 0} (f : X → Y) (o : Option X) → IsSome (optio
 mapped_there f (Some x) there = refl
 mapped_there f None there = there
 
--- what is given goes on
+-- what is given is passed on
 pub given_some : {X R : Type 0} (o : Option X) (go : X → Option R) → IsSome (given o go) → (x : X) × (o ≡ Some x) × (given o go ≡ go x)
 given_some (Some x) go there = (x, refl, refl)
 given_some None go there = absurd cc

@@ -1,4 +1,4 @@
--- What runs for calls and newobj, and for the built-in members (III.3.19, III.4.2, III.4.21, Partition IV). A rule has no answer where an
+-- What runs for calls and newobj, and for the built-in members (III.3.19, III.4.2, III.4.21, Partition IV). A rule has no result where an
 -- operand is missing or of another kind.
 use Rattle.std.specs.Prelude.{ℕ, zero, suc, ◌==◌, Bool, false, if◌then◌else◌, nat_lt, List, ◌∷◌, length, Option, Some, None, option_map, option_and_then, slice_get}
 use Rattle.std.specs.Option.{option_map_or}
@@ -34,7 +34,7 @@ use Rattle.instructions.specs.BuiltInTurns.{enter_turn, exit_turn, write_turn}
 use Rattle.interpreter.specs.declared.outcomes.Outcome.{Outcome}
 use Rattle.interpreter.specs.declared.outcomes.Outcome.TheVariants.{Comes, Starts, Joins}
 
--- the frames, the objects and the printed bytes after an instruction, and what it comes to
+-- the frames, the objects and the printed bytes after an instruction, and its outcome
 pub record CallAnswer : Type 0 where
   pub frames : Frames
   pub objects : Objects
@@ -48,11 +48,11 @@ call_answer m o console outcome = record { frames = m; objects = o; printed = co
 abbrev pub CallTurn : Type 0
 CallTurn = Option CallAnswer
 
--- a turn of frames and objects beside the printed bytes
+-- a transition of frames and objects beside the printed bytes
 abbrev pub beside_console : List ℕ → ObjectTurn → CallTurn
 beside_console console turn = option_map (λ (t : Frames × Objects × Effect). call_answer t.0 t.1 console (Comes t.2)) turn
 
--- whether a rule has an answer that prints: there are more bytes than there were
+-- whether a rule has a result that prints: there are more bytes than there were
 abbrev pub prints : List ℕ → CallTurn → Bool
 prints console turn = option_map_or (λ (t : CallAnswer). nat_lt (length console) (length t.printed)) turn false
 
@@ -109,7 +109,7 @@ chosen tree o a found = option_and_then (chosen_by tree found) (class_at o a)
 abbrev pub chosen_at : Tree → Objects → Addr → MemberNumber → Option (ClassName × Method)
 chosen_at tree o a n = option_and_then (chosen tree o a) (method_at tree (n.class, n.place))
 
--- the object on which a method with so many operands is called
+-- the object on which a method with this number of operands is called
 abbrev pub receiver_in : Option Value → Option Addr
 receiver_in (Some (Ref a)) = Some a
 receiver_in _ = None
@@ -124,7 +124,7 @@ run_on tree mutator found a m o console =
     if a.number == 0 then Some (call_answer m o console (Comes (Raises NullReference)))
     else given (chosen tree o a found) (λ run. run_turn tree mutator run m o console)
 
--- a virtual call of a method with so many operands (III.4.2)
+-- a virtual call of a method with this number of operands (III.4.2)
 abbrev pub virtual_turn : Tree → Mutator → ClassName × Method → ℕ → Frames → Objects → List ℕ → CallTurn
 virtual_turn tree mutator found operands m o console = given (receiver m.running.stack operands) (λ a. run_on tree mutator found a m o console)
 
@@ -132,7 +132,7 @@ virtual_turn tree mutator found operands m o console = given (receiver m.running
 abbrev pub virtual_numbered : Tree → Mutator → ℕ → ℕ → Frames → Objects → List ℕ → CallTurn
 virtual_numbered tree mutator number operands m o console = given (slice_get (all_methods tree) number) (λ found. virtual_turn tree mutator found operands m o console)
 
--- an object of a class with so many slots, at once where its constructor is built in (III.4.21)
+-- an object of a class with this number of slots, at once where its constructor is built in (III.4.21)
 abbrev pub made : Tree → Mutator → ℕ → ℕ → ClassName × Method → Frames → Objects → ObjectTurn
 made tree mutator class slots found m o =
     option_map_or (λ a. new_plain_object_turn mutator.phase class slots m o) (action_of found.0 found.1)

@@ -1,4 +1,4 @@
--- What one instruction of a thread does to all that it may change (III.3, III.4). A rule has no answer where an operand stands for nothing, is missing
+-- What one instruction of a thread does to all that it may change (III.3, III.4). A rule has no result where an operand represents nothing, is missing
 -- or is of another kind: no verified program comes there.
 use Rattle.std.specs.Prelude.{◌≡◌, ◌<◌, ℕ, nat_lt, Bool, false, List, length, Option, Some, option_map, option_and_then, slice_get}
 use Rattle.std.specs.Option.{option_map_or}
@@ -30,7 +30,7 @@ use Rattle.interpreter.specs.declared.outcomes.Outcome.{Outcome}
 use Rattle.interpreter.specs.declared.outcomes.Outcome.TheVariants.{Comes}
 use Rattle.interpreter.specs.Calls.{CallAnswer, CallTurn, call_numbered, made_numbered, virtual_numbered}
 
--- the frames of the thread, the objects, the static fields and the printed bytes after an instruction, and what it comes to
+-- the frames of the thread, the objects, the static fields and the printed bytes after an instruction, and its outcome
 pub record Answer : Type 0 where
   pub frames : Frames
   pub objects : Objects
@@ -104,7 +104,7 @@ linked_turn tree mutator (CallVirtual number operands) m o ss c = of_calls o ss 
 linked_turn tree mutator (NewObject class slots number) m o ss c = of_objects o ss c (made_numbered tree mutator class slots number m o)
 linked_turn tree mutator (Return has_result) m o ss c = of_frames o ss c (return_turn has_result m)
 
--- whether an instruction has an answer that prints
+-- whether an instruction has a result that prints
 abbrev pub is_printing : List ℕ → MachineTurn → Bool
 is_printing c turn = option_map_or (λ (t : Answer). nat_lt (length c) (length t.printed)) turn false
 
@@ -130,7 +130,7 @@ link_of tree m op = link tree (returns_value tree m) op
 abbrev pub operation_turn : Tree → Mutator → Operation → Frames → Objects → List Value → List ℕ → MachineTurn
 operation_turn tree mutator op m o ss c = given (link_of tree m op) (λ l. linked_turn tree mutator l m o ss c)
 
--- a resolved instruction that stands for the one there
+-- a resolved instruction that represents the one there
 pub record IsAt (tree : Tree) (m : Frames) (op : Operation) : Type 0 where
   pub found : ClassName × Method
   pub line : Line
@@ -138,7 +138,7 @@ pub record IsAt (tree : Tree) (m : Frames) (op : Operation) : Type 0 where
   pub line_is : slice_get (lines_of found.1) m.running.place ≡ Some line
   pub stands : IsOperation tree (lines_of found.1) line.instruction op
 
--- what a thread's next instruction has done: its answer is that of a resolved instruction there
+-- what a thread's next instruction has done: its result is that of a resolved instruction there
 pub record IsDone (tree : Tree) (mutator : Mutator) (m : Frames) (o : Objects) (ss : List Value) (c : List ℕ) (answer : Answer) : Type 0 where
   pub operation : Operation
   pub at : IsAt tree m operation

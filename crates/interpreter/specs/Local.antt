@@ -61,7 +61,8 @@ frames_over f below depth room = record { running = f; below = below; depth = de
 abbrev pub alone : ℕ → Frame → Frames
 alone room f = frames_over f [] 1 room
 
--- A local instruction of a frame is done, and its thread goes on: whatever frames lie below, and whatever else the machine holds, this frame alone changes.
+-- A local instruction of a frame is done, and its thread continues: whatever frames lie below, and whatever else the machine holds, this frame alone
+-- changes.
 pub record IsLocalStep (tree : Tree) (room : ℕ) (f g : Frame) : Type 0 where
   pub operation : Operation
   pub at : IsAt tree (alone room f) operation
@@ -69,7 +70,7 @@ pub record IsLocalStep (tree : Tree) (room : ℕ) (f g : Frame) : Type 0 where
   pub done : (below : List Frame) (depth : ℕ) (mutator : Mutator) (o : Objects) (statics : List Value) (printed : List ℕ) →
       IsDone tree mutator (frames_over f below depth room) o statics printed (answer_of (frames_over g below depth room) o statics printed (Comes GoesOn))
 
--- so many of them, one after another
+-- n of them, one after another
 abbrev pub AreLocalSteps : Tree → (room : ℕ) → ℕ → Frame → Frame → Type 0
 AreLocalSteps tree room zero f g = g ≡ f
 AreLocalSteps tree room (suc n) f g = (next : Frame) × AreLocalSteps tree room n f next × IsLocalStep tree room next g
@@ -95,7 +96,7 @@ pub record IsFaultyLocal (tree : Tree) (room : ℕ) (f : Frame) : Type 0 where
 abbrev pub EndsLocal : Tree → (room : ℕ) → Frame → Type 0
 EndsLocal tree room f = IsNoLocal tree room f ⊎ IsFaultyLocal tree room f
 
--- somewhere the next instruction has an answer: over some frames, in some memory
+-- somewhere the next instruction has a result: over some frames, in some memory
 pub record IsReadySomewhere (tree : Tree) (room : ℕ) (f : Frame) : Type 0 where
   pub below : List Frame
   pub depth : ℕ

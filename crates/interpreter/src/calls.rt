@@ -86,7 +86,7 @@ pub(crate) fn run(
     }
 }
 
-/// The object on which a method with so many operands is called, `this` counted. It stays on the stack.
+/// The object on which a method with the given number of operands is called, `this` counted. It stays on the stack.
 fn receiver(frames: &FrameMemory, operands: usize) -> Addr
     requires { IsSome (receiver frames.now.running.stack operands) }
     ensures { receiver frames.now.running.stack operands ≡ Some result }
@@ -111,7 +111,7 @@ pub fn class_number(heap: &Heap, object: Addr) -> Option<usize>
     }
 }
 
-/// Calls the method that an object has for the one of a flat number, which takes so many operands (ECMA-335 III.4.2). Null raises
+/// Calls the method that an object has for the one of a flat number, which takes the given number of operands (ECMA-335 III.4.2). Null raises
 /// `NullReference`. `NoMemory` of a print alone, where nothing is changed.
 pub(crate) fn run_virtual(
     program: &LoadedProgram,

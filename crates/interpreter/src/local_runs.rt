@@ -103,7 +103,7 @@ fn execute_local(instruction: &LinkedInstruction, frames: &mut FrameMemory) -> E
     }
 }
 
-/// Does an instruction where it is local and raises no fault, and answers true. Else nothing changes.
+/// Does an instruction where it is local and raises no fault, and returns true. Otherwise it returns false and nothing changes.
 #[inline(always)]
 fn do_local(instruction: &LinkedInstruction, frames: &mut FrameMemory) -> bool
     requires { is_local_link instruction.now ≡ true → IsSome (local_link_turn instruction.now frames.old) }
@@ -136,7 +136,7 @@ pub fn is_next_local(program: &LoadedProgram, frames: &FrameMemory) -> bool
     is_local(program.instruction(frames.method(), frames.place()))
 }
 
-/// Does local instructions of the only frame, so many at most, and answers how many it did. It stops before one that is not local or that
+/// Does local instructions of the only frame, at most the given number, and returns how many it did. It stops before one that is not local or that
 /// would raise a fault. It takes no memory, and reads nothing but the program and the frame.
 pub fn run_local(program: &LoadedProgram, frames: &mut FrameMemory, most: u32) -> u32
     requires alone { frames.old ≡ alone frames.old.room frames.old.running }

@@ -1,9 +1,9 @@
-//! What an instruction comes to.
+//! The outcome of an instruction.
 
 use object_memory::Addr;
 use threads_monitors::Effect;
 
-/// What an instruction comes to for its machine: an effect on its own thread, or a start of a thread on an object or a wait for
+/// The outcome of an instruction for its machine: an effect on its own thread, or a start of a thread on an object or a wait for
 /// one, which need the other threads.
 #[derive(Clone, Copy)]
 pub enum Outcome {

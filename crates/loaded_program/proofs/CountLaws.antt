@@ -66,7 +66,7 @@ module _ (tree : Tree) where
       ap length (flat_map-append owned_methods built_ins (map source_entry tree.classes)) ∙ length-append (flat_map owned_methods built_ins) (flat_map owned_methods (map source_entry tree.classes)) in
       omega (arith, built_in, both, source_counted tree.classes, source_methods_few tree legal)
 
-  -- classes by number have as many methods as those that they stand for
+  -- classes by number have the same number of methods as those that they represent
   pub methods_counted : (es : List (ClassName × Declaration)) (rs : List ResolvedClass) → AllAlike (λ (e : ClassName × Declaration) r. IsResolvedClass tree e.1 r) es rs → sum_by (λ r. length r.methods) rs ≡ length (flat_map owned_methods es)
   methods_counted [] [] h = refl
   methods_counted (e ∷ es) (r ∷ rs) h =

@@ -58,7 +58,7 @@ numbered_at tree n p e m at found = ap (option_and_then (of_class p)) at ∙ ap 
 pub classes_more : (es : List (ClassName × Declaration)) (i : ℕ) (e : ClassName × Declaration) → slice_get es i ≡ Some e → flat_map owned_methods (take (i + 1) es) ≡ flat_map owned_methods (take i es) ++ owned_methods e
 classes_more es i e at = ap (flat_map owned_methods) (one_more es i e at) ∙ flat_map-append owned_methods (take i es) (e ∷ []) ∙ ap (λ z. flat_map owned_methods (take i es) ++ z) (append-nil (owned_methods e))
 
--- a class's first number is known, and the method is as far behind it as behind the first of its class
+-- a class's first number is known, and the method is as far after it as after the first of its class
 abbrev FoundFlat : ℕ → List (ClassName × Declaration) → ℕ → ℕ → ClassName × Method → Type 0
 FoundFlat next es n p found = (k : ℕ) × (k ≡ length (flat_map owned_methods (take n es))) × (slice_get (first_numbers next es) n ≡ Some (next + k)) × (slice_get (flat_map owned_methods es) (k + p) ≡ Some found)
 
@@ -86,7 +86,7 @@ module _ (tree : Tree) (n p : ℕ) (found : ClassName × Method) (h : method_at 
   pub first_is_there : (numbers : List ℕ) → numbers ≡ first_numbers 0 (declarations tree) → slice_get numbers n ≡ None → ⊥
   first_is_there numbers same e = none_is_some (0 + flat.0) (sym e ∙ ap (λ ns. slice_get ns n) same ∙ flat.2)
 
-  -- the method is as far behind it as it is behind the first of its class
+  -- the method is as far after it as it is after the first of its class
   pub number_behind : (numbers : List ℕ) (first : ℕ) → numbers ≡ first_numbers 0 (declarations tree) → slice_get numbers n ≡ Some first →
       (first + p ≡ flat_number tree n p) × (slice_get (all_methods tree) (first + p) ≡ Some found) × (first + p < length (all_methods tree))
   number_behind numbers first same e =

@@ -13,7 +13,7 @@ use Rattle.loaded_program.specs.Operands.{slot_at, held_at, class_in, slots_at}
 use Rattle.loaded_program.specs.Links.{field_link, new_link, number_at}
 use Rattle.loaded_program.proofs.OperandLaws.{then_some, map_some, if_some, below}
 
--- what is known of an operand where it comes to something
+-- what is known of an operand where it represents something
 abbrev Known : {X : Type 0} → Option X → X → Type 0
 Known {X} o x = (y : X) → o ≡ Some y → x ≡ y
 

@@ -33,7 +33,7 @@ found_first same itself (y ∷ ys) (suc n) x h e =
     let further : position_from (λ z. same z x) 0 ys ≡ Some n = found_first same itself ys n x (or_parts _ _ h).1 e in
     ap (λ b. cond b (Some 0) (position_from (λ z. same z x) 1 ys)) (passes_not (same y) ys n x (or_parts _ _ h).0 e) ∙ position_from-suc (λ z. same z x) 0 ys ∙ ap (option_map suc) further
 
--- two lists behind one another, where no item of the first is one of the second
+-- two lists, one after the other, where no item of the first is one of the second
 once_in_both : {X : Type 0} (same : X → X → Bool) (xs ys : List X) → has_repeat same xs ≡ false → list_any (λ x. list_any (same x) ys) xs ≡ false → has_repeat same ys ≡ false → has_repeat same (xs ++ ys) ≡ false
 once_in_both same [] ys own apart others = others
 once_in_both same (x ∷ xs) ys own apart others =

@@ -1,4 +1,4 @@
--- What a method by numbers tells of the method that it stands for, and classes by numbers of theirs.
+-- What a method by numbers determines of the method that it represents, and classes by numbers of theirs.
 use Rattle.std.proofs.Common.{◌≡◌, ◌+◌, ℕ, zero, suc, List, [], ◌∷◌, ◌++◌, length, map, Option, Some, None, option_map, if◌then◌else◌, refl, sym, ap, ◌∙◌, arith}
 use Rattle.std.specs.Prelude.{is_some, option_to_list}
 use Rattle.std.specs.List.{flat_map}

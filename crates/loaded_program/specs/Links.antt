@@ -20,7 +20,7 @@ use Rattle.loaded_program.specs.Operands.{slot_at, static_at, held_at, array_hel
 abbrev pub number_at : Tree → MemberNumber → Option ℕ
 number_at tree n = option_map (λ (found : ClassName × Method). flat_number tree n.class n.place) (method_at tree (n.class, n.place))
 
--- a virtual call of a method that takes so many operands (III.4.2)
+-- a virtual call of a method, with the number of its operands (III.4.2)
 abbrev pub virtual_link : Tree → MemberNumber → Option LinkedInstruction
 virtual_link tree n = option_map (λ (found : ClassName × Method). Linked.CallVirtual (flat_number tree n.class n.place) (length (argument_types found.1 found.0))) (method_at tree (n.class, n.place))
 
@@ -32,7 +32,7 @@ new_link tree n = option_and_then (λ class. option_and_then (λ slots. option_m
 abbrev pub field_link : Tree → MemberNumber → Option LinkedInstruction
 field_link tree n = option_and_then (λ slot. option_map (λ kind. Linked.LoadField slot kind) (held_at tree n)) (slot_at tree n)
 
--- a resolved instruction of a method that returns a value or none, linked (III.3, III.4). None where an operand stands for nothing
+-- a resolved instruction of a method that returns a value or none, linked (III.3, III.4). None where an operand represents nothing
 abbrev pub link : Tree → Bool → Operation → Option LinkedInstruction
 link tree has_value Resolved.NoOperation = Some Linked.NoOperation
 link tree has_value (Resolved.LoadInt32 z) = Some (Linked.LoadInt32 z)

@@ -48,7 +48,7 @@ pub record IsLinkedOperation (tree : Tree) (has_value : Bool) (operation : Opera
   pub constant : HasSmallConstant operation
   pub is : IsLinked tree has_value operation linked
 
--- the resolved instruction that stands for a line of a method, linked
+-- the resolved instruction that represents a line of a method, linked
 pub record IsLinkedLine (tree : Tree) (found : ClassName × Method) (line : Line) (linked : LinkedInstruction) : Type 0 where
   pub operation : Operation
   pub stands : IsOperation tree (lines_of found.1) line.instruction operation

@@ -1,4 +1,4 @@
--- What the table takes from classes and methods whose types are told by number.
+-- What the table takes from classes and methods whose types are given by number.
 use Rattle.std.specs.Prelude.{ℕ, zero, suc, ◌+◌, List, [], ◌∷◌, length}
 use Rattle.resolved_code.specs.declared.types.NumberedElement.{NumberedElement}
 use Rattle.resolved_code.specs.declared.types.NumberedElement.TheVariants.{Int32, Int64, Object, String, Class}

@@ -1,4 +1,4 @@
--- What operands of resolved instructions come to: slots, numbers and kinds. None where an operand stands for nothing, or is no number of the
+-- What operands of resolved instructions represent: slots, numbers and kinds. None where an operand represents nothing, or is no number of the
 -- size that a step takes: no verified program has such a one.
 use Rattle.std.specs.Prelude.{ℕ, ◌^◌, if◌then◌else◌, nat_lt, length, Option, Some, None, option_map, option_and_then, FitsSigned}
 use Rattle.std.specs.Int.{w32, w64}

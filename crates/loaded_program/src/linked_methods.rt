@@ -72,7 +72,7 @@ fn class_target(linker: &Linker, class: usize, method: MemberNumber) -> u32
     }
 }
 
-/// The same for the objects of each class. Fails for want of memory alone.
+/// The same for the objects of each class. The only error is out of memory.
 fn target_row(alloc: Global, linker: &Linker, method: MemberNumber) -> Result<Vec<u32>, NoMemory>
     requires { CanLink linker.now }
     ensures { IfOk result (λ row. (found : ClassName × Method) → method_at linker.now.program.now (method.class, method.place) ≡ Some found →
@@ -86,7 +86,7 @@ fn target_row(alloc: Global, linker: &Linker, method: MemberNumber) -> Result<Ve
     Ok(row)
 }
 
-/// Which method runs where one is called on an object. Fails for want of memory alone.
+/// Which method runs where one is called on an object. The only error is out of memory.
 fn method_targets(
     alloc: Global,
     linker: &Linker,
@@ -104,7 +104,7 @@ fn method_targets(
     }
 }
 
-/// The instructions of a method that returns a value or none, linked. Fails for want of memory alone.
+/// The instructions of a method that returns a value or none, linked. The only error is out of memory.
 fn linked_code(
     alloc: Global,
     linker: &Linker,
@@ -122,7 +122,7 @@ fn linked_code(
     Ok(code)
 }
 
-/// The method of an entry, linked. Fails for want of memory alone.
+/// The method of an entry, linked. The only error is out of memory.
 fn linked_method(
     alloc: Global,
     linker: &Linker,
@@ -142,7 +142,7 @@ fn linked_method(
     })
 }
 
-/// All methods, linked, by their flat numbers. Fails for want of memory alone.
+/// All methods, linked, by their flat numbers. The only error is out of memory.
 pub(crate) fn linked_methods(alloc: Global, linker: &Linker) -> Result<Vec<LinkedMethod>, NoMemory>
     requires { CanLink linker.now }
     ensures { IfOk result (λ methods. AllAlike (IsLinkedMethod linker.now.program.now) (all_methods linker.now.program.now) methods.items) }

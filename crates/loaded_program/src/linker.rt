@@ -54,7 +54,7 @@ pub(crate) fn constants_are_small(operation: &Operation)
     }
 }
 
-/// A copy of places. Fails for want of memory alone.
+/// A copy of places. The only error is out of memory.
 fn copied(alloc: Global, places: &[usize]) -> Result<Sequence<usize>, NoMemory>
     ensures { IfOk result (λ copy. copy ≡ places.now) }
 {
@@ -125,8 +125,8 @@ impl Linker<'_> {
         }
     }
 
-    /// An instruction of a method that returns a value or none, linked. Where an operand stands for nothing, any. Fails for want of memory
-    /// alone.
+    /// An instruction of a method that returns a value or none, linked. Any instruction where an operand represents nothing. The only error is out of
+    /// memory.
     pub fn link(
         &self,
         alloc: Global,

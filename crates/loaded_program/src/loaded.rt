@@ -58,7 +58,7 @@ impl LoadedProgram {
         }
     }
 
-    /// The same program for one owner more. It takes no memory; an error says that it has as many owners as can be counted.
+    /// The same program for one owner more. It takes no memory; the only error is that the count of its owners is at its maximum.
     pub fn share(&self) -> Result<Self, NoMemory>
         ensures { IfOk result (λ other. other ≡ self.now) }
     {
@@ -75,7 +75,7 @@ impl LoadedProgram {
         self.parts.program()
     }
 
-    /// Where its objects lie and which types stand for which.
+    /// How its objects are laid out and which types are assignable to which.
     pub fn layout(&self) -> &Layout
         ensures { IsLayout self.now result.now }
     {

@@ -50,7 +50,7 @@ pub fn value_kind(declared: &DeclaredType) -> ValueKind
     }
 }
 
-/// What a place of a type holds, where the type is told by number.
+/// What a place of a type holds, where the type is given by number.
 pub(crate) fn numbered_kind(numbered: NumberedType) -> ValueKind
     ensures by_number { result ≡ kind_of_numbered numbered }
     ensures by_name { (tree : Tree) (t : DeclaredType) → type_at tree numbered ≡ Some t → result ≡ kind_of_type t }
@@ -102,7 +102,7 @@ fn argument_count(method: &ResolvedMethod) -> usize
 }
 
 impl TableMethod {
-    /// What a call needs to know of the method with this number. Fails for want of memory alone.
+    /// What a call needs to know of the method with this number. The only error is out of memory.
     fn new(alloc: Global, member: MemberNumber, method: &ResolvedMethod) -> Result<Self, NoMemory>
         ensures { IfOk result (λ entry. (tree : Tree) (c : ClassName) (m : Method) → method_at tree (member.class, member.place) ≡ Some (c, m) → IsResolvedMethod tree m method.now → IsTableMethod tree (c, m) entry) }
     {
@@ -116,7 +116,7 @@ impl TableMethod {
     }
 }
 
-/// The methods of the class with this number, in their order. Fails for want of memory alone.
+/// The methods of the class with this number, in their order. The only error is out of memory.
 pub(crate) fn class_methods(
     alloc: Global,
     class: usize,

@@ -52,7 +52,7 @@ pub(crate) fn class_of(member: MemberNumber) -> u16
     in_16_bits(member.class)
 }
 
-/// The address of a literal. Null where there are not so many.
+/// The address of a literal. Null where no literal can have this number.
 pub(crate) fn literal_address(number: usize) -> Addr
     ensures { number < LITERALS → result ≡ literal number }
 {

@@ -55,7 +55,7 @@ impl Model for Parts {
     ghost invariant = { λ p. IsLoaded p.program p.layout p.table p.methods.items };
 }
 
-/// All methods of a program, linked. Fails for want of memory alone.
+/// All methods of a program, linked. The only error is out of memory.
 fn methods_of(
     alloc: Global,
     program: &Program,
@@ -116,7 +116,7 @@ impl Parts {
         &self.program
     }
 
-    /// Where its objects lie and which types stand for which.
+    /// How its objects are laid out and which types are assignable to which.
     pub fn layout(&self) -> &Layout
         ensures { IsLayout self.now result.now }
     {

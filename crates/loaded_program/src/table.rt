@@ -26,7 +26,7 @@ pub(crate) struct MethodTable {
     first: Vec<u32>,
 }
 
-/// The flat number behind so many methods from one on.
+/// The flat number that follows the given number of methods from one on.
 fn number_behind(first: u32, count: usize) -> u32
     requires { first + count < 2 ^ 32 }
     ensures { result ≡ first + count }
@@ -34,7 +34,7 @@ fn number_behind(first: u32, count: usize) -> u32
     first + count as u32
 }
 
-/// The flat number of each class's first method. Fails for want of memory alone.
+/// The flat number of each class's first method. The only error is out of memory.
 fn first_numbers(alloc: Global, classes: &[ResolvedClass]) -> Result<Vec<u32>, NoMemory>
     requires { sum_by (λ r. length r.methods) classes.now < 2 ^ 32 }
     ensures { IfOk result (λ v. v.items ≡ running_counts 0 (map (λ r. length r.methods) classes.now)) }
@@ -48,7 +48,7 @@ fn first_numbers(alloc: Global, classes: &[ResolvedClass]) -> Result<Vec<u32>, N
     Ok(first)
 }
 
-/// The methods of all classes. Fails for want of memory alone.
+/// The methods of all classes. The only error is out of memory.
 fn all_methods(alloc: Global, classes: &[ResolvedClass]) -> Result<Vec<TableMethod>, NoMemory>
     ensures { IfOk result (λ v. (tree : Tree) → AreResolved tree classes.now → AllAlike (IsTableMethod tree) (all_methods tree) v.items) }
 {
@@ -60,7 +60,7 @@ fn all_methods(alloc: Global, classes: &[ResolvedClass]) -> Result<Vec<TableMeth
     Ok(methods)
 }
 
-/// The flat number so many places behind another.
+/// The flat number the given number of places after another.
 fn number_from(first: u32, place: usize) -> u32
     ensures { first + place < 2 ^ 32 → result ≡ first + place }
 {
@@ -85,11 +85,11 @@ fn entry_at(methods: &[TableMethod], number: usize) -> Option<&TableMethod>
 impl MethodTable {
     ghost use Rattle.loaded_program.specs.Prepared.{IsMethodTable};
 
-    /// The table of a program. Fails for want of memory alone.
+    /// The table of a program. The only error is out of memory.
     pub fn new(alloc: Global, program: &Program) -> Result<Self, NoMemory>
         ensures { IfOk result (λ table. IsMethodTable program.now table) }
     {
-        // The tree is legal, so it has fewer methods than there are flat numbers.
+        // For the prover alone: the tree is legal, so it has fewer methods than there are flat numbers.
         let _legal = program.tree();
         let methods = all_methods(alloc, program.classes())?;
         let first = first_numbers(alloc, program.classes())?;

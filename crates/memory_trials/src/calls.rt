@@ -53,7 +53,7 @@ impl fmt::Display for Call {
     }
 }
 
-/// Prints the name of a call that was out of memory, so that it is made again. Any other reason to stop is given back.
+/// Prints the name of a call that was out of memory, so that it is made again. Any other reason to stop is returned.
 fn print_out_of_memory(rt: &HostRuntime, stop: Stop) -> Result<(), Stop> {
     match stop {
         Stop::OutOfMemory(call) => eprintln!(rt; "{call}")?,

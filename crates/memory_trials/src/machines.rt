@@ -8,7 +8,8 @@ use cil_model::reports::{End, Report};
 use interleaving_core::Machine;
 use shared_machine::{Answer, Opening, Ticket, World, perform};
 
-/// What can be seen of a machine: how many bytes it has printed, how its threads stand, and the words in use and the sizes of its spaces.
+/// What can be seen of a machine: how many bytes it has printed, how many threads were started and how each ended, and the words in use and
+/// the sizes of its spaces.
 #[derive(Clone, Copy, PartialEq, Eq)]
 pub struct Seen {
     printed: usize,

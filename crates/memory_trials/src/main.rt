@@ -1,4 +1,4 @@
-//! Makes the calls of the libraries that take memory, on a source and a schedule, again after each that was out of memory, and prints the answers.
+//! Makes the calls of the libraries that take memory, on a source and a schedule, again after each that was out of memory, and prints the results.
 //! They are the same whichever allocation is refused, and the standard error names the calls that were out of memory. The gate runs the program
 //! with enough memory; tools/try_memory refuses its allocations in turn.
 #![tactic(auto)]
@@ -15,8 +15,8 @@ use std::{env, fs, io};
 use stops::Stop;
 use twins::run_twins;
 
-/// The status is 0 if the calls answered, 1 if the source or the schedule was refused, 2 after a usage error, 3 if an answer was none that the
-/// call may give, and 5 if memory ran out beside the calls, or a file could not be read or written.
+/// The status is 0 if the calls succeeded, 1 if the source or the schedule was refused, 2 after a usage error, 3 if a call returned
+/// a result that it may not return, and 5 if memory ran out outside the calls, or a file could not be read or written.
 fn main(rt: HostRuntime) -> ExitCode {
     let status = match try_files(&rt, &rt) {
         Ok(()) => 0,
@@ -28,7 +28,7 @@ fn main(rt: HostRuntime) -> ExitCode {
     ExitCode::from(status)
 }
 
-/// Prints why the calls ended: a refusal is an answer.
+/// Prints why the calls ended: a refusal is a result.
 fn report(rt: &HostRuntime, stop: Stop) -> io::Result<()> {
     match stop {
         Stop::Refused(number) => println!(rt; "error {number}"),

@@ -17,11 +17,11 @@ pub enum Stop {
     OutOfMemory(Call),
     /// The source, the limits or the schedule were refused, with this number.
     Refused(u16),
-    /// A call gave an answer that it may not give.
+    /// A call returned a result that it may not return.
     Wrong(&'static str),
     /// The arguments are not a source and a schedule.
     Usage,
-    /// Memory ran out beside the calls, or a read or a write failed.
+    /// Memory ran out outside the calls, or a read or a write failed.
     Beside,
 }
 
@@ -36,7 +36,7 @@ impl Stop {
         }
     }
 
-    /// Why a call on a schedule did not answer.
+    /// Why a call on a schedule failed.
     pub fn of_schedule(call: Call, error: ScheduleError) -> Stop {
         match error {
             ScheduleError::OutOfMemory => Stop::OutOfMemory(call),

@@ -12,7 +12,7 @@ use std::io::Write;
 use std::marker::Brand;
 use std::sync::Wait;
 
-/// Runs a source by these items on both machines, and prints what they answer.
+/// Runs a source by these items on both machines, and prints their outcome.
 pub fn run_twins(
     rt: &HostRuntime,
     waits: &impl Wait,
@@ -73,7 +73,7 @@ fn run_items<M: Opening, R: Wait>(
     Ok(())
 }
 
-/// Has both machines do the event of an item as often as it says. They report the same.
+/// Has both machines do the event of an item the number of times that the item gives. They report the same.
 fn run_item<M: Opening>(
     rt: &HostRuntime,
     world: &mut World<M>,

@@ -146,7 +146,7 @@ number_within same keys q = by_place (position_from (same q) 0 keys) refl
         let inside : i < length keys = slice_get_within keys i item.0 item.1 in
         omega (arith, inside)
 
--- the number of a key is that of what it stands for
+-- the number of a key is that of what it represents
 pub number_of_view : {K X : Type 0} (view : K → X) (same : X → X → Bool) (keys : List K) (key : K) → number_in (λ a b. same (view a) (view b)) keys key ≡ number_in same (map view keys) (view key)
 number_of_view view same keys key =
     ap (λ o. unwrap_or o (length keys)) (sym (position_from-map view (same (view key)) 0 keys)) ∙ ap (unwrap_or (position_from (same (view key)) 0 (map view keys))) (sym (length-map keys view))

@@ -1,4 +1,4 @@
--- Lists as a loop goes along them.
+-- Lists as a loop iterates over them.
 use Rattle.std.proofs.Common.{◌≡◌, ◌<◌, ◌≤◌, ◌+◌, ℕ, suc, Bool, true, false, ◌&&◌, cond, List, [], ◌∷◌, ◌++◌, length, take, drop, get_or, map, flat_map, option_map, slice_get, Option, Some, None, refl, sym, ap, ◌∙◌, arith}
 use Rattle.std.proofs.Math.Seq.{take_all, drop-cons, take-append_seam, drop-append_seam}
 use Rattle.std.specs.List.{filter, filter_map, list_all}
@@ -28,7 +28,7 @@ flat_map-left f xs i x l e =
     let next : suc i ≡ i + 1 = omega arith in
     ap (flat_map f) (drop-cons xs i x l) ∙ ap (λ y. f y ++ flat_map f (drop (suc i) xs)) (sym e) ∙ ap (λ n. f x ++ flat_map f (drop n xs)) next
 
--- of what all lists that are left stand for, that of the list at its place, and that of the others
+-- of what all lists that are left represent, that of the list at its place, and that of the others
 module _ {X Y Z : Type 0} (f : X → List Y) (view : Y → Z) (xs : List X) (i : ℕ) (x : X) (rest : List Z) (l : i < length xs) (e : x ≡ get_or xs i x) (h : rest ≡ map view (flat_map f (drop i xs))) where
   abbrev pub own : List Z
   own = map view (f x)
@@ -80,7 +80,7 @@ alike_at f g xs ys i x y e l h k =
     let inside : i < length xs = omega (arith, l, length-map xs f, length-map ys g, ap length e) in
     ap f h ∙ sym (get_or-map f xs i x (f x) inside) ∙ ap (λ zs. get_or zs i (f x)) e ∙ get_or-map g ys i y (f x) l ∙ ap g (sym k)
 
--- what the item at a place stands for
+-- what the item at a place represents
 pub row_of : {X Y : Type 0} (f : X → Y) (xs : List X) (i : ℕ) (x : X) (d : Y) → i < length xs → x ≡ get_or xs i x → get_or (map f xs) i d ≡ f x
 row_of f xs i x d l e = get_or-map f xs i x d l ∙ ap f (sym e)
 

@@ -1,4 +1,4 @@
--- The tables of members stand for what the definitions find.
+-- The tables of members represent what the definitions find.
 use Rattle.std.proofs.Common.{◌≡◌, ◌≢◌, ◌<◌, ◌+◌, ◌-◌, ℕ, zero, suc, Bool, true, false, List, [], ◌∷◌, ◌++◌, length, take, map, Option, Some, None, option_map, option_and_then, slice_get, slice_index_or, get_or, refl, sym, ap, subst, ◌∙◌, arith}
 use Rattle.std.specs.List.{list_all, position_from}
 use Rattle.std.specs.Option.{option_map_or}
@@ -31,7 +31,7 @@ place_at part test [] n = refl
 place_at part test (x ∷ xs) zero = refl
 place_at part test (x ∷ xs) (suc n) = place_at part test xs n
 
--- the place of a key in a class is that of what it stands for
+-- the place of a key in a class is that of what it represents
 pub place_of_row : {K X Y : Type 0} (view : K → X) (part : Y → List X) (test : X → Bool) (rows : List (List K)) (ys : List Y) → map (map view) rows ≡ map part ys → (n : ℕ) →
     position_from (λ k. test (view k)) 0 (slice_index_or rows n []) ≡ option_and_then (λ y. position_from test 0 (part y)) (slice_get ys n)
 place_of_row view part test rows ys e n =

@@ -132,7 +132,7 @@ module _ (tree : Tree) (keys : List MethodKey) (known : map method_of_key keys �
 pub of_tables : {X : Type 0} (tables : List ClassTable) (tree : Tree) (part : ClassName × Declaration → X) → map (λ (t : ClassTable). entry_of t.class) tables ≡ declarations tree → map part (declarations tree) ≡ map (λ (t : ClassTable). part (entry_of t.class)) tables
 of_tables tables tree part e = ap (map part) (sym e) ∙ map_of_map (λ (t : ClassTable). entry_of t.class) part tables
 
--- numbers of methods are as many as methods
+-- there are as many numbers of methods as methods
 pub as_many : (tables : List ClassTable) (numbers : List (Vec ℕ Global)) (number : MethodIdentity → ℕ) → map (λ (r : Vec ℕ Global). r.items) numbers ≡ map (λ (t : ClassTable). map (λ (m : Method). number (identity_of m)) (declaration_in t.class).methods) tables →
     map (λ (r : Vec ℕ Global). length r.items) numbers ≡ map (λ (t : ClassTable). length (declaration_in t.class).methods) tables
 as_many tables numbers number e =

@@ -50,7 +50,7 @@ found_none {X} test xs e = by_find (find test xs) (sym (ap (option_map (slice_ge
     by_find None h = refl
     by_find (Some x) h = absurd (none_is_some (Some x) h)
 
--- what is found stands at the place
+-- what is found is at the place
 pub found_some : {X : Type 0} (test : X → Bool) (xs : List X) (p : ℕ) → position_from test 0 xs ≡ Some p → slice_get xs p ≡ find test xs
 found_some {X} test xs p e = by_find (find test xs) (sym (ap (option_map (slice_get xs)) e) ∙ found_at_place test xs)
   where
@@ -94,7 +94,7 @@ module _ (tree : Tree) where
   abbrev entry_named : ClassName → ClassName × Declaration → Bool
   entry_named c e = same_class c e.0
 
-  -- ---- a name stands for the class of its number
+  -- ---- a name refers to the class of its number
 
   abbrev bears : ClassName → ClassName × Declaration → Bool
   bears c e = same_class e.0 c

@@ -48,7 +48,7 @@ module _ (tree : Tree) (number : MethodIdentity → ℕ) (rows : List (List ℕ)
       of (e ∷ es) zero = all_of_map (λ (m : Method). number (identity_of m)) q e.1.methods
       of (e ∷ es) (suc n) = of es n
 
-  -- all virtual methods that an interface wants are found by the numbers of these numbers
+  -- all virtual methods that an interface declares are found by the numbers of these numbers
   pub found_by_numbers : (again : ℕ → ℕ) (forest : Forest) → IsMemberTable tree forest (λ k. again (number k)) (virtual_place tree) → (interface class : ℕ) →
       list_all (λ n. is_some (nearest_from forest (again n) forest.most (Some class))) (slice_index_or rows interface []) ≡ list_all (λ (m : Method). is_some (nearest_number (virtual_place tree (identity_of m)) (line_of tree (Some class)))) (methods_at tree interface)
   found_by_numbers again forest table interface class =

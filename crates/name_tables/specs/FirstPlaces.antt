@@ -1,4 +1,4 @@
--- Where each key of a list stands first.
+-- The first place of each key of a list.
 use Rattle.std.specs.Prelude.{◌≡◌, ◌&&◌, ℕ, Bool, List, Option, Some, is_none, if◌then◌else◌}
 use Rattle.std.specs.List.{position_from}
 

@@ -1,4 +1,4 @@
--- What the hashes of keys take in: all that tells apart two that have one name.
+-- What the hashes of keys take in: all that distinguishes two keys with one name.
 use Rattle.std.specs.Hash.{HashWrites, str, slice}
 use Rattle.std.specs.Prelude.{◌++◌}
 use Rattle.cil_model.specs.declared.types.DeclaredType.{DeclaredType}

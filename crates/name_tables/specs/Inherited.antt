@@ -3,7 +3,7 @@ use Rattle.std.specs.Prelude.{◌≡◌, ℕ, Bool, List, length, Some, option_m
 use Rattle.std.specs.List.{position_from}
 use Rattle.inheritance.specs.Lines.{place_in}
 
--- the place of the first key that is the same, and that behind all keys where there is none
+-- the place of the first key that is the same, and the place after all keys where there is none
 abbrev pub number_in : {K : Type 0} → (K → K → Bool) → List K → K → ℕ
 number_in same keys key = unwrap_or (position_from (same key) 0 keys) (length keys)
 

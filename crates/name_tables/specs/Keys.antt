@@ -1,4 +1,4 @@
--- What the keys of the tables stand for.
+-- What the keys of the tables represent.
 use Rattle.std.specs.Hash.{HashWrites, str}
 use Rattle.std.specs.Prelude.{ℕ, Bool, List, [], Option, Some, None, option_map}
 use Rattle.cil_model.specs.declared.types.ClassName.{ClassName}

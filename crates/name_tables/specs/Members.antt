@@ -1,4 +1,4 @@
--- What the tables of members stand for.
+-- What the tables of members represent.
 use Rattle.std.specs.Prelude.{◌≡◌, ℕ, List, map, Option, option_and_then}
 use Rattle.cil_model.specs.declared.types.ClassName.{ClassName}
 use Rattle.cil_model.specs.declared.trees.Tree.{Tree}

@@ -17,15 +17,15 @@ use Rattle.name_tables.specs.Sameness.{MethodIdentity, same_field, same_identity
 abbrev pub source_entry : Class → ClassName × Declaration
 source_entry c = (source_name c, declared_as c.kind (field_members c) (method_members c))
 
--- every class that a name may stand for, with what it declares; its number is its place
+-- every class that a name may refer to, with what it declares; its number is its place
 abbrev pub declarations : Tree → List (ClassName × Declaration)
 declarations tree = built_ins ++ map source_entry tree.classes
 
--- the number of the class that a name stands for
+-- the number of the class that a name refers to
 abbrev pub class_number : Tree → ClassName → Option ℕ
 class_number tree name = position_from (λ (e : ClassName × Declaration). same_class name e.0) 0 (declarations tree)
 
--- the numbers of a class's chain, without names that stand for nothing
+-- the numbers of a class's chain, without names that refer to nothing
 abbrev pub chain_numbers : Tree → ClassName → List ℕ
 chain_numbers tree c = filter_map (class_number tree) (chain_of tree c)
 

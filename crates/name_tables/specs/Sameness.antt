@@ -1,4 +1,4 @@
--- What fields and methods are known by beside their class, and when two are the same.
+-- What identifies fields and methods besides their class, and when two are the same.
 use Rattle.std.specs.Prelude.{Bool, ◌&&◌, ◌==◌}
 use Rattle.cil_model.specs.declared.types.Signature.{Signature}
 use Rattle.cil_model.specs.declared.instructions.MethodName.{MethodName}

@@ -1,4 +1,4 @@
--- When fields and methods are the same they are equal, and the other way round.
+-- When fields and methods are the same they are equal, and conversely.
 use Rattle.std.proofs.Common.{◌≡◌, Bool, refl, IsTrue}
 use Rattle.std.proofs.lemmas.Bool.{and_from, eqb-true, eq-eqb}
 use Rattle.std.specs.Cmp.{IsEquivalence}

@@ -44,7 +44,7 @@ pub fn locals_of(method: &Method) -> &[DeclaredType]
     }
 }
 
-/// All labels of a method, in their order (ECMA-335 II.5.4). Fails for want of memory alone.
+/// All labels of a method, in their order (ECMA-335 II.5.4). The only error is out of memory.
 pub fn label_keys(alloc: Global, method: &Method) -> Result<Vec<TextKey<'_>>, NoMemory>
     ensures { IfOk result (λ v. map text_of_key v.items ≡ labels_before method.now) }
 {

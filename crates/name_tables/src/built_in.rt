@@ -236,7 +236,7 @@ impl BuiltInClass {
         })
     }
 
-    /// All of them, in the order of their table. Fails for want of memory alone.
+    /// All of them, in the order of their table. The only error is out of memory.
     pub fn all(alloc: Global) -> Result<Sequence<BuiltInClass>, NoMemory>
         ensures { IfOk result (λ b. map built_in_entry b ≡ built_ins) }
     {

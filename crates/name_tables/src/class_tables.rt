@@ -22,7 +22,7 @@ pub struct ClassTable<'a> {
     ghost methods_are: { map method_of_key methods ≡ map identity_of (declaration_in class).methods },
 }
 
-/// The keys of methods, in their order. Fails for want of memory alone.
+/// The keys of methods, in their order. The only error is out of memory.
 pub fn method_keys<'a>(
     alloc: Global,
     methods: &[&'a Method],
@@ -43,7 +43,7 @@ fn method_at<'a>(methods: &[&'a Method], place: usize) -> Option<&'a Method>
 }
 
 impl<'a> ClassTable<'a> {
-    /// Notes where each method of a class stands first. Fails for want of memory alone.
+    /// Notes the first place of each method of a class. The only error is out of memory.
     pub fn new(alloc: Global, class: DeclaredClass<'a>) -> Result<Self, NoMemory>
         ensures { IfOk result (λ t. t.class ≡ class.entry) }
     {

@@ -62,7 +62,7 @@ impl<'a> DeclaredClass<'a> {
     ghost use Rattle.name_tables.specs.Numbers.{source_entry};
     ghost use Rattle.name_tables.specs.BuiltInTable.{built_in_entry};
 
-    /// A class of the source. Fails for want of memory alone.
+    /// A class of the source. The only error is out of memory.
     pub fn of_source(alloc: Global, class: &'a Class) -> Result<Self, NoMemory>
         ensures { IfOk result (λ d. entry_of d ≡ source_entry class.now) }
     {
@@ -94,7 +94,7 @@ impl<'a> DeclaredClass<'a> {
         })
     }
 
-    /// A built-in class. Fails for want of memory alone.
+    /// A built-in class. The only error is out of memory.
     pub fn of_built_in(alloc: Global, class: &'a BuiltInClass) -> Result<Self, NoMemory>
         ensures { IfOk result (λ d. entry_of d ≡ built_in_entry class.now) }
     {

@@ -16,7 +16,7 @@ use std::cmp::Eq;
 use std::hash::Hash;
 
 /// The nearest declaration of each key along the bases of each class. A key's number is the place of the first equal one among all
-/// that are declared; another key's number is that behind them.
+/// that are declared; another key's number is the one after them.
 pub(crate) struct Inherited<K: Eq + Hash + Copy + Drop> {
     pub keys: Places<K>,
     pub inheritance: Inheritance,
@@ -37,7 +37,7 @@ impl<K: Eq + Hash + Copy + Drop> Drop for Inherited<K> {
     }
 }
 
-/// The keys of all rows, with where each stands first.
+/// The keys of all rows, with the first place of each.
 fn all_keys<K: Eq + Hash + Copy + Drop>(
     alloc: Global,
     rows: &[Vec<K>],
@@ -130,8 +130,8 @@ fn numbered<K: Eq + Hash + Copy + Drop>(
 }
 
 impl<K: Eq + Hash + Copy + Drop> Inherited<K> {
-    /// From the base of each class and the keys that it declares. No chain has more classes than the most. Fails for want of memory
-    /// alone.
+    /// From the base of each class and the keys that it declares. No chain has more classes than the most. The only error is out of
+    /// memory.
     pub fn new(
         alloc: Global,
         bases: &[Option<usize>],

@@ -22,7 +22,7 @@ pub fn is_virtual(kind: &MethodKind) -> bool
     )
 }
 
-/// Whether it has no body, and a class below has to bring one (ECMA-335 II.15.4.2).
+/// Whether it has no body, and a class below has to define one (ECMA-335 II.15.4.2).
 pub fn is_abstract_method(kind: &MethodKind) -> bool
     ensures { result ≡ is_abstract_method kind.now }
 {

@@ -27,7 +27,7 @@ use cil_model::types::{ClassName, DeclaredType, Signature};
 use inheritance::Declared;
 use std::alloc::Global;
 
-/// Where a member stands: the number of its class, and its place among the fields or the methods of that class.
+/// Where a member is: the number of its class, and its place among the fields or the methods of that class.
 #[derive(Clone, Copy, PartialEq, Eq)]
 pub struct MemberNumber {
     pub class: usize,
@@ -71,7 +71,7 @@ pub(crate) fn member_number(found: Option<Declared>) -> Option<MemberNumber>
 }
 
 impl<'a> NameTables<'a> {
-    /// Makes the tables of a tree from it and the built-in classes. Fails for want of memory alone.
+    /// Makes the tables of a tree from it and the built-in classes. The only error is out of memory.
     pub fn new(alloc: Global, tree: &'a Tree, table: &'a [BuiltInClass]) -> Result<Self, NoMemory>
         requires { map built_in_entry table.now ≡ built_ins }
         ensures { IfOk result (λ t. t.classes.tree.now ≡ tree.now) }
@@ -113,7 +113,7 @@ impl<'a> NameTables<'a> {
         self.fields.inheritance.ends(class)
     }
 
-    /// The numbers of a class and those along its bases. Fails for want of memory alone.
+    /// The numbers of a class and those along its bases. The only error is out of memory.
     pub fn line(&self, alloc: Global, class: usize) -> Result<Vec<usize>, NoMemory>
         ensures { IfOk result (λ v. v.items ≡ line_within (base_numbers self.now.classes.tree.now) (longest_chain self.now.classes.tree.now) (Some class)) }
     {
@@ -131,7 +131,7 @@ impl<'a> NameTables<'a> {
         Ok(numbers)
     }
 
-    /// The numbers of a declared class's chain; none where the name stands for nothing. Fails for want of memory alone.
+    /// The numbers of a declared class's chain; none where the name refers to nothing. The only error is out of memory.
     pub fn chain(&self, alloc: Global, name: ClassKey) -> Result<Vec<usize>, NoMemory>
         ensures { IfOk result (λ v. v.items ≡ chain_numbers self.now.classes.tree.now (class_of_key name.entry)) }
     {

@@ -88,7 +88,7 @@ fn call_rows(
     Ok(rows)
 }
 
-/// The fields of all classes by name, type and staticness. Fails for want of memory alone.
+/// The fields of all classes by name, type and staticness. The only error is out of memory.
 pub(crate) fn all_fields<'a>(
     alloc: Global,
     classes: &ClassTables<'a>,
@@ -114,7 +114,7 @@ fn method_rows<'a>(
     Ok(rows)
 }
 
-/// The methods of all classes by name and signature. Fails for want of memory alone.
+/// The methods of all classes by name and signature. The only error is out of memory.
 pub(crate) fn all_methods<'a>(
     alloc: Global,
     classes: &ClassTables<'a>,
@@ -127,7 +127,7 @@ pub(crate) fn all_methods<'a>(
     Inherited::new(alloc, bases, rows.as_slice(), classes.longest_chain())
 }
 
-/// The methods of all classes by name, signature and staticness. Fails for want of memory alone.
+/// The methods of all classes by name, signature and staticness. The only error is out of memory.
 pub(crate) fn all_calls(
     alloc: Global,
     classes: &ClassTables,

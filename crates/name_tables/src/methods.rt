@@ -105,7 +105,7 @@ fn first_missing(
 }
 
 impl<'a> MethodTables<'a> {
-    /// Makes them from the tables of names. Fails for want of memory alone.
+    /// Makes them from the tables of names. The only error is out of memory.
     pub fn new(alloc: Global, names: &'a NameTables<'a>) -> Result<Self, NoMemory>
         ensures { IfOk result (λ t. t.names.now.classes.tree.now ≡ names.now.classes.tree.now) }
     {
@@ -166,8 +166,8 @@ impl<'a> MethodTables<'a> {
     }
 
     /// Of each class, whether for some method of an interface no class from it on declares a virtual one of that name and signature; so
-    /// it is said too where the class's bases do not end. Takes time with the number of classes, of the interface's methods, and of the
-    /// declarations of these, where all bases end. Fails for want of memory alone.
+    /// the result is also true where the class's bases do not end. Takes time with the number of classes, of the interface's methods, and of the
+    /// declarations of these, where all bases end. The only error is out of memory.
     pub fn lacks_some(&self, alloc: Global, interface: usize) -> Result<Vec<bool>, NoMemory>
         ensures width { IfOk result (λ lacking. length lacking.items ≡ length (base_numbers self.now.names.now.classes.tree.now)) }
         ensures told { IfOk result (λ lacking. (class : ℕ) (b : Bool) → slice_get lacking.items class ≡ Some b → EndsIn self.now.names.now.classes.tree.now class → b ≡ not (list_all (λ m. is_some (nearest_number (virtual_place self.now.names.now.classes.tree.now (identity_of m)) (line_of self.now.names.now.classes.tree.now (Some class)))) (methods_at self.now.names.now.classes.tree.now interface))) }
@@ -179,8 +179,8 @@ impl<'a> MethodTables<'a> {
             .finds_nothing(alloc, numbers.as_slice())
     }
 
-    /// Of each class, whether the nearest method of some name and signature is marked, by its class and place; so it is said too where
-    /// the class's bases do not end. Fails for want of memory alone.
+    /// Of each class, whether the nearest method of some name and signature is marked, by its class and place; the result is also true where
+    /// the class's bases do not end. The only error is out of memory.
     pub fn finds_marked(&self, alloc: Global, marks: &[Vec<bool>]) -> Result<Vec<bool>, NoMemory>
         ensures width { IfOk result (λ found. length found.items ≡ length (base_numbers self.now.names.now.classes.tree.now)) }
         ensures marked { IfOk result (λ found. (class : ℕ) → slice_get found.items class ≡ Some true → EndsIn self.now.names.now.classes.tree.now class → (k : MethodIdentity) × (is_marked (map (λ v. v.items) marks.now) (nearest_number (method_place self.now.names.now.classes.tree.now k) (line_of self.now.names.now.classes.tree.now (Some class))) ≡ true)) }

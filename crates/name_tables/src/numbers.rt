@@ -1,4 +1,4 @@
-//! The numbers of the built-in classes, which stand before those of the source (this profile).
+//! The numbers of the built-in classes, which are before those of the source (this profile).
 
 /// `System.Object`
 pub const OBJECT: usize = 0;

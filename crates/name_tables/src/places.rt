@@ -14,7 +14,7 @@ use std::collections::HashMap;
 use std::hash::Hash;
 use std::marker::Model;
 
-/// A list of keys that contracts see as such. Where a key stands first is found by its hash.
+/// A list of keys that contracts see as such. The first place of a key is found by its hash.
 pub struct Places<K: Eq + Hash + Copy + Drop> {
     keys: Vec<K>,
     numbers: Vec<usize>,
@@ -61,7 +61,7 @@ fn lesser(one: Option<usize>, other: Option<usize>) -> Option<usize>
     }
 }
 
-/// The first place of a key that stood before; none of a new one, whose first this place becomes. Fails for want of memory alone.
+/// The first place of a key that occurred before; none of a new one, whose first this place becomes. The only error is out of memory.
 fn note_first<K: Eq + Hash + Copy + Drop>(
     firsts: &mut HashMap<K, usize>,
     key: K,
@@ -77,8 +77,8 @@ fn note_first<K: Eq + Hash + Copy + Drop>(
     Ok(known)
 }
 
-/// Notes where each key stands first. Of each key the first place of an equal one, and the least of those that stand again. Fails for
-/// want of memory alone.
+/// Notes the first place of each key. Of each key the first place of an equal one, and the least of those that occur again. The only
+/// error is out of memory.
 fn note_all<K: Eq + Hash + Copy + Drop>(
     alloc: Global,
     firsts: &mut HashMap<K, usize>,
@@ -100,7 +100,7 @@ fn note_all<K: Eq + Hash + Copy + Drop>(
 }
 
 impl<K: Eq + Hash + Copy + Drop> Places<K> {
-    /// Notes where each key stands first. Fails for want of memory alone.
+    /// Notes the first place of each key. The only error is out of memory.
     pub fn new(alloc: Global, keys: Vec<K>) -> Result<Self, NoMemory>
         ensures { IfOk result (λ p. p ≡ keys.items) }
     {
@@ -128,7 +128,7 @@ impl<K: Eq + Hash + Copy + Drop> Places<K> {
         self.repeated.is_some()
     }
 
-    /// The first place of a key that stands again further on; none where no two of the keys are equal.
+    /// The first place of a key that occurs again further on; none where no two of the keys are equal.
     pub fn repeated(&self) -> Option<usize>
         ensures { is_some result ≡ has_repeat K.eq self.now }
     {

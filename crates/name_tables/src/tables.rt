@@ -17,7 +17,7 @@ use cil_model::memory::NoMemory;
 use cil_model::trees::{Method, Tree};
 use std::alloc::Global;
 
-/// Every class that a name may stand for: the built-in ones, then those of the source, in order. A class's number is its
+/// Every class that a name may refer to: the built-in ones, then those of the source, in order. A class's number is its
 /// place here.
 pub struct ClassTables<'a> {
     pub tree: &'a Tree,
@@ -83,7 +83,7 @@ fn class_keys<'a>(alloc: Global, classes: &[ClassTable<'a>]) -> Result<Vec<Class
 }
 
 impl<'a> ClassTables<'a> {
-    /// Makes the tables of a tree from it and the built-in classes. Fails for want of memory alone.
+    /// Makes the tables of a tree from it and the built-in classes. The only error is out of memory.
     pub fn new(alloc: Global, tree: &'a Tree, table: &'a [BuiltInClass]) -> Result<Self, NoMemory>
         requires { map built_in_entry table.now ≡ built_ins }
         ensures { IfOk result (λ t. t.tree.now ≡ tree.now) }
@@ -111,7 +111,7 @@ impl<'a> ClassTables<'a> {
         self.names.keys()
     }
 
-    /// The number of the class that a name stands for.
+    /// The number of the class that a name refers to.
     pub fn number(&self, name: ClassKey) -> Option<usize>
         ensures { result ≡ class_number self.now.tree.now (class_of_key name.entry) }
     {
@@ -146,7 +146,7 @@ impl<'a> ClassTables<'a> {
         }
     }
 
-    /// What the class that a name stands for declares.
+    /// What the class that a name refers to declares.
     pub fn declared(&self, name: ClassKey) -> Option<&DeclaredClass<'a>>
         ensures { option_map (λ d. declaration_in d.now) result ≡ declaration_of self.now.tree.now (class_of_key name.entry) }
     {

@@ -10,7 +10,7 @@ use cil_model::memory::NoMemory;
 use cil_model::trees::{Method, Tree};
 use std::alloc::Global;
 
-/// The methods of all classes, in source order. Fails for want of memory alone.
+/// The methods of all classes, in source order. The only error is out of memory.
 pub fn methods_of_tree(alloc: Global, tree: &Tree) -> Result<Vec<&Method>, NoMemory>
     ensures { IfOk result (λ v. map (λ m. m.now) v.items ≡ methods_of_tree tree.now) }
 {
@@ -34,7 +34,7 @@ fn add_instructions<'a>(
     Ok(())
 }
 
-/// Every instruction of the tree, in source order. Fails for want of memory alone.
+/// Every instruction of the tree, in source order. The only error is out of memory.
 pub fn instructions_of_tree(alloc: Global, tree: &Tree) -> Result<Vec<&Instruction>, NoMemory>
     ensures { IfOk result (λ v. map (λ i. i.now) v.items ≡ instructions_of_tree tree.now) }
 {

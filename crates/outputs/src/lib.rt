@@ -20,7 +20,7 @@ pub trait Out {
     ghost taken: { Self → Taken };
 
     /// Takes a prefix of these bytes, and returns its length. A call fails where it returns None, or 0 of some bytes: then it took none. The
-    /// count of failures grows where it fails, and else stays.
+    /// count of failures grows where it fails, and otherwise stays.
     fn put(&mut self, bytes: &[u8]) -> Option<usize>
         ensures bound { IfSome result (λ count. count ≤ length bytes.now) }
         ensures prefix { Appends (taken self.old).contents (taken self.new).contents (prefix_of result bytes.now) }
@@ -88,7 +88,7 @@ impl<W: Write> WriterOut<W> {
     }
 }
 
-/// A call of the writer that a signal interrupts is tried again.
+/// A call of the writer that a signal interrupts is made again.
 impl<W: Write> Out for WriterOut<W> {
     ghost taken = { λ out. record { contents = W.contents out.0; failures = out.1 } };
 
@@ -111,7 +111,7 @@ fn is_failure(taken: Option<usize>, bytes: &[u8]) -> bool
     }
 }
 
-/// Has a writer take a prefix of these bytes, and returns its length. It is tried again where a signal interrupts it. None where it fails
+/// Has a writer take a prefix of these bytes, and returns its length. The call is made again where a signal interrupts it. None where it fails
 /// otherwise.
 fn write_once<W: Write>(out: &mut W, bytes: &[u8]) -> Option<usize>
     ensures bound { IfSome result (λ count. count ≤ length bytes.now) }

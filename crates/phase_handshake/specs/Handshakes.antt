@@ -86,7 +86,7 @@ posted_round h = record h { has_round = true; seats = map unanswered h.seats }
 
 -- ---- acknowledgements
 
--- a post is open to a thread that has not acknowledged the posted phase, or else has not answered the posted round
+-- a post is open to a thread that has not acknowledged the posted phase, or otherwise has not answered the posted round
 abbrev pub is_open_to : (posted : Phase) (has_round : Bool) → Seat → Bool
 is_open_to posted has_round s = not (is_phase s.phase posted) || (has_round && not s.answered)
 
@@ -112,7 +112,7 @@ acknowledged h t =
 abbrev pub joined : Handshakes → (thread starter : ℕ) → Handshakes
 joined h t starter = record h { seats = slice_set h.seats t (seat_of h starter) }
 
--- an ended thread has no seat, so nothing is asked of it
+-- an ended thread has no seat, so nothing is required of it
 abbrev pub left : Handshakes → ℕ → Handshakes
 left h t = record h { seats = slice_set h.seats t None }
 

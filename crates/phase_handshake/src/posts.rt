@@ -109,7 +109,7 @@ impl Posts {
         self.is_seen
     }
 
-    /// Whether every live thread has answered the posted round. True where none is live, else false where no round is posted.
+    /// Whether every live thread has answered the posted round. True where none is live, otherwise false where no round is posted.
     pub fn all_answered(&self) -> bool
         ensures { result ≡ all_answered self.now }
     {
@@ -140,7 +140,7 @@ impl Posts {
         self.is_seen = have_seen(self.posted, &self.seats);
     }
 
-    /// Acknowledges for a thread the posted phase, or else, where it has done so, answers the posted round. False where neither
+    /// Acknowledges for a thread the posted phase, or otherwise, where it has done so, answers the posted round. False where neither
     /// was open to it, and where no thread of that number is live; nothing changes then.
     pub fn acknowledge(&mut self, thread: u8) -> bool
         ensures answer { result ≡ is_open self.old thread }
@@ -169,7 +169,7 @@ impl Posts {
         }
     }
 
-    /// Takes the seat of a thread that has ended. Nothing is asked of it any more.
+    /// Takes the seat of a thread that has ended. Nothing is required of it any more.
     pub fn leave(&mut self, thread: u8)
         ensures { self.new ≡ left self.old thread }
     {

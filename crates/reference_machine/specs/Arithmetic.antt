@@ -185,7 +185,7 @@ compare_values Equal v w = equal_values v w
 compare_values Greater v w = ordered_values (λ x y. int_lt y x) v w
 compare_values Less v w = ordered_values int_lt v w
 
--- the opposite of an answer, where there is one
+-- the opposite of a result, where there is one
 abbrev pub not_option : Option Bool → Option Bool
 not_option None = None
 not_option (Some b) = Some (not b)

@@ -55,7 +55,7 @@ module _ (here : Setting) (s : State) (f : Frame) (below : List Frame) where
   enter n rest Free = onward f below (with_monitor s n (Held here.thread 1)) rest
   enter n rest (Held owner count) = if owner == here.thread then onward f below (with_monitor s n (Held here.thread (count + 1))) rest else Blocks
 
-  -- the owner leaves it once; anybody else may not
+  -- the owner leaves it once; another thread may not
   abbrev pub exit : ObjectName → List Value → Monitor → Effect
   exit n rest Free = Raises SynchronizationLock
   exit n rest (Held owner count) =
@@ -69,20 +69,20 @@ module _ (here : Setting) (s : State) (f : Frame) (below : List Frame) where
       let marked : State = with_object s n (record o { thread = Some (length s.threads) }) in
       record marked { threads = s.threads ++ record { frames = first ∷ []; steps_left = here.limits.budget; ended = None } ∷ [] }
 
-  -- goes on beside a new thread, which is at the beginning of that method
+  -- continues beside a new thread, which is at the beginning of that method
   abbrev pub begin : ObjectName → List Value → HeapObject → Option (ClassName × Method) → Effect
   begin n rest o run =
       given run (λ found. given (code_of found.1.kind) (λ code.
       onward f below (with_thread n o (new_frame found.0 found.1 code (Reference n ∷ []) None)) rest))
 
-  -- started already, or 16 threads numbered already; else a new thread runs the virtual target of Run
+  -- started already, or 16 threads numbered already; otherwise a new thread runs the virtual target of Run
   abbrev pub start : ObjectName → List Value → HeapObject → Effect
   start n rest o =
       if is_some o.thread then Raises ThreadState
       else if nat_le MOST_THREADS (length s.threads) then Raises TooManyThreads
       else given (class_of s n) (λ c. begin n rest o (target here.tree c thread_name run_method))
 
-  -- not started; else it waits while the thread is live
+  -- a fault where it is not started; otherwise it waits while the thread is live
   abbrev pub join : List Value → HeapObject → Effect
   join rest o = option_map_or (λ t. if is_live s t then Blocks else onward f below s rest) o.thread (Raises ThreadState)
 

@@ -17,7 +17,7 @@ pub record Setting : Type 0 where
   pub thread : ℕ
   pub is_refused : Bool
 
--- The thread goes on with these frames and this state (with no frame it is done), or it is blocked with nothing
+-- The thread continues with these frames and this state (with no frame it is done), or it is blocked with nothing
 -- changed, or it ends by a fault; or the instruction has no meaning here.
 pub data Effect : Type 0 where
   Goes : List Frame → State → Effect
@@ -25,21 +25,21 @@ pub data Effect : Type 0 where
   Raises : Fault → Effect
   Sticks : Effect
 
--- goes on with what is there, and sticks where it is missing
+-- continues with what is there, and sticks where it is missing
 abbrev pub given : {X : Type 0} → Option X → (X → Effect) → Effect
 given None go = Sticks
 given (Some x) go = go x
 
--- goes on with a result, or ends by its fault
+-- continues with a result, or ends by its fault
 abbrev pub unless_fault : {X : Type 0} → Result X Fault → (X → Effect) → Effect
 unless_fault (Ok x) go = go x
 unless_fault (Err f) go = Raises f
 
--- takes so many operands, the first pushed first
+-- takes n operands, the first pushed first
 abbrev pub pop_many : ℕ → List Value → (List Value → List Value → Effect) → Effect
 pop_many n stack go = if nat_le n (length stack) then go (reverse (take n stack)) (drop n stack) else Sticks
 
--- goes on with the object of a reference; null ends by the fault
+-- continues with the object of a reference; null ends by the fault
 abbrev pub not_null : Value → Fault → (ObjectName → Effect) → Effect
 not_null Null f go = Raises f
 not_null (Reference n) f go = go n

@@ -28,7 +28,7 @@ static_keys s = map (λ (e : FieldKey × Value). e.0) s.statics
 abbrev pub literals : State → List (List ℕ)
 literals s = map (λ (e : List ℕ × Monitor). e.0) s.literal_monitors
 
--- the list goes on where the other ends
+-- the list continues where the other ends
 abbrev pub Continues : {X : Type 0} → List X → List X → Type 0
 Continues {X} longer shorter = (more : List X) × (longer ≡ shorter ++ more)
 

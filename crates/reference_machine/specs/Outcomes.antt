@@ -1,4 +1,4 @@
--- What a user sees of a run from the opening state.
+-- What a user sees of a run from the initial state.
 use Rattle.std.specs.Prelude.{ℕ, List}
 use Rattle.std.specs.Option.{option_map_or}
 use Rattle.cil_model.specs.declared.trees.Tree.{Tree}

@@ -16,7 +16,7 @@ words_of_object tree (Some o) = cell_words tree o.contents
 abbrev pub IsOwed : State → State → ℕ → Type 0
 IsOwed before now n = IsReachable before (Born n) ⊎ ((length before.objects ≤ n) × (n + 1 ≤ length now.objects))
 
--- the cells of exactly the objects that are owed have so many words together
+-- the cells of exactly the objects that are owed have this number of words together
 pub record OwesWords (tree : Tree) (before now : State) (words : ℕ) : Type 0 where
   pub names : List ℕ
   pub distinct : IsDistinct nat_eq names

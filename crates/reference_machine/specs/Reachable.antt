@@ -1,4 +1,4 @@
--- The objects that a program can still come to (this profile).
+-- The objects that a program can still reach (this profile).
 use Rattle.cil_model.specs.Fields.{FieldKey}
 use Rattle.std.specs.Prelude.{List, [], ◌∷◌, ◌++◌, map, flat_map, filter, Option, Some, None, Contains}
 use Rattle.reference_machine.specs.Values.{ObjectName, Value, Reference}

@@ -30,20 +30,20 @@ opening_at tree limits entry code =
       printed = [];
     }
 
--- the opening state of a tree with an entry point
+-- the initial state of a tree with an entry point
 abbrev pub opening : Tree → Limits → Option State
 opening tree limits = option_and_then (λ (entry : ClassName × Method). option_map (opening_at tree limits entry) (code_of entry.1.kind)) (slice_get (entry_points tree) 0)
 
--- a step that the list asks for: of which thread, and whether a birth is refused in it
+-- a step that the list requests: of which thread, and whether a birth is refused in it
 abbrev pub StepRequest : Type 0
 StepRequest = ℕ × Bool
 
--- what a list of steps comes to: the reports with the state after them; or, where a step is stuck, the reports before it
+-- the outcome of a list of steps: the reports with the state after them; or, where a step is stuck, the reports before it
 pub data Run : Type 0 where
   RunsTo : List Report → State → Run
   SticksAfter : List Report → Run
 
--- a run behind another report
+-- a run after another report
 abbrev pub preceded_by : Report → Run → Run
 preceded_by r (RunsTo reports s) = RunsTo (r ∷ reports) s
 preceded_by r (SticksAfter reports) = SticksAfter (r ∷ reports)
@@ -63,13 +63,13 @@ abbrev pub is_refusal : Report → Bool
 is_refusal (Ended (ByFault OutOfMemory)) = true
 is_refusal _ = false
 
--- what an event asks of the reference machine, and what a step answered
+-- what an event requests of the reference machine, and the report of a step
 abbrev pub request_of : Event → Report → Option StepRequest
 request_of (Step t) r = Some (t, is_refusal r)
 request_of (Ack t) r = None
 request_of Gc r = None
 
--- what a step answered
+-- the report of a step
 abbrev pub report_of_step : Event → Report → Option Report
 report_of_step (Step t) r = Some r
 report_of_step (Ack t) r = None

@@ -44,7 +44,7 @@ module _ (here : Setting) (s : State) (f : Frame) (below : List Frame) where
   abbrev pub jump : List ℕ → List Value → Effect
   jump label stack = given (place_of label (lines_of f.method)) (λ place. Goes (record f { place = place; stack = stack } ∷ below) s)
 
-  -- there where the test holds, else to the next instruction
+  -- there where the test holds, otherwise to the next instruction
   abbrev pub branch_if : Bool → List ℕ → List Value → Effect
   branch_if true label stack = jump label stack
   branch_if false label stack = next stack
@@ -55,12 +55,12 @@ module _ (here : Setting) (s : State) (f : Frame) (below : List Frame) where
   abbrev pub birth : Contents → (ObjectName → State → Effect) → Effect
   birth contents go = if here.is_refused then Raises OutOfMemory else go (next_name s) (with_birth s contents)
 
-  -- an array of so many elements, all zero or null (III.4.20)
+  -- an array of n elements, all zero or null (III.4.20)
   abbrev pub new_array : DeclaredType → ℤ → List Value → Effect
   new_array t (negsuc n) rest = Raises Overflow
   new_array t (pos n) rest = birth (Array t (replicate n (zero_of t))) (λ name s'. onward f below s' (Reference name ∷ rest))
 
-  -- goes on with a place and the element there
+  -- continues with a place and the element there
   abbrev pub in_range : (ℕ → Option Value) → (ℕ → Value → Effect) → ℤ → Effect
   in_range at go (negsuc n) = Raises IndexOutOfRange
   in_range at go (pos n) = option_map_or (go n) (at n) (Raises IndexOutOfRange)
@@ -127,7 +127,7 @@ module _ (here : Setting) (s : State) (f : Frame) (below : List Frame) where
   run_virtual found (this ∷ arguments) rest =
       not_null this NullReference (λ n. given (method_for n found) (λ chosen. run_method chosen (this ∷ arguments) rest))
 
-  -- a new object: at once where the constructor is built in, else with a frame that pushes it at its end (III.4.21)
+  -- a new object: at once where the constructor is built in, otherwise with a frame that pushes it at its end (III.4.21)
   abbrev pub construct : ClassName → ClassName × Method → List Value → List Value → Effect
   construct c found arguments rest =
       if is_some (action_of found.0 found.1) then birth (new_instance here.tree c) (λ name s'. onward f below s' (Reference name ∷ rest))
@@ -213,7 +213,7 @@ module _ (here : Setting) (s : State) (f : Frame) (below : List Frame) where
 
 -- ---- one step of a thread
 
--- what a step answers, with the state after it; or it meets a missing operand, one of the wrong kind, an absent member or an unknown name
+-- the report of a step, with the state after it; or it meets a missing operand, one of the wrong kind, an absent member or an unknown name
 pub data Outcome : Type 0 where
   Answers : Report → State → Outcome
   Stuck : Outcome
@@ -235,12 +235,12 @@ with_thread_at s t thread = record s { threads = slice_set s.threads t thread }
 abbrev pub ended_as : State → ℕ → ℕ → End → Outcome
 ended_as s t left e = Answers (Ended e) (with_thread_at s t (record { frames = []; steps_left = left; ended = Some e }))
 
--- a live thread goes on, unless its budget is used up
+-- a live thread continues, unless its budget is used up
 abbrev pub goes_on : Report → State → ℕ → ℕ → List Frame → Outcome
 goes_on report s t zero frames = ended_as s t 0 Budget
 goes_on report s t (suc left) frames = Answers report (with_thread_at s t (record { frames = frames; steps_left = suc left; ended = None }))
 
--- the report, where so many steps are left after this one
+-- the report, where this number of steps is left after this one
 abbrev pub settled : State → ℕ → ℕ → List Frame → Effect → Outcome
 settled s t left frames (Goes [] s') = ended_as s' t left Done
 settled s t left frames (Goes (f ∷ below) s') = goes_on Ran s' t left (f ∷ below)

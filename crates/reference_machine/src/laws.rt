@@ -59,7 +59,7 @@ pub fn raised_faults_are_listed()
     ensures { (here : Setting) (s : State) (f : Frame) (below : List Frame) (i : Instruction) (x : Fault) → execute here s f below i ≡ Raises x → MayRaise here.tree i x }
 {}
 
-/// The steps of two lists, one behind the other, are the run of the first and then that of the second from there; none
+/// The steps of two lists, one after the other, are the run of the first and then that of the second from there; none
 /// follows a step that is stuck.
 pub fn runs_join()
     ensures both { (tree : Tree) (limits : Limits) (first more : List StepRequest) (s t u : State) (reports later : List Report) →
@@ -70,13 +70,13 @@ pub fn runs_join()
         run tree limits s first ≡ SticksAfter reports → run tree limits s (first ++ more) ≡ SticksAfter reports }
 {}
 
-/// An instruction wants memory only where its birth is refused.
+/// An instruction raises `OutOfMemory` only where its birth is refused.
 pub fn memory_is_wanting_only_where_a_birth_is_refused()
     ensures { (here : Setting) (s : State) (f : Frame) (below : List Frame) (i : Instruction) → execute here s f below i ≡ Raises OutOfMemory → here.is_refused ≡ true }
 {}
 
 /// A program has one run by the same steps within the same limits, where nothing is collected: since each birth is refused exactly beyond
-/// the room of one space, the reports of its steps and the state that it comes to are the same.
+/// the room of one space, the reports of its steps and the state that it reaches are the same.
 pub fn the_run_is_one()
     ensures { (tree : Tree) (limits : Limits) (events : List Event) (reports reports' : List Report) → length reports ≡ length events → length reports' ≡ length events → (s s' : State) →
         IsStateAfter tree limits (zip events reports) s → IsStateAfter tree limits (zip events reports') s' → (step_reports (zip events reports) ≡ step_reports (zip events reports')) × (s ≡ s') }

@@ -13,7 +13,7 @@ ghost use Rattle.reference_machine.specs.Reachable.{IsReachable};
 ghost use Rattle.reference_machine.specs.OwedWords.{IsOwed};
 ghost use Rattle.reference_machine.specs.TypedStates.{IsTyped};
 
-/// An accepted program has an opening state, and it is typed.
+/// An accepted program has an initial state, and it is typed.
 pub fn opening_states_are_typed()
     ensures { (tree : Tree) (limits : Limits) → IsAccepted tree → (s : State) × (opening tree limits ≡ Some s) × IsTyped tree s }
 {}
@@ -25,7 +25,7 @@ pub fn steps_keep_states_typed()
         (r : Report) × (s' : State) × (step tree limits s t refused ≡ Answers r s') × IsTyped tree s' }
 {}
 
-/// No run of an accepted program is stuck: from its opening state each list of steps has its reports and comes to a typed state.
+/// No run of an accepted program is stuck: from its initial state each list of steps has its reports and reaches a typed state.
 pub fn accepted_programs_are_never_stuck()
     ensures { (tree : Tree) (limits : Limits) → IsAccepted tree → (requests : List StepRequest) →
         (first : State) × (reports : List Report) × (s : State) × (opening tree limits ≡ Some first) × (run tree limits first requests ≡ RunsTo reports s) × IsTyped tree s }

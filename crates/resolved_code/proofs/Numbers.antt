@@ -1,4 +1,4 @@
--- Classes, fields, methods, slots and literals have numbers, which stand for them.
+-- Classes, fields, methods, slots and literals have numbers, which represent them.
 pub mod Classes
 pub mod Declarations
 pub mod Methods

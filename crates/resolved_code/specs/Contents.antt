@@ -16,11 +16,11 @@ use Rattle.resolved_code.specs.declared.classes.ResolvedMethod.{ResolvedMethod}
 use Rattle.resolved_code.specs.Resolved.{AreResolved, BothAlike, IsResolvedField, IsResolvedMethod}
 use Rattle.resolved_code.specs.declared.contents.Contents.{Contents}
 
--- the field that a number stands for, its type by number; none where the number stands for none (II.16)
+-- the field that a number refers to, its type by number; none where the number refers to none (II.16)
 abbrev pub IsFieldOf : Tree → MemberNumber → Option ResolvedField → Type 0
 IsFieldOf tree number field = BothAlike (λ (named : ClassName × Field) resolved. IsResolvedField tree named.1 resolved) (field_at tree (number.class, number.place)) field
 
--- the method that a number stands for, by numbers; none where the number stands for none (II.15)
+-- the method that a number refers to, by numbers; none where the number refers to none (II.15)
 abbrev pub IsMethodOf : Tree → MemberNumber → Option ResolvedMethod → Type 0
 IsMethodOf tree number method = BothAlike (λ (named : ClassName × Method) resolved. IsResolvedMethod tree named.1 resolved) (method_at tree (number.class, number.place)) method
 

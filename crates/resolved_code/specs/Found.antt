@@ -1,4 +1,4 @@
--- What the methods found by the numbers of classes are, and the slots that they fill (II.10.3), told as the rules on names tell them.
+-- What the methods found by the numbers of classes are, and the slots that they fill (II.10.3), as the rules on names have them.
 use Rattle.std.specs.Prelude.{◌≡◌, ℕ, ◌==◌, Bool, false, not, ◌&&◌, ◌||◌, if◌then◌else◌, List, [], ◌∷◌, Option, Some, None, unwrap_or, slice_get}
 use Rattle.std.specs.List.{list_any}
 use Rattle.std.specs.Option.{option_map_or}
@@ -27,7 +27,7 @@ abbrev pub slot_numbered : Tree → MethodIdentity → List ℕ → Option ℕ
 slot_numbered tree k [] = None
 slot_numbered tree k (n ∷ ns) = slot_over tree k n (slot_numbered tree k ns)
 
--- whether an abstract method fills a slot as seen from a class, by what is so as seen from its base (II.15.4.2)
+-- whether an abstract method fills a slot as seen from a class, by what holds as seen from its base (II.15.4.2)
 abbrev pub open_over : Tree → MethodIdentity → ℕ → Bool → Bool → Bool
 open_over tree k n fills is_open = if fills then option_map_or (λ (m : Method). is_abstract_method m.kind) (method_found tree k n) is_open else is_open
 
@@ -52,11 +52,11 @@ entry_leaves_open tree chain e = list_any (method_leaves_open tree chain (chain_
 abbrev pub class_leaves_open : Tree → List ℕ → ℕ → Bool
 class_leaves_open tree chain n = option_map_or (entry_leaves_open tree chain) (slice_get (declarations tree) n) false
 
--- a virtual method without newslot fills the slot of the next virtual one behind it (II.10.3.1)
+-- a virtual method without newslot fills the slot of the next virtual one after it (II.10.3.1)
 abbrev pub is_override : Method → Bool
 is_override m = is_virtual m.kind && not (is_new_slot_method m.kind)
 
--- whether the nearest method of this name and signature is abstract as seen from a class, by what is so as seen from its base (II.15.4.2)
+-- whether the nearest method of this name and signature is abstract as seen from a class, by what holds as seen from its base (II.15.4.2)
 abbrev pub top_over : Tree → MethodIdentity → ℕ → Bool → Bool
 top_over tree k n is_top = option_map_or (λ (m : Method). is_abstract_method m.kind) (method_found tree k n) is_top
 
@@ -65,7 +65,8 @@ abbrev pub top_open : Tree → MethodIdentity → List ℕ → Bool
 top_open tree k [] = false
 top_open tree k (n ∷ ns) = top_over tree k n (top_open tree k ns)
 
--- whether an abstract method has its next nearer one, which is no override of it, as seen from a class, by what is so as seen from its base (II.10.3.1)
+-- whether an abstract method has its next nearer one, which is no override of it, as seen from a class, by what holds as seen from its base
+-- (II.10.3.1)
 abbrev pub hidden_over : Tree → MethodIdentity → ℕ → Bool → Bool → Bool
 hidden_over tree k n is_top is_hidden = option_map_or (λ (m : Method). is_hidden || (not (is_override m) && is_top)) (method_found tree k n) is_hidden
 

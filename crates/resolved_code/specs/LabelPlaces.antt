@@ -1,4 +1,4 @@
--- The places of labels in the order in which they stand.
+-- The places of labels in the order in which they are written.
 use Rattle.std.specs.Prelude.{ℕ, ◌+◌, List, [], ◌∷◌, ◌++◌, map}
 use Rattle.cil_model.specs.declared.trees.Line.{Line}
 

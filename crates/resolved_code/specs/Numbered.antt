@@ -1,4 +1,4 @@
--- What the numbers of classes and types stand for.
+-- What the numbers of classes and types represent.
 use Rattle.std.specs.Prelude.{◌≡◌, ℕ, List, map, Option, Some, option_map, slice_get}
 use Rattle.cil_model.specs.declared.types.ClassName.{ClassName}
 use Rattle.cil_model.specs.declared.types.Element.{Element}
@@ -15,7 +15,7 @@ use Rattle.resolved_code.specs.declared.types.NumberedType.{NumberedType}
 abbrev pub class_name : Tree → ℕ → Option ClassName
 class_name tree n = option_map (λ (e : ClassName × Declaration). e.0) (slice_get (declarations tree) n)
 
--- the type without brackets that a numbered one stands for, where its number is a class's (II.7.1)
+-- the type without brackets that a numbered one represents, where its number is a class's (II.7.1)
 abbrev pub element_at : Tree → NumberedElement → Option Element
 element_at tree Int32 = Some Int32Element
 element_at tree Int64 = Some Int64Element
@@ -23,10 +23,10 @@ element_at tree Object = Some ObjectElement
 element_at tree String = Some StringElement
 element_at tree (Class n) = option_map ClassElement (class_name tree n)
 
--- the type that a numbered one stands for (II.7.1)
+-- the type that a numbered one represents (II.7.1)
 abbrev pub type_at : Tree → NumberedType → Option DeclaredType
 type_at tree t = option_map (λ e. record { element = e; brackets = t.brackets }) (element_at tree t.element)
 
--- the types that a list stands for
+-- the types that a list represents
 abbrev pub AreTypes : Tree → List NumberedType → List DeclaredType → Type 0
 AreTypes tree numbered types = map (type_at tree) numbered ≡ map Some types

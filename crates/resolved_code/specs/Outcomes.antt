@@ -3,7 +3,7 @@ use Rattle.std.specs.Prelude.{◌≡◌, Option, Some, None, Result, Ok, Err}
 use Rattle.resolved_code.specs.declared.errors.ResolveError.{ResolveError}
 use Rattle.resolved_code.specs.declared.errors.ResolveError.TheVariants.{Unresolved, OutOfMemory}
 
--- where a name stands for nothing the rule gives nothing; want of memory says nothing of the rule
+-- where a name refers to nothing the rule gives nothing; out of memory says nothing of the rule
 abbrev pub Fails : {X : Type 0} → ResolveError → Option X → Type 0
 Fails Unresolved rule = rule ≡ None
 Fails OutOfMemory rule = Unit {0}

@@ -1,4 +1,4 @@
--- What resolved classes, members and instructions stand for.
+-- What resolved classes, members and instructions represent.
 use Rattle.std.specs.Prelude.{◌≡◌, ℕ, ℤ, Bool, true, false, List, [], ◌∷◌, map, Option, Some, None, option_map, slice_get}
 use Rattle.cil_model.specs.declared.types.ClassName.{ClassName}
 use Rattle.cil_model.specs.declared.types.DeclaredType.{DeclaredType}
@@ -38,14 +38,14 @@ use Rattle.resolved_code.specs.declared.classes.ResolvedMethod.{ResolvedMethod}
 use Rattle.resolved_code.specs.declared.classes.ResolvedClass.{ResolvedClass}
 use Rattle.resolved_code.specs.declared.classes.Body.{Body}
 
--- the items of two lists stand in a relation, place by place
+-- the items of two lists are related, place by place
 abbrev pub AllAlike : {X Y : Type 0} → (X → Y → Type 0) → List X → List Y → Type 0
 AllAlike R [] [] = Unit {0}
 AllAlike R (x ∷ xs) (y ∷ ys) = R x y × AllAlike R xs ys
 AllAlike R [] (y ∷ ys) = ⊥
 AllAlike R (x ∷ xs) [] = ⊥
 
--- there are two items that stand in a relation, or there is neither
+-- there are two items that are related, or there is neither
 abbrev pub BothAlike : {X Y : Type 0} → (X → Y → Type 0) → Option X → Option Y → Type 0
 BothAlike R None None = Unit {0}
 BothAlike R (Some x) (Some y) = R x y
@@ -89,7 +89,7 @@ pub data IsOperation (tree : Tree) (lines : List Line) : Instruction → Operati
   compare : (op : Comparison) → IsOperation tree lines (Named.Compare op) (Resolved.Compare op)
   convert_int32 : IsOperation tree lines Named.ConvertInt32 Resolved.ConvertInt32
   convert_int64 : IsOperation tree lines Named.ConvertInt64 Resolved.ConvertInt64
-  -- a label by the place that it stands before (II.5.4)
+  -- a label by the place that it is before (II.5.4)
   branch : (label : List ℕ) (place : ℕ) → place_of label lines ≡ Some place → IsOperation tree lines (Named.Branch label) (Resolved.Branch place)
   branch_true : (label : List ℕ) (place : ℕ) → place_of label lines ≡ Some place → IsOperation tree lines (Named.BranchTrue label) (Resolved.BranchTrue place)
   branch_false : (label : List ℕ) (place : ℕ) → place_of label lines ≡ Some place → IsOperation tree lines (Named.BranchFalse label) (Resolved.BranchFalse place)
@@ -161,6 +161,6 @@ pub record IsResolvedClass (tree : Tree) (named : Declaration) (resolved : Resol
   pub fields : AllAlike (IsResolvedField tree) named.fields resolved.fields
   pub methods : AllAlike (IsResolvedMethod tree) named.methods resolved.methods
 
--- all classes that a name may stand for, by their numbers
+-- all classes that a name may refer to, by their numbers
 abbrev pub AreResolved : Tree → List ResolvedClass → Type 0
 AreResolved tree classes = AllAlike (λ (entry : ClassName × Declaration) resolved. IsResolvedClass tree entry.1 resolved) (declarations tree) classes

@@ -1,5 +1,5 @@
 -- Which numbers names become, by the look-ups of the tables. None where a name finds nothing. Functions within the crate speak of
--- these; what they promise to other crates stands in Resolved.
+-- these; what they promise to other crates is in Resolved.
 use Rattle.std.specs.Prelude.{ℕ, Bool, true, false, List, [], ◌∷◌, map, Option, Some, None, option_map, option_and_then}
 use Rattle.std.specs.List.{position_from}
 use Rattle.cil_model.specs.declared.types.ClassName.{ClassName}
@@ -202,6 +202,6 @@ class_rule tree d =
     with_members tree d (λ fields methods. record { is_interface = d.is_interface; is_abstract = d.is_abstract; base = base; interfaces = interfaces; fields = fields; methods = methods }))
     (all_some (map (class_number tree) d.interfaces))) (if_named (class_number tree) d.base)
 
--- all classes that a name may stand for
+-- all classes that a name may refer to
 abbrev pub classes_rule : Tree → Option (List ResolvedClass)
 classes_rule tree = all_some (map (λ (e : ClassName × Declaration). class_rule tree e.1) (declarations tree))

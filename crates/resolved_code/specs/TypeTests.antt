@@ -1,4 +1,4 @@
--- Whether a value of one type may stand where another is wanted, by numbers, up to a test of two classes (I.8.7).
+-- Whether a value of one type may be given where another is expected, by numbers, up to a test of two classes (I.8.7).
 use Rattle.std.specs.Prelude.{◌≡◌, ◌==◌, nat_lt, Bool, true, false, ◌&&◌, if◌then◌else◌, Some}
 use Rattle.cil_model.specs.declared.types.ClassName.{ClassName}
 use Rattle.cil_model.specs.declared.trees.Tree.{Tree}
@@ -35,7 +35,7 @@ element_test _ _ = Answered false
 abbrev pub type_test : NumberedType → NumberedType → TypeTest
 type_test from to = if from.brackets == to.brackets then element_test from.element to.element else Answered (nat_lt to.brackets from.brackets && is_object to.element)
 
--- what a test comes to: its answer, or that of the two classes with its numbers
+-- the outcome of a test: its result, or that of the two classes with its numbers
 abbrev pub ComesTo : Tree → TypeTest → Bool → Type 0
 ComesTo tree (Answered answer) is = answer ≡ is
 ComesTo tree (OfClasses from to) is = (c : ClassName) × (d : ClassName) × (class_name tree from ≡ Some c) × (class_name tree to ≡ Some d) × (is_class_assignable tree c d ≡ is)

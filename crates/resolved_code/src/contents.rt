@@ -73,7 +73,7 @@ impl Contents {
         })
     }
 
-    /// What a legal tree is by numbers. Fails for want of memory alone.
+    /// What a legal tree is by numbers. The only error is out of memory.
     pub fn of_legal(alloc: Global, names: &NameTables) -> Result<Self, NoMemory>
         requires { IsLegal names.now.classes.tree.now }
         ensures { IfOk result (λ c. IsContents names.now.classes.tree.now c) }

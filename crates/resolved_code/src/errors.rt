@@ -9,7 +9,7 @@ use std::alloc::AllocFailed;
 /// Why names could not be resolved.
 #[derive(Clone, Copy)]
 pub enum ResolveError {
-    /// A name stands for nothing in the tree.
+    /// A name refers to nothing in the tree.
     Unresolved,
     OutOfMemory,
 }

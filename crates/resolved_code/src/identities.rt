@@ -35,7 +35,7 @@ fn all_keys<'a>(alloc: Global, tables: &[ClassTable<'a>]) -> Result<Vec<MethodKe
 }
 
 impl<'a> Identities<'a> {
-    /// Numbers the names and signatures of a tree's methods. Fails for want of memory alone.
+    /// Numbers the names and signatures of a tree's methods. The only error is out of memory.
     pub fn new(alloc: Global, classes: &ClassTables<'a>) -> Result<Self, NoMemory>
         ensures { IfOk result (λ i. i.tree.now ≡ classes.now.tree.now) }
     {

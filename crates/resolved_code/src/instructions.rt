@@ -100,7 +100,7 @@ impl<'a> Resolve<Text> for Labels<'a> {
 impl<'a> Resolver<'a> {
     // ---- types
 
-    /// An instruction on a type (ECMA-335 III.4.3, III.4.6, III.4.20). None where the class that it names stands for nothing.
+    /// An instruction on a type (ECMA-335 III.4.3, III.4.6, III.4.20). None where the class that it names refers to nothing.
     fn type_operation(&self, instruction: &Instruction) -> Option<Operation>
         ensures { result ≡ type_operand_rule self.now.names.now.classes.tree.now instruction.now }
     {
@@ -121,7 +121,7 @@ impl<'a> Resolver<'a> {
 
     // ---- fields
 
-    /// A field of an object, behind the class that the text names.
+    /// A field of an object, after the class that the text names.
     fn instance_field(&self, reference: &FieldReference) -> Option<(usize, MemberNumber)>
         ensures { result ≡ with_owner self.now.names.now.classes.tree.now reference.now.owner (λ owner field. (owner, field)) (field_rule self.now.names.now.classes.tree.now false reference.now) }
     {

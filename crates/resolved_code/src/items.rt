@@ -1,4 +1,4 @@
-//! What the items of a tree stand for, one and all.
+//! What all items of a tree represent.
 
 ghost use Rattle.std.specs.Prelude.{map};
 ghost use Rattle.resolved_code.specs.Outcomes.{Gives};
@@ -16,12 +16,12 @@ pub trait Resolve<T> {
 
     ghost rule: { Self → T → Option Self.Resolved };
 
-    /// What an item stands for. Fails where a name in it stands for nothing, and for want of memory.
+    /// What an item represents. The errors are a name in it that refers to nothing, and out of memory.
     fn resolve(&self, alloc: Global, item: &T) -> Result<Self::Resolved, ResolveError>
         ensures { Gives result (rule self.now item.now) };
 }
 
-/// What each item stands for, in their order. Fails where a name in one stands for nothing, and for want of memory.
+/// What each item represents, in their order. The errors are a name in one that refers to nothing, and out of memory.
 pub fn resolve_all<T, R: Resolve<T>>(
     alloc: Global,
     resolver: &R,

@@ -1,4 +1,4 @@
-//! The labels of a method, with the places of the instructions that they stand before.
+//! The labels of a method, with the places of the instructions that they are before.
 
 ghost use Rattle.std.specs.Prelude.{◌≡◌, ◌++◌, IfOk, map, flat_map, option_and_then, slice_get};
 ghost use Rattle.cil_model.specs.Bodies.{lines_of, place_of};
@@ -23,7 +23,7 @@ pub struct Labels<'a> {
     ghost places_are: { places.items ≡ label_places 0 lines.now },
 }
 
-/// Adds the place of a line once for each label that stands before it. On want of memory some may be added.
+/// Adds the place of a line once for each label that is before it. When memory runs out, some may have been added.
 fn add_places(places: &mut Vec<usize>, place: usize, line: &Line) -> Result<(), NoMemory>
     ensures { IfOk result (λ _. places.new.items ≡ places.old.items ++ map (λ label. place) line.now.labels) }
 {
@@ -33,7 +33,7 @@ fn add_places(places: &mut Vec<usize>, place: usize, line: &Line) -> Result<(), 
     Ok(())
 }
 
-/// For each label in its order the place of the line that it stands before.
+/// For each label in its order the place of the line that it is before.
 fn label_places(alloc: Global, lines: &[Line]) -> Result<Vec<usize>, NoMemory>
     ensures { IfOk result (λ v. v.items ≡ label_places 0 lines.now) }
 {
@@ -51,7 +51,7 @@ fn place_at(places: &[usize], number: usize) -> Option<usize>
 }
 
 impl<'a> Labels<'a> {
-    /// Notes where each label of a method stands. Fails for want of memory alone.
+    /// Notes where each label of a method is. The only error is out of memory.
     pub fn new(alloc: Global, method: &'a Method) -> Result<Self, NoMemory>
         ensures { IfOk result (λ labels. labels.lines.now ≡ lines_of method.now) }
     {
@@ -65,7 +65,7 @@ impl<'a> Labels<'a> {
         })
     }
 
-    /// The place of the instruction that a label stands before. None where no line has the label.
+    /// The place of the instruction that a label is before. None where no line has the label.
     pub fn place(&self, label: &Text) -> Option<usize>
         ensures { result ≡ place_of label.now self.now.lines.now }
     {

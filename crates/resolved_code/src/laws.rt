@@ -15,7 +15,7 @@ ghost use Rattle.resolved_code.specs.Numbered.{class_name};
 ghost use Rattle.resolved_code.specs.Resolved.{IsOperation};
 ghost use Rattle.resolved_code.specs.declared.operations.Operation.{Operation};
 
-/// Each class that a name stands for has a number, a built-in one too, and each field and each method that it declares stands at that
+/// Each class that a name refers to has a number, a built-in one too, and each field and each method that it declares is at that
 /// number and its place. So what is said of all numbers is said of all classes, fields and methods.
 pub fn all_are_numbered()
     ensures classes { (tree : Tree) (c : ClassName) (d : Declaration) → declaration_of tree c ≡ Some d → (n : ℕ) × (class_number tree c ≡ Some n) × (class_name tree n ≡ Some c) }
@@ -23,7 +23,7 @@ pub fn all_are_numbered()
     ensures methods { (tree : Tree) (c : ClassName) (p : ℕ) (m : Method) → slice_get (methods_declared tree c) p ≡ Some m → (n : ℕ) × (class_number tree c ≡ Some n) × (method_at tree (n, p) ≡ Some (c, m)) }
 {}
 
-/// In a legal tree an instruction stands for one operation: its names, its literal and its labels have one number each.
+/// In a legal tree an instruction has one operation: its names, its literal and its labels have one number each.
 pub fn an_instruction_has_one_operation()
     ensures { (tree : Tree) → IsLegal tree → (lines : List Line) (i : Instruction) (o p : Operation) → IsOperation tree lines i o → IsOperation tree lines i p → o ≡ p }
 {}

@@ -24,7 +24,7 @@ pub struct Literals<'a> {
     ghost texts_are: { map text_of_key texts.keys ≡ literals_of tree.now },
 }
 
-/// Each literal once, where it stands first.
+/// Each literal once, at its first place.
 fn distinct_literals<'a>(
     alloc: Global,
     instructions: &[&'a Instruction],
@@ -42,7 +42,7 @@ fn distinct_literals<'a>(
 }
 
 impl<'a> Literals<'a> {
-    /// Numbers the literals of a tree. Fails for want of memory alone.
+    /// Numbers the literals of a tree. The only error is out of memory.
     pub fn new(alloc: Global, tree: &'a Tree) -> Result<Self, NoMemory>
         ensures { IfOk result (λ l. l.tree.now ≡ tree.now) }
     {
@@ -58,7 +58,7 @@ impl<'a> Literals<'a> {
         self.texts.get_index_of(&TextKey { text })
     }
 
-    /// The characters of each literal by its number, in texts of their own. Fails for want of memory alone.
+    /// The characters of each literal by its number, in texts of their own. The only error is out of memory.
     pub fn texts(&self, alloc: Global) -> Result<Sequence<Text>, NoMemory>
         ensures { IfOk result (λ texts. texts ≡ literals_of self.now.tree.now) }
     {

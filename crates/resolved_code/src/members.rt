@@ -30,7 +30,7 @@ impl<'a, 'b> Resolve<&'b Field> for NameTables<'a> {
 }
 
 impl<'a> Resolver<'a> {
-    /// A body (ECMA-335 II.15.4), by the labels of its lines. Fails where a name stands for nothing, and for want of memory.
+    /// A body (ECMA-335 II.15.4), by the labels of its lines. The errors are a name that refers to nothing, and out of memory.
     fn body(&self, alloc: Global, labels: &Labels, code: &Code) -> Result<Body, ResolveError>
         requires { labels.now.lines.now ≡ code.now.lines }
         ensures { Gives result (body_rule self.now.names.now.classes.tree.now code.now) }
@@ -46,7 +46,7 @@ impl<'a> Resolver<'a> {
         })
     }
 
-    /// What a method is (ECMA-335 II.15.2). Fails where a name stands for nothing, and for want of memory.
+    /// What a method is (ECMA-335 II.15.2). The errors are a name that refers to nothing, and out of memory.
     fn kind(
         &self,
         alloc: Global,

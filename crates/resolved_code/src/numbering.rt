@@ -14,14 +14,14 @@ use name_tables::keys::ClassKey;
 use name_tables::lookups::NameTables;
 use std::alloc::Global;
 
-/// The number of the class that a name stands for.
+/// The number of the class that a name refers to.
 pub fn class_number(names: &NameTables, class: &ClassName) -> Option<usize>
     ensures { result ≡ class_number names.now.classes.tree.now class.now }
 {
     names.classes.number(ClassKey::of(class))
 }
 
-/// The number of the base, where one is named. Fails where the name stands for nothing.
+/// The number of the base, where one is named. Fails where the name refers to nothing.
 pub fn base_number(
     names: &NameTables,
     base: Option<&ClassName>,
@@ -61,7 +61,7 @@ fn numbered_element(names: &NameTables, element: &Element) -> Option<NumberedEle
     Some(numbered)
 }
 
-/// A type by number (ECMA-335 II.7.1). None where the class that it names stands for nothing.
+/// A type by number (ECMA-335 II.7.1). None where the class that it names refers to nothing.
 pub fn numbered_type(names: &NameTables, declared: &DeclaredType) -> Option<NumberedType>
     ensures { result ≡ type_rule names.now.classes.tree.now declared.now }
 {
@@ -86,7 +86,7 @@ impl<'a> Resolve<DeclaredType> for NameTables<'a> {
     }
 }
 
-/// A return type by number; none is `void`. Fails where the class that it names stands for nothing.
+/// A return type by number; none is `void`. Fails where the class that it names refers to nothing.
 pub fn numbered_return(
     names: &NameTables,
     return_type: &Option<DeclaredType>,

@@ -42,8 +42,8 @@ impl<'a, 'b> Resolve<ClassTable<'b>> for Resolver<'a> {
     }
 }
 
-/// All classes that a name of the tree may stand for, by their numbers: the built-in ones, then those of the source, in order.
-/// Fails only where a name of the tree stands for nothing, so never of a legal tree, and for want of memory. The time is linear in
+/// All classes that a name of the tree may refer to, by their numbers: the built-in ones, then those of the source, in order.
+/// The errors are a name of the tree that refers to nothing, so never of a legal tree, and out of memory. The time is linear in
 /// the source.
 pub fn resolve_classes(
     alloc: Global,

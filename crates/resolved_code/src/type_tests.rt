@@ -1,4 +1,4 @@
-//! Whether a value of one type may stand where another is wanted, up to a test of two classes (ECMA-335 I.8.7).
+//! Whether a value of one type may be given where another is expected, up to a test of two classes (ECMA-335 I.8.7).
 
 ghost use Rattle.std.specs.Prelude.{◌≡◌, Some};
 ghost use Rattle.cil_model.specs.declared.trees.Tree.{Tree};
@@ -9,12 +9,12 @@ ghost use Rattle.resolved_code.specs.TypeTests.{is_object, element_test, type_te
 
 use crate::types::{NumberedElement, NumberedType};
 
-/// What a test of two types comes to.
+/// The outcome of a test of two types.
 #[derive(Clone, Copy)]
 pub enum TypeTest {
-    /// The answer, whatever the classes are.
+    /// The result, whatever the classes are.
     Answered(bool),
-    /// What is answered of two classes, by their numbers: whether the first may stand for the second.
+    /// The result for two classes, by their numbers: whether the first may be given for the second.
     OfClasses { from: usize, to: usize },
 }
 
@@ -25,7 +25,7 @@ fn is_object(element: NumberedElement) -> bool
     matches!(element, NumberedElement::Object)
 }
 
-/// The test of types without brackets. Only the two integers may not stand for `object`.
+/// The test of types without brackets. Only the two integers may not be given for `object`.
 fn element_test(from: NumberedElement, to: NumberedElement) -> TypeTest
     ensures { result ≡ element_test from to }
 {
@@ -55,8 +55,9 @@ fn type_test(from: NumberedType, to: NumberedType) -> TypeTest
 }
 
 impl NumberedType {
-    /// Whether a value of this type may stand where the other is wanted (ECMA-335 I.8.7), as far as elements and brackets tell it.
-    /// An array may stand for one of as many brackets where its element may stand for the other's, and for `object` with fewer.
+    /// Whether a value of this type may be given where the other is expected (ECMA-335 I.8.7), as far as elements and brackets
+    /// determine it.
+    /// An array may be given for one with as many brackets where its element may be given for the other's, and for `object` with fewer.
     pub fn test_for(self, wanted: NumberedType) -> TypeTest
         ensures { (tree : Tree) (a b : DeclaredType) → type_at tree self ≡ Some a → type_at tree wanted ≡ Some b → ComesTo tree result (is_assignable tree a b) }
     {

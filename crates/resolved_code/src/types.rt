@@ -11,7 +11,7 @@ pub enum NumberedElement {
     Class(usize),
 }
 
-/// A type: the element, and how many pairs of brackets stand after it (ECMA-335 II.7.1 and II.14.1).
+/// A type: the element, and how many pairs of brackets follow it (ECMA-335 II.7.1 and II.14.1).
 #[derive(Clone, Copy, PartialEq, Eq)]
 pub struct NumberedType {
     pub element: NumberedElement,

@@ -32,7 +32,7 @@ const LOOPING: Limits = Limits {
     ..ROOM
 };
 
-/// No waiting loop takes more turns than this.
+/// No waiting loop makes more iterations than this.
 const MOST_TURNS: u32 = 50_000_000;
 
 /// How many passes the other worker has to begin while one is held.
@@ -45,7 +45,7 @@ const STEPS_MEANWHILE: u64 = 1_000;
 /// How often the collector waits at the end of them, at least.
 const WAITS_MEANWHILE: u64 = 10;
 
-/// The passes at which a worker is held, one in each run, up to the first run behind which all phases were seen. Both threads live by then, and
+/// The passes at which a worker is held, one in each run, up to the first run after which all phases were seen. Both threads live by then, and
 /// these are several cycles of the collector, so that no phase is missed, in whatever order the workers come.
 const HELD_PASSES: std::ops::Range<u32> = 20..220;
 
@@ -71,7 +71,7 @@ struct HoldsOne {
     own: AtomicU64,
     /// How many passes the other worker has begun.
     others: AtomicU64,
-    /// 1 where a worker did not begin as many as it had to, in time.
+    /// 1 where a worker did not begin the required number of passes in time.
     late: AtomicU64,
 }
 
@@ -86,7 +86,7 @@ impl HoldsOne {
         }
     }
 
-    /// How many passes the other worker has to have begun before the held one goes on with this one.
+    /// How many passes the other worker has to have begun before the held one continues with this one.
     fn needed(&self, turn: u32) -> u64 {
         if turn == self.pass {
             u64::from(turn) + PASSES_MEANWHILE
@@ -96,7 +96,7 @@ impl HoldsOne {
     }
 }
 
-/// Whether so many passes are begun in time.
+/// Whether at least `least` passes are begun in time.
 fn are_begun(passes: &AtomicU64, least: u64) -> bool {
     for _ in 0..MOST_TURNS {
         if passes.load(SeqCst) >= least {
@@ -121,7 +121,7 @@ impl Gate for HoldsOne {
     }
 }
 
-/// Whether a second worker goes on while the first one, which drives the collector, is held at a pass: the history has steps of its thread
+/// Whether a second worker continues while the first one, which drives the collector, is held at a pass: the history has steps of its thread
 /// between two events of the other.
 pub(crate) fn goes_on_without_the_first(
     threads: &(impl Threads + Wait + Sync),
@@ -179,19 +179,19 @@ impl Meanwhile {
         }
     }
 
-    /// Whether the other worker went on for long.
+    /// Whether the other worker continued for long.
     fn is_long(self) -> bool {
         self.steps >= STEPS_MEANWHILE
     }
 
-    /// Whether the collector came to wait, and waited to the end.
+    /// Whether the collector began to wait, and waited to the end.
     fn waits_to_its_end(self) -> bool {
         self.waits >= WAITS_MEANWHILE
     }
 }
 
-/// How many runs of equal events there were as the held worker was let go, where the other one went on for long meanwhile and the collector
-/// came to wait, to the end of that time.
+/// How many runs of equal events there were when the held worker was released, where the other one continued for long meanwhile and the
+/// collector began to wait, to the end of that time.
 fn let_go(runs: &[Run], held: u8) -> Option<usize> {
     let mut meanwhile = NOTHING;
     for (place, run) in runs.iter().enumerate() {
@@ -206,7 +206,7 @@ fn let_go(runs: &[Run], held: u8) -> Option<usize> {
     None
 }
 
-/// Does an event so often.
+/// Does an event the given number of times.
 fn step_often(
     alloc: Global,
     machine: &mut Machine,
@@ -219,7 +219,7 @@ fn step_often(
     Ok(())
 }
 
-/// The phase that is posted behind so many runs of equal events. The machine is at their beginning.
+/// The phase that is posted after the first `count` runs of equal events. The machine is at their beginning.
 fn posted_behind(
     alloc: Global,
     mut machine: Machine,
@@ -232,8 +232,8 @@ fn posted_behind(
     Ok(machine.posted())
 }
 
-/// Runs two threads by two workers, one of which is held at a pass, and answers the phase for whose acknowledgement the collector waited
-/// meanwhile. None where the other worker did not go on, or the collector did not wait until the worker was let go.
+/// Runs two threads by two workers, one of which is held at a pass, and returns the phase for whose acknowledgement the collector waited
+/// meanwhile. None where the other worker did not continue, or the collector did not wait until the worker was released.
 fn phase_of_held(
     threads: &(impl Threads + Wait + Sync),
     alloc: Global,
@@ -284,8 +284,8 @@ fn phases_of_held(
     Ok(seen)
 }
 
-/// Whether in each phase of a cycle there is a run in which the other of two workers went on while one was held, and the collector then
-/// waited until it was let go.
+/// Whether in each phase of a cycle there is a run in which the other of two workers continued while one was held, and the collector then
+/// waited until it was released.
 pub(crate) fn waits_in_each_phase(
     threads: &(impl Threads + Wait + Sync),
     alloc: Global,

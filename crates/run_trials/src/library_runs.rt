@@ -25,7 +25,7 @@ use std::marker::Brand;
 use std::sync::Wait;
 use std::thread::Threads;
 
-/// Makes the calls. One that wants memory counts as one that came to something else.
+/// Makes the calls. One that runs out of memory counts as one with another outcome.
 pub fn run_calls(threads: &(impl Threads + Wait + Sync), alloc: Global) -> [Call; 25] {
     [
         came_to("a reader that fails", tells_of_readers(alloc)),
@@ -151,7 +151,7 @@ impl Read for Broken {
     }
 }
 
-/// Whether a reader's error is told: `Memory` for want of memory, and `Device` for any other.
+/// Whether a reader's error is reported: `Memory` for out of memory, and `Device` for any other.
 fn tells_of_readers(alloc: Global) -> bool {
     [
         (ErrorKind::IsADirectory, Failure::Device),
@@ -162,7 +162,7 @@ fn tells_of_readers(alloc: Global) -> bool {
     .all(|(kind, wanted)| is_told(alloc, *kind, *wanted))
 }
 
-/// Whether an error of this kind is told so, at the first byte and behind some.
+/// Whether an error of this kind is reported as `wanted`, at the first byte and after some bytes.
 fn is_told(alloc: Global, kind: ErrorKind, wanted: Failure) -> bool {
     let source = read_source(alloc, Broken { left: 0, kind });
     let text = read_text(alloc, Broken { left: 5, kind });

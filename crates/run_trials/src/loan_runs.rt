@@ -46,8 +46,8 @@ fn open_alone<M: Opening>(
     }
 }
 
-/// Lends the frame of thread 0 at its start, does local instructions, `most` at most, checks it in, and does the thread's next step: how
-/// many instructions were done, and the answer to that step.
+/// Lends the frame of thread 0 at its start, does local instructions, `most` at most, checks it in, and does the thread's next step. Returns
+/// how many instructions were done, and the result of that step.
 fn run_on_loan<M: Opening, R: Wait>(
     rt: &R,
     alloc: Global,
@@ -75,7 +75,7 @@ fn run_on_loan<M: Opening, R: Wait>(
     Ok(Some((done, next)))
 }
 
-/// Whether so many local instructions are done on the frame of a program's first thread, and its next step then has this report.
+/// Whether the expected number of local instructions is done on the frame of a program's first thread, and its next step has the expected report.
 fn does_on_loan(
     waits: &impl Wait,
     alloc: Global,
@@ -121,7 +121,7 @@ fn is_lent_once<M: Opening>(world: &mut World<M>, ticket: &mut Ticket<M>) -> boo
     is_refused && is_back && lend(world, 0).is_some()
 }
 
-/// Whether a step and an acknowledgement of a lent thread are answered `Away`.
+/// Whether a step and an acknowledgement of a lent thread return `Away`.
 fn is_away<M: Opening>(alloc: Global, world: &mut World<M>, ticket: &mut Ticket<M>) -> bool {
     let lent = lend(world, 0);
     let step = perform(world, alloc, ticket, Event::Step(0));
@@ -145,7 +145,7 @@ pub(crate) enum Question {
     IsWaitedFor,
 }
 
-/// Whether it is so of a machine before its first event. Where a lent thread is asked, the history stays empty.
+/// Whether what is asked holds of a machine before its first event. Where a lent thread is asked, the history stays empty.
 fn is_so<M: Opening, R: Wait>(
     rt: &R,
     alloc: Global,
@@ -179,7 +179,7 @@ fn is_so<M: Opening, R: Wait>(
     }
 }
 
-/// Whether it is so of the sum before its first event.
+/// Whether what is asked holds of the sum before its first event.
 pub(crate) fn answers(
     waits: &impl Wait,
     alloc: Global,

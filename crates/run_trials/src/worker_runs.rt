@@ -50,7 +50,7 @@ static WAITING: &str = ".assembly extern mscorlib {} .assembly extern cilvm {}
 /// How many bytes the counting prints, in whichever order.
 const COUNTED_BYTES: usize = 22;
 
-/// Limits in which several threads come to their ends.
+/// Limits in which several threads run to their ends.
 pub(crate) const ROOM: Limits = Limits {
     words: 1024,
     max_words: 1024,
@@ -93,7 +93,7 @@ const TIGHT: Limits = Limits {
     ..ROOM
 };
 
-/// Whether a run of one thread by so many workers, with little memory, has the record of a run by one: the workers that drive no live
+/// Whether a run of one thread by `workers` workers, with little memory, has the record of a run by one: the workers that drive no live
 /// thread are not waited for.
 pub(crate) fn has_record_of_one(
     threads: &(impl Threads + Wait + Sync),
@@ -130,7 +130,7 @@ pub(crate) fn has_record_of_one(
 /// The most events of a run that stops at its deadlock: before it each thread makes fewer than 10 steps.
 const MOST_EVENTS_TO_A_DEADLOCK: u64 = 20_000;
 
-/// Whether so many workers stop where both threads wait, with few events, both live and the stop mark set.
+/// Whether `workers` workers stop where both threads wait, with few events, both live and the stop mark set.
 pub(crate) fn stops_at_a_deadlock(
     threads: &(impl Threads + Wait + Sync),
     alloc: Global,
@@ -165,7 +165,7 @@ fn event_count(outcome: &Outcome) -> u64 {
     count
 }
 
-/// Whether a run that may stop at a deadlock and comes to none ends without the stop mark, and with the record of one that may not.
+/// Whether a run that may stop at a deadlock and reaches none ends without the stop mark, and with the record of one that may not.
 pub(crate) fn ends_without_a_deadlock(
     threads: &(impl Threads + Wait + Sync),
     alloc: Global,
@@ -201,7 +201,7 @@ fn has_record(alloc: Global, outcome: &Outcome, wanted: &str) -> Result<bool, Fa
     Ok(record.as_str() == wanted)
 }
 
-/// Whether so many workers run three threads to their ends, and whoever replays their record gets the same bytes, the same ends and the
+/// Whether `workers` workers run three threads to their ends, and whoever replays their record gets the same bytes, the same ends and the
 /// same record.
 pub(crate) fn replays_workers(
     threads: &(impl Threads + Wait + Sync),

@@ -1,4 +1,4 @@
--- A text has one answer.
+-- A text has one result.
 use Rattle.std.proofs.Common.{◌≡◌, ◌≢◌, ◌+◌, ◌<◌, ◌≤◌, ◌⊎◌, ◌&&◌, inl, inr, ℕ, Bool, true, false, true≢false, IsTrue, List, ◌∷◌, [], ◌++◌, length, replicate, arith, refl, sym, ◌∙◌, ap, ap₂, subst, zero, suc, length-append}
 use Rattle.std.specs.List.{list_all}
 use Rattle.std.proofs.lemmas.Grind.{flat_map-append}
@@ -28,7 +28,7 @@ same_events words events others (items, are, is, _, _) (items', are', is', _, _)
 
 -- ---- a word among others that are read
 
--- the items before it, its own and those behind it
+-- the items before it, its own and those after it
 items_at : (before : List (List ℕ)) (word : List ℕ) (after : List (List ℕ)) (items : List Item) → AreItems (before ++ word ∷ after) items →
     (front : List Item) × (item : Item) × (back : List Item) × (items ≡ front ++ item ∷ back) × AreItems before front × IsItem word item
 items_at [] word after [] h = absurd h

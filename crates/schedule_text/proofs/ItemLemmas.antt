@@ -1,4 +1,4 @@
--- A word is one item at most: the item's name ends where the first star of the word stands.
+-- A word is one item at most: the item's name ends where the first star of the word is.
 use Rattle.std.proofs.Common.{◌≡◌, ◌==◌, ◌+◌, ◌<◌, ◌≤◌, ◌&&◌, inl, inr, ℕ, Bool, true, false, nat_lt, All, List, ◌∷◌, [], ◌++◌, length, take, drop, get_or, Option, Some, None, if◌then◌else◌, arith, rules, tests, refl, sym, ◌∙◌, ap, ap₂, subst, lit<, length-append}
 use Rattle.std.specs.Char.{is_ascii_digit}
 use Rattle.std.specs.List.{list_all, position, position_or_len, before_first, after_first}
@@ -73,7 +73,7 @@ name_has_no_star word (Step thread) (digits, e, (number, _)) = rw e (All-cons (�
 name_has_no_star word (Ack thread) (digits, e, (number, _)) = rw e (All-cons (λ byte. is_star byte ≡ false) 97 digits refl (digits_have_no_star digits number))
 name_has_no_star word Gc e = rw e (All-cons (λ byte. is_star byte ≡ false) 103 [] refl (All-nil (λ byte. is_star byte ≡ false)))
 
--- ---- where the first star stands
+-- ---- where the first star is
 
 first_star : (name digits : List ℕ) → HasNoStar name → position_or_len is_star (name ++ 42 ∷ digits) ≡ length name
 first_star name digits none = position_or_len_is is_star (name ++ 42 ∷ digits) (length name) 0

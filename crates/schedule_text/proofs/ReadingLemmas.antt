@@ -23,7 +23,7 @@ use Rattle.schedule_text.specs.declared.errors.TheConstants.{MOST_EVENTS}
 use Rattle.schedule_text.specs.declared.items.Item.{Item}
 use Rattle.schedule_text.proofs.ItemLemmas.{same_item}
 
--- ---- greatest numbers stand for no good ones
+-- ---- greatest numbers represent no good ones
 
 thread_of_numbered : (thread : ℕ) → is_numbered (Step (min thread 255)) ≡ true → min thread 255 ≡ thread
 thread_of_numbered thread e = let h : min thread 255 < MOST_THREADS = ltb-true _ _ e in omega arith
@@ -66,7 +66,7 @@ fault_of before word item written OutOfMemory is e fault =
     let same = uncapped item written e fault.0 (omega (arith, fault.1)) in
     (written, is, subst (λ i. IsFaultOf before i OutOfMemory) same fault)
 
--- ---- what an answer says
+-- ---- what a result says
 
 pub on_ok : {T E P Q : Type 0} (r : Result T E) → (P → Q) → OnOk r P → OnOk r Q
 on_ok (Ok x) f h = f h

@@ -10,7 +10,7 @@ use Rattle.schedule_text.specs.declared.items.Item.{Item}
 use Rattle.schedule_text.proofs.ItemLemmas.{same_item}
 use Rattle.schedule_text.proofs.WritingLemmas.{first_of_runs, heads, tails}
 
--- the events behind a longest run of an event don't begin with it
+-- the events after a longest run of an event don't begin with it
 abbrev BeginsOtherwise : Event → List Event → Type 0
 BeginsOtherwise event [] = ⊤
 BeginsOtherwise event (next ∷ more) = event ≢ next

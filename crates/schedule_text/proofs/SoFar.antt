@@ -6,7 +6,7 @@ use Rattle.cil_model.specs.declared.events.Event.{Event}
 use Rattle.schedule_text.specs.Items.{events_of}
 use Rattle.schedule_text.specs.declared.items.Item.{Item}
 
--- the events of the items before a place, and so many more of one event
+-- the events of the items before a place, and the given number more of one event
 abbrev pub so_far : List Item → ℕ → Event → ℕ → List Event
 so_far items i event times = events_of (take i items) ++ replicate times event
 
@@ -32,7 +32,7 @@ module _ (items : List Item) (i : ℕ) (d : Item) (below : i < length items) whe
       ap (λ es. events_of (take i items) ++ es) (sym (append-nil (replicate item.count item.event)))
       ∙ sym (events_of-append (take i items) (item ∷ [])) ∙ ap events_of (sym (take_more items i d below))
 
-  -- what stands behind them
+  -- what follows them
   abbrev rest : ℕ → List Event
   rest n = replicate (item.count - suc n) item.event ++ events_of (drop (i + 1) items)
 

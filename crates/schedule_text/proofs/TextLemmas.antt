@@ -63,7 +63,7 @@ item_is item (numbered, some, few) = by_count (item.count == 1) refl
     by_count true e = inl (name_is item.event numbered, eqb-true item.count 1 e)
     by_count false e = inr (name_of item.event, decimal item.count, append_assoc (name_of item.event) (codes "*") (decimal item.count), name_is item.event numbered, decimal_is item.count (omega arith), some)
 
--- ---- no separator stands in it
+-- ---- no separator is in it
 
 abbrev IsWhole : List ℕ → Type 0
 IsWhole bytes = All (λ byte. is_separator byte ≡ false) bytes

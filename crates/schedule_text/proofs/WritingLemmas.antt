@@ -13,7 +13,7 @@ use Rattle.schedule_text.specs.Items.{events_of, has_good_events, is_numbered, i
 use Rattle.schedule_text.specs.Writings.{AreRuns, IsTextOf}
 use Rattle.schedule_text.specs.declared.items.Item.{Item}
 
--- the text of more items behind a text
+-- the text of more items after a text
 abbrev pub joined : List ℕ → List Item → List ℕ
 joined [] items = join_with_byte 32 (map item_text items)
 joined (byte ∷ bytes) items = (byte ∷ bytes) ++ flat_map (λ item. 32 ∷ item_text item) items
@@ -198,7 +198,7 @@ not_none : (n : ℕ) (b : Bool) → (suc n == 0) ≡ b → (suc n == 0) ≡ fals
 not_none n true e = let same = eqb-true (suc n) 0 e in absurd (omega arith)
 not_none n false e = e
 
--- so many events of one kind
+-- n events of one kind
 all_alike : (count : ℕ) (event : Event) → list_all is_numbered (replicate count event) ≡ ((count == 0) || is_numbered event)
 all_alike zero event = refl
 all_alike (suc count) event =

@@ -5,7 +5,7 @@ use Rattle.schedule_text.specs.declared.errors.ScheduleError.{ScheduleError}
 use Rattle.schedule_text.specs.declared.errors.ScheduleError.TheVariants.{NoItem, NoThread, TooLong, OutOfMemory}
 use Rattle.schedule_text.specs.declared.errors.TheConstants.{MOST_EVENTS}
 
--- the first so many events, the inserted ones, and the rest: no more than a schedule has
+-- the first `at` events, the inserted ones, and the rest: no more than a schedule has
 abbrev pub IsInserted : List Event → ℕ → List Event → List Event → Type 0
 IsInserted events at inserted all =
     (length events + length inserted ≤ MOST_EVENTS) × (all ≡ take at events ++ inserted ++ drop at events)

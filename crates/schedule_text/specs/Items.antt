@@ -1,4 +1,4 @@
--- The items of a schedule's text: an event, and how many times over it stands (this profile).
+-- The items of a schedule's text: an event, and how many times it occurs (this profile).
 use Rattle.std.specs.Prelude.{◌≡◌, ◌==◌, ◌<◌, ◌⊎◌, ◌++◌, ◌^◌, ◌-◌, ◌||◌, not, ℕ, Bool, true, false, IsTrue, List, [], ◌∷◌, length, min, nat_lt, if◌then◌else◌, codes, decimal, filter, replicate}
 use Rattle.std.specs.Char.{is_ascii_digit}
 use Rattle.std.specs.List.{flat_map, list_all, slice_split}
@@ -12,7 +12,7 @@ use Rattle.schedule_text.specs.declared.items.Item.{Item}
 abbrev pub is_separator : ℕ → Bool
 is_separator byte = (byte == 9) || ((byte == 10) || ((byte == 13) || (byte == 32)))
 
--- the words of a text: what stands between separators, where anything does
+-- the words of a text: what is between separators, where anything is
 abbrev pub words : List ℕ → List (List ℕ)
 words text = filter (λ word. not (length word == 0)) (slice_split is_separator text)
 
@@ -33,7 +33,7 @@ Names word (Step thread) = (digits : List ℕ) × (word ≡ 115 ∷ digits) × I
 Names word (Ack thread) = (digits : List ℕ) × (word ≡ 97 ∷ digits) × IsNumber digits thread
 Names word Gc = word ≡ 103 ∷ []
 
--- the word is the item: the event's name alone for one, or with `*` and a count of at least 1 behind it
+-- the word is the item: the event's name alone for one, or with `*` and a count of at least 1 after it
 abbrev pub IsItem : List ℕ → Item → Type 0
 IsItem word item = (Names word item.event × (item.count ≡ 1))
     ⊎ ((name : List ℕ) × (digits : List ℕ) × (word ≡ name ++ 42 ∷ digits) × Names name item.event
@@ -46,7 +46,7 @@ AreItems [] (item ∷ items) = ⊥
 AreItems (word ∷ words) [] = ⊥
 AreItems (word ∷ words) (item ∷ items) = IsItem word item × AreItems words items
 
--- the events that items stand for, in their order
+-- the events that items represent, in their order
 abbrev pub events_of : List Item → List Event
 events_of items = flat_map (λ item. replicate item.count item.event) items
 
@@ -56,7 +56,7 @@ is_numbered (Step thread) = nat_lt thread MOST_THREADS
 is_numbered (Ack thread) = nat_lt thread MOST_THREADS
 is_numbered Gc = true
 
--- an item stands for no events of another thread
+-- an item represents no events of another thread
 abbrev pub has_good_events : Item → Bool
 has_good_events item = (item.count == 0) || is_numbered item.event
 
@@ -83,12 +83,12 @@ same_event (Ack thread) (Ack other) = thread == other
 same_event Gc Gc = true
 same_event event other = false
 
--- a text, and a space behind it where there is one
+-- a text, and a space after it where there is one
 abbrev pub separated : List ℕ → List ℕ
 separated [] = []
 separated (byte ∷ bytes) = (byte ∷ bytes) ++ codes " "
 
--- ---- what stands for an item whose numbers are too great for the types of the program
+-- ---- what represents an item whose numbers are too great for the types of the program
 
 -- 255 for a greater number of a thread
 abbrev pub capped_event : Event → Event

@@ -8,18 +8,18 @@ use Rattle.schedule_text.specs.declared.errors.ScheduleError.TheVariants.{NoItem
 use Rattle.schedule_text.specs.declared.errors.TheConstants.{MOST_EVENTS}
 use Rattle.schedule_text.specs.declared.items.Item.{Item}
 
--- the words are items that stand for these events, each of a thread that a machine can have, and no
+-- the words are items that represent these events, each of a thread that a machine can have, and no
 -- more events than a schedule has
 abbrev pub AreRead : List (List ℕ) → List Event → Type 0
 AreRead words events = (items : List Item) × AreItems words items × (events ≡ events_of items)
     × IsTrue (list_all is_numbered events) × (length events ≤ MOST_EVENTS)
 
--- a good item's events stand behind those before it
+-- a good item's events follow those before it
 abbrev pub IsAdded : List Event → Item → List Event → Type 0
 IsAdded before item after = IsTrue (is_numbered item.event) × (length before + item.count ≤ MOST_EVENTS)
     × (after ≡ before ++ replicate item.count item.event)
 
--- what may be found of an item of the right form, behind so many events
+-- what may be found of an item of the right form, after this number of events
 abbrev pub IsFaultOf : ℕ → Item → ScheduleError → Type 0
 IsFaultOf before item NoItem = ⊥
 IsFaultOf before item NoThread = is_numbered item.event ≡ false
@@ -28,7 +28,7 @@ IsFaultOf before item TooLong = IsTrue (is_numbered item.event) × (MOST_EVENTS 
 IsFaultOf before item OutOfMemory =
     IsTrue (is_numbered item.event) × (before + item.count ≤ MOST_EVENTS)
 
--- the word is at fault, behind so many events
+-- the word is at fault, after this number of events
 abbrev pub IsFaulty : ℕ → List ℕ → ScheduleError → Type 0
 IsFaulty before word NoItem = (item : Item) → IsItem word item → ⊥
 IsFaulty before word error = (item : Item) × IsItem word item × IsFaultOf before item error

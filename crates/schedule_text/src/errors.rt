@@ -12,7 +12,7 @@ pub const MOST_EVENTS: usize = 1_000_000;
 /// Why a text is no schedule, or a list of events has no text.
 #[derive(Clone, Copy, Debug, PartialEq, Eq, Error)]
 pub enum ScheduleError {
-    /// An item is not `g`, `sN` or `aN`, alone or with `*COUNT` behind it.
+    /// An item is not `g`, `sN` or `aN`, alone or with `*COUNT` after it.
     #[error("an item is not of the form g, sN or aN, with or without *COUNT")]
     NoItem,
     /// A thread's number is above 15.
@@ -27,7 +27,7 @@ pub enum ScheduleError {
 
 impl ScheduleError {
     /// The number that the program prints: 501 `NoItem`, 502 `NoThread`, 503 `TooLong`, and 504 for
-    /// want of memory.
+    /// out of memory.
     pub fn number(&self) -> u16
         ensures { result ≡ number_of self.now }
     {

@@ -8,11 +8,11 @@ use crate::items::Item;
 use cil_model::events::Event;
 use std::alloc::{AllocError, Global};
 
-/// The events that items stand for with others among them: the first so many, then the inserted ones, then the rest. Behind all of them
-/// where there are not so many. An item within which the place lies becomes two.
+/// The events that items represent with others among them: the first `at`, then the inserted ones, then the rest. The inserted ones are after all
+/// of them where there are fewer. An item within which the place lies becomes two.
 ///
 /// # Errors
-/// `TooLong` where there are more than 1,000,000 events in all, which is decided first; else `OutOfMemory` where memory is refused.
+/// `TooLong` where there are more than 1,000,000 events in all, which is decided first; otherwise `OutOfMemory` where memory is refused.
 pub fn insert_at(
     alloc: Global,
     items: &[Item],
@@ -26,7 +26,7 @@ pub fn insert_at(
     Ok(with_inserted(alloc, items, at, inserted)?)
 }
 
-/// How many events may follow those of items, of so many in all. None where these are more.
+/// How many events may follow those of items, of at most `most` in all. None where these are more.
 pub(crate) fn room_behind(items: &[Item], most: usize) -> Option<usize>
     ensures { MatchOption result (most < length (events_of items.now)) (λ room. room + length (events_of items.now) ≡ most) }
 {
@@ -52,7 +52,7 @@ fn with_inserted(
     Ok(all)
 }
 
-/// Puts the first so many events of items behind others.
+/// Puts the first `at` events of items after others.
 fn append_first(all: &mut Vec<Item>, items: &[Item], at: usize) -> Result<(), AllocError>
     ensures { OnOk result (events_of all.new.items ≡ events_of all.old.items ++ take at (events_of items.now)) }
 {
@@ -65,7 +65,7 @@ fn append_first(all: &mut Vec<Item>, items: &[Item], at: usize) -> Result<(), Al
     Ok(())
 }
 
-/// Puts the events of items, but for the first so many, behind others.
+/// Puts the events of items, but for the first `at`, after others.
 fn append_rest(all: &mut Vec<Item>, items: &[Item], at: usize) -> Result<(), AllocError>
     ensures { OnOk result (events_of all.new.items ≡ events_of all.old.items ++ drop at (events_of items.now)) }
 {
@@ -77,7 +77,7 @@ fn append_rest(all: &mut Vec<Item>, items: &[Item], at: usize) -> Result<(), All
     Ok(())
 }
 
-/// Puts one event so many times behind others: as an item, where it is any.
+/// Puts one event `count` times after others: as an item, where the count is not 0.
 fn append_events(all: &mut Vec<Item>, event: Event, count: usize) -> Result<(), AllocError>
     ensures { OnOk result (events_of all.new.items ≡ events_of all.old.items ++ replicate count event) }
 {

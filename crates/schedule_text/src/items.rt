@@ -5,12 +5,12 @@ ghost use Rattle.schedule_text.specs.Items.{is_numbered};
 use cil_model::events::Event;
 use cil_model::limits::MOST_THREADS;
 
-/// An event, and how many times over it stands.
+/// An event, and how many times it occurs.
 #[derive(Clone, Copy)]
 pub struct Item {
     /// The event.
     pub event: Event,
-    /// How many times over it stands.
+    /// How many times it occurs.
     pub count: usize,
 }
 

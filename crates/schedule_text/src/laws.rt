@@ -17,7 +17,7 @@ pub fn one_text()
     ensures { (events : List Event) (text other : List ℕ) → IsWritten events text → IsWritten events other → text ≡ other }
 {}
 
-/// A text is read as one list, or it has one first fault, and not both; want of memory apart, which
+/// A text is read as one list, or it has one first fault, and not both; except for out of memory, which
 /// is a fault that a good item may have.
 pub fn one_answer()
     ensures one_list { (text : List ℕ) (events others : List Event) → AreRead (words text) events → AreRead (words text) others → events ≡ others }

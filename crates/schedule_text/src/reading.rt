@@ -12,18 +12,18 @@ use crate::items::{Item, is_numbered};
 use cil_model::events::Event;
 use std::alloc::Global;
 
-/// Reads the items that a text writes, in their order: each is an event, and how many times over it stands.
+/// Reads the items that a text writes, in their order: each is an event, and how many times it occurs.
 ///
-/// Items are separated by one or more of the bytes 9, 10, 13 and 32, which may also stand at both
+/// Items are separated by one or more of the bytes 9, 10, 13 and 32, which may also be at both
 /// ends. An item is `g` (an event of the collector), `s` and a thread's number (its step) or `a` and
 /// a thread's number (its acknowledgement), then possibly `*` and a count of at least 1: that many
 /// such events. A number is written in decimal digits with no leading zero but in `0` itself, and
 /// may be of any length.
 ///
 /// # Errors
-/// The first bad item decides: `NoItem` where it is not of this form, else `NoThread` where its
-/// thread's number is above 15, else `TooLong` where there are more than 1,000,000 events up to it
-/// and with it. `OutOfMemory` comes only where memory for a good item is refused: no memory is taken
+/// The first bad item decides: `NoItem` where it is not of this form, otherwise `NoThread` where its
+/// thread's number is above 15, otherwise `TooLong` where there are more than 1,000,000 events up to it
+/// and with it. `OutOfMemory` is returned only where memory for a good item is refused: no memory is taken
 /// for a bad one.
 pub fn read_schedule(alloc: Global, text: &[u8]) -> Result<Vec<Item>, ScheduleError>
     ensures { MatchResult result (λ items. AreRead (words text.now) (events_of items.items))
@@ -40,7 +40,7 @@ pub fn read_schedule(alloc: Global, text: &[u8]) -> Result<Vec<Item>, ScheduleEr
     Ok(items)
 }
 
-/// Adds the item that a word writes to those before it, which stand for so many events, and answers for how many they stand then.
+/// Adds the item that a word writes to those before it, which represent `events` events, and returns how many they represent then.
 fn append_word(items: &mut Vec<Item>, events: usize, word: &[u8]) -> Result<usize, ScheduleError>
     requires few { events ≤ MOST_EVENTS }
     requires many { events ≡ length (events_of items.old.items) }
@@ -79,7 +79,7 @@ fn read_item(word: &[u8]) -> Option<Item>
     }
 }
 
-/// Where the first `*` of a word stands.
+/// Where the first `*` of a word is.
 fn star_in(word: &[u8]) -> Option<usize>
     ensures { result ≡ position is_star word.now }
 {
@@ -165,7 +165,7 @@ fn value_of(digits: &[u8]) -> u32
     value
 }
 
-/// Adds an item to those before it, which stand for so many events, and answers for how many they stand then.
+/// Adds an item to those before it, which represent `events` events, and returns how many they represent then.
 fn append(items: &mut Vec<Item>, events: usize, item: Item) -> Result<usize, ScheduleError>
     requires few { events ≤ MOST_EVENTS }
     requires many { events ≡ length (events_of items.old.items) }

@@ -10,15 +10,15 @@ use crate::items::{Item, is_numbered};
 use cil_model::events::Event;
 use std::alloc::{AllocError, Global};
 
-/// Writes the events that items stand for as a text that `read_schedule` reads as these events.
+/// Writes the events that items represent as a text that `read_schedule` reads as these events.
 ///
 /// Each longest run of equal events is one item: the event alone where the run has one event, and
-/// else with `*` and their number behind it. One space stands between items, and nothing at the
+/// otherwise with `*` and their number after it. One space is between items, and nothing at the
 /// ends; no events have the empty text.
 ///
 /// # Errors
-/// `TooLong` where there are more than 1,000,000 events, else `NoThread` where a thread's number is
-/// above 15, else `OutOfMemory` where memory is refused.
+/// `TooLong` where there are more than 1,000,000 events, otherwise `NoThread` where a thread's number is
+/// above 15, otherwise `OutOfMemory` where memory is refused.
 pub fn write_schedule(alloc: Global, items: &[Item]) -> Result<String, ScheduleError>
     ensures { MatchResult result (λ text. IsWritten (events_of items.now) (string_bytes text)) (IsNotWritten (events_of items.now)) }
 {
@@ -31,7 +31,7 @@ pub fn write_schedule(alloc: Global, items: &[Item]) -> Result<String, ScheduleE
     Ok(write_runs(alloc, items)?)
 }
 
-/// Whether items stand for no more events than a schedule has.
+/// Whether items represent no more events than a schedule has.
 fn are_few(items: &[Item]) -> bool
     ensures { result ≡ nat_le (length (events_of items.now)) MOST_EVENTS }
 {
@@ -83,7 +83,7 @@ fn write_runs(alloc: Global, items: &[Item]) -> Result<String, AllocError>
     Ok(text)
 }
 
-/// A run of events with those of an item behind it. None where these are of another run.
+/// A run of events with those of an item after it. None where these are of another run.
 fn longer(run: Item, item: Item) -> Option<Item>
     requires { run.count + item.count ≤ MOST_EVENTS }
     ensures one { IfSome result (λ more. replicate more.count more.event ≡ replicate run.count run.event ++ replicate item.count item.event) }

@@ -1,4 +1,4 @@
--- Places side by side: one is taken out of the row, put back or seen, and room for words is a row of places.
+-- Places side by side: one is taken out of the sequence, put back or seen, and room for words is a sequence of places.
 use Prim.Native.Nat.{ℕ, zero, suc, ◌+◌, ◌*◌, ◌<◌, ◌≤◌}
 use native.Mathlib.Omega.{arith}
 use mathlib.Core.Path.{◌≡◌, refl, sym, ap, ◌∙◌}

@@ -1,4 +1,4 @@
--- The machine values of a front, of the owner of words and of a lease: what is owned tells them, and is made of nothing.
+-- The machine values of a front, of the owner of words and of a lease: what is owned determines them, and is made of nothing.
 use Rattle.std.proofs.Common.{◌≡◌, List, [], ◌∷◌, ◌++◌, refl, ◌∙◌}
 use seplogic.Ra.Ura.{Ura}
 use base.Fml.{Fml}

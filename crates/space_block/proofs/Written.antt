@@ -1,4 +1,4 @@
--- Places whose first ones hold words are a row of words, after a store and after more words come into use.
+-- Places whose first ones hold words are a sequence of words, after a store and after more words come into use.
 use Rattle.std.proofs.Common.{◌≡◌, ℕ, zero, suc, ◌+◌, ◌-◌, ◌<◌, ◌≤◌, List, [], ◌∷◌, ◌++◌, length, take, drop, set, get_or, replicate, refl, sym, ap, ap₂, ◌∙◌, arith, length-append, append_assoc, append-nil}
 use Rattle.std.specs.Prelude.{Option, Some, None, map}
 use Rattle.std.proofs.Math.ListN.{length-set}

@@ -13,7 +13,7 @@ use denote.RawPtr.{Ptr, block_ptr, null_ptr}
 abbrev pub word_size : ℕ
 word_size = 8
 
--- so many words take fewer than 2 ^ 63 bytes, as a block must
+-- this number of words takes fewer than 2 ^ 63 bytes, as a block must
 abbrev pub FitsBlock : ℕ → Type 0
 FitsBlock n = n * word_size < 2 ^ 63
 

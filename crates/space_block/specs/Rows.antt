@@ -6,6 +6,6 @@ pub record Row : Type 0 where
   pub words : List ℕ
   pub used : ℕ
 
--- a block of so many words without one in use
+-- a block of the given number of words without one in use
 abbrev pub blank : ℕ → Row
 blank count = record { words = replicate count 0; used = 0 }

@@ -1,4 +1,4 @@
-//! Blocks of raw memory: words of 64 bits in a row. A word is cleared as it comes into use, so a block costs what is used of it.
+//! Blocks of raw memory: consecutive words of 64 bits. A word is cleared as it comes into use, so a block costs what is used of it.
 //! Four functions follow a pointer. Each is proved by hand against what its caller owns, so no word outside a held block is read or written, and
 //! none after the block was given back.
 #![tactic(auto)]

@@ -1,4 +1,4 @@
-//! Words behind a pointer. No function but the four of this file follows one.
+//! Words at a pointer. No function but the four of this file follows one.
 
 ghost use Rattle.std.specs.Prelude.{◌≡◌, ◌-◌, ◌<◌, ◌≤◌, ◌++◌, ℕ, List, Option, Some, None, length, take, drop, replicate, get_or, slice_set, IfOk};
 ghost use denote.RawPtr.{Ptr};
@@ -20,7 +20,7 @@ unsafe impl Send for Front {}
 
 unsafe impl Sync for Front {}
 
-/// The owner of the words behind a front. It takes no space.
+/// The owner of the words at a front. It takes no space.
 pub(crate) struct Words {
     ghost at: { Ptr },
     ghost places: { List (Option ℕ) },
@@ -37,7 +37,7 @@ unsafe impl Send for Words {}
 
 unsafe impl Sync for Words {}
 
-/// The right to give the words behind a front back to the allocator that they are from. It takes no space.
+/// The right to give the words at a front back to the allocator that they are from. It takes no space.
 pub(crate) struct Lease<A: Allocator> {
     mark: PhantomData<A>,
     ghost at: { Ptr },

@@ -82,11 +82,11 @@ module _ (values : List Value) (running : Activation) (below : List Activation) 
   abbrev fs : List Frame
   fs = m.below
 
-  -- as many frames as activations
+  -- the number of frames is that of the activations
   pub count_below : length fs ≡ length below
   count_below = sym (upward.length-activations fs) ∙ ap length (sym s.lays.below_are) ∙ length-reverse below
 
-  -- room for so many values more in the running frame
+  -- room for n values more in the running frame
   pub has_room : (n : ℕ) → size f + n ≤ room → length values + n ≤ capacity
   has_room n fits =
       rows.room_above values running (reverse below) f fs s.lays room depth capacity s.fit

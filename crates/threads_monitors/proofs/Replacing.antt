@@ -197,7 +197,7 @@ module _ {X : Type 0} (h : X → X) (xs ys : List X) (i : ℕ) (d : X) (within :
       ∙ get_or-append-add (map h (take i xs)) (drop i xs) 0 d
       ∙ ap (λ zs. get_or zs 0 d) (drop_more xs i d within)
 
-  -- the next one may be asked for, and its answer is what the function says
+  -- the next one may be asked for, and its result is what the function returns
   module _ (part : X → Option Addr) (pre : Addr → Type 0) (post : Addr → Addr → Type 0) (g : Addr → Addr) (all : All (λ x. IfSome (part x) (IsAnswer pre post g)) xs) where
     pub is_answered : IfSome (part (get_or ys i d)) (IsAnswer pre post g)
     is_answered = subst (λ x. IfSome (part x) (IsAnswer pre post g)) (sym not_yet) (all i d within)

@@ -48,7 +48,7 @@ pub record Lays (values : List Value) (running : Activation) (below : List Activ
   pub running_is : running ≡ activation fs f
   pub below_are : below ≡ activations fs
 
--- the lowest frames, so many of them
+-- the n lowest frames
 abbrev pub lowest : ℕ → List Frame → List Frame
 lowest n fs = drop (length fs - n) fs
 

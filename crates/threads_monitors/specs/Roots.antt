@@ -50,7 +50,7 @@ frame_with_references g f =
 abbrev pub with_references : (Addr → Addr) → Frames → Frames
 with_references g m = record m { running = frame_with_references g m.running; below = map (frame_with_references g) m.below }
 
--- a closure, by what it requires and what it may answer, may be called at an address, and answers there what g says
+-- a closure, by what it requires and what it may return, may be called at an address, and returns there what g does
 abbrev pub IsAnswer : (Addr → Type 0) → (Addr → Addr → Type 0) → (Addr → Addr) → Addr → Type 0
 IsAnswer pre post g a = pre a × ((answer : Addr) → post a answer → answer ≡ g a)
 

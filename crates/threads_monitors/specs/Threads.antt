@@ -59,7 +59,7 @@ report_of GoesOn = Ran
 report_of Returns = Ran
 report_of (Raises f) = Ran
 
--- the thread after its step, with so many steps left, and the report: an ended one has no frames
+-- the thread after its step, with this number of steps left, and the report: an ended one has no frames
 abbrev pub standing_after : Option End → Frames → ℕ → Effect → Thread × Report
 standing_after None frames left effect = (record { standing = Live frames; steps_left = left }, report_of effect)
 standing_after (Some e) frames left effect = (record { standing = Ended e; steps_left = left }, HasEnded e)
@@ -74,12 +74,12 @@ settled effect t = settled_in effect t.standing t.steps_left
 
 -- ---- starting and joining
 
--- the thread that a hidden field tells: its number and one, or 0
+-- the thread that a hidden field identifies: its number plus one, or 0
 abbrev pub thread_told : ℕ → Option ℕ
 thread_told zero = None
 thread_told (suc n) = Some n
 
--- the thread that was started on an object, which the first of its slots tells
+-- the thread that was started on an object, which the first of its slots identifies
 abbrev pub thread_on : Objects → Addr → Option ℕ
 thread_on o a = thread_told (slice_index (object_slots o a) 0)
 
@@ -91,7 +91,7 @@ start_fault threads o a =
     else if nat_le MOST_THREADS (length threads) then Some TooManyThreads
     else None
 
--- the threads and objects after a start of this thread by one in this phase: it has the next number, which its object tells
+-- the threads and objects after a start of this thread by one in this phase: it has the next number, which its object holds
 abbrev pub with_start : Phase → List Thread → Objects → Addr → Thread → List Thread × Objects × Effect
 with_start phase threads o a thread =
     option_map_or (λ f. (threads, o, Raises f)) (start_fault threads o a) (threads ++ thread ∷ [], stored_int phase o a 0 (length threads + 1), GoesOn)

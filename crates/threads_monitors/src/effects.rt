@@ -1,11 +1,11 @@
-//! What an instruction comes to for the thread that made it.
+//! The outcome of an instruction for the thread that executed it.
 
 use cil_model::reports::Fault;
 
-/// What an instruction comes to for its thread (this profile). A step of the thread reports it, unless it was the last of its budget.
+/// The outcome of an instruction for its thread (this profile). A step of the thread reports it, unless it was the last of its budget.
 #[derive(Clone, Copy, PartialEq, Eq)]
 pub enum Effect {
-    /// The thread goes on with its frames.
+    /// The thread continues with its frames.
     GoesOn,
     /// Its first method has returned.
     Returns,

@@ -163,7 +163,7 @@ impl FrameMemory {
         self.values.push_reserved(value);
     }
 
-    /// Puts a value beneath so many topmost ones of the running frame's stack.
+    /// Inserts a value beneath the given number of topmost ones of the running frame's stack.
     pub fn insert(&mut self, below: usize, value: Value)
         requires there { below ≤ length self.old.running.stack }
         requires room { size self.old.running < self.old.room }
@@ -237,7 +237,7 @@ impl FrameMemory {
         self.values[self.running.locals + index] = value;
     }
 
-    /// Whether there are as many frames as there may be.
+    /// Whether the number of frames is at its limit.
     pub fn is_full(&self) -> bool
         ensures { result ≡ (length self.now.below + 1 == self.now.depth) }
     {
@@ -329,7 +329,7 @@ impl FrameMemory {
 
     /// What a frame holds: its arguments, its locals, and its stack upward. Frames count from the thread's first one.
     ///
-    /// With `constructed_of` it tells the roots of a collection that a frame has; what a thread has are those of its frames
+    /// With `constructed_of` it gives the roots of a collection that a frame has; what a thread has are those of its frames
     /// in their order.
     pub fn values_of(&self, frame: usize) -> &[Value]
         requires { frame ≤ length self.now.below }
@@ -375,11 +375,11 @@ impl FrameMemory {
         }
     }
 
-    /// Puts in the place of each reference that a frame holds what `change` answers for it. All else stays, and no memory
+    /// Replaces each reference that a frame holds by what `change` returns for it. All else stays, and no memory
     /// is taken.
     ///
-    /// `change` is asked for these references alone, and may be asked for each of them oftener than once: so it has to
-    /// answer by a function of the address.
+    /// `change` is asked for these references alone, and may be asked for each of them oftener than once: so its result must be a function of the
+    /// address.
     pub fn replace_references<F: Fn(Addr) -> Addr>(&mut self, change: F)
         requires { (g : AnyAddr → AnyAddr) × AnswersAt (F.pre change) (F.post change) g (roots self.old) }
         ensures { (g : AnyAddr → AnyAddr) → AnswersAt (F.pre change) (F.post change) g (roots self.old) → self.new ≡ with_references g self.old }
@@ -460,7 +460,7 @@ fn is_same_object(one: Option<Addr>, other: Option<Addr>) -> bool
     one == other
 }
 
-/// Whether two activations are of one method at one place, with as many arguments and locals and the same object to push.
+/// Whether two activations are of one method at one place, with the same numbers of arguments and locals and the same object to push.
 fn is_same_activation(one: Activation, other: Activation) -> bool
     requires { (one.arguments ≤ one.locals) × (one.locals ≤ one.stack) × (other.arguments ≤ other.locals) × (other.locals ≤ other.stack) }
     ensures { IsTrue result ↔ (moved_to 0 one ≡ moved_to 0 other) }
@@ -481,7 +481,7 @@ fn part(row: &[Value], start: usize, end: usize) -> &[Value]
     &row[start..end]
 }
 
-/// Puts in the place of each reference among the values what `change` answers for it.
+/// Replaces each reference among the values by what `change` returns for it.
 fn replace_in_values<F: Fn(Addr) -> Addr>(values: &mut [Value], change: &F)
     requires { (g : AnyAddr → AnyAddr) × All (λ v. IfSome (reference_in v) (IsAnswer (F.pre change.now) (F.post change.now) g)) values.old }
     ensures { (g : AnyAddr → AnyAddr) → All (λ v. IfSome (reference_in v) (IsAnswer (F.pre change.now) (F.post change.now) g)) values.old → values.new ≡ map (with_reference g) values.old }
@@ -491,7 +491,7 @@ fn replace_in_values<F: Fn(Addr) -> Addr>(values: &mut [Value], change: &F)
     }
 }
 
-/// The value, or where it is a reference what `change` answers for it.
+/// The value, or where it is a reference what `change` returns for it.
 fn replace_in_value<F: Fn(Addr) -> Addr>(value: Value, change: &F) -> Value
     requires { IfSome (reference_in value) (F.pre change.now) }
     ensures { (g : AnyAddr → AnyAddr) → IfSome (reference_in value) (IsAnswer (F.pre change.now) (F.post change.now) g) → result ≡ with_reference g value }
@@ -502,7 +502,7 @@ fn replace_in_value<F: Fn(Addr) -> Addr>(value: Value, change: &F) -> Value
     }
 }
 
-/// Puts in the place of the object that a constructor makes, in each activation, what `change` answers for it.
+/// Replaces the object that a constructor makes, in each activation, by what `change` returns for it.
 fn replace_in_activations<F: Fn(Addr) -> Addr>(activations: &mut [Activation], change: &F)
     requires { (g : AnyAddr → AnyAddr) × All (λ a. IfSome a.constructed (IsAnswer (F.pre change.now) (F.post change.now) g)) activations.old }
     ensures { (g : AnyAddr → AnyAddr) → All (λ a. IfSome a.constructed (IsAnswer (F.pre change.now) (F.post change.now) g)) activations.old → activations.new ≡ map (with_constructed g) activations.old }
@@ -512,7 +512,7 @@ fn replace_in_activations<F: Fn(Addr) -> Addr>(activations: &mut [Activation], c
     }
 }
 
-/// The activation, with what `change` answers for the object that its constructor makes.
+/// The activation, with what `change` returns for the object that its constructor makes.
 fn replace_in_activation<F: Fn(Addr) -> Addr>(activation: Activation, change: &F) -> Activation
     requires { IfSome activation.constructed (F.pre change.now) }
     ensures { (g : AnyAddr → AnyAddr) → IfSome activation.constructed (IsAnswer (F.pre change.now) (F.post change.now) g) → result ≡ with_constructed g activation }

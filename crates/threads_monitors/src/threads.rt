@@ -16,7 +16,7 @@ use cil_model::reports::{End, Fault, Report};
 use object_memory::{Addr, Digest, Heap, Value, ValueKind};
 use std::alloc::Global;
 
-/// The slot of a `Cilvm.Thread` that tells the thread which was started on it: its number and one, or 0 (this profile).
+/// The slot of a `Cilvm.Thread` that identifies the thread which was started on it: its number plus one, or 0 (this profile).
 const THREAD_SLOT: u32 = 0;
 
 /// The word in a digest for a thread whose first method returned.
@@ -129,7 +129,7 @@ impl Thread {
         self.settle_any(effect)
     }
 
-    /// The same for any step. Apart, so that a step that goes on is short.
+    /// The same for any step. It is a separate function, so that a step after which the thread continues is short.
     #[cold]
     fn settle_any(&mut self, effect: Effect) -> Report
         ensures { (self.new, result) ≡ settled effect self.old }
@@ -148,7 +148,7 @@ impl Thread {
     }
 }
 
-/// How a thread ends with an effect, where so many steps are left. None where it stays live.
+/// How a thread ends with an effect, where this number of steps is left. None where it stays live.
 fn end_after(effect: Effect, steps_left: u32) -> Option<End>
     ensures { result ≡ end_after effect steps_left }
 {

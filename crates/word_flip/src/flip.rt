@@ -160,11 +160,11 @@ fn writers_of(alloc: Global, tokens: Vec<flip_table::Writer>) -> Result<Vec<Writ
 }
 
 impl Flip {
-    /// A flip over so many objects of so many slots each, with the copier and a writer for each seat, in order. All slots
+    /// A flip over this number of objects with this number of slots each, with the copier and a writer for each seat, in order. All slots
     /// are null, and all stages 0.
     ///
     /// There are at most 256 objects, 16 slots and 16 seats. `writer_of` has for each slot, at
-    /// `object * slots + slot`, the seat that alone writes to it. Only want of memory is an error. No other call takes
+    /// `object * slots + slot`, the seat that alone writes to it. The only error is out of memory. No other call takes
     /// memory.
     pub fn new(
         alloc: Global,
@@ -238,7 +238,7 @@ impl Flip {
     /// A seat at stage 0 loads the first copy, and at stage 1 or 2 the second. In a slot of the seat's own this is what
     /// it last wrote, whatever was copied and retired meanwhile. In another's it is null or an object number below the
     /// number of objects. The writer has to be of this flip, and the slot one of its slots. This is one step, the load that
-    /// gives the answer.
+    /// gives the result.
     pub fn load(&self, writer: Writer, object: u16, slot: u8) -> (Option<u16>, Writer)
         requires writer { IsWriterOf self.now writer }
         requires slot { HasSlot self.now object slot }
@@ -273,7 +273,7 @@ impl Flip {
         Writer { token }
     }
 
-    /// Takes up the posted stage, which is the answer: 0, 1 or 2.
+    /// Takes up the posted stage, which is the result: 0, 1 or 2.
     ///
     /// It is the stage that the seat had taken up or one more. The writer has to be of this flip. These are two steps, a
     /// load of the posted stage and a store of the seat's.
@@ -288,7 +288,7 @@ impl Flip {
         (stage, Writer { token })
     }
 
-    /// Copies a place, at stage 0, and answers whether its first copy stayed the same meanwhile.
+    /// Copies a place, at stage 0, and returns whether its first copy stayed the same meanwhile.
     fn copy_place(&self, copier: Copier, place: usize) -> (bool, Copier)
         requires copier { IsCopierOf self.now copier × (copier.stage ≡ 0) }
         requires place { place < length self.now.plan.owners }
@@ -343,7 +343,7 @@ impl Flip {
         (stage, Copier { token, copied })
     }
 
-    /// Looks at the seats in order, up to the first that has not taken up this stage, and answers whether all have.
+    /// Looks at the seats in order, up to the first that has not taken up this stage, and returns whether all have.
     fn find_all(&self, copier: Copier, stage: u64) -> (bool, Copier)
         requires { IsCopierOf self.now copier × (copier.stage ≤ stage) }
         ensures all { result.0 ≡ true → FoundAll self.now.plan.seats stage result.1.found × (result.1.looks ≡ copier.looks + self.now.plan.seats) }

@@ -1,4 +1,4 @@
--- What each instruction does to a stack of types: a result, and stacks on which it has none. Stacks stand as they were pushed.
+-- What each instruction does to a stack of types: a result, and stacks on which it has none. Stacks are written as they were pushed.
 use Rattle.std.proofs.Common.{◌≡◌, pos, negsuc, true, false, List, [], ◌∷◌, reverse, Option, Some, None, option_map, refl, codes}
 use Rattle.cil_model.specs.declared.types.Element.TheVariants.{Int32 as Int32Element, Int64 as Int64Element, Object, String}
 use Rattle.cil_model.specs.declared.types.Signature.{Signature}

@@ -124,7 +124,7 @@ interface_twice = refl
 brackets_tell_names_apart : least_broken (beside (interface_i ∷ class_with (codes "A") object_name (i ∷ record { assembly = Some (codes "x"); name = codes "I" } ∷ []) (virtual_f true ∷ []) ∷ [])) ≡ Some 202
 brackets_tell_names_apart = refl
 
--- ---- 202: a name stands for nothing of the kind needed
+-- ---- 202: a name refers to nothing of the kind needed
 
 other_extern : least_broken (record (beside []) { externs = mscorlib ∷ codes "x" ∷ [] }) ≡ Some 202
 other_extern = refl
@@ -225,7 +225,7 @@ member_of_built_in = refl
 no_member_of_built_in : least_broken (main_does (Call true (reference_to thread_name (Named (codes "Stop")) []))) ≡ Some 202
 no_member_of_built_in = refl
 
--- a type that stands for nothing in each place where a type may stand
+-- a type that refers to nothing, in each place where a type may be written
 abbrev z : DeclaredType
 z = of_class (codes "Z")
 
@@ -267,7 +267,7 @@ cast_unknown = refl
 cast_array_unknown : least_broken (main_does (CastClass (arrays_of z 2))) ≡ Some 202
 cast_array_unknown = refl
 
--- `string` has a word of its own, and its class is no type behind `class`
+-- `string` has a word of its own, and its class is no type after `class`
 cast_string_by_class : least_broken (main_does (CastClass (plain (ClassElement string_name)))) ≡ Some 202
 cast_string_by_class = refl
 

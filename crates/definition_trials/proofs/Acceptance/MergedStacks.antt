@@ -298,7 +298,7 @@ two_ways = record {
 abbrev two_ways_typing : Typing
 two_ways_typing = Some [] ∷ Some (i4 ∷ []) ∷ Some [] ∷ Some (Declared dog ∷ []) ∷ Some [] ∷ Some (Declared animal ∷ []) ∷ []
 
--- what a typing needs at each place, told of the line and the stack that stand there
+-- what a typing requires at each place, stated of the line and the stack there
 module _ (arguments : List DeclaredType) (return_type : Option DeclaredType) (code : Code) (typing : Typing) where
   abbrev IsFine : ℕ → Line → List StackType → Type 0
   IsFine place line stack = (after : List StackType) × (flow zoo arguments code.locals return_type line.instruction stack ≡ Some after) × FlowsOn zoo code typing place line after

@@ -26,7 +26,7 @@ use Rattle.reference_machine.specs.Outcomes.{shown, Shows}
 use Rattle.cil_model.specs.Examples.{program_of, sum_program, unlabelled, usual_limits, write_line}
 use Rattle.definition_trials.proofs.Samples.Programs.{named, of_class, with_main, thread_class, on_thread, class_with, constructor_over}
 
--- so many steps of a thread
+-- n steps of a thread
 abbrev of : ℕ → ℕ → List StepRequest
 of thread n = replicate n (thread, false)
 
@@ -135,7 +135,7 @@ new_thread_writes = refl
 
 -- ---- a space that is full
 
--- so many arrays of one number, none of which is kept
+-- n arrays of one number, none of which is kept
 abbrev dropped_arrays : ℕ → Tree
 dropped_arrays n = program_of (map unlabelled (flat_map (λ (i : ℕ). LoadInt32 (pos 1) ∷ NewArray (plain Int32) ∷ Pop ∷ []) (replicate n 0) ++ Return ∷ []))
 

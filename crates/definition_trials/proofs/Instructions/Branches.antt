@@ -1,4 +1,4 @@
--- Where each instruction goes on: the frame stands at 1, label A before 0, and labels B and C before 2.
+-- Where each instruction continues: the frame's pc is 1, label A is before 0, and labels B and C are before 2.
 use Rattle.std.proofs.Common.{◌≡◌, pos, [], ◌∷◌, Some, refl, codes}
 use Rattle.cil_model.specs.declared.instructions.BranchComparison.TheVariants.{Equal, NotEqual, GreaterOrEqual, Greater, LessOrEqual, Less}
 use Rattle.cil_model.specs.declared.instructions.Instruction.TheVariants.{NoOperation, Branch, BranchTrue, BranchFalse, BranchCompare, Switch}

@@ -40,7 +40,7 @@ budget_five = refl
 no_such_thread : shown sum_program usual_limits ((7, false) ∷ []) ≡ Shows (Absent ∷ []) []
 no_such_thread = refl
 
--- a switch on -1 goes on to the next instruction
+-- a switch on -1 advances to the next instruction
 switch_program : Tree
 switch_program = program_of (map unlabelled (int (negsuc 0) ∷ Switch (codes "A" ∷ []) ∷ int (pos 7) ∷ write_line ∷ Return ∷ []) ++ record { labels = codes "A" ∷ []; instruction = Return } ∷ [])
 
@@ -113,7 +113,7 @@ start_is_last : shown (with_main (thread_class (Return ∷ []) ∷ []) [] (map u
     ≡ Shows (replicate 4 Ran ++ Ended Budget ∷ Absent ∷ Ended Done ∷ []) []
 start_is_last = refl
 
--- a join goes on once the thread has ended
+-- a join advances once the thread has ended
 joins_ended : shown (with_main (thread_class (Return ∷ []) ∷ []) [] (map unlabelled (NewObject (named (codes "T")) [] ∷ Duplicate ∷ on_thread (codes "Start") ∷ on_thread (codes "Join") ∷ Return ∷ []))) usual_limits (turns 7 ++ (1, false) ∷ turns 2)
     ≡ Shows (replicate 6 Ran ++ Blocked ∷ Ended Done ∷ Ran ∷ Ended Done ∷ []) []
 joins_ended = refl

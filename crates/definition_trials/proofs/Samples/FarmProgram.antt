@@ -1,4 +1,4 @@
--- A small program and a state of it, in which single instructions are tried out.
+-- A small program and a state of it, in which single instructions are tested.
 use Rattle.std.proofs.Common.{ℕ, ◌-◌, pos, negsuc, Bool, true, false, List, [], ◌∷◌, reverse, Option, Some, None, codes, option_map, option_and_then, slice_get}
 use Rattle.cil_model.specs.declared.types.ClassName.{ClassName}
 use Rattle.cil_model.specs.declared.types.Element.TheVariants.{Int32 as Int32Element, Int64 as Int64Element, Object}

@@ -1,4 +1,5 @@
--- Single tokens, tried out: integers at their ends, words, string literals and symbols. What no token is, is none with any rest or with the rest that its text would leave.
+-- Single tokens, tested: integers at their ends, words, string literals and symbols. What no token is, is none with any rest or with the rest that
+-- its text would leave.
 use Rattle.std.proofs.Common.{◌≡◌, ℕ, ℤ, pos, negsuc, true, false, IsTrue, List, [], ◌∷◌, ◌++◌, ◌==◌, refl, inl, inr, sym, ap, ◌∙◌, subst, codes, arith, FitsSigned}
 use Rattle.std.specs.Prelude.{neg_ℤ, drop}
 use Rattle.std.specs.List.{list_all}
@@ -91,7 +92,7 @@ minus_alone z rest (true, d ∷ ds, some, all, is, fits, (mid, minus, r)) = not_
 minus_alone z rest (false, [], some, all, is, fits, (mid, start, r)) = some refl
 minus_alone z rest (false, d ∷ ds, some, all, is, fits, (mid, start, r)) = let e : codes "-" ≡ d ∷ (ds ++ rest) = start ∙ r.0 in digit_first d (ds ++ rest) [] (both_first _ _ all) (sym e)
 
--- a letter behind the digits belongs to them, since words and integers take all that stands together
+-- a letter after the digits belongs to them, since words and integers take all characters that are written together
 letter_behind : (z : ℤ) (rest : List ℕ) → lexeme (Integer z) (codes "1a") rest → ⊥
 letter_behind z rest (true, digits, some, all, is, fits, (mid, minus, r)) = digit_first 49 (codes "a") mid refl minus
 letter_behind z rest (false, [], some, all, is, fits, (mid, start, r)) = some refl
@@ -107,7 +108,7 @@ letter_behind z rest (false, d ∷ e ∷ ds, some, all, is, fits, (mid, start, r
 reserved : lexeme (Reserved (codes "ldc.i4")) (codes "ldc.i4 2") (codes " 2")
 reserved = ((refl, refl, refl), refl)
 
--- a word goes on over a dot and digits, so another one does not begin it
+-- a word continues over a dot and digits, so another one does not begin it
 reserved_goes_on : (rest : List ℕ) → lexeme (Reserved (codes "ldc.i4")) (codes "ldc.i4.m1") rest → ⊥
 reserved_goes_on rest ((e, all, ends), is) = let P : List ℕ → Type 0 = λ bs. IsTrue (stops is_word_byte bs) in never (subst P (sym (ap (drop 6) e)) ends)
 
@@ -183,7 +184,7 @@ comment_in_literal = (_, refl, (_, (_, inl (refl, refl), (_, inl (refl, refl), r
 escapes : lexeme (Quoted (10 ∷ 92 ∷ [])) (34 ∷ 92 ∷ 110 ∷ 92 ∷ 92 ∷ 34 ∷ []) []
 escapes = (_, refl, (_, (_, inr (_, refl, refl), (_, inr (_, refl, refl), refl)), refl))
 
--- a backslash takes the mark behind it
+-- a backslash takes the mark after it
 mark_in_literal : lexeme (Quoted (34 ∷ [])) (34 ∷ 92 ∷ 34 ∷ 34 ∷ []) []
 mark_in_literal = (_, refl, (_, (_, inr (_, refl, refl), refl), refl))
 

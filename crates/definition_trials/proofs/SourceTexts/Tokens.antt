@@ -1,4 +1,4 @@
--- White space, comments and names, tried out.
+-- White space, comments and names, tested.
 use Rattle.std.proofs.Common.{◌≡◌, true, false, [], Some, None, refl, codes}
 use Rattle.cil_model.specs.Lexemes.{skip_gap, between}
 use Rattle.cil_model.specs.Words.{is_name, is_reserved}

@@ -1,4 +1,4 @@
--- Tokens of types, tried out.
+-- Tokens of types, tested.
 use Rattle.std.proofs.Common.{List, [], ◌∷◌, refl, codes}
 use Rattle.cil_model.specs.declared.tokens.Symbol.TheVariants.{OpenBracket, CloseBracket, Comma}
 use Rattle.cil_model.specs.declared.tokens.Token.{Token}
@@ -9,7 +9,7 @@ use Rattle.cil_model.specs.Declarations.{plain}
 use Rattle.cil_model.specs.Grammar.{type_of, instr}
 use Rattle.definition_trials.proofs.Samples.Programs.{of_class, arrays_of}
 
--- a pair of brackets, and what stands behind it
+-- a pair of brackets, and what follows it
 abbrev pair : List Token → List Token
 pair rest = Symbol OpenBracket ∷ Symbol CloseBracket ∷ rest
 
@@ -19,7 +19,7 @@ no_pair = (_, refl, refl)
 two_pairs : type_of (arrays_of (plain Int32) 2) (Reserved (codes "int32") ∷ pair (pair [])) []
 two_pairs = (_, refl, (_, refl, (_, refl, (_, refl, (_, refl, refl)))))
 
--- a type may end before a pair that stands there: the whole text has no tree then
+-- a type may end before a pair of brackets that follows it: the whole text has no tree then
 one_pair_of_two : type_of (arrays_of (plain Int32) 1) (Reserved (codes "int32") ∷ pair (pair [])) (pair [])
 one_pair_of_two = (_, refl, (_, refl, (_, refl, refl)))
 

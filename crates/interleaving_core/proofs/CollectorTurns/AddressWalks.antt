@@ -8,7 +8,7 @@ use Rattle.object_memory.specs.Spaces.{IsPlace}
 use Rattle.object_memory.proofs.Blocks.{apart_in, range_in}
 use Rattle.object_memory.proofs.Places.{IsPlace-start, place-behind, place-last}
 
--- a walk has come to a place, and the object of an address, where there is one, lies there or behind it
+-- a walk has reached a place, and the object of an address, where there is one, lies there or after it
 pub record IsAhead (s : Cells) (a : Addr) (at : ℕ) : Type 0 where
   pub place : IsPlace s (s.start + at)
   pub ahead : (c : Cell) → cell_in s a ≡ Some c → s.start + at ≤ a.number
@@ -47,7 +47,7 @@ module _ (s : Cells) (a : Addr) (at : ℕ) (h : IsAhead s a at) where
             omega (arith, number, apart_in s x a c d there lies less);
       }
 
-  -- behind all objects none is left
+  -- after all objects none is left
   pub ahead_last : begins_behind s at ≡ None → is_some (cell_in s a) ≡ false
   ahead_last e = by_cell (cell_in s a) refl
     where

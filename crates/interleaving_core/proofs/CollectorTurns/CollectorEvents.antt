@@ -58,7 +58,7 @@ none_scanned p o c [] oldest e = refl
 none_scanned p o c (g ∷ rest) None e = refl
 none_scanned p o c (g ∷ rest) (Some cell) e = never (sym e)
 
--- where none was to do, what comes next comes of the content as it was
+-- where nothing was to do, what comes next is the outcome for the machine state as it was
 pub none_marked : (c : Content) (p : Progress) (o : Objects) → c.progress.scanned_statics ≡ true → ◌≡◌ {A = Outcome} (p, o, false) (marked_on c.tree c.progress c.objects) →
     rounds (record c { progress = p; objects = o }) ≡ mark_work c
 none_marked c p o scanned h =

@@ -80,7 +80,7 @@ values_marked (Int64 n ∷ vs) o = values_marked vs o
 values_marked (Native n ∷ vs) o = values_marked vs o
 values_marked (Ref a ∷ vs) o = values_marked vs (with_marked o (Ref a))
 
--- of one list behind another
+-- of one list after another
 pub both_marked : (xs ys : List Addr) (o : Objects) → with_roots_marked o (xs ++ ys) ≡ with_roots_marked (with_roots_marked o xs) ys
 both_marked [] ys o = refl
 both_marked (x ∷ xs) ys o = both_marked xs ys (with_marked o (Ref x))

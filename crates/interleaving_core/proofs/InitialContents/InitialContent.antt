@@ -1,4 +1,4 @@
--- What a machine holds at first is what the definition of its initial content says.
+-- What a machine holds at first is what the definition of its initial state says.
 use Rattle.std.proofs.Common.{◌≡◌, ℕ, suc, Bool, true, false, cond, List, [], ◌∷◌, ◌++◌, map, filter, length, Option, Some, None, option_map, option_and_then, slice_get, refl, sym, ap, ◌∙◌}
 use Rattle.std.specs.Prelude.{IsSome, option_to_list}
 use Rattle.std.specs.List.{flat_map}
@@ -104,7 +104,7 @@ module _ (tree : Tree) where
         by_member None at points = none_is_some (entry_alone tree legal).0 (ap (λ xs. slice_get xs 0) (sym points ∙ (entry_alone tree legal).1))
 
     module _ (limits : Limits) where
-      -- the content of a machine whose thread is at the entry point
+      -- the state of a machine whose thread is at the entry point
       pub content_opens : (found : ClassName × Method) (n : ℕ) → slice_get (entry_points tree) 0 ≡ Some found → slice_get (all_methods tree) n ≡ Some found →
           opening_content tree limits ≡ Some (content_at tree limits found n)
       content_opens found n entry there =

@@ -48,13 +48,13 @@ module _ (c : Content) (after : Content × Report) where
 -- ---- births beyond the room, of one list and then of another
 
 module _ (d n : Content) (t : State) (fs : List (Event × Report)) (more : RefusesBeyondRoom d t fs n) where
-  -- behind an event that keeps the state
+  -- after an event that keeps the state
   stays_behind : (c next : Content) (es : List (Event × Report)) (s after : State) (reports : List Report) → SameProgram c next → after ≡ s → run c.tree c.limits s (thread_part es) ≡ RunsTo reports t →
       (run next.tree next.limits after (thread_part es) ≡ RunsTo reports t → RefusesBeyondRoom next after (es ++ fs) n) → RefusesBeyondRoom next after (es ++ fs) n
   stays_behind c next es s after reports same is e later =
       later (ap (λ x. run x next.limits after (thread_part es)) same.0 ∙ (ap (λ x. run c.tree x after (thread_part es)) same.1 ∙ (ap (λ x. run c.tree c.limits x (thread_part es)) is ∙ e)))
 
-  -- and behind a step
+  -- and after a step
   steps_behind : (c next : Content) (es : List (Event × Report)) (s after : State) (m : ℕ) (r : Report) (reports : List Report) → SameProgram c next → step c.tree c.limits s m (is_refusal r) ≡ Answers r after →
       run c.tree c.limits s (thread_part ((Step m, r) ∷ es)) ≡ RunsTo reports t →
       ((rs : List Report) → run next.tree next.limits after (thread_part es) ≡ RunsTo rs t → RefusesBeyondRoom next after (es ++ fs) n) → RefusesBeyondRoom next after (es ++ fs) n
@@ -69,7 +69,7 @@ module _ (d n : Content) (t : State) (fs : List (Event × Report)) (more : Refus
   refuses_behind ((Gc, r) ∷ es) c s reports e h = (h.0, h.1, h.2, λ after is. stays_behind c h.0 es s after reports (same_program c (h.0, r) Gc h.1) is e (λ k. refuses_behind es h.0 after reports k (h.3 after is)))
   refuses_behind ((Step m, r) ∷ es) c s reports e h = (h.0, h.1, h.2, λ after is. steps_behind c h.0 es s after m r reports (same_program c (h.0, r) (Step m) h.1) is e (λ rs k. refuses_behind es h.0 after rs k (h.3 after is)))
 
--- ---- one list behind another
+-- ---- one list after another
 
 pub joined : (c d n : Content) (es fs : List (Event × Report)) → SameProgram c d → FollowsReference c d es → FollowsReference d n fs → FollowsReference c n (es ++ fs)
 joined c d n es fs same first more s r =

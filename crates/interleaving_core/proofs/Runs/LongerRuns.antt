@@ -1,4 +1,4 @@
--- Each turn of a machine adds its event and its report to what the machine has done.
+-- Each transition of a machine adds its event and its report to what the machine has done.
 use Rattle.std.proofs.Common.{◌≡◌, ◌<◌, List, [], ◌∷◌, ◌++◌, Some, true, arith, refl, subst, sym}
 use Rattle.cil_model.specs.Ranges.{are_in_range}
 use Rattle.cil_model.specs.Typings.{IsAccepted}
@@ -19,13 +19,13 @@ use Rattle.interleaving_core.proofs.Runs.FollowedRuns.{turns_follow, turns_lengt
 use Rattle.interleaving_core.proofs.Threads.LiveThreads.{some_budget}
 use Rattle.interleaving_core.proofs.Runs.RepresentedStates.{opened_represents}
 
--- turns behind turns
+-- transitions after transitions
 turns_behind : (a c n : Content) (es : List Event) (rs : List Report) (fs : List Event) (ss : List Report) → AreTurns a es c rs → AreTurns c fs n ss → AreTurns a (es ++ fs) n (rs ++ ss)
 turns_behind a c n [] rs fs ss h more = subst (λ x. AreTurns x fs n (rs ++ ss)) h.0 (subst (λ l. AreTurns c fs n (l ++ ss)) (sym h.1) more)
 turns_behind a c n (e ∷ es) (r ∷ rs) fs ss h more = (h.0, h.1, turns_behind h.0 c n es rs fs ss h.2 more)
 turns_behind a c n (e ∷ es) [] fs ss h more = elim h [ ]
 
--- all that turns from the opening show
+-- all that transitions from the initial state show
 pub has_done : (tree : Tree) (limits : Limits) (first c : Content) (events : List Event) (reports : List Report) → IsAccepted tree → are_in_range limits ≡ true → opening_content tree limits ≡ Some first →
     AreTurns first events c reports → HasDone tree limits events reports c
 has_done tree limits first c events reports accepted in_range opens turns =
@@ -46,7 +46,7 @@ has_done tree limits first c events reports accepted in_range opens turns =
       leaves = leaves_owed each_alike tree accepted limits in_range events reports c stands;
     }
 
--- so with more turns
+-- so with more transitions
 pub does_more : (c n : Content) (events : List Event) (reports : List Report) → AreTurns c events n reports → DoesMore c events reports n
 does_more c n events reports turns tree limits before given h =
     has_done tree limits h.first n (before ++ events) (given ++ reports) h.accepted h.in_range h.opens (turns_behind h.first c n before given events reports h.turns turns)

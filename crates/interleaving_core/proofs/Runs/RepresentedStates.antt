@@ -1,4 +1,4 @@
--- A machine that represents a state represents one after each of its turns.
+-- A machine that represents a state represents one after each of its transitions.
 use Rattle.std.proofs.Common.{◌≡◌, ◌≤◌, length, Some, Result, Ok, Err, sym, ap, ◌∙◌, subst, arith}
 use Rattle.std.specs.Prelude.{IfOk, IsTrue, OnErr, OnOk}
 use Rattle.std.proofs.lemmas.Option.{same_Some}
@@ -22,7 +22,7 @@ use Rattle.simulation.proofs.Threads.StepEffects.{same_program, turn_few}
 use Rattle.interleaving_core.proofs.InitialContents.FewStaticFields.{statics_few}
 use Rattle.interleaving_core.proofs.Runs.FollowedRuns.{SameProgram, turn_follows}
 
--- what it does next has an answer
+-- what it does next has a result
 pub can_go_on : (e : Engine) → IsSound e → CanGoOn e
 can_go_on e sound = record {
   limits = sound.represents.limits;

@@ -100,7 +100,7 @@ module _ (tree : Tree) (m : Frames) (op : Operation) (at : IsAt tree m op) where
       by_calls _ _ (virtually c name signature owner k finds) e a = found_acts true (virtual_reference c name signature) k finds (same_Some k method e) (action_at tree m) a
       by_calls _ _ (nothing i o none' e') e a = none_is_some method (sym e' ∙ e)
 
--- ---- the turn of a call of a member that acts
+-- ---- the transition of a call of a member that acts
 
 abbrev IsNot0 : Addr → Type 0
 IsNot0 a = (a.number == 0) ≡ false
@@ -220,7 +220,7 @@ module _ (c : Content) (t left : ℕ) (m : Frames) (ready : IsReady c t m) (answ
             subst (λ k. IsSome (monitor_at c.objects k)) same
             (by_monitor y (with_stack m rest) same (y.number == 0) (is_monitor_storable (mutator_of c t).phase c.objects y) (ap (λ (k : Addr). k.number == 0) same ∙ not_null_number x apart) (monitor_at c.objects y) there)
 
-    -- and the slot that tells a thread, where it joins
+    -- and the slot that identifies a thread, where it joins
     joins : action_at c.tree m ≡ Some Join → 0 < length (object_slots c.objects x)
     joins acts =
         let turn = turn_of Join acts in

@@ -1,4 +1,4 @@
--- A turn takes one step from what is left to the thread that makes it, none from another, and leaves each live thread some.
+-- A transition takes one step from what is left to the thread that makes it, none from another, and leaves each live thread some.
 use Rattle.std.proofs.Common.{◌≡◌, ◌⊎◌, ◌<◌, ◌+◌, ◌-◌, ◌==◌, if◌then◌else◌, ℕ, zero, suc, Bool, true, false, cond, List, [], ◌∷◌, ◌++◌, Option, Some, None, slice_get, slice_set, refl, inl, inr, sym, ap, ◌∙◌, subst, arith}
 use Rattle.std.proofs.lemmas.Bool.Decides.{nat_tests}
 use Rattle.std.proofs.lemmas.List.Sums.{sum_by-cons}
@@ -60,7 +60,7 @@ left_set budget (z ∷ zs) zero (suc t) x y there less = ap (λ b. cond b 1 0 + 
 left_set budget (z ∷ zs) (suc n) zero x y there less = ap (λ b. cond b 1 0 + z.steps_left) (never_zero n) ∙ omega arith
 left_set budget (z ∷ zs) (suc n) (suc t) x y there less = ap (λ b. cond b 1 0 + left_in budget (slice_set zs n x) t) (same_less n t) ∙ left_set budget zs n t x y there less
 
--- as many of a thread
+-- a thread keeps its number of steps
 left_kept : (budget : ℕ) (threads : List Thread) (n t : ℕ) (x y : Thread) → slice_get threads n ≡ Some y → x.steps_left ≡ y.steps_left → left_in budget (slice_set threads n x) t ≡ left_in budget threads t
 left_kept budget [] n t x y there same = none_is_some y there
 left_kept budget (z ∷ zs) zero zero x y there same = same ∙ sym (ap (λ (o : Option Thread). option_map_or (λ (thread : Thread). thread.steps_left) o budget) there)
@@ -108,7 +108,7 @@ module _ (c : Content) (live : LiveHaveSteps c.limits.budget c.threads) (some : 
     some_left : 0 < left
     some_left = subst (λ (o : Option Thread). 0 < option_map_or (λ (thread : Thread). thread.steps_left) o c.limits.budget) there (live n (ap (λ (o : Option Thread). option_map_or is_live o false) there))
 
-    -- the threads beside which a step is counted: as many steps are left to each, and the thread of the step is there
+    -- the threads beside which a step is counted: the same number of steps is left to each, and the thread of the step is there
     record AreAsBefore (threads : List Thread) : Type 0 where
       pub own : Thread
       pub own_there : slice_get threads n ≡ Some own
@@ -251,7 +251,7 @@ module _ (c : Content) (live : LiveHaveSteps c.limits.budget c.threads) (some : 
       by_thread None there k = unmoved_as (Step n) Absent after k (λ t. refl)
       by_thread (Some thread) there k = by_standing thread.steps_left thread.standing there k
 
--- ---- one list behind another
+-- ---- one list after another
 
 -- the steps of both lists
 made_by_both : (t : ℕ) (es fs : List (Event × Report)) → steps_made t (es ++ fs) ≡ steps_made t es + steps_made t fs

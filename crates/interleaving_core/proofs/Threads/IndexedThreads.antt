@@ -61,7 +61,7 @@ module _ (threads : List Thread) (t i : ℕ) (same : i ≡ t) (thread : Thread) 
     pub reached_with : (m : Frames) → thread.standing ≡ Live m → slice_get threads t ≡ Some (live_thread thread.steps_left m)
     reached_with m e = reached_there ∙ ap Some (thread_is thread m e)
 
--- ---- the content afterwards
+-- ---- the machine state afterwards
 
 module _ (c : Content) (t i : ℕ) (same : i ≡ t) (thread : Thread) (reads : thread ≡ slice_index_or c.threads i thread) where
   module _ (left : ℕ) (m : Frames) (there : slice_get c.threads t ≡ Some (live_thread left m)) (new : Thread) (report : Report) where
@@ -118,7 +118,7 @@ module _ (c : Content) (t i : ℕ) (same : i ≡ t) (thread : Thread) (reads : t
 
 -- ---- a ready thread
 
--- its instruction has an answer
+-- its instruction has a result
 pub ready_for : (c : Content) (t : ℕ) (m : Frames) (mutator : Mutator) → mutator ≡ mutator_of c t → IsReady c t m → (op : Operation) → IsAt c.tree m op → HasSmallConstant op → IsSome (operation_turn c.tree mutator op m c.objects c.statics c.printed)
 ready_for c t m mutator own ready op at small = subst (λ u. IsSome (operation_turn c.tree u op m c.objects c.statics c.printed)) (sym own) (ready.there op at small)
 

@@ -47,7 +47,7 @@ module _ (c : Content) (s : State) (r : Represents c s) (t left : ℕ) (m : Fram
   pub top_goes_on : CanGoOnLocally c.tree left m.running
   top_goes_on n g less steps = local_ready c t left m.running top_runs s r n g less steps
 
--- a machine goes on to one that represents a state
+-- a machine advances to one that represents a state
 pub lent_sound : (e e' : Engine) → IsSound e → (t left n : ℕ) (f g : Frame) → (at : RunsFrame (content_of e) t left f) → n < left → AreLocalSteps (content_of e).tree frame_room n f g
     → content_of e' ≡ with_live (content_of e) t (left - n) (frames_over g at.below at.depth frame_room) → IsSound e'
 lent_sound e e' sound t left n f g at less steps is =

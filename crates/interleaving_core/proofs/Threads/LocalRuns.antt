@@ -15,6 +15,6 @@ module _ (tree : Tree) (room : ℕ) where
       let same : suc (n + k) ≡ n + suc k = omega arith in
       subst (λ m. AreLocalSteps tree room m f h) same (next, steps_behind n k f g next before more, step)
 
--- where a loan goes on
+-- where a loan continues
 pub goes_on : (l : Lent) → IsLent l → (n : ℕ) (g : Frame) → l.done + n < l.left → AreLocalSteps l.tree frame_room n l.frame g → IsReadySomewhere l.tree frame_room g
 goes_on l lent n g less steps = lent.ready (l.done + n) g less (steps_behind l.tree frame_room l.done n l.origin l.frame g lent.steps steps)

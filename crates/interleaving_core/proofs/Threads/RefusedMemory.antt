@@ -1,4 +1,4 @@
--- A turn is refused memory only for a print or for the start of a thread.
+-- A transition is refused memory only for a print or for the start of a thread.
 use Rattle.std.proofs.Common.{◌≡◌, ◌<◌, ◌+◌, ℕ, List, [], ◌∷◌, ◌++◌, length, Option, Some, None, option_map, slice_get, Result, Ok, Err, refl, inl, inr, sym, ap, ◌∙◌, subst, arith}
 use Rattle.std.proofs.lemmas.List.{length-append, length-set}
 use Rattle.std.specs.Option.{option_map_or}
@@ -28,7 +28,7 @@ pub on_err : {T E P : Type 0} (r : Result T E) → P → OnErr r P
 on_err (Ok x) h = tt
 on_err (Err e) h = h
 
--- an error answers nothing that is said of a value
+-- for an error whatever is said of a value holds
 pub none_on_err : {T E : Type 0} (P : Type 0) (r : Result T E) → IsErr r → OnOk r P
 none_on_err P (Ok x) e = absurd cc
 none_on_err P (Err e) is = tt
@@ -38,11 +38,11 @@ there_mapped f (Some x) h = (x, refl, refl)
 there_mapped f None h = absurd cc
 
 module _ (c : Content) (t left : ℕ) (a : Answer) where
-  -- the content and the report, where a start left so much
+  -- the machine state and the report, where a start left this
   abbrev started_in : List Thread × Objects × Effect → Content × Report
   started_in x = counted (record (left_by c t left a) { threads = x.0; posts = seated x.2 c.posts (length (left_by c t left a).threads) t; objects = x.1 }) t left x.2 (after_request x.2 a.frames)
 
-  -- a start that can be answered has an answer
+  -- a start that can be answered has a result
   module _ (object : Addr) (can : start_fault (left_by c t left a).threads a.objects object ≡ None → IsSome (thread_for c.tree c.limits a.objects object)) where
     started_there : IsSome (started (mutator_of c t).phase c.tree c.limits (left_by c t left a).threads a.objects object)
     started_there = by_fault (start_fault (left_by c t left a).threads a.objects object) (thread_for c.tree c.limits a.objects object) can

@@ -1,4 +1,4 @@
--- A step that asks something of another thread: what it leaves once it has its answer.
+-- A step that asks something of another thread: what it leaves once it has its result.
 use Rattle.std.proofs.Common.{◌≡◌, ℕ, true, List, length, Some, option_map, slice_get, sym, ap, ◌∙◌}
 use Rattle.cil_model.specs.declared.limits.Limits.{Limits}
 use Rattle.cil_model.specs.declared.phases.Phase.{Phase}

@@ -44,14 +44,14 @@ joins_not {A} a object h = absurd (lost h)
     lost k = cc
 
 module _ (m : Frames) (o : Objects) (statics : List Value) (printed : List ℕ) where
-  -- an answer that asks for a start is all as it was
+  -- a result that asks for a start is all as it was
   abbrev KeepsAll : MachineTurn → Type 0
   KeepsAll turn = (answer : Answer) (object : Addr) → Some answer ≡ turn → answer.outcome ≡ Starts object → answer ≡ answer_of m o statics printed (Starts object)
 
   abbrev KeepsCall : CallTurn → Type 0
   KeepsCall turn = (t : CallAnswer) (object : Addr) → Some t ≡ turn → t.outcome ≡ Starts object → t ≡ call_answer m o printed (Starts object)
 
-  -- ---- what comes to an effect asks for nothing
+  -- ---- what results in an effect asks for nothing
 
   other_outcome : {A : Type 0} (answer other : Answer) (e : Effect) (object : Addr) → Some answer ≡ Some other → other.outcome ≡ Comes e → answer.outcome ≡ Starts object → A
   other_outcome answer other e object is comes starts =
@@ -77,7 +77,7 @@ module _ (m : Frames) (o : Objects) (statics : List Value) (printed : List ℕ) 
       let same : answer ≡ (answer_of t.frames t.objects statics t.printed t.outcome) = same_Some answer (answer_of t.frames t.objects statics t.printed t.outcome) is in
       same ∙ ap (λ (x : CallAnswer). answer_of x.frames x.objects statics x.printed x.outcome) (keeps t object refl (sym (ap (λ (x : Answer). x.outcome) same) ∙ starts))
 
-  -- a call that comes to an effect
+  -- a call that results in an effect
   effect_keeps : (n : Frames) (p : Objects) (w : List ℕ) (e : Effect) → KeepsCall (Some (call_answer n p w (Comes e)))
   effect_keeps n p w e t object is starts =
       comes_not e object (sym (ap (λ (x : CallAnswer). x.outcome) (same_Some t (call_answer n p w (Comes e)) is)) ∙ starts)

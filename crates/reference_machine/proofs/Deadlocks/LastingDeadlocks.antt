@@ -1,4 +1,4 @@
--- A set of threads that wait for one another goes on to do so, up to the step that uses up the budget of one.
+-- A set of threads that wait for one another keeps waiting, up to the step that uses up the budget of one.
 use Rattle.std.proofs.Common.{◌≡◌, ◌⊎◌, ◌==◌, ◌-◌, is_none, ℕ, zero, suc, Bool, true, false, if◌then◌else◌, List, [], ◌∷◌, Option, Some, None, option_map, option_and_then, unwrap_or, slice_get, slice_set, refl, inl, inr, sym, ap, ◌∙◌, subst}
 use Rattle.std.specs.Option.{option_map_or}
 use Rattle.std.proofs.lemmas.Bool.{eqb-true}
@@ -43,7 +43,7 @@ abbrev pub IsForThese : (ℕ → Type 0) → Wait → Type 0
 IsForThese these (ForMonitor n owner) = these owner
 IsForThese these (ForEnd v) = these v
 
--- so what is waited for of these threads is waited for still
+-- so what of these threads is waited for is still waited for
 module _ (these : ℕ → Type 0) (s after : State) (holds : Holds these s after) (u : ℕ) (w : Wait) (others : IsForThese these w) where
   enters_still : (stack : List Value) → wait_by s u Enter stack ≡ Some w → wait_by after u Enter stack ≡ Some w
   enters_still stack h = by_object (top_object stack) h

@@ -1,4 +1,4 @@
--- Where not all live threads are deadlocked, one of them can go on; and what a thread's step reports says whether it waits.
+-- Where not all live threads are deadlocked, one of them can make progress; and what a thread's step reports says whether it waits.
 use Rattle.std.proofs.Common.{◌≡◌, ◌≢◌, ◌⊎◌, ◌==◌, ◌-◌, ◌<◌, ◌≤◌, is_none, ℕ, zero, suc, Bool, true, false, if◌then◌else◌, List, [], ◌∷◌, length, map, Option, Some, None, option_map, option_and_then, unwrap_or, slice_get, refl, inl, inr, sym, ap, ◌∙◌, subst, arith}
 use Rattle.std.specs.Option.{option_map_or}
 use Rattle.std.proofs.lemmas.Bool.{eqb-true}
@@ -20,7 +20,7 @@ use Rattle.reference_machine.specs.Values.{ObjectName, Value}
 use Rattle.reference_machine.specs.Waits.{Wait, ForMonitor, ForEnd, called_action, end_awaited, held_by_another, top_object, wait_by, wait_in, wait_of, wait_of_thread}
 use Rattle.reference_machine.specs.Blocking.{AreDeadlocked, GoesOnUnlessAll, HasEnded, HoldersWereStarted, IsBlockedSet, IsHeldUp, IsIn}
 
--- ---- what is waited for is so
+-- ---- waits that are true of a state
 
 -- the owner holds the monitor; the thread is live
 abbrev pub IsTrueWait : State → Wait → Type 0
@@ -84,7 +84,7 @@ module _ (s : State) (u : ℕ) (w : Wait) where
 -- ---- some live thread waits for nothing, or all live threads are deadlocked
 
 module _ (tree : Tree) (s : State) (started : HoldersWereStarted s) where
-  -- a live thread among so many that waits for nothing, or each live one among them waits
+  -- among the first threads, a live one waits for nothing, or each live one waits
   abbrev SomeGoesOn : Type 0
   SomeGoesOn = (t : ℕ) × (is_live s t ≡ true) × (wait_of tree s t ≡ None)
 

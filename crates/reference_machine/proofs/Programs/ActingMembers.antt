@@ -1,4 +1,4 @@
--- A member that acts at once is not virtual, and so no virtual call of another method comes to it.
+-- A member that acts at once is not virtual, and so no virtual call of another method reaches it.
 use Rattle.std.proofs.Common.{◌≡◌, ℕ, zero, suc, Bool, true, false, if◌then◌else◌, List, [], ◌∷◌, Option, Some, None, slice_get, unwrap_or, refl, sym, ap, ◌∙◌, subst}
 use Rattle.std.specs.Option.{option_map_or}
 use Rattle.std.proofs.lemmas.Option.{option_and_then_some, same_Some}

@@ -1,4 +1,4 @@
--- What the name of a class may stand for, and what the rules of a legal tree say of what it declares.
+-- What the name of a class may refer to, and what the rules of a legal tree say of what it declares.
 use Rattle.std.proofs.Common.{◌≡◌, ◌⊎◌, ℕ, Bool, true, false, not, cond, if◌then◌else◌, ◌&&◌, ◌||◌, IsTrue, List, [], ◌∷◌, find, Option, Some, None, is_some, option_map, option_and_then, option_to_list, slice_get, refl, inl, inr, sym, ap, ◌∙◌, subst}
 use Rattle.std.specs.List.{list_any, list_all}
 use Rattle.std.specs.Option.{option_map_or}
@@ -47,7 +47,7 @@ module _ (tree : Tree) where
   abbrev pub declared : Class → Declaration
   declared x = declared_as x.kind (field_members x) (method_members x)
 
-  -- ---- what a name stands for
+  -- ---- what a name refers to
 
   -- a class of the source
   abbrev pub IsOfSource : ClassName → Type 0

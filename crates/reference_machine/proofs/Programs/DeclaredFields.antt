@@ -35,7 +35,7 @@ use Rattle.reference_machine.proofs.Programs.VirtualTargets.{weaker, nearest_at,
 
 -- ---- entries under keys
 
--- what stands before others is found first
+-- what is before others is found first
 entry_before : {K V : Type 0} (same : K → K → Bool) (k : K) (v : V) (es fs : List (K × V)) → entry_at same k es ≡ Some v → entry_at same k (es ++ fs) ≡ Some v
 entry_before same k v [] fs h = none_is_some v h
 entry_before {K} {V} same k v (e ∷ es) fs h = by_test (same e.0 k) h (entry_before same k v es fs)

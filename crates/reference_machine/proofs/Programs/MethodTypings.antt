@@ -29,7 +29,7 @@ use Rattle.std.proofs.lemmas.Option.{option_and_then_some, same_Some}
 
 -- ---- lists
 
--- the item stands somewhere in the list
+-- the item is somewhere in the list
 abbrev pub Stands : {X : Type 0} → List X → X → Type 0
 Stands xs x = (n : ℕ) × (slice_get xs n ≡ Some x)
 

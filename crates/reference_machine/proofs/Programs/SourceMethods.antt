@@ -18,7 +18,7 @@ use Rattle.reference_machine.proofs.Programs.Literals.{any_at}
 
 -- ---- lists
 
--- an item of two lists, one behind the other, is of one of them
+-- an item of two lists, one after the other, is of one of them
 split : {X A : Type 0} (xs ys : List X) (n : ℕ) (x : X) → slice_get (xs ++ ys) n ≡ Some x → ((k : ℕ) → slice_get xs k ≡ Some x → A) → ((k : ℕ) → slice_get ys k ≡ Some x → A) → A
 split [] ys n x e first second = second n e
 split (y ∷ ys) zs zero x e first second = first 0 e
@@ -34,7 +34,7 @@ mapped_from f [] n y e go = none_is_some y e
 mapped_from f (x ∷ xs) zero y e go = go x refl (same_Some (f x) y e)
 mapped_from f (x ∷ xs) (suc n) y e go = mapped_from f xs n y e go
 
--- an item that passes stands in the whole list
+-- an item that passes is in the whole list
 pub kept_from : {X : Type 0} (test : X → Bool) (xs : List X) (n : ℕ) (x : X) → slice_get (filter test xs) n ≡ Some x → (k : ℕ) × (slice_get xs k ≡ Some x) × IsTrue (test x)
 kept_from test [] n x e = none_is_some x e
 kept_from {X} test (y ∷ ys) n x e = by_test (test y) refl n e (kept_from test ys)
@@ -76,7 +76,7 @@ module _ (tree : Tree) (legal : IsLegal tree) where
       by_test false rest h = refl
       by_test true rest h = none_is_some 201 (sym h)
 
-  -- a class of the source is what its name stands for
+  -- a class of the source is what its name refers to
   class_of_name : (n : ℕ) (c : Class) → slice_get tree.classes n ≡ Some c → methods_declared tree (source_name c) ≡ method_members c
   class_of_name n c at =
       ap (λ (o : Option Class). listed_by (λ (d : Declaration). d.methods) (option_map (λ (x : Class). declared_as x.kind (field_members x) (method_members x)) o))

@@ -29,7 +29,7 @@ use Rattle.reference_machine.specs.Steps.{key_of, stored, execute, jump, branch_
 use Rattle.reference_machine.proofs.ReachableObjects.Values.{IsWithin, AreWithin, element_within, place_within, take_within, drop_within, reverse_within, replaced_within, entry_within, zeroed_within, elements_within, binary_within, unary_within, shift_within, convert_32_within, convert_64_within, one_or_zero_within}
 use Rattle.reference_machine.proofs.ReachableObjects.States.{IsFrameWithin, AreFramesWithin, IsClosed, after_within, new_frame_within, returned_within, left_within, field_within, array_within, closed_marks, closed_field, closed_element, closed_birth, newborn_within, closed_monitor, closed_statics, closed_printed, closed_thread_more}
 
--- an effect that goes on with frames and a state that refer to objects of the set alone
+-- an effect that continues with frames and a state that refer to objects of the set alone
 pub data KeepsWithin (Inside : ℕ → Type 0) : Effect → Type 0 where
   goes : (fs : List Frame) (s' : State) → IsClosed Inside s' → AreFramesWithin Inside fs → KeepsWithin Inside (Goes fs s')
   blocks : KeepsWithin Inside Blocks
@@ -90,7 +90,7 @@ pub record IsRunningWithin (Inside : ℕ → Type 0) (s : State) (f : Frame) (be
   pub waiting : AreFramesWithin Inside below
 
 module _ (Inside : ℕ → Type 0) (here : Setting) (s : State) (f : Frame) (below : List Frame) (running : IsRunningWithin Inside s f below) where
-  -- ---- what an instruction goes on with
+  -- ---- what an instruction continues with
 
   -- in another state
   onward_within : (s' : State) (rest : List Value) → IsClosed Inside s' → AreWithin Inside rest → KeepsWithin Inside (onward f below s' rest)

@@ -92,7 +92,7 @@ pub run_reaches : (tree : Tree) (limits : Limits) (requests : List StepRequest) 
 run_reaches tree limits requests s s' reports e n reached =
     reachable_within (IsReachedOrUnborn s) s' (run_within (IsReachedOrUnborn s) tree limits requests s s' reports (reached_is_closed s) e).holds (Born n) reached
 
--- where the state that a run comes to is typed, each object that is reachable in it is owed
+-- where the state that a run reaches is typed, each object that is reachable in it is owed
 pub reached_is_owed : (tree : Tree) (limits : Limits) (requests : List StepRequest) (s s' : State) (reports : List Report) → run tree limits s requests ≡ RunsTo reports s' → IsTyped tree s' → (n : ℕ) → IsReachable s' (Born n) → IsOwed s s' n
 reached_is_owed tree limits requests s s' reports e typed n reached = by_age (run_reaches tree limits requests s s' reports e n reached)
   where

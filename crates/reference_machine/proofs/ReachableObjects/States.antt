@@ -16,7 +16,7 @@ use Rattle.reference_machine.specs.Reachable.{constructed_value, values_of_conte
 use Rattle.reference_machine.specs.Steps.{with_thread_at}
 use Rattle.reference_machine.proofs.ReachableObjects.Values.{values_of, IsWithin, AreWithin, entry_within, replaced_within, replaced_entry_within, zeros_within}
 
--- an option that comes of another by a map
+-- an option that results from another by a map
 mapped_some : {A B P : Type 0} (f : A → B) (o : Option A) (y : B) → option_map f o ≡ Some y → ((x : A) → o ≡ Some x → f x ≡ y → P) → P
 mapped_some f None y e go = none_is_some y e
 mapped_some f (Some x) y e go = go x refl (same_Some (f x) y e)

@@ -93,7 +93,7 @@ module _ (s : State) (F : Fault → Type 0) where
 -- ---- the built-in members
 
 module _ (here : Setting) (s : State) (f : Frame) (below : List Frame) (F : Fault → Type 0) where
-  -- goes on in the same state
+  -- continues in the same state
   pub onward_ok : (rest : List Value) → Allowed s F (onward f below s rest)
   onward_ok rest = on s F (after f rest ∷ below)
 
@@ -305,7 +305,7 @@ module _ (here : Setting) (s : State) (f : Frame) (below : List Frame) where
 
 -- ---- steps and runs
 
--- a step answers with one state
+-- a step has one report and one state
 pub same_after : (r q : Report) (s t : State) → Answers r s ≡ Answers q t → s ≡ t
 same_after r q s t e = cc
 

@@ -32,7 +32,7 @@ same_reports rs qs s t e = cc
 same_stuck : (rs qs : List Report) → SticksAfter rs ≡ SticksAfter qs → rs ≡ qs
 same_stuck rs qs e = cc
 
--- what is behind a report
+-- what follows a report
 module _ (r : Report) where
   pub behind_run : {A : Type 0} (all : List Report) (s : State) (whole : Run) → preceded_by r whole ≡ RunsTo all s → ((reports : List Report) → whole ≡ RunsTo reports s → all ≡ r ∷ reports → A) → A
   behind_run {A} all s (RunsTo reports s') e go =
@@ -45,7 +45,7 @@ module _ (r : Report) where
 
 module _ (tree : Tree) (limits : Limits) where
   module _ (more : List StepRequest) (end : List Report → Run) (grows : (r : Report) (reports : List Report) → preceded_by r (end reports) ≡ end (r ∷ reports)) where
-    -- a run that goes on as another from where it came to
+    -- a run that continues as another from the state that it reached
     goes_behind : (first : List StepRequest) (s t : State) (reports : List Report) → run tree limits s first ≡ RunsTo reports t → run tree limits t more ≡ end [] → run tree limits s (first ++ more) ≡ end reports
     goes_behind [] s t reports e h =
         let P : State → Type 0 = λ x. run tree limits x more ≡ end [] in

@@ -16,7 +16,7 @@ use Rattle.reference_machine.specs.States.{Frame, State}
 use Rattle.reference_machine.specs.Steps.{execute}
 use Rattle.reference_machine.proofs.Runs.InstructionEffects.{Allowed, raises, given_ok, one_ok, array_ok, operands_ok, construct_ok, raised_is_listed, same_raised, no_raise}
 
--- whether a fault is want of memory
+-- whether a fault is out of memory
 abbrev is_memory : Fault → Bool
 is_memory OutOfMemory = true
 is_memory _ = false
@@ -58,7 +58,7 @@ without_action Exit = (refl, (refl, tt))
 without_action Start = (refl, (refl, (refl, tt)))
 without_action Join = (refl, (refl, tt))
 
--- a fault that is want of memory comes of a refusal alone
+-- a fault that is out of memory results from a refusal alone
 abbrev OfRefusal : Setting → Fault → Type 0
 OfRefusal here x = x ≡ OutOfMemory → here.is_refused ≡ true
 

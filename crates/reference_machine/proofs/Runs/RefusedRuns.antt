@@ -36,7 +36,7 @@ module _ (tree : Tree) (limits : Limits) where
           let P : Outcome → Type 0 = λ o. followed_by o (λ x. run tree limits x qs) ≡ RunsTo reports t in
           behind_run r reports t (run tree limits u qs) (subst P is e) (λ rs k' e'. later rs k')
 
-  -- what a run from a state comes to
+  -- the outcome of a run from a state
   abbrev ComesTo : State → List (Event × Report) → State → Type 0
   ComesTo s events t = (run tree limits s (thread_part events) ≡ RunsTo (step_reports events) t) × RefusesBeyondRoom tree limits s (thread_part events)
 

@@ -77,7 +77,7 @@ module _ (tree : Tree) (s : State) where
         constructs = constructs;
       }
 
--- ---- the opening state
+-- ---- the initial state
 
 -- a literal of a list has its monitor in that of monitors
 has_monitor : (cs : List (List ℕ)) (c : List ℕ) → Contains cs c → IsSome (entry_at same_text c (map (λ (d : List ℕ). (d, Free)) cs))
@@ -125,7 +125,7 @@ module _ (tree : Tree) (limits : Limits) (accepted : IsAccepted tree) where
     entry_stands : (k : ℕ) × (slice_get (source_methods tree) k ≡ Some e) × IsTrue (is_entry_point e.1)
     entry_stands = kept_from (λ (found : ClassName × Method). is_entry_point found.1) (source_methods tree) 0 e (ap (λ es. slice_get es 0) alone)
 
-    -- what the opening state is
+    -- what the initial state is
     opening_is : opening tree limits ≡ option_map (opening_at tree limits e) (code_of e.1.kind)
     opening_is = ap (λ es. option_and_then (λ (entry : ClassName × Method). option_map (opening_at tree limits entry) (code_of entry.1.kind)) (slice_get es 0)) alone
 
@@ -133,7 +133,7 @@ module _ (tree : Tree) (limits : Limits) (accepted : IsAccepted tree) where
     entry_opens None is h = never h
     entry_opens (Some code) is h = (opening_at tree limits e code, opening_is ∙ ap (option_map (opening_at tree limits e)) is, opening_at_typed e code entry_stands.0 entry_stands.1 is_entry is)
 
-  -- an accepted program has an opening state, which is typed
+  -- an accepted program has an initial state, which is typed
   pub opens : (s : State) × (opening tree limits ≡ Some s) × IsTyped tree s
   opens =
       let entry = entry_alone tree accepted.legal in

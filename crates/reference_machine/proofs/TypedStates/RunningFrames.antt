@@ -1,4 +1,4 @@
--- A frame that is at an instruction: what its typing says there, and what lets it go on.
+-- A frame that is at an instruction: what its typing says there, and what lets it continue.
 use Rattle.std.proofs.Common.{◌≡◌, ℕ, ◌+◌, ◌<◌, Bool, true, false, IsTrue, List, [], ◌∷◌, length, Option, Some, None, option_map, slice_get, Contains, refl, sym, ap, ◌∙◌, subst, arith}
 use Rattle.std.specs.Option.{option_map_or}
 use Rattle.std.proofs.lemmas.Option.{slice_get-get_or, slice_get_within}
@@ -44,7 +44,7 @@ pub record IsRunning (here : Setting) (s : State) (f : Frame) (below : List Fram
   pub on : FlowsOn here.tree frame.code frame.typing f.place line result
 
 module _ (here : Setting) (s : State) (f : Frame) (below : List Frame) (i : Instruction) (running : IsRunning here s f below i) where
-  -- goes on at a place that a stack reaches, with values of that stack, in a state that follows
+  -- continues at a place that a stack reaches, with values of that stack, in a state that follows
   pub moved : (s' : State) → IsTyped here.tree s' → Follows s s' → (arguments locals rest : List Value) (place : ℕ) (types : List StackType) →
       HaveTypes here.tree s' arguments (argument_types f.method f.owner) → HaveTypes here.tree s' locals running.frame.code.locals →
       HaveStackTypes here.tree s' rest types → Reaches here.tree running.frame.typing types place →

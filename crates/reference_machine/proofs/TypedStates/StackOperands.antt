@@ -218,7 +218,7 @@ module _ (tree : Tree) (s : State) where
 
   -- ---- taking operands
 
-  -- P is what is to hold of the effect of going on
+  -- P is what is to hold of the effect of continuing
   pub one_typed : (go : Value → List Value → Effect) (flow_go : StackType → List StackType → StackAfter) (vs : List Value) (st result : List StackType) →
       HaveStackTypes tree s vs st → take_one None st flow_go ≡ Some result →
       ((v : Value) (a : StackType) (rest : List Value) (types : List StackType) → HasStackType tree s v a → HaveStackTypes tree s rest types → flow_go a types ≡ Some result → IsTypedEffect tree (go v rest)) →

@@ -23,7 +23,7 @@ use Rattle.reference_machine.specs.TypedStates.{HasType, HasStackType, HaveTypes
 
 -- ---- along states
 
--- whether there is an entry is told by the keys
+-- whether there is an entry is determined by the keys
 entry_by_keys : {K V : Type 0} (same : K → K → Bool) (k : K) (es fs : List (K × V)) → map (λ (e : K × V). e.0) es ≡ map (λ (e : K × V). e.0) fs → IsSome (entry_at same k es) → IsSome (entry_at same k fs)
 entry_by_keys same k [] [] h there = there
 entry_by_keys same k [] (f ∷ fs) h there = absurd cc

@@ -57,7 +57,7 @@ instruction_typed here s f below (CallVirtual owner name signature) running = ca
 instruction_typed here s f below (NewObject c parameters) running = new_object_typed here s f below c parameters running
 instruction_typed here s f below Return running = return_typed here s f below running
 
--- a run of an accepted program from its opening state is never stuck, and leaves a typed state
+-- a run of an accepted program from its initial state is never stuck, and leaves a typed state
 pub accepted_never_stuck : (tree : Tree) (limits : Limits) → IsAccepted tree → (requests : List StepRequest) →
     (first : State) × (reports : List Report) × (s : State) × (opening tree limits ≡ Some first) × (run tree limits first requests ≡ RunsTo reports s) × IsTyped tree s
 accepted_never_stuck tree limits accepted requests = never_stuck instruction_typed tree limits accepted requests

@@ -1,4 +1,4 @@
--- The operands of a call have the types that are asked for.
+-- The operands of a call have the types that are required.
 use Rattle.std.proofs.Common.{◌≡◌, ◌≤◌, Bool, true, false, if◌then◌else◌, IsTrue, List, [], ◌∷◌, ◌++◌, length, reverse, take, drop, nat_le, Some, None, refl, sym, subst, arith}
 use Rattle.std.proofs.lemmas.Bool.{and_from, le-leb}
 use Rattle.std.proofs.lemmas.List.{reverse-reverse, length-reverse}
@@ -46,7 +46,7 @@ module _ (tree : Tree) (legal : IsLegal tree) (s : State) where
 -- ---- the operands on a stack
 
 module _ (tree : Tree) (s : State) where
-  -- values behind others
+  -- values after others
   types_behind : (xs ys : List Value) (ts us : List DeclaredType) → HaveTypes tree s xs ts → HaveTypes tree s ys us → HaveTypes tree s (xs ++ ys) (ts ++ us)
   types_behind [] ys [] us h k = k
   types_behind (x ∷ xs) ys (t ∷ ts) us h k = (h.0, types_behind xs ys ts us h.1 k)
@@ -91,10 +91,10 @@ module _ (tree : Tree) (s : State) where
         let first : HaveTypes tree s (take (length types) vs) (reverse types) = subst (λ k. HaveTypes tree s (take k vs) (reverse types)) as_many taken.1 in
         (subst (λ k. k ≤ length vs) as_many taken.0, subst (λ x. HaveTypes tree s (reverse (take (length types) vs)) x) (reverse-reverse types) (types_reversed _ _ first), subst (λ k. HaveStackTypes tree s (drop k vs) rest) as_many taken.2)
 
--- ---- what goes on with them
+-- ---- what continues with them
 
 module _ (here : Setting) (s : State) (f : Frame) (below : List Frame) (legal : IsLegal here.tree) where
-  -- operands that the flow rule takes are there, and what goes on with them has their types
+  -- operands that the flow rule takes are there, and what continues with them has their types
   pub operands_typed : (types : List DeclaredType) (go : List Value → List Value → Effect) (stack rest : List StackType) → take_operands here.tree types stack ≡ Some rest → HaveStackTypes here.tree s f.stack stack →
       ((arguments vs : List Value) → HaveTypes here.tree s arguments types → HaveStackTypes here.tree s vs rest → IsTypedEffect here.tree (go arguments vs)) → IsTypedEffect here.tree (operands here s f below types go)
   operands_typed types go stack rest e h each =

@@ -57,7 +57,7 @@ IsGiven tree s None (Some t) = ⊥
 IsGiven tree s (Some v) None = ⊥
 
 module _ (tree : Tree) (s : State) (typed : IsTyped tree s) where
-  -- what waits for it goes on with it
+  -- the frame that waits for it continues with it
   returned_typed : (v : Option Value) (d : Option DeclaredType) (below : List Frame) → IsGiven tree s v d → AreWaiting tree s d below → IsTypedEffect tree (Goes (returned v below) s)
   returned_typed v d [] value waiting = typed
   returned_typed None None (g ∷ gs) value waiting = (typed, waiting)
@@ -131,7 +131,7 @@ module _ (here : Setting) (s : State) (f : Frame) (below : List Frame) where
 -- ---- the beginning of a method
 
 module _ (here : Setting) (s : State) (f : Frame) (below : List Frame) (i : Instruction) (running : IsRunning here s f below i) (falls : IsTrue (falls_through i)) where
-  -- the caller waits behind its call for what the method gives
+  -- the caller waits after its call for what the method gives
   caller_typed : (s' : State) → Follows s s' → (d : Option DeclaredType) (rest : List Value) (types : List StackType) → HaveStackTypes here.tree s' rest types → running.result ≡ give d types → IsTypedFrame here.tree s' d (after f rest)
   caller_typed s' follows d rest types values result =
       let kept : IsTypedFrame here.tree s' None f = frame_keeps here.tree s s' follows None f running.frame in
@@ -258,7 +258,7 @@ module _ (here : Setting) (s : State) (f : Frame) (below : List Frame) where
       is_found : IsFound here.tree true reference c m
       is_found = found here.tree running.accepted.legal true reference c m e
 
-      -- on the object: one that isn't virtual runs itself, and else the target for the object's class runs
+      -- on the object: one that isn't virtual runs itself, and otherwise the target for the object's class runs
       chosen_typed : (n : ObjectName) (arguments : List Value) → IsObjectOf here.tree s n (type_of_class owner) → HaveTypes here.tree s arguments signature.parameters →
           (v : Bool) → is_virtual m.kind ≡ v → IsTypedEffect here.tree (given (if v then option_and_then (λ d. target here.tree d c m) (class_of s n) else Some (c, m)) (λ chosen. run_method here s f below chosen (Reference n ∷ arguments) rest))
       chosen_typed n arguments this others false kind =

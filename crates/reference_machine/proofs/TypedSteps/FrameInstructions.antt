@@ -205,7 +205,7 @@ module _ (here : Setting) (s : State) (f : Frame) (below : List Frame) where
 
   -- ---- comparisons
 
-  -- a test's answer, or what `turn` makes of it, lets go on
+  -- execution continues with the result of a test, or with what `turn` makes of it
   answered : (turn : Option Bool → Option Bool) → ((o : Bool) → (p : Bool) × (turn (Some o) ≡ Some p)) → (go : Bool → Effect) → ((holds : Bool) → Fine (go holds)) → (o : Bool) → Fine (given (turn (Some o)) go)
   answered turn turned go each o = let p = turned o in let P : Option Bool → Type 0 = λ x. Fine (given x go) in subst P (sym p.1) (each p.0)
 
@@ -214,7 +214,7 @@ module _ (here : Setting) (s : State) (f : Frame) (below : List Frame) where
     ordered_typed : (test : ℤ → ℤ → Bool) → IsTrue (are_integers a b) → Fine (given (ordered_values test v w) go)
     ordered_typed test is = from_integers here.tree legal s (λ x y. Fine (given (ordered_values test x y) go)) v w a b is h k (λ j x y. each (test x y)) (λ j x y. each (test x y))
 
-    -- and so have they, or two references, an answer whether they are equal; `turn` may make it the opposite
+    -- and so have they, or two references, a result whether they are equal; `turn` may make it the opposite
     equal_typed : (turn : Option Bool → Option Bool) → ((o : Bool) → (p : Bool) × (turn (Some o) ≡ Some p)) → IsTrue (are_comparable a b) → Fine (given (turn (equal_values v w)) go)
     equal_typed turn turned is = by_case (either (are_integers a b) (is_any_reference a && is_any_reference b) is)
       where
@@ -256,7 +256,7 @@ module _ (here : Setting) (s : State) (f : Frame) (below : List Frame) where
   branch_always_typed label running =
       jump_typed here s f below (Branch label) running label (0, lit< tt, refl) f.stack (subst (HaveStackTypes here.tree s f.stack) (same_Some running.stack running.result running.flows) running.values)
 
-  -- a test whether a value is set has an answer
+  -- a test whether a value is set has a result
   set_answers : (legal : IsLegal here.tree) (turn : Option Bool → Option Bool) → ((o : Bool) → (p : Bool) × (turn (Some o) ≡ Some p)) → (v : Value) (a : StackType) → HasStackType here.tree s v a → IsTrue (is_integer a || is_any_reference a) →
       (go : Bool → Effect) → ((holds : Bool) → Fine (go holds)) → Fine (given (turn (is_set v)) go)
   set_answers legal turn turned v a h is go each = by_case (either (is_integer a) (is_any_reference a) is)

@@ -106,7 +106,7 @@ constructor_is_own tree c k parameters m h = by_case (either (same_class k c) fa
 -- ---- a new object
 
 module _ (here : Setting) (s : State) (f : Frame) (below : List Frame) where
-  -- a birth is refused, or goes on
+  -- a birth is refused, or the instruction continues
   birth_typed : (contents : Contents) (go : ObjectName → State → Effect) → IsTypedEffect here.tree (go (next_name s) (with_birth s contents)) → IsTypedEffect here.tree (birth here s f below contents go)
   birth_typed contents go h = by_refusal here.is_refused
     where

@@ -46,7 +46,7 @@ mapped_some g None y e go = none_is_some y e
 mapped_some g (Some x) y e go = go x refl (same_Some (g x) y e)
 
 module _ (tree : Tree) where
-  -- an array's own elements may stand where elements of another type are wanted: one type, or references that fit
+  -- an array's own elements may be given where elements of another type are expected: one type, or references that fit
   abbrev pub IsHeldAs : DeclaredType → DeclaredType → Type 0
   IsHeldAs t w = (t ≡ w) ⊎ (IsTrue (is_reference t) × IsTrue (is_reference w) × IsTrue (is_assignable tree t w))
 
@@ -62,7 +62,7 @@ module _ (tree : Tree) (legal : IsLegal tree) (s : State) where
       by_type n NativeInt k = elim k [ ]
       by_type n NullType k = elim k [ ]
 
-  -- arrays that are assignable hold elements that may stand for one another
+  -- arrays that are assignable hold elements that may be given for one another
   arrays_hold : (t w : DeclaredType) → IsTrue (is_assignable tree (array_of t) (array_of w)) → IsHeldAs tree t w
   arrays_hold t w h = by_case (either (same_type t w) (is_reference t && is_reference w && is_assignable tree t w) h)
     where
@@ -85,7 +85,7 @@ module _ (tree : Tree) (legal : IsLegal tree) (s : State) where
       by_object None there e = none_is_some own e
       by_object (Some o) there e = by_contents o.contents (same_Some (type_of_contents o.contents) own e) (ap (option_and_then (λ (x : HeapObject). elements_of_contents x.contents)) there)
 
-  -- null, or an array whose elements may stand where those that passed the test are wanted
+  -- null, or an array whose elements may be given where those that passed the test are expected
   pub from_array : (P : Value → Type 0) (test : DeclaredType → Bool) (v : Value) (a : StackType) → IsTrue (is_array_of test a) → HasStackType tree s v a → P Null →
       ((n : ObjectName) (t w : DeclaredType) (elements : List Value) → array_at s n ≡ Some (t, elements) → IsHeldAs tree t w → IsTrue (test w) → element_on_stack a ≡ Declared w → P (Reference n)) → P v
   from_array P test Null a passed h null each = null
@@ -109,7 +109,7 @@ module _ (tree : Tree) (legal : IsLegal tree) (s : State) where
   from_array P test (Native z) NativeInt passed h null each = never passed
   from_array P test (Reference n) NativeInt passed h null each = never passed
 
-  -- ---- what an array holds, where another type is wanted
+  -- ---- what an array holds, where another type is expected
 
   -- integers are held as themselves alone
   held_alone : (t w integer : DeclaredType) → is_reference integer ≡ false → IsHeldAs tree t w → IsTrue (same_type w integer) → t ≡ integer
@@ -121,7 +121,7 @@ module _ (tree : Tree) (legal : IsLegal tree) (s : State) where
   held_reference t w (inl e) r = subst (λ x. IsTrue (is_reference x)) (sym e) r
   held_reference t w (inr h) r = h.0
 
-  -- its elements fit where the others are wanted
+  -- its elements fit where the others are expected
   held_fits : (t w : DeclaredType) → IsHeldAs tree t w → IsTrue (is_assignable tree t w)
   held_fits t w (inl e) = subst (λ x. IsTrue (is_assignable tree t x)) e (test_is_complete tree legal t t to_itself)
   held_fits t w (inr h) = h.2
@@ -140,7 +140,7 @@ module _ (here : Setting) (s : State) (f : Frame) (below : List Frame) where
   from_given : {X : Type 0} (go : X → Effect) (o : Option X) (x : X) → o ≡ Some x → Fine (go x) → Fine (given o go)
   from_given go o x is h = subst (λ y. Fine (given y go)) (sym is) h
 
-  -- on where a test holds, and else another way
+  -- one way where a test holds, and otherwise another way
   from_test : (b : Bool) (x y : Effect) → (IsTrue b → Fine x) → Fine y → Fine (if b then x else y)
   from_test true x y h k = h refl
   from_test false x y h k = k
@@ -304,7 +304,7 @@ module _ (here : Setting) (s : State) (f : Frame) (below : List Frame) where
         let wanted : HasType here.tree s v w = value_fits here.tree running.accepted.legal s v (Declared t) w (held_fits here.tree running.accepted.legal s t w held) own in
         on (v ∷ rest) (element_on_stack a ∷ types) (subst (λ x. HasStackType here.tree s v x) (sym on_stack) wanted, rest_typed) passed.1))
 
-    -- a value that an array may hold, by its own class, is stored; else the instruction faults
+    -- a value that an array may hold, by its own class, is stored; otherwise the instruction faults
     held_or_fault : (rest : List Value) (types : List StackType) → HaveStackTypes here.tree s rest types → types ≡ running.result → (n : ObjectName) (t : DeclaredType) (elements : List Value) (m : ℕ) (v old : Value) (c : StackType) →
         array_at s n ≡ Some (t, elements) → slice_get elements m ≡ Some old → IsTrue (is_reference t) → IsTrue (is_any_reference c) → HasStackType here.tree s v c →
         Fine (given (may_hold here s f below t v) (λ holds. if holds then given (with_element s n m v) (λ s'. onward f below s' rest) else Raises ArrayTypeMismatch))

@@ -88,7 +88,7 @@ module _ (instruction_typed : InstructionsAreTyped) (tree : Tree) (limits : Limi
       let later = run_typed qs first.1 first.3 in
       (first.0 ∷ later.0, later.1, ap (λ o. followed_by o (λ u. run tree limits u qs)) first.2 ∙ ap (preceded_by first.0) later.2, later.3)
 
-  -- a run from the opening state isn't stuck
+  -- a run from the initial state isn't stuck
   pub never_stuck : (requests : List StepRequest) → (first : State) × (reports : List Report) × (s : State) × (opening tree limits ≡ Some first) × (run tree limits first requests ≡ RunsTo reports s) × IsTyped tree s
   never_stuck requests =
       let opened = opens tree limits accepted in

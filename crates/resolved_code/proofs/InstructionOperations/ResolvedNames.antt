@@ -1,4 +1,4 @@
--- What a name is resolved to stands for what it named: classes, types, members and labels.
+-- What a name is resolved to represents what it named: classes, types, members and labels.
 use Rattle.std.proofs.Common.{◌≡◌, ℕ, Bool, true, false, find, List, [], ◌∷◌, map, option_map, option_and_then, Option, Some, None, slice_get, refl, sym, ap, subst, ◌∙◌}
 use Rattle.std.specs.List.{position_from}
 use Rattle.cil_model.specs.declared.types.ClassName.{ClassName}

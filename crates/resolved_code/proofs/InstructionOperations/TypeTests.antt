@@ -1,4 +1,4 @@
--- What a test of numbered types comes to is so of the types that they stand for.
+-- The outcome of a test of numbered types holds of the types that they represent.
 use Rattle.std.proofs.Common.{◌≡◌, ◌==◌, ◌<◌, ◌≤◌, nat_lt, ℕ, Bool, true, false, ◌&&◌, cond, Option, Some, None, option_map, refl, sym, ap, ◌∙◌, subst, arith}
 use Rattle.std.proofs.lemmas.Bool.{eqb-true, eqb-false, ltb-true, ltb-false}
 use Rattle.cil_model.specs.declared.types.ClassName.{ClassName}
@@ -18,7 +18,7 @@ use Rattle.resolved_code.specs.TypeTests.{is_object, element_test, type_test, Co
 use Rattle.resolved_code.proofs.InstructionOperations.ArrayTypes.{with_as_many, with_fewer, with_more}
 
 module _ (tree : Tree) where
-  -- the element that a numbered one stands for, case by case
+  -- the element that a numbered one represents, case by case
   data StandsFor : NumberedElement → Element → Type 0 where
     an_int32 : StandsFor Int32 Int32Element
     an_int64 : StandsFor Int64 Int64Element

@@ -1,4 +1,4 @@
--- In a legal tree an instruction stands for one operation: names, members, literals and labels have one number each.
+-- In a legal tree an instruction has one operation: names, members, literals and labels have one number each.
 use Rattle.std.proofs.Common.{◌≡◌, ◌||◌, ℕ, zero, suc, Bool, true, false, IsTrue, not, cond, List, [], ◌∷◌, map, filter, Option, Some, None, option_map, option_and_then, slice_get, refl, sym, ap, ◌∙◌, subst}
 use Rattle.std.proofs.lemmas.Bool.{and_from, or_from, or_parts}
 use Rattle.std.proofs.lemmas.Option.{same_Some}
@@ -40,7 +40,7 @@ use Rattle.resolved_code.proofs.Numbers.Classes.{first_place, number_of_place}
 
 -- ---- lists
 
--- an item of a list without a repeat stands at one place
+-- an item of a list without a repeat is at one place
 places_once : {X : Type 0} (same : X → X → Bool) → ((x : X) → IsTrue (same x x)) → (xs : List X) (n m : ℕ) (x : X) → has_repeat same xs ≡ false → slice_get xs n ≡ Some x → slice_get xs m ≡ Some x → n ≡ m
 places_once same itself [] n m x h e f = none_is_some x e
 places_once same itself (y ∷ ys) zero zero x h e f = refl
@@ -56,7 +56,7 @@ all_there : {Y : Type 0} (ys : List Y) → all_some (map Some ys) ≡ Some ys
 all_there [] = refl
 all_there {Y} (y ∷ ys) = ap (option_map {U = List Y} (λ zs. y ∷ zs)) (all_there ys)
 
--- a list whose equal items stand once has no repeat
+-- a list whose equal items occur once has no repeat
 none_left : {X : Type 0} (test : X → Bool) (xs : List X) → list_any test (filter (λ y. not (test y)) xs) ≡ false
 none_left test [] = refl
 none_left {X} test (x ∷ xs) = by_test (test x) refl (none_left test xs)
@@ -134,7 +134,7 @@ module _ (tree : Tree) (legal : IsLegal tree) where
           let places : p.1 ≡ q.1 = places_once same itself (part m.declaration) p.1 q.1 x.1 (once p.0 (x.0, m.declaration) m.entry) m.there other in
           ap (λ (n : ℕ). (n, p.1)) classes ∙ ap (λ (n : ℕ). (q.0, n)) places
 
-      -- what is found has the number at which it stands
+      -- what is found has the number of its place
       found_is : (o : Option (ℕ × ℕ)) (found : Option (ClassName × X)) → option_map (member_at part tree) o ≡ option_map Some found
           → (x : ClassName × X) → found ≡ Some x → (m : MemberNumber) → member_at part tree (m.class, m.place) ≡ Some x → option_map member_of o ≡ Some m
       found_is None found alike x is m e = none_is_some (Some x) (alike ∙ ap (option_map Some) is)

@@ -1,4 +1,4 @@
--- The place of a label among all labels leads to the line that it stands before.
+-- The place of a label among all labels leads to the line that it is before.
 use Rattle.std.proofs.Common.{◌≡◌, ℕ, suc, ◌+◌, Bool, true, false, cond, ◌||◌, List, [], ◌∷◌, ◌++◌, map, option_map, option_and_then, Option, Some, None, slice_get, refl, sym, ap, ◌∙◌, ◌<◌, length, take, get_or, arith, append_assoc, length-take-le}
 use Rattle.std.specs.Prelude.{flat_map}
 use Rattle.std.proofs.lemmas.List.{take_more, append-nil}
@@ -10,7 +10,7 @@ use Rattle.name_tables.proofs.NumberLaws.{position_from-suc}
 use Rattle.resolved_code.specs.LabelPlaces.{label_places}
 
 module _ {K X : Type 0} (test : K → Bool) where
-  -- what stands beside the first key that passes
+  -- the item beside the first key that passes
   abbrev beside : List K → List X → Option X
   beside ks xs = option_and_then (slice_get xs) (position_from test 0 ks)
 
@@ -23,7 +23,7 @@ module _ {K X : Type 0} (test : K → Bool) where
       elim (test k) as (λ b. option_and_then (slice_get (x ∷ xs)) (cond b (Some 0) (position_from test 1 ks)) ≡ cond b (Some x) (beside ks xs))
       [ true ↦ refl | false ↦ ap (option_and_then (slice_get (x ∷ xs))) (position_from-suc test 0 ks) ∙ moved x xs (position_from test 0 ks) ]
 
-  -- keys beside which the same item stands
+  -- keys with the same item beside each
   beside_many : (many : List K) (x : X) (ks : List K) (xs : List X) → beside (many ++ ks) (map (λ k. x) many ++ xs) ≡ cond (list_any test many) (Some x) (beside ks xs)
   beside_many [] x ks xs = refl
   beside_many (k ∷ many) x ks xs =

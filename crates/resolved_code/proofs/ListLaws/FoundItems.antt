@@ -1,4 +1,4 @@
--- The results of a rule on the items of a list, as far as a loop over them has come.
+-- The results of a rule on the items of a list, as far as a loop over them has got.
 use Rattle.std.proofs.Common.{◌≡◌, ◌<◌, ◌+◌, ℕ, zero, suc, List, [], ◌∷◌, ◌++◌, length, take, get_or, map, option_map, option_and_then, Option, Some, None, refl, sym, ap, ◌∙◌, arith}
 use Rattle.std.proofs.Math.Seq.{take-length}
 use Rattle.name_tables.proofs.Lists.{map-take_more, map_of_map}

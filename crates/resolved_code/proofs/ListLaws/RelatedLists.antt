@@ -9,7 +9,7 @@ alike_length R (x ∷ xs) (y ∷ ys) h = ap suc (alike_length R xs ys h.1)
 alike_length R [] (y ∷ ys) h = absurd h
 alike_length R (x ∷ xs) [] h = absurd h
 
--- the item that stands in the relation to one of the other list
+-- the item that is related to one of the other list
 pub record AlikeTo {X Y : Type 0} (R : X → Y → Type 0) (xs : List X) (n : ℕ) (y : Y) : Type 0 where
   pub item : X
   pub there : slice_get xs n ≡ Some item

@@ -64,7 +64,7 @@ all_after p xs i x l e h =
     let k : i + 1 ≡ suc i = omega arith in
     ap (λ n. list_all p (drop n xs)) k ∙ sym (ap (list_all p) (drop-cons xs i x l ∙ ap (λ y. y ∷ drop (suc i) xs) (sym e)) ∙ ap (λ b. b && list_all p (drop (suc i) xs)) h)
 
--- ---- five tests in a row
+-- ---- five tests one after another
 
 pub first_fails : (a b c d e : Bool) → a ≡ false → a && b && c && d && e ≡ false
 first_fails a b c d e h = ap (λ x. x && b && c && d && e) h

@@ -15,7 +15,7 @@ use Rattle.cil_model.proofs.Lists.{passes_not, has_repeat-map}
 use Rattle.name_tables.specs.Numbers.{class_number, declarations, source_entry}
 use Rattle.name_tables.proofs.NumberLaws.{IsNumbered, numbered, none_is_some, position_from-suc}
 
--- where no item stands twice, each is found at its own place
+-- where no item occurs twice, each is found at its own place
 pub first_place : {X : Type 0} (same : X → X → Bool) → ((x : X) → IsTrue (same x x)) → ((x y : X) → same x y ≡ same y x) → (xs : List X) (n : ℕ) (x : X) →
     has_repeat same xs ≡ false → slice_get xs n ≡ Some x → position_from (same x) 0 xs ≡ Some n
 first_place same itself symm [] n x h e = absurd (none_is_some x e)
@@ -27,7 +27,7 @@ first_place same itself symm (y ∷ ys) (suc n) x h e =
     ap (λ b. cond b (Some 0) (position_from (same x) 1 ys)) apart ∙ position_from-suc (same x) 0 ys ∙ ap (option_map suc) (first_place same itself symm ys n x (or_parts _ _ h).1 e)
 
 module _ (tree : Tree) where
-  -- ---- no class stands twice
+  -- ---- no class occurs twice
 
   abbrev same_entry : ClassName × Declaration → ClassName × Declaration → Bool
   same_entry a b = same_class a.0 b.0

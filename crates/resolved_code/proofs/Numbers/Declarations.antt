@@ -18,7 +18,7 @@ module _ (tree : Tree) (c : ClassName) where
       by_number None is none = absurd (none_is_some d (sym none ∙ declared))
       by_number (Some n) is found = (n, is, ap (option_map (λ (e : ClassName × Declaration). e.0)) found.2)
 
-  -- a member of one kind stands at the class's number and its own place
+  -- a member of one kind is at the class's number and its own place
   member_has_number : {X : Type 0} (part : Declaration → List X) (p : ℕ) (x : X) → slice_get (listed_by part (declaration_of tree c)) p ≡ Some x →
       (n : ℕ) × (class_number tree c ≡ Some n) × (member_at part tree (n, p) ≡ Some (c, x))
   member_has_number {X} part p x listed = by_number (class_number tree c) refl (numbered tree c)

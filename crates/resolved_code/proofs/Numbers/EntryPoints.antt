@@ -35,7 +35,7 @@ pub never_none : {X : Type 0} (o : Option X) → IsSome o → o ≡ None → ⊥
 never_none None h e = cc
 never_none (Some x) h e = cc
 
--- numbers behind one more class
+-- numbers after one more class
 shifted : (n : ℕ) (es : List (ClassName × Declaration)) → entry_from (suc n) es ≡ option_map further (entry_from n es)
 shifted n [] = refl
 shifted n (e ∷ es) = by_place (position_from is_entry_point 0 e.1.methods) (shifted (suc n) es)
@@ -51,7 +51,7 @@ naming e m = (e.0, m)
 abbrev either : Option (ClassName × Method) → Option (ClassName × Method) → Option (ClassName × Method)
 either o p = cond (is_some o) o p
 
--- the first number stands for the first entry point
+-- the first number refers to the first entry point
 first_at : (es : List (ClassName × Declaration)) → option_map (at es) (entry_from 0 es) ≡ option_map Some (find is_entry (flat_map with_class es))
 first_at [] = refl
 first_at (e ∷ es) =

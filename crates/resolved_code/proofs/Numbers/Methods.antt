@@ -24,7 +24,7 @@ module _ (tree : Tree) where
       find_congr (λ (m : Method). same_identity k (identity_of m)) (λ (m : Method). same_identity (identity_of m) k) (λ m. identity_equivalence.symm k (identity_of m)) found.0.methods ∙
       sym (ap (λ z. find (λ (m : Method). same_identity (identity_of m) k) (listed_by (λ d. d.methods) z)) found.1)
 
-  -- a name that stands for nothing has no methods
+  -- a name that refers to nothing has no methods
   pub nothing_found : (k : MethodIdentity) (c : ClassName) → class_number tree c ≡ None → method_declared tree k.name k.signature c ≡ None
   nothing_found k c e = ap (λ z. find (λ (m : Method). same_identity (identity_of m) k) (listed_by (λ d. d.methods) z)) (declared_at_none tree c e)
 

@@ -32,7 +32,7 @@ pub fails_last : {X Y : Type 0} (make : X → Y) (o : Option X) (e : ResolveErro
 fails_last make o Unresolved h = ap (option_map make) h
 fails_last make o OutOfMemory h = tt
 
--- what is found, or else unresolved
+-- what is found, and otherwise unresolved
 pub found : {X : Type 0} (r : Result X ResolveError) (o rule : Option X) → r ≡ ok_or o Unresolved → o ≡ rule → Gives r rule
 found {X} r o rule e h = subst (λ q. Gives q rule) (sym e) (subst (Gives (ok_or o Unresolved)) h (as_found o))
   where

@@ -5,7 +5,7 @@ use Rattle.simulation.specs.Collecting.{with_roots_marked}
 use Rattle.interleaving_core.specs.Acknowledging.{AreAllThere}
 use Rattle.interleaving_core.proofs.acknowledgements.mark_frames.Given as goal
 
--- what is left to mark, after what was marked, comes to all
+-- marking what is left, after what was marked, results in the marks of all
 abbrev pub invariant-loop-frame : goal.invariant-loop-frame
 invariant-loop-frame l =
     record {

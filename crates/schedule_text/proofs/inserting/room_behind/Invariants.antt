@@ -2,6 +2,6 @@ use Rattle.std.proofs.Common.{◌≡◌, ◌+◌, length, take}
 use Rattle.schedule_text.specs.Items.{events_of}
 use Rattle.schedule_text.proofs.inserting.room_behind.Given as goal
 
--- so many events may follow those of the items so far
+-- `room` events may follow those of the items so far
 abbrev pub invariant-loop-item : goal.invariant-loop-item
 invariant-loop-item l = l.room + length (events_of (take l.item-index l.items)) ≡ l.most

@@ -4,7 +4,7 @@ use Rattle.schedule_text.specs.Readings.{AreRead}
 use Rattle.schedule_text.specs.declared.errors.TheConstants.{MOST_EVENTS}
 use Rattle.schedule_text.proofs.reading.read_schedule.Given as goal
 
--- the words so far are read, and stand for so many events
+-- the words so far are read, and represent this number of events
 abbrev pub invariant-loop-word : goal.invariant-loop-word
 invariant-loop-word l = record {
   read : AreRead (map (λ word. word.now) l.yielded) (events_of l.items.items);

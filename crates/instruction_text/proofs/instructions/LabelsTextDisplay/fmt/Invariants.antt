@@ -4,7 +4,7 @@ use Rattle.instruction_text.specs.Characters.{characters_text}
 use Rattle.instruction_text.specs.Texts.{listed}
 use Rattle.instruction_text.proofs.instructions.LabelsTextDisplay.fmt.Given as goal
 
--- the first label and so many behind it are written
+-- the first label and this number of labels after it are written
 abbrev pub invariant-loop-label : goal.invariant-loop-label
 invariant-loop-label g l =
     IsPlainFormatter l.fn.f → HasWritten g.W.Write.write_str_gives l.fn.f (40 ∷ listed characters_text (take (l.label-index + 1) l.self.0.now)) l.f

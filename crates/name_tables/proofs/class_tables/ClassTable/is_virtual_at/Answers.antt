@@ -19,7 +19,7 @@ use Rattle.name_tables.proofs.NumberLaws.{position_from-map, found_some}
 use Rattle.name_tables.proofs.class_tables.ClassTable.is_virtual_at.Goals.{After-method_at}
 use Rattle.name_tables.proofs.class_tables.ClassTable.is_virtual_at.Goals as goal
 
--- where keys stand for items, the number of the key at a place is the first place of an item that is the same as the one there
+-- where keys represent items, the number of the key at a place is the first place of an item that is the same as the one there
 first_same : {K X Y : Type 0} (view : K → Y) (part : X → Y) (same : Y → Y → Bool) → ((y : Y) → same y y ≡ true) → (keys : List K) (xs : List X) → map view keys ≡ map part xs → (i : ℕ) → i < length xs →
     option_map (λ x. find (λ z. same (part x) (part z)) xs) (slice_get xs i) ≡ Some (slice_get xs (get_or (map (number_in (λ a b. same (view a) (view b)) keys) keys) i 0))
 first_same {K} {X} view part same itself keys xs e i l = by_item (slice_get_cases xs i).1
