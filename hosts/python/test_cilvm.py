@@ -14,7 +14,7 @@ import cilvm
 from cilvm import Code, Machine, Refused
 from texts import do_events, limits_of_words, outcome, report_name
 
-EXAMPLES = os.path.join(os.path.dirname(os.path.abspath(__file__)), "../../crates/trials/data/examples")
+EXAMPLES = os.path.join(os.path.dirname(os.path.abspath(__file__)), "../../crates/conformance/data/examples")
 
 
 def read(name):

@@ -1,4 +1,4 @@
-"""Runs the test cases of the trials by the library: each source of a `check`, `run`, `replay` or `trace` is opened, and its schedule is done event
+"""Runs the test cases of `conformance` by the library: each source of a `check`, `run`, `replay` or `trace` is opened, and its schedule is done event
 by event and once more by its text. The number of a refusal and what explains it, what is printed, how threads end, the reports and the words in use
 have to be what the test case says.
 
@@ -16,7 +16,7 @@ import cilvm
 from cilvm import Code, Machine, Refused
 from texts import do_events, ends_of, limits_of_words, report_name
 
-DATA = os.path.join(os.path.dirname(os.path.abspath(__file__)), "../../crates/trials/data")
+DATA = os.path.join(os.path.dirname(os.path.abspath(__file__)), "../../crates/conformance/data")
 COMMANDS = ("check", "run", "replay", "trace")
 #: Options with a value.
 VALUED = ("--schedule", "--words", "--max-words", "--budget", "--depth")
@@ -41,7 +41,7 @@ class Case(typing.NamedTuple):
 
 
 def text_of(lines):
-    """The bytes of a text, with its lines that stand for many."""
+    """The bytes of a text, with its lines that expand to many."""
     found = []
     for line in lines:
         many = re.match(r"(@@?)(\d+) ?(.*)", line)

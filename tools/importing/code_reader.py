@@ -21,7 +21,7 @@ _WIDTHS = {"ldc.i4": 32, "ldc.i8": 64}
 
 
 def read_body(reader, method: Method) -> None:
-    """Reads the code of a method behind its opening brace, up to the closing one."""
+    """Reads the code of a method after its opening brace, up to the closing one."""
     method.code = _block(reader, method)
     method.lines["close"] = reader.cursor.tokens[reader.cursor.position - 1].line
 
@@ -89,7 +89,7 @@ def _header(reader, method: Method, token) -> None:
 
 
 def _overridden(cursor):
-    """Reads the method behind `.override`: whole, or `type::name` alone (II.10.3.2)."""
+    """Reads the method after `.override`: whole, or `type::name` alone (II.10.3.2)."""
     start = cursor.position
     owner = cursor.type()
     if cursor.accept("::"):

@@ -1,4 +1,4 @@
-"""A place in the tokens of a listing, and the reading of names, types and references to members (ECMA-335 II.7, II.15.4)."""
+"""A position in the tokens of a listing, and the reading of names, types and references to members (ECMA-335 II.7, II.15.4)."""
 
 from .report import ListingError, Report
 from .tokens import Token

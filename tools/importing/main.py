@@ -21,7 +21,7 @@ from .writer import Writer
 USAGE = """usage: tools/import LISTING > FILE.il
 
 Turns what `monodis` prints of a program in C# into a source of the text profile.
-Standard error tells the changes, or all that has no counterpart; then the status is 1
+Standard error lists the changes, or all that has no counterpart; then the status is 1
 and there is no output. docs/FROM_CSHARP.md has more."""
 REFUSED, USAGE_ERROR, UNREADABLE = 1, 2, 5
 

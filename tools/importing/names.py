@@ -67,7 +67,7 @@ def _spelled(text: str) -> str:
 
 
 def class_text(kind: Type) -> str:
-    """Returns what tells a class from others: its name, with the arguments of an instance and without the count of its parameters."""
+    """Returns what distinguishes a class from others: its name, with the arguments of an instance and without the count of its parameters."""
     if isinstance(kind, Array):
         return f"{class_text(kind.element)}.Array" if kind.rank == 1 else f"{class_text(kind.element)}.Array{kind.rank}"
     if isinstance(kind, Primitive) or not isinstance(kind, Class):

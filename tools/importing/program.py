@@ -19,7 +19,7 @@ class Program:
         self.classes: dict[Class, ClassDef] = {made.type: made for made in listing.classes}
 
     def add(self, made: ClassDef) -> None:
-        """Adds a class behind the others."""
+        """Adds a class after the others."""
         self.listing.classes.append(made)
         self.classes[made.type] = made
 
@@ -97,7 +97,7 @@ class Program:
         return target in self.bases(source) or target in self.interfaces(source)
 
     def common_base(self, one: Type, other: Type) -> Type:
-        """Returns the type of a place where paths with these two references meet."""
+        """Returns the type at a point where paths with these two references meet."""
         if self.is_assignable(one, other):
             return other
         if self.is_assignable(other, one):

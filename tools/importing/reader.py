@@ -39,7 +39,7 @@ class _Reader:
         self.listing = Listing()
 
     def listing_body(self, namespace: str) -> None:
-        """Reads what stands at the top, or in a namespace up to its brace."""
+        """Reads what is at the top, or in a namespace up to its brace."""
         cursor = self.cursor
         while cursor.token.kind != "end" and not (namespace and cursor.at("}")):
             self._top(cursor.next(), namespace)
@@ -103,7 +103,7 @@ class _Reader:
         return kind
 
     def class_definition(self, namespace: str, outer: ClassDef | None) -> None:
-        """Reads a class behind `.class`; a nested one becomes one of its own (II.10)."""
+        """Reads a class after `.class`; a nested one becomes one of its own (II.10)."""
         cursor = self.cursor
         line = self.cursor.tokens[cursor.position - 1].line
         flags = cursor.take_while(_CLASS_WORDS)
@@ -126,7 +126,7 @@ class _Reader:
         made.end_line = cursor.expect("}").line
 
     def _interfaces(self) -> list[Type]:
-        """Reads the interfaces behind `implements`."""
+        """Reads the interfaces after `implements`."""
         found = [self.cursor.type()]
         while self.cursor.accept(","):
             found.append(self.cursor.type())
@@ -185,7 +185,7 @@ class _Reader:
         self.cursor.method_ref()
 
     def _field(self, line: int) -> Field:
-        """Reads a field behind `.field` (II.16)."""
+        """Reads a field after `.field` (II.16)."""
         cursor = self.cursor
         if cursor.at("["):
             cursor.skip_group("[", "]")
@@ -214,7 +214,7 @@ class _Reader:
             cursor.skip_group("(", ")")
 
     def _method(self, line: int) -> Method:
-        """Reads a method behind `.method` (II.15)."""
+        """Reads a method after `.method` (II.15)."""
         cursor = self.cursor
         flags = cursor.take_while(_METHOD_WORDS)
         while cursor.at("pinvokeimpl"):

@@ -1,4 +1,4 @@
-"""What the importer tells its user: counts of changes, notes on changes of meaning, refusals; each of the last two with a line."""
+"""What the importer reports to its user: counts of changes, notes on changes of meaning, refusals; each of the last two with a line."""
 
 from collections import Counter
 from dataclasses import dataclass
@@ -22,7 +22,7 @@ class Remark:
 
 
 class Report:
-    """Collects what is told at the end. Remarks that are equal are kept once."""
+    """Collects what is reported at the end. Remarks that are equal are kept once."""
 
     def __init__(self) -> None:
         self.changes: Counter[str] = Counter()
@@ -34,7 +34,7 @@ class Report:
         self.changes[kind] += times
 
     def note(self, line: int, kind: str, text: str) -> None:
-        """Counts a change that means more than spelling, and tells what it means."""
+        """Counts a change that means more than spelling, and says what it means."""
         self.changes[kind] += 1
         self.notes.add(Remark(line, text))
 

@@ -17,7 +17,7 @@ class Code:
         self.method = method
         self.analysis = Analysis(program, owner, method)
         self.variables = len(method.locals)
-        self.converted: set[tuple[int, Type]] = set()  # what a value is cast or cut to behind the instruction that pushes it
+        self.converted: set[tuple[int, Type]] = set()  # what a value is cast or cut to after the instruction that pushes it
         self.cells: dict[int, int] = {}  # of arguments whose address is given away: the local with the cell
         self._temporaries: dict[tuple[Type, int], int] = {}
 
@@ -118,7 +118,7 @@ def variable_field(kind: Type) -> FieldRef:
 
 
 def reference_of(kind: Type) -> Class:
-    """Returns the class of references to places of this type."""
+    """Returns the class of references to locations of this type."""
     return Class(None, "Importer.Reference`1", (kind,))
 
 

@@ -122,7 +122,7 @@ class Analysis:
     def _reach(self, place: int, stack: Stack, line: int) -> bool:
         """Records that control arrives with this stack; says whether that is news."""
         if place >= len(self.code):
-            raise ListingError(line, "the code goes on behind its end")
+            raise ListingError(line, "the code continues after its end")
         known = self.stacks[place]
         if known is None:
             self.stacks[place] = stack

@@ -104,7 +104,7 @@ class ClassDef:
     end_line: int = 0
     outer: "ClassDef | None" = None
     is_library: bool = False
-    is_behind: bool = False  # stands behind the last line of the listing
+    is_behind: bool = False  # stands after the last line of the listing
 
     @property
     def is_interface(self) -> bool:

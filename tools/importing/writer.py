@@ -1,4 +1,4 @@
-"""Writes a tree as a source of the profile (docs/PROFILE.md), what stands for line N of the listing on line N."""
+"""Writes a tree as a source of the profile (docs/PROFILE.md), the translation of line N of the listing on line N."""
 
 from .names import BRANCHES, PLAIN_INSTRUCTIONS, PROFILE_INSTRUCTIONS, is_name
 from .program import Program
@@ -8,7 +8,7 @@ from .stack_types import Analysis
 from .tree import ClassDef, Field, Instruction, Method, TryBlock, Variable
 from .types import OBJECT, Type, core
 
-WIDTH = 120  # characters of a line behind those of the listing
+WIDTH = 120  # characters of a line after those of the listing
 _BASES = frozenset(core(name) for name in ("System.ValueType", "System.MulticastDelegate"))
 _EXTERNAL = ("mscorlib", "cilvm")
 _SHORT_VARIABLES = frozenset(("ldarg", "ldloc", "stloc"))
@@ -27,7 +27,7 @@ class Lines:
         self.lines[-1] += f"  {text.lstrip()}" if self.lines[-1] else text
 
     def comment(self, line: int, text: str) -> None:
-        """Adds a comment behind a line."""
+        """Adds a comment after a line."""
         if line <= len(self.lines):
             printable = "".join(character if " " <= character <= "~" else "?" for character in text)
             self.lines[line - 1] += f"  // import: {printable}"
@@ -70,7 +70,7 @@ class Writer:
                 self.lines.comment(note.line, note.text)
 
     def _order(self) -> list[ClassDef]:
-        """Returns the classes in the order of their lines, nested ones behind or before the class around them, those behind last."""
+        """Returns the classes in the order of their lines, nested ones after or before the class around them, those after the listing last."""
         own = [made for made in self.program.listing.classes if not made.is_behind]
         own.sort(key=self._first_line)
         return own + [made for made in self.program.listing.classes if made.is_behind]
@@ -91,7 +91,7 @@ class Writer:
                 self.program.report.refuse(line, str(error), "write it otherwise: the profile has no such thing")
 
     def _put(self, line: int, text: str) -> None:
-        """Puts text on its line; behind the listing's lines, on the last one while it is short."""
+        """Puts text on its line; after the listing's lines, on the last one while it is short."""
         if self.is_behind and len(self.lines.lines[-1]) + len(text) > WIDTH:
             self.lines.put(len(self.lines.lines) + 1, f"    {text.lstrip()}")
         else:

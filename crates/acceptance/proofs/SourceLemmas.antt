@@ -51,9 +51,9 @@ read_error source OutOfMemory answer = answer
 -- a machine that was not made: its limits, or else memory
 pub not_made : {T : Type 0} (limits : Limits) (error : NotMade) (failure : Failure) → (◌≡◌ {A = Result T NotMade} (Err error) (Err BadLimits)) ↔ (are_in_range limits ≡ false) → failure ≡ failure_of_making error
     → IsNotRunWithin limits failure
-not_made limits BadLimits failure within told = inl (within.0 refl, told)
-not_made limits NotMadeForMemory failure within told = by_range (are_in_range limits) refl
+not_made limits BadLimits failure within reported = inl (within.0 refl, reported)
+not_made limits NotMadeForMemory failure within reported = by_range (are_in_range limits) refl
   where
     by_range : (b : Bool) → are_in_range limits ≡ b → IsNotRunWithin limits failure
-    by_range true in_range = inr (in_range, told)
+    by_range true in_range = inr (in_range, reported)
     by_range false beyond = let wrong = within.1 beyond in absurd cc

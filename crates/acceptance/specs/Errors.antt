@@ -3,7 +3,7 @@ use Rattle.std.specs.Prelude.{◌≡◌, ◌≢◌, ℕ, List, Some, Err}
 use Rattle.cil_model.specs.Legality.{IsLegal, least_broken}
 use Rattle.cil_model.specs.Sources.{HasTree, IsAnswer}
 use Rattle.cil_model.specs.Typings.{IsFirstUntyped}
-use Rattle.ilasm_reader.specs.Answers.{IsReadAnswer, numbered as reading_number_of}
+use Rattle.ilasm_reader.specs.Answers.{IsReadAnswer, error_number as reading_number_of}
 use Rattle.ilasm_reader.specs.declared.reading.ReadError.{ReadError}
 use Rattle.ilasm_reader.specs.declared.reading.ReadError.TheVariants.{OutOfMemory as UnreadForMemory}
 use Rattle.metadata.specs.RuleNumbers.{violation_number}

@@ -1,4 +1,4 @@
--- What comes of a source and its limits before the first event: the machine of an accepted program, or why there is none (this profile).
+-- What results from a source and its limits before the first event: the machine of an accepted program, or why there is none (this profile).
 use Rattle.std.specs.Prelude.{◌≡◌, ◌⊎◌, [], ℕ, true, false, List, Some}
 use Rattle.cil_model.specs.Ranges.{are_in_range}
 use Rattle.cil_model.specs.Sources.{HasTree, IsAnswer}
@@ -8,10 +8,10 @@ use Rattle.cil_model.specs.declared.limits.Limits.{Limits}
 use Rattle.cil_model.specs.declared.reports.Report.{Report}
 use Rattle.cil_model.specs.declared.trees.Tree.{Tree}
 use Rattle.interleaving_core.specs.Histories.{HasDone}
-use Rattle.interleaving_core.specs.simulation.MachineContents.{Content}
-use Rattle.interleaving_core.specs.simulation.StandsFor.{Represents}
-use Rattle.interleaving_core.specs.simulation.Turns.{opening_content}
-use Rattle.interleaving_core.specs.simulation.reference_machine.Runs.{opening}
+use Rattle.interleaving_core.specs.simulation.MachineStates.{MachineState}
+use Rattle.interleaving_core.specs.simulation.Refines.{Represents}
+use Rattle.interleaving_core.specs.simulation.Transitions.{initial_machine_state}
+use Rattle.interleaving_core.specs.simulation.reference_machine.Runs.{initial_state}
 use Rattle.interleaving_core.specs.simulation.reference_machine.States.{State}
 use Rattle.interleaving_core.specs.declared.machine.Refused.TheVariants.{Limits as BadLimits}
 use Rattle.acceptance.specs.Errors.{IsErrorOf, failure_of_source}
@@ -39,8 +39,8 @@ IsNotAccepted source failure = (error : SourceError) × IsErrorOf source error �
 
 -- a machine has run a list of events: the bytes have a tree that is an accepted program, and a machine that was made for it has done the events, with
 -- all that this says
-abbrev pub HasRunTo : List ℕ → Limits → List Event → List Report → Content → Type 0
-HasRunTo source limits events reports content = (tree : Tree) × IsAcceptedSource source tree × HasDone tree limits events reports content
+abbrev pub HasRunTo : List ℕ → Limits → List Event → List Report → MachineState → Type 0
+HasRunTo source limits events reports machine_state = (tree : Tree) × IsAcceptedSource source tree × HasDone tree limits events reports machine_state
 
 -- why an accepted program was not run: its limits come first, then memory
 abbrev pub IsNotRunWithin : Limits → Failure → Type 0
@@ -52,15 +52,15 @@ IsNotRunWithin limits failure =
 abbrev pub IsNotRun : List ℕ → Limits → Failure → Type 0
 IsNotRun source limits failure = IsNotAccepted source failure ⊎ (IsLetIn source × IsNotRunWithin limits failure)
 
--- a machine holds exactly what a program begins with, which represents the opening state
-pub record IsOpened (tree : Tree) (limits : Limits) (machine : Content) : Type 0 where
+-- a machine holds exactly what a program begins with, which represents the initial state
+pub record IsOpened (tree : Tree) (limits : Limits) (machine : MachineState) : Type 0 where
   pub same_program : machine.tree ≡ tree
   pub same_limits : machine.limits ≡ limits
-  pub begins : opening_content tree limits ≡ Some machine
-  pub represents : (state : State) × (opening tree limits ≡ Some state) × Represents machine state
+  pub begins : initial_machine_state tree limits ≡ Some machine
+  pub represents : (state : State) × (initial_state tree limits ≡ Some state) × Represents machine state
 
 -- the bytes have a tree that is an accepted program, and a machine was made for it, which has done nothing
-pub record IsMade (source : List ℕ) (limits : Limits) (machine : Content) : Type 0 where
+pub record IsMade (source : List ℕ) (limits : Limits) (machine : MachineState) : Type 0 where
   pub tree : Tree
   pub is_accepted : IsAcceptedSource source tree
   pub done : HasDone tree limits [] [] machine

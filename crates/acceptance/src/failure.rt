@@ -104,14 +104,14 @@ impl From<ScheduleError> for Failure {
 pub fn report<E: Out>(failure: Failure, err: &mut E) -> u8
     ensures { IsReported failure (E.taken err.old) (E.taken err.new) result }
 {
-    match tell(failure, err) {
+    match write_report(failure, err) {
         Ok(()) => status_of_failure(failure),
         Err(_) => 5,
     }
 }
 
 /// Writes the line of a failure. Takes no memory. After a failed write a prefix of the line is written.
-pub fn tell<E: Out>(failure: Failure, err: &mut E) -> Result<(), Device>
+pub fn write_report<E: Out>(failure: Failure, err: &mut E) -> Result<(), Device>
     ensures whole { OnOk result (Takes (E.taken err.old) (E.taken err.new) (message_of failure)) }
     ensures cut { OnErr result (Fails (E.taken err.old) (E.taken err.new) (message_of failure)) }
 {

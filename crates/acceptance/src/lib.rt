@@ -9,5 +9,5 @@ mod failure;
 mod sources;
 
 pub use errors::SourceError;
-pub use failure::{Failure, report, status_of_failure, tell};
+pub use failure::{Failure, report, status_of_failure, write_report};
 pub use sources::{accept, examine, machine_of};

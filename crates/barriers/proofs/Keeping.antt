@@ -15,9 +15,9 @@ use Rattle.object_memory.proofs.Counts.{change-count, change-there}
 use Rattle.barriers.specs.Barriers.{is_other_alike, is_other_there, with_both, with_both_monitors, with_marked}
 
 -- the other copy, as the heap reports it
-pub other_told : (o : Option Cell) (r : Option Addr) → option_map (λ (c : Cell). c.other) o ≡ Some r → other_of o ≡ r
-other_told None r e = absurd cc
-other_told (Some c) r e = cc
+pub other_decoded : (o : Option Cell) (r : Option Addr) → option_map (λ (c : Cell). c.other) o ≡ Some r → other_of o ≡ r
+other_decoded None r e = absurd cc
+other_decoded (Some c) r e = cc
 
 -- the other copy that has a slot too, and one that lies there
 has_slot : (o : Objects) (a b : Addr) (slot : ℕ) → is_other_alike o a slot ≡ true → other_of (object_cell o a) ≡ Some b → slot < length (object_slots o b)
@@ -43,7 +43,7 @@ marked_slots o (Native n) b slot inside = inside
 pub other_slot : (o p : Objects) (a b : Addr) (slot w : ℕ) → p ≡ with_slot o a slot w → is_other_alike o a slot ≡ true → option_map (λ (c : Cell). c.other) (object_cell o a) ≡ Some (Some b) → slot < length (object_slots p b)
 other_slot o p a b slot w is alike other =
     subst (λ (x : Objects). slot < length (object_slots x b)) (sym is)
-    (subst (λ n. slot < n) (sym (change-count (store_slot slot w) (λ c. length-set c.slots slot w) o.spaces a b)) (has_slot o a b slot alike (other_told (object_cell o a) (Some b) other)))
+    (subst (λ n. slot < n) (sym (change-count (store_slot slot w) (λ c. length-set c.slots slot w) o.spaces a b)) (has_slot o a b slot alike (other_decoded (object_cell o a) (Some b) other)))
 
 -- ---- monitors
 
@@ -51,7 +51,7 @@ other_slot o p a b slot w is alike other =
 pub other_there : (o p : Objects) (a b : Addr) (m : Monitor) → p ≡ with_cell (store_monitor m) o a → is_other_there o a ≡ true → option_map (λ (c : Cell). c.other) (object_cell o a) ≡ Some (Some b) → IsSome (object_cell p b)
 other_there o p a b m is there other =
     subst (λ (x : Objects). IsSome (object_cell x b)) (sym is)
-    (change-there (store_monitor m) (λ c. refl) o.spaces a b (lies_there o a b there (other_told (object_cell o a) (Some b) other)))
+    (change-there (store_monitor m) (λ c. refl) o.spaces a b (lies_there o a b there (other_decoded (object_cell o a) (Some b) other)))
 
 -- where both copies are changed alike, it doesn't matter which is which
 pub both_alike : (f : Cell → Cell) (o : Objects) (a : Addr) → with_both f f o a ≡ record o { spaces = change_copies f f o.spaces a }

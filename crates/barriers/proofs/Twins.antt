@@ -10,7 +10,7 @@ use Rattle.object_memory.specs.Objects.{Objects}
 use Rattle.object_memory.specs.Values.{value_word}
 use Rattle.object_memory.proofs.Blocks.{other_in, unchanged_in}
 use Rattle.object_memory.proofs.TwoBlocks.{apart, new_is_cell, not_new, not_old, old_is_cell, slot_keeps}
-use Rattle.barriers.specs.Barriers.{forwarded, stored_value, with_both}
+use Rattle.barriers.specs.Barriers.{forward_value, stored_value, with_both}
 
 -- the two copies of an object, each of which holds the other's address
 pub record AreTwins (m : Spaces) (a b : Addr) (c d : Cell) : Type 0 where
@@ -73,12 +73,12 @@ module _ (f g : Cell → Cell) (keeps : (c : Cell) → size (f c) ≡ size c) (k
 module _ (o : Objects) (h : AreSpaces o.spaces) (a b : Addr) (c d : Cell) (twins : AreTwins o.spaces a b c d) (slot : ℕ) (v : Value) where
   -- once words are copied, the old copy gets the value and the new one its forward
   abbrev forwarding : Objects
-  forwarding = with_twins (store_slot slot (value_word v)) (store_slot slot (value_word (forwarded o v))) o a b
+  forwarding = with_twins (store_slot slot (value_word v)) (store_slot slot (value_word (forward_value o v))) o a b
 
   pub stored_in_copy : (stored_value Copy o a slot v ≡ forwarding) × (stored_value Copy o b slot v ≡ forwarding)
   stored_in_copy = (
-    through_old (store_slot slot (value_word v)) (store_slot slot (value_word (forwarded o v))) (slot_keeps slot (value_word v)) (slot_keeps slot (value_word (forwarded o v))) o h a b c d twins,
-    through_new (store_slot slot (value_word v)) (store_slot slot (value_word (forwarded o v))) (slot_keeps slot (value_word v)) (slot_keeps slot (value_word (forwarded o v))) o h a b c d twins,
+    through_old (store_slot slot (value_word v)) (store_slot slot (value_word (forward_value o v))) (slot_keeps slot (value_word v)) (slot_keeps slot (value_word (forward_value o v))) o h a b c d twins,
+    through_new (store_slot slot (value_word v)) (store_slot slot (value_word (forward_value o v))) (slot_keeps slot (value_word v)) (slot_keeps slot (value_word (forward_value o v))) o h a b c d twins,
   )
 
   pub stored_in_pre_flip : (stored_value PreFlip o a slot v ≡ forwarding) × (stored_value PreFlip o b slot v ≡ forwarding)

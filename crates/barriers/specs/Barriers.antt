@@ -23,12 +23,12 @@ with_marked o (Int32 n) = o
 with_marked o (Int64 n) = o
 with_marked o (Native n) = o
 
--- the reference of the other copy, in the place of an old object's
-abbrev pub forwarded : Objects → Value → Value
-forwarded o (Ref a) = Ref (forward o.spaces a)
-forwarded o (Int32 n) = Int32 n
-forwarded o (Int64 n) = Int64 n
-forwarded o (Native n) = Native n
+-- the reference of the other copy, in place of an old object's
+abbrev pub forward_value : Objects → Value → Value
+forward_value o (Ref a) = Ref (forward o.spaces a)
+forward_value o (Int32 n) = Int32 n
+forward_value o (Int64 n) = Int64 n
+forward_value o (Native n) = Native n
 
 -- ---- what is there
 
@@ -67,9 +67,9 @@ abbrev pub stored_value : Phase → Objects → Addr → ℕ → Value → Objec
 stored_value Idle o a slot v = with_slot o a slot (value_word v)
 stored_value Mark o a slot v = with_slot (with_marked o v) a slot (value_word v)
 stored_value Allocate o a slot v = with_slot o a slot (value_word v)
-stored_value Copy o a slot v = with_both_slots o a slot v (forwarded o v)
-stored_value PreFlip o a slot v = with_both_slots o a slot v (forwarded o v)
-stored_value HeapFlip o a slot v = with_both_slots o a slot v (forwarded o v)
+stored_value Copy o a slot v = with_both_slots o a slot v (forward_value o v)
+stored_value PreFlip o a slot v = with_both_slots o a slot v (forward_value o v)
+stored_value HeapFlip o a slot v = with_both_slots o a slot v (forward_value o v)
 stored_value ThreadFlip o a slot v = with_both_slots o a slot v v
 stored_value Reclaim o a slot v = with_slot o a slot (value_word v)
 
@@ -127,8 +127,8 @@ stored_static Idle o statics number v = (o, slice_set statics number v)
 stored_static Mark o statics number v = (with_marked o v, slice_set statics number v)
 stored_static Allocate o statics number v = (o, slice_set statics number v)
 stored_static Copy o statics number v = (o, slice_set statics number v)
-stored_static PreFlip o statics number v = (o, slice_set statics number (forwarded o v))
-stored_static HeapFlip o statics number v = (o, slice_set statics number (forwarded o v))
+stored_static PreFlip o statics number v = (o, slice_set statics number (forward_value o v))
+stored_static HeapFlip o statics number v = (o, slice_set statics number (forward_value o v))
 stored_static ThreadFlip o statics number v = (o, slice_set statics number v)
 stored_static Reclaim o statics number v = (o, slice_set statics number v)
 
@@ -167,8 +167,8 @@ compares_forwards ThreadFlip = false
 compares_forwards Reclaim = false
 
 -- the address by which a reference is compared
-abbrev pub compared : Phase → Objects → Addr → Addr
-compared phase o a = if compares_forwards phase then forward o.spaces a else a
+abbrev pub comparison_address : Phase → Objects → Addr → Addr
+comparison_address phase o a = if compares_forwards phase then forward o.spaces a else a
 
 -- whether they can be compared: a forward is that of something that is there
 abbrev pub are_comparable : Phase → Objects → Addr → Addr → Bool
@@ -176,8 +176,8 @@ are_comparable phase o a b = if compares_forwards phase then is_there o.spaces a
 
 -- two references are of one object, or both null
 abbrev pub AreOfOneObject : Phase → Objects → Addr → Addr → Type 0
-AreOfOneObject phase o a b = (compared phase o a).number ≡ (compared phase o b).number
+AreOfOneObject phase o a b = (comparison_address phase o a).number ≡ (comparison_address phase o b).number
 
 -- the test of it (III.1.5, table 4)
 abbrev pub are_same : Phase → Objects → Addr → Addr → Bool
-are_same phase o a b = (compared phase o a).number == (compared phase o b).number
+are_same phase o a b = (comparison_address phase o a).number == (comparison_address phase o b).number

@@ -2,7 +2,7 @@
 
 ghost use Rattle.std.specs.Prelude.{◌≡◌, true};
 ghost use Rattle.object_memory.specs.Spaces.{forward, is_there};
-ghost use Rattle.barriers.specs.Barriers.{are_comparable, are_same, compared, compares_forwards};
+ghost use Rattle.barriers.specs.Barriers.{are_comparable, are_same, comparison_address, compares_forwards};
 
 use cil_model::phases::Phase;
 use object_memory::{Addr, Heap};
@@ -13,13 +13,13 @@ pub fn same(heap: &Heap, phase: Phase, first: Addr, second: Addr) -> bool
     requires { are_comparable phase heap.now first second ≡ true }
     ensures { result ≡ are_same phase heap.now first second }
 {
-    compared(heap, phase, first) == compared(heap, phase, second)
+    comparison_address(heap, phase, first) == comparison_address(heap, phase, second)
 }
 
 /// The address by which a reference is compared.
-fn compared(heap: &Heap, phase: Phase, reference: Addr) -> Addr
+fn comparison_address(heap: &Heap, phase: Phase, reference: Addr) -> Addr
     requires { compares_forwards phase ≡ true → is_there heap.now.spaces reference ≡ true }
-    ensures { result ≡ compared phase heap.now reference }
+    ensures { result ≡ comparison_address phase heap.now reference }
 {
     match phase {
         Phase::Copy | Phase::PreFlip | Phase::HeapFlip => forward(heap, reference),

@@ -4,7 +4,7 @@ ghost use Rattle.std.specs.Prelude.{◌≡◌, ◌<◌, true, IsSome, length};
 ghost use Rattle.object_memory.specs.Cells.{store_slot};
 ghost use Rattle.object_memory.specs.declared.values.Value.TheVariants.{Ref};
 ghost use Rattle.object_memory.specs.Objects.{monitor_at, object_cell, object_slots};
-ghost use Rattle.barriers.specs.Barriers.{is_other_alike, is_other_there, is_static_storable, is_storable, is_value_there, is_word_storable, is_monitor_storable, forwarded, reaches_both, stored_int, stored_monitor, stored_ref, stored_static, stored_value, with_both, with_both_monitors, with_marked};
+ghost use Rattle.barriers.specs.Barriers.{is_other_alike, is_other_there, is_static_storable, is_storable, is_value_there, is_word_storable, is_monitor_storable, forward_value, reaches_both, stored_int, stored_monitor, stored_ref, stored_static, stored_value, with_both, with_both_monitors, with_marked};
 
 use cil_model::phases::Phase;
 use object_memory::{Addr, Heap, Monitor, Value};
@@ -133,11 +133,11 @@ pub fn mark(heap: &mut Heap, value: Value)
     }
 }
 
-/// The reference of the other copy, in the place of an old object's. Any other value is itself.
+/// The reference of the other copy, in place of an old object's. Any other value is itself.
 #[cold]
 pub fn forward(heap: &Heap, value: Value) -> Value
     requires { is_value_there heap.now value ≡ true }
-    ensures { result ≡ forwarded heap.now value }
+    ensures { result ≡ forward_value heap.now value }
 {
     match value {
         Value::Ref(address) => Value::Ref(heap.forward(address)),

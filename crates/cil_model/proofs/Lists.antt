@@ -18,7 +18,7 @@ no_item {X} {A} x xs e = absurd (lost e)
     lost : x ∷ xs ≡ [] → ⊥
     lost h = cc
 
--- ---- the item at a place
+-- ---- the item at an index
 
 -- where there is no item the list has ended
 pub none_is_outside : {X : Type 0} (xs : List X) (n : ℕ) → slice_get xs n ≡ None → length xs ≤ n
@@ -26,7 +26,7 @@ none_is_outside [] n e = omega arith
 none_is_outside (x ∷ xs) zero e = none_is_some x (sym e)
 none_is_outside (x ∷ xs) (suc n) e = let further : length xs ≤ n = none_is_outside xs n e in omega (arith, further)
 
--- the item at a place stays there when more follows
+-- the item at an index stays there when more follows
 pub get_before : {X : Type 0} (xs more : List X) (n : ℕ) (x : X) → slice_get xs n ≡ Some x → slice_get (xs ++ more) n ≡ Some x
 get_before [] more n x e = none_is_some x e
 get_before (y ∷ ys) more zero x e = e
@@ -44,15 +44,15 @@ last_or_was [] (suc m) y x e = none_is_some x e
 last_or_was (z ∷ zs) zero y x e = inr e
 last_or_was (z ∷ zs) (suc m) y x e = last_or_was zs m y x e
 
--- ---- after a change of one place
+-- ---- after a change at one index
 
--- at a place that something was at, the change is there
+-- at an index that had an item, the new item is there
 pub set_is_there : {X : Type 0} (xs : List X) (n : ℕ) (y x : X) → slice_get xs n ≡ Some x → slice_get (slice_set xs n y) n ≡ Some y
 set_is_there [] n y x e = none_is_some x e
 set_is_there (z ∷ zs) zero y x e = refl
 set_is_there (z ∷ zs) (suc n) y x e = set_is_there zs n y x e
 
--- what is there after a change of one place is the new one, or was there
+-- an item after a change at one index is the new one, or was there before
 pub set_or_was : {X : Type 0} (xs : List X) (n m : ℕ) (y x : X) → slice_get (slice_set xs n y) m ≡ Some x → (x ≡ y) ⊎ (slice_get xs m ≡ Some x)
 set_or_was [] n m y x e = none_is_some x e
 set_or_was (z ∷ zs) zero zero y x e = inl (sym (same_Some y x e))
@@ -77,7 +77,7 @@ find_passes {X} test (y ∷ ys) x e = by_test (test y) refl e (find_passes test 
     by_test true passes h further = subst (λ z. IsTrue (test z)) (same_Some y x h) passes
     by_test false passes h further = further h
 
--- what no item passes, the one at a place does not pass
+-- a test that no item passes, the one at an index does not pass
 pub passes_not : {X : Type 0} (test : X → Bool) (xs : List X) (n : ℕ) (x : X) → list_any test xs ≡ false → slice_get xs n ≡ Some x → test x ≡ false
 passes_not test [] n x h e = none_is_some x e
 passes_not test (y ∷ ys) zero x h e = subst (λ z. test z ≡ false) (same_Some y x e) (or_parts _ _ h).0

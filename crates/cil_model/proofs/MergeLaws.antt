@@ -92,15 +92,15 @@ module _ (tree : Tree) where
 
     closest : (n m : ℕ) (a b t : DeclaredType) → ancestor tree n a ≡ Some t → ancestor tree m b ≡ Some t → Closest a b
     closest zero m a b t e f = (0, a, refl, (m, f ∙ sym e), λ i j v k p q. none_before i k)
-    closest (suc n) m a b t e f = by_place (among m b a) (by_parent (parent tree a) refl e (λ p h. closest n m p b t h f))
+    closest (suc n) m a b t e f = by_index (among m b a) (by_parent (parent tree a) refl e (λ p h. closest n m p b t h f))
       where
         by_parent : (o : Option DeclaredType) → parent tree a ≡ o → option_and_then (ancestor tree n) o ≡ Some t → ((p : DeclaredType) → ancestor tree n p ≡ Some t → Closest p b) → (p : DeclaredType) × (parent tree a ≡ Some p) × Closest p b
         by_parent None h e' further = none_is_some t e'
         by_parent (Some p) h e' further = (p, h, further p e')
 
-        by_place : ((j : ℕ) × (ancestor tree j b ≡ Some a)) ⊎ ((j : ℕ) → j ≤ m → ancestor tree j b ≡ Some a → ⊥) → (p : DeclaredType) × (parent tree a ≡ Some p) × Closest p b → Closest a b
-        by_place (inl (j, h)) later = (0, a, refl, (j, h), λ i j' v k p q. none_before i k)
-        by_place (inr none) (p, up, (k, u, first, second, nearer)) = (suc k, u, ap (option_and_then (ancestor tree k)) up ∙ first, second, earlier)
+        by_index : ((j : ℕ) × (ancestor tree j b ≡ Some a)) ⊎ ((j : ℕ) → j ≤ m → ancestor tree j b ≡ Some a → ⊥) → (p : DeclaredType) × (parent tree a ≡ Some p) × Closest p b → Closest a b
+        by_index (inl (j, h)) later = (0, a, refl, (j, h), λ i j' v k p q. none_before i k)
+        by_index (inr none) (p, up, (k, u, first, second, nearer)) = (suc k, u, ap (option_and_then (ancestor tree k)) up ∙ first, second, earlier)
           where
             earlier : (i j : ℕ) (v : DeclaredType) → i < suc k → ancestor tree i a ≡ Some v → ancestor tree j b ≡ Some v → ⊥
             earlier zero j v h q r = nowhere (suc n) m j a b t e f none (r ∙ sym q)

@@ -12,7 +12,7 @@ pub struct Tree {
     pub classes: Sequence<Class>,
 }
 
-/// Each part gives back its own.
+/// Each part is dropped.
 impl Drop for Tree {
     fn drop(self) {
         let Tree {
@@ -30,7 +30,7 @@ pub struct Class {
     pub members: Sequence<Member>,
 }
 
-/// Each part gives back its own.
+/// Each part is dropped.
 impl Drop for Class {
     fn drop(self) {
         let Class {
@@ -74,7 +74,7 @@ pub struct Method {
     pub kind: MethodKind,
 }
 
-/// Each part gives back its own.
+/// Each part is dropped.
 impl Drop for Method {
     fn drop(self) {
         let Method {

@@ -12,7 +12,7 @@ pub struct ClassName {
     pub name: Text,
 }
 
-/// Each part gives back its own.
+/// Each part is dropped.
 impl Drop for ClassName {
     fn drop(self) {
         let ClassName {
@@ -73,7 +73,7 @@ pub struct DeclaredType {
     pub brackets: u32,
 }
 
-/// Each part gives back its own.
+/// Each part is dropped.
 impl Drop for DeclaredType {
     fn drop(self) {
         let DeclaredType {
@@ -86,7 +86,7 @@ impl Drop for DeclaredType {
 impl DeclaredType {
     ghost use Rattle.cil_model.specs.Same.{same_type};
 
-    /// Whether both have the same element and as many pairs of brackets (ECMA-335 I.8.6.1).
+    /// Whether both have the same element and the same number of pairs of brackets (ECMA-335 I.8.6.1).
     pub fn is_same(&self, other: &DeclaredType) -> bool
         ensures { result ≡ same_type self.now other.now }
     {

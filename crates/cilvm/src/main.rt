@@ -2,8 +2,8 @@
 #![tactic(auto)]
 
 use command_line::{LineFault, Malformed, Unread, Unwritten};
+use commands::{Order, read_source, read_text, run_file_name};
 use driver::{Failure, Outputs, RecordFiles, WriterOut};
-use orders::{Order, read_source, read_text, run_file_name};
 use std::alloc::AllocError;
 use std::fs::File;
 use std::process::ExitCode;
@@ -58,7 +58,7 @@ fn obey(
     }
 }
 
-/// Prints the help, the version or the error that a command line has in the place of a command, and returns the status.
+/// Prints the help, the version or the error that a command line has in place of a command, and returns the status.
 fn report_line(rt: &HostRuntime, fault: &LineFault) -> Result<u8, Failure> {
     match fault {
         LineFault::Help(text) | LineFault::Version(text) => {
@@ -237,7 +237,7 @@ fn schedule_of<'a>(rt: &HostRuntime, order: &Order<'a>) -> Result<Vec<u8>, Unrea
 /// Reports that a file is not a `.run` file, and returns the status.
 fn report_malformed(rt: &HostRuntime, malformed: &Malformed<'_>) -> u8 {
     let status = report_failure(rt, Failure::Refused(run_files::MALFORMED));
-    if let Ok(text) = malformed.told(rt.alloc()) {
+    if let Ok(text) = malformed.error_text(rt.alloc()) {
         let _written = eprint!(rt; "{text}");
     }
     status
@@ -251,18 +251,18 @@ fn report_failure(rt: &HostRuntime, failure: Failure) -> u8 {
 
 /// Reports that a file is not read, and why, and returns the status.
 fn report_unread(rt: &HostRuntime, unread: &Unread<'_>) -> u8 {
-    report_file(rt, unread.error, unread.told(rt.alloc()))
+    report_file(rt, unread.error, unread.error_text(rt.alloc()))
 }
 
 /// Reports that the record's file is not written, and why, and returns the status.
 fn report_unwritten(rt: &HostRuntime, unwritten: &Unwritten<'_>) -> u8 {
-    report_file(rt, unwritten.error, unwritten.told(rt.alloc()))
+    report_file(rt, unwritten.error, unwritten.error_text(rt.alloc()))
 }
 
 /// Reports an error of a file, and after it a text about the file. Where that text is not available or not written, the first line is alone.
-fn report_file(rt: &HostRuntime, error: io::Error, told: Result<String, AllocError>) -> u8 {
+fn report_file(rt: &HostRuntime, error: io::Error, reported: Result<String, AllocError>) -> u8 {
     let status = report_failure(rt, Failure::from(error));
-    if let Ok(text) = told {
+    if let Ok(text) = reported {
         let _written = eprint!(rt; "{text}");
     }
     status

@@ -10,11 +10,11 @@ use Rattle.cil_model.specs.declared.reports.End.TheVariants.{Done as DoneOf, Bud
 use Rattle.cil_model.specs.declared.reports.Fault.{Fault}
 use Rattle.cil_model.specs.declared.reports.Report.{Report}
 use Rattle.cil_model.specs.declared.reports.Report.TheVariants as reports
-use Rattle.interleaving_core.specs.simulation.MachineContents.{Content}
-use Rattle.interleaving_core.specs.simulation.Runs.{AreTurns}
-use Rattle.interleaving_core.specs.simulation.Turns.{IsTurn}
+use Rattle.interleaving_core.specs.simulation.MachineStates.{MachineState}
+use Rattle.interleaving_core.specs.simulation.Runs.{AreTransitions}
+use Rattle.interleaving_core.specs.simulation.Transitions.{IsTransition}
 use Rattle.interleaving_core.proofs.Runs.LongerRuns.{does_more}
-use Rattle.interleaving_core.proofs.Runs.FollowedRuns.{turns_more}
+use Rattle.interleaving_core.proofs.Runs.FollowedRuns.{transitions_more}
 use Rattle.schedule_text.specs.Items.{events_of}
 use Rattle.schedule_text.specs.declared.items.Item.{Item}
 use Rattle.schedule_text.proofs.SoFar.{events_of-append, so_far_all}
@@ -60,20 +60,20 @@ report_ran reports.Worked = refl
 report_ran reports.Waiting = refl
 report_ran reports.CycleDone = refl
 
-module _ (c now : Content) (most : ℕ) (e : Event) (n : ℕ) where
+module _ (c now : MachineState) (most : ℕ) (e : Event) (n : ℕ) where
   pub act_done : (acts : ActsBy c most e n now) → is_not_done n ≡ false → IsDone c most e acts.0 now
   act_done (code, is, inl done) not = done
   act_done (code, is, inr (same, inl full)) not = absurd (false≢true (sym not ∙ ap is_not_done (is ∙ ap number_of full.0)))
   act_done (code, is, inr (same, inr memory)) not = absurd (false≢true (sym not ∙ ap is_not_done (is ∙ ap number_of memory.0)))
 
   pub act_not_done : ActsBy c most e n now → is_not_done n ≡ true → (now ≡ c) × IsNotDone c most e (reason_not_done n)
-  act_not_done (code, is, inl (r, within, report, turn, more)) held = absurd (false≢true (sym (report_is_done r) ∙ (ap is_not_done (sym (is ∙ ap number_of report)) ∙ held)))
+  act_not_done (code, is, inl (r, within, report, transition, more)) held = absurd (false≢true (sym (report_is_done r) ∙ (ap is_not_done (sym (is ∙ ap number_of report)) ∙ held)))
   act_not_done (code, is, inr (same, inl full)) held = (same, inl (ap reason_not_done (is ∙ ap number_of full.0), full.1))
   act_not_done (code, is, inr (same, inr memory)) held = (same, inr (ap reason_not_done (is ∙ ap number_of memory.0), memory.1, memory.2))
 
   -- the code of the number
   pub code_not_done : (acts : ActsBy c most e n now) → is_not_done n ≡ true → IsNotDone c most e acts.0
-  code_not_done (code, is, inl (r, within, report, turn, more)) held = absurd (false≢true (sym (report_is_done r) ∙ (ap is_not_done (sym (is ∙ ap number_of report)) ∙ held)))
+  code_not_done (code, is, inl (r, within, report, transition, more)) held = absurd (false≢true (sym (report_is_done r) ∙ (ap is_not_done (sym (is ∙ ap number_of report)) ∙ held)))
   code_not_done (code, is, inr (same, why)) held = why
 
 -- ---- steps that run
@@ -82,82 +82,82 @@ ran_is : (r : Report) → has_ran r ≡ true → r ≡ reports.Ran
 ran_is r h = grind (arith, h)
 
 -- n steps of a thread are made, and all ran
-abbrev pub HaveRun : Content → ℕ → ℕ → Content → Type 0
-HaveRun c t n now = AreTurns c (replicate n (Step t)) now (replicate n reports.Ran)
+abbrev pub HaveRun : MachineState → ℕ → ℕ → MachineState → Type 0
+HaveRun c t n now = AreTransitions c (replicate n (Step t)) now (replicate n reports.Ran)
 
 -- and one more, with its report
-step_more : (c d now : Content) (t n : ℕ) (r : Report) → HaveRun c t n d → IsTurn d (Step t) (now, r) → AreTurns c (replicate (n + 1) (Step t)) now (replicate n reports.Ran ++ r ∷ [])
-step_more c d now t n r h turn =
-    subst (λ es. AreTurns c es now (replicate n reports.Ran ++ r ∷ [])) (replicate_more n (Step t)) (turns_more c d now (replicate n (Step t)) (replicate n reports.Ran) (Step t) r h turn)
+step_more : (c d now : MachineState) (t n : ℕ) (r : Report) → HaveRun c t n d → IsTransition d (Step t) (now, r) → AreTransitions c (replicate (n + 1) (Step t)) now (replicate n reports.Ran ++ r ∷ [])
+step_more c d now t n r h transition =
+    subst (λ es. AreTransitions c es now (replicate n reports.Ran ++ r ∷ [])) (replicate_more n (Step t)) (transitions_more c d now (replicate n (Step t)) (replicate n reports.Ran) (Step t) r h transition)
 
 -- which ran too
-ran_more : (c d now : Content) (t n : ℕ) (r : Report) → has_ran r ≡ true → HaveRun c t n d → IsTurn d (Step t) (now, r) → HaveRun c t (n + 1) now
-ran_more c d now t n r ran h turn =
-    subst (AreTurns c (replicate (n + 1) (Step t)) now) (ap (λ x. replicate n reports.Ran ++ x ∷ []) (ran_is r ran) ∙ replicate_more n reports.Ran) (step_more c d now t n r h turn)
+ran_more : (c d now : MachineState) (t n : ℕ) (r : Report) → has_ran r ≡ true → HaveRun c t n d → IsTransition d (Step t) (now, r) → HaveRun c t (n + 1) now
+ran_more c d now t n r ran h transition =
+    subst (AreTransitions c (replicate (n + 1) (Step t)) now) (ap (λ x. replicate n reports.Ran ++ x ∷ []) (ran_is r ran) ∙ replicate_more n reports.Ran) (step_more c d now t n r h transition)
 
 -- the steps end by one that reports something else
-steps_ended : (c d now : Content) (printed t most n : ℕ) (r : Report) → n < most → HaveRun c t n d → IsTurn d (Step t) (now, r) → has_ran r ≡ false →
+steps_ended : (c d now : MachineState) (printed t most n : ℕ) (r : Report) → n < most → HaveRun c t n d → IsTransition d (Step t) (now, r) → has_ran r ≡ false →
     MakesSteps c printed t most (n + 1) (report_code r) now
-steps_ended c d now printed t most n r few h turn not_ran =
-    let turns = step_more c d now t n r h turn in
-    (replicate n reports.Ran ++ r ∷ [], turns, does_more c now (replicate (n + 1) (Step t)) (replicate n reports.Ran ++ r ∷ []) turns, inr (inl (n, r, few, refl, refl, not_ran, refl)))
+steps_ended c d now printed t most n r few h transition not_ran =
+    let transitions = step_more c d now t n r h transition in
+    (replicate n reports.Ran ++ r ∷ [], transitions, does_more c now (replicate (n + 1) (Step t)) (replicate n reports.Ran ++ r ∷ []) transitions, inr (inl (n, r, few, refl, refl, not_ran, refl)))
 
-module _ (c d now : Content) (printed t n : ℕ) (code : Code) (number : ℕ) (named : number ≡ number_of code) (h : HaveRun c t n d) where
+module _ (c d now : MachineState) (printed t n : ℕ) (code : Code) (number : ℕ) (named : number ≡ number_of code) (h : HaveRun c t n d) where
   -- a step ran
   pub step_ran : IsDone d printed (Step t) code now → is_ran number ≡ true → HaveRun c t (n + 1) now
-  step_ran (r, within, is, turn, more) ran = ran_more c d now t n r (sym (report_ran r) ∙ (ap is_ran (sym (named ∙ ap number_of is)) ∙ ran)) h turn
+  step_ran (r, within, is, transition, more) ran = ran_more c d now t n r (sym (report_ran r) ∙ (ap is_ran (sym (named ∙ ap number_of is)) ∙ ran)) h transition
 
   -- a step did something else
   pub step_ended : (most : ℕ) → n < most → IsDone d printed (Step t) code now → is_ran number ≡ false → MakesStepsBy c printed t most (n + 1) number now
-  step_ended most few (r, within, is, turn, more) not = (
+  step_ended most few (r, within, is, transition, more) not = (
     code,
     named,
-    subst (λ x. MakesSteps c printed t most (n + 1) x now) (sym is) (steps_ended c d now printed t most n r few h turn (sym (report_ran r) ∙ (ap is_ran (sym (named ∙ ap number_of is)) ∙ not))),
+    subst (λ x. MakesSteps c printed t most (n + 1) x now) (sym is) (steps_ended c d now printed t most n r few h transition (sym (report_ran r) ∙ (ap is_ran (sym (named ∙ ap number_of is)) ∙ not))),
   )
 
 -- the next one is not made
-pub steps_held : (c d now : Content) (printed t most n : ℕ) (code : Code) → n < most → HaveRun c t n d → now ≡ d → IsNotDone d printed (Step t) code → MakesSteps c printed t most n code now
+pub steps_held : (c d now : MachineState) (printed t most n : ℕ) (code : Code) → n < most → HaveRun c t n d → now ≡ d → IsNotDone d printed (Step t) code → MakesSteps c printed t most n code now
 steps_held c d now printed t most n code few h same held =
-    let turns = subst (HaveRun c t n) (sym same) h in
-    (replicate n reports.Ran, turns, does_more c now (replicate n (Step t)) (replicate n reports.Ran) turns, inr (inr (few, refl, subst (λ x. IsNotDone x printed (Step t) code) (sym same) held)))
+    let transitions = subst (HaveRun c t n) (sym same) h in
+    (replicate n reports.Ran, transitions, does_more c now (replicate n (Step t)) (replicate n reports.Ran) transitions, inr (inr (few, refl, subst (λ x. IsNotDone x printed (Step t) code) (sym same) held)))
 
 -- the most steps allowed are made
-pub steps_all : (c now : Content) (printed t most n : ℕ) → n ≡ most → HaveRun c t n now → MakesSteps c printed t most most Ran now
+pub steps_all : (c now : MachineState) (printed t most n : ℕ) → n ≡ most → HaveRun c t n now → MakesSteps c printed t most most Ran now
 steps_all c now printed t most n all h =
-    let turns = subst (λ m. HaveRun c t m now) all h in
-    (replicate most reports.Ran, turns, does_more c now (replicate most (Step t)) (replicate most reports.Ran) turns, inl (refl, refl, refl))
+    let transitions = subst (λ m. HaveRun c t m now) all h in
+    (replicate most reports.Ran, transitions, does_more c now (replicate most (Step t)) (replicate most reports.Ran) transitions, inl (refl, refl, refl))
 
 -- ---- events with any reports
 
-abbrev pub HasTurned : Content → List Event → Content → Type 0
-HasTurned c events after = (rs : List Report) × AreTurns c events after rs
+abbrev pub HasTurned : MachineState → List Event → MachineState → Type 0
+HasTurned c events after = (rs : List Report) × AreTransitions c events after rs
 
-pub turned_none : (c : Content) → HasTurned c [] c
+pub turned_none : (c : MachineState) → HasTurned c [] c
 turned_none c = ([], (refl, refl))
 
-pub turned_more : (c d now : Content) (es : List Event) (e : Event) (r : Report) → HasTurned c es d → IsTurn d e (now, r) → HasTurned c (es ++ e ∷ []) now
-turned_more c d now es e r h turn = (h.0 ++ r ∷ [], turns_more c d now es h.0 e r h.1 turn)
+pub turned_more : (c d now : MachineState) (es : List Event) (e : Event) (r : Report) → HasTurned c es d → IsTransition d e (now, r) → HasTurned c (es ++ e ∷ []) now
+turned_more c d now es e r h transition = (h.0 ++ r ∷ [], transitions_more c d now es h.0 e r h.1 transition)
 
-turns_behind : (c d now : Content) (es fs : List Event) (rs ss : List Report) → AreTurns c es d rs → AreTurns d fs now ss → AreTurns c (es ++ fs) now (rs ++ ss)
-turns_behind c d now [] fs rs ss h more = subst (λ x. AreTurns x fs now (rs ++ ss)) h.0 (subst (λ l. AreTurns d fs now (l ++ ss)) (sym h.1) more)
-turns_behind c d now (e ∷ es) fs (r ∷ rs) ss h more = (h.0, h.1, turns_behind h.0 d now es fs rs ss h.2 more)
-turns_behind c d now (e ∷ es) fs [] ss h more = elim h [ ]
+transitions_after : (c d now : MachineState) (es fs : List Event) (rs ss : List Report) → AreTransitions c es d rs → AreTransitions d fs now ss → AreTransitions c (es ++ fs) now (rs ++ ss)
+transitions_after c d now [] fs rs ss h more = subst (λ x. AreTransitions x fs now (rs ++ ss)) h.0 (subst (λ l. AreTransitions d fs now (l ++ ss)) (sym h.1) more)
+transitions_after c d now (e ∷ es) fs (r ∷ rs) ss h more = (h.0, h.1, transitions_after h.0 d now es fs rs ss h.2 more)
+transitions_after c d now (e ∷ es) fs [] ss h more = elim h [ ]
 
-pub turned_behind : (c d now : Content) (es fs : List Event) → HasTurned c es d → HasTurned d fs now → HasTurned c (es ++ fs) now
-turned_behind c d now es fs h more = (h.0 ++ more.0, turns_behind c d now es fs h.0 more.0 h.1 more.1)
+pub turned_after : (c d now : MachineState) (es fs : List Event) → HasTurned c es d → HasTurned d fs now → HasTurned c (es ++ fs) now
+turned_after c d now es fs h more = (h.0 ++ more.0, transitions_after c d now es fs h.0 more.0 h.1 more.1)
 
-pub all_done : (c now : Content) (es : List Event) → HasTurned c es now → HasDoneAll c es now
+pub all_done : (c now : MachineState) (es : List Event) → HasTurned c es now → HasDoneAll c es now
 all_done c now es h = (h.0, h.1, does_more c now es h.0 h.1)
 
-pub turned_by : (c now : Content) (es : List Event) → HasDoneAll c es now → HasTurned c es now
+pub turned_by : (c now : MachineState) (es : List Event) → HasDoneAll c es now → HasTurned c es now
 turned_by c now es h = (h.0, h.1)
 
 -- ---- one event, many times
 
-pub turned_again : (c d now : Content) (e : Event) (n : ℕ) (r : Report) → HasTurned c (replicate n e) d → IsTurn d e (now, r) → HasTurned c (replicate (n + 1) e) now
-turned_again c d now e n r h turn = subst (λ es. HasTurned c es now) (replicate_more n e) (turned_more c d now (replicate n e) e r h turn)
+pub turned_again : (c d now : MachineState) (e : Event) (n : ℕ) (r : Report) → HasTurned c (replicate n e) d → IsTransition d e (now, r) → HasTurned c (replicate (n + 1) e) now
+turned_again c d now e n r h transition = subst (λ es. HasTurned c es now) (replicate_more n e) (turned_more c d now (replicate n e) e r h transition)
 
-pub stops_again : (c d now : Content) (most : ℕ) (e : Event) (n count : ℕ) (code : Code) → n < count → HasTurned c (replicate n e) d → now ≡ d → IsNotDone d most e code →
+pub stops_again : (c d now : MachineState) (most : ℕ) (e : Event) (n count : ℕ) (code : Code) → n < count → HasTurned c (replicate n e) d → now ≡ d → IsNotDone d most e code →
     IsStopped c most (replicate count e) (record { done = n; code = code }) now
 stops_again c d now most e n count code few h same held = (
   subst (λ es. HasDoneAll c es now) (sym (take-replicate n count e (omega (arith, few)))) (all_done c now (replicate n e) (subst (HasTurned c (replicate n e)) (sym same) h)),
@@ -169,12 +169,12 @@ stops_again c d now most e n count code few h same held = (
 )
 
 -- where one event many times stops, some were left
-pub stopped_few : (c : Content) (most count : ℕ) (e : Event) (stop : Stop) (now : Content) → IsStopped c most (replicate count e) stop now → stop.done < count
+pub stopped_few : (c : MachineState) (most count : ℕ) (e : Event) (stop : Stop) (now : MachineState) → IsStopped c most (replicate count e) stop now → stop.done < count
 stopped_few c most count e stop now stopped = subst (λ n. stop.done < n) (length-replicate count e) (slice_get_within (replicate count e) stop.done stopped.1.0 stopped.1.1)
 
 -- ---- the events of items
 
--- an item for places that no list has
+-- an item for indices that no list has
 abbrev pub no_item : Item
 no_item = record { event = Step 0; count = 0 }
 
@@ -206,14 +206,14 @@ module _ (items : List Item) (i : ℕ) (d : Item) (below : i < length items) whe
   length_with =
       ap (λ n. length before + n) (sym (length-replicate item.count item.event)) ∙ (sym (length-append before own) ∙ ap length (so_far_all items i d below))
 
-  pub turned_with : (c x now : Content) → HasTurned c before x → HasTurned x own now → HasTurned c (events_of (take (i + 1) items)) now
-  turned_with c x now h more = subst (λ es. HasTurned c es now) (so_far_all items i d below) (turned_behind c x now before own h more)
+  pub turned_with : (c x now : MachineState) → HasTurned c before x → HasTurned x own now → HasTurned c (events_of (take (i + 1) items)) now
+  turned_with c x now h more = subst (λ es. HasTurned c es now) (so_far_all items i d below) (turned_after c x now before own h more)
 
-  pub stops_with : (c x now : Content) (most done : ℕ) (stop : Stop) → done ≡ length before → HasTurned c before x → IsStopped x most own stop now →
+  pub stops_with : (c x now : MachineState) (most done : ℕ) (stop : Stop) → done ≡ length before → HasTurned c before x → IsStopped x most own stop now →
       IsStopped c most (events_of items) (record { done = done + stop.done; code = stop.code }) now
   stops_with c x now most done stop is h stopped =
       let within : stop.done < length own = slice_get_within own stop.done stopped.1.0 stopped.1.1 in (
-        subst (λ es. HasDoneAll c es now) (sym (taken within)) (all_done c now (before ++ take stop.done own) (turned_behind c x now before (take stop.done own) h (turned_by x now (take stop.done own) stopped.0))),
+        subst (λ es. HasDoneAll c es now) (sym (taken within)) (all_done c now (before ++ take stop.done own) (turned_after c x now before (take stop.done own) h (turned_by x now (take stop.done own) stopped.0))),
         (
           stopped.1.0,
           ap (slice_get (events_of items)) (ap (λ n. n + stop.done) is) ∙ (ap (λ es. slice_get es (length before + stop.done)) split ∙ there within stopped.1.1),
@@ -233,11 +233,11 @@ module _ (items : List Item) (i : ℕ) (d : Item) (below : i < length items) whe
           ∙ ap Some (get_or-append-add before (own ++ rest) stop.done e ∙ (get_or_append_left own rest e stop.done within ∙ get_or_from_slice_get own stop.done e e found))
 
 -- a run that stopped, by a list that is the same
-pub run_stopped : (c : Content) (most : ℕ) (items others : List Item) (stop : Stop) (now : Content) → items ≡ others → IsStopped c most (events_of items) stop now →
+pub run_stopped : (c : MachineState) (most : ℕ) (items others : List Item) (stop : Stop) (now : MachineState) → items ≡ others → IsStopped c most (events_of items) stop now →
     IsRunOn c most (events_of others) stop.done stop.code now
 run_stopped c most items others stop now same stopped = inr (subst (λ is. IsStopped c most (events_of is) stop now) same stopped)
 
 -- a run that did all
-pub run_all : (c : Content) (most : ℕ) (items others : List Item) (n : ℕ) (now : Content) → items ≡ others → (n ≡ length (events_of items)) × HasDoneAll c (events_of items) now →
+pub run_all : (c : MachineState) (most : ℕ) (items others : List Item) (n : ℕ) (now : MachineState) → items ≡ others → (n ≡ length (events_of items)) × HasDoneAll c (events_of items) now →
     IsRunOn c most (events_of others) n Ran now
 run_all c most items others n now same all = inl (all.0 ∙ ap (λ is. length (events_of is)) same, refl, subst (λ is. HasDoneAll c (events_of is) now) same all.1)

@@ -96,10 +96,10 @@ reason_not_done n = by_full (nat_eq n (number_of Full))
     by_full false = NoMemory
 
 -- of a thread: the code of its end, Ran of a live one, Absent of one that was never started
-abbrev pub standing_code : Option End → Bool → Code
-standing_code (Some end) live = end_code end
-standing_code None true = Ran
-standing_code None false = Absent
+abbrev pub status_code : Option End → Bool → Code
+status_code (Some end) live = end_code end
+status_code None true = Ran
+status_code None false = Absent
 
 -- 0 for nobody, 256 and the number of a monitor's owner, 512 and the number of a thread whose end is awaited
 abbrev pub wait_code : Option Wait → ℕ

@@ -1,6 +1,6 @@
 pub use Rattle.interleaving_core.specs as interleaving_core
 pub mod Codes
 pub mod Handles
-pub mod Openings
+pub mod InitialStates
 pub mod Sessions
 pub mod Steps

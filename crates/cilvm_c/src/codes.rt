@@ -1,7 +1,7 @@
 //! What calls return, as numbers.
 
 ghost use Rattle.std.specs.Prelude.{◌≡◌};
-ghost use Rattle.cilvm_c.specs.Codes.{end_code, failure_code, fault_code, is_not_done, is_ran, number_of, reason_not_done, report_code, schedule_code, standing_code, wait_code};
+ghost use Rattle.cilvm_c.specs.Codes.{end_code, failure_code, fault_code, is_not_done, is_ran, number_of, reason_not_done, report_code, schedule_code, status_code, wait_code};
 
 use acceptance::Failure;
 use cil_model::reports::{End, Fault, Report};
@@ -160,8 +160,8 @@ pub(crate) fn reason_not_done(number: u32) -> Code
 }
 
 /// The code of a thread: of its end, or if it has not ended, whether it is live.
-pub(crate) fn standing_code(end: Option<End>, is_live: bool) -> Code
-    ensures { result ≡ standing_code end is_live }
+pub(crate) fn status_code(end: Option<End>, is_live: bool) -> Code
+    ensures { result ≡ status_code end is_live }
 {
     match end {
         Some(end) => end_code(end),

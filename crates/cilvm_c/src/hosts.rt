@@ -4,8 +4,8 @@ ghost use Rattle.std.specs.Prelude.{◌≡◌};
 ghost use types.Logic.{sem};
 ghost use Rattle.cil_model.specs.declared.events.Event.TheVariants.{Step, Ack, Gc};
 ghost use Rattle.cilvm_c.specs.Handles.{is_held, such_is_held};
-ghost use Rattle.cilvm_c.specs.Openings.{IsChecked, IsOpeningBy};
-ghost use Rattle.cilvm_c.specs.Sessions.{AreUsed, Held, IsClosing, IsLiveCount, IsPrintedRead, IsReasonRead, IsStanding, IsWait};
+ghost use Rattle.cilvm_c.specs.InitialStates.{IsChecked, IsInitialBy};
+ghost use Rattle.cilvm_c.specs.Sessions.{AreUsed, Held, IsClosing, IsLiveCount, IsPrintedRead, IsReasonRead, IsStatus, IsWait};
 ghost use Rattle.cilvm_c.specs.Steps.{HasDoneOne, HasRun, HasStepped};
 ghost use Rattle.cilvm_c.specs.contracts.sessions.Session as row;
 
@@ -51,7 +51,7 @@ pub extern "C" fn cilvm_new(alloc: Global, out: &mut *mut u8) -> u32 {
 }
 
 fn open(session: &mut Session, source: &[u8], limits: &HostLimits) -> u32
-    ensures { IsOpeningBy source.now limits.now result session.new }
+    ensures { IsInitialBy source.now limits.now result session.new }
 {
     session.open(source, run_limits(limits), limits.printed)
 }
@@ -62,7 +62,7 @@ fn open(session: &mut Session, source: &[u8], limits: &HostLimits) -> u32
 pub unsafe extern "C" fn cilvm_open(at: *mut u8, source: &[u8], limits: &HostLimits) -> u32
     ghost held: { Held }
     requires* { sem 𝓛 (is_held row.the_row at held) }
-    ensures* { sem 𝓛 (such_is_held row.the_row at (IsOpeningBy source.now limits.now result)) }
+    ensures* { sem 𝓛 (such_is_held row.the_row at (IsInitialBy source.now limits.now result)) }
 {
     let session: *mut Session = at.cast();
     open(&mut *session, source, limits)
@@ -74,7 +74,7 @@ fn why(session: &mut Session, from: usize, to: &mut [u8]) -> usize
     session.why(from, to)
 }
 
-/// Copies the text that explains the last refusal, from this byte on, as much as the buffer takes, and returns how much that is.
+/// Copies the text that explains the last refusal, from this byte on, up to the length of the buffer, and returns the number of bytes copied.
 #[unsafe(no_mangle)]
 pub unsafe extern "C" fn cilvm_why(at: *mut u8, from: usize, to: &mut [u8]) -> usize
     ghost held: { Held }
@@ -176,7 +176,7 @@ fn read(session: &mut Session, from: usize, to: &mut [u8]) -> usize
     session.read(from, to)
 }
 
-/// Copies what was printed, from this byte on, as much as the buffer takes, and returns how much that is.
+/// Copies what was printed, from this byte on, up to the length of the buffer, and returns the number of bytes copied.
 #[unsafe(no_mangle)]
 pub unsafe extern "C" fn cilvm_read(at: *mut u8, from: usize, to: &mut [u8]) -> usize
     ghost held: { Held }
@@ -188,7 +188,7 @@ pub unsafe extern "C" fn cilvm_read(at: *mut u8, from: usize, to: &mut [u8]) -> 
 }
 
 fn end_of(session: &mut Session, thread: u8) -> u32
-    ensures { IsStanding session.old thread result session.new }
+    ensures { IsStatus session.old thread result session.new }
 {
     session.end_of(thread)
 }
@@ -198,7 +198,7 @@ fn end_of(session: &mut Session, thread: u8) -> u32
 pub unsafe extern "C" fn cilvm_end_of(at: *mut u8, thread: u8) -> u32
     ghost held: { Held }
     requires* { sem 𝓛 (is_held row.the_row at held) }
-    ensures* { sem 𝓛 (such_is_held row.the_row at (IsStanding held thread result)) }
+    ensures* { sem 𝓛 (such_is_held row.the_row at (IsStatus held thread result)) }
 {
     let session: *mut Session = at.cast();
     end_of(&mut *session, thread)

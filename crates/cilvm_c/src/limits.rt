@@ -1,7 +1,7 @@
 //! The limits of a session, as a host gives them.
 
 ghost use Rattle.std.specs.Prelude.{◌≡◌};
-ghost use Rattle.cilvm_c.specs.Openings.{run_limits};
+ghost use Rattle.cilvm_c.specs.InitialStates.{run_limits};
 
 use cil_model::limits::Limits;
 

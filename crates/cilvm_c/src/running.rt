@@ -2,7 +2,7 @@
 
 ghost use Rattle.std.specs.Prelude.{◌≡◌, ◌≤◌, ◌∷◌, [], IfErr, IfOk, OnErr, OnOk, length, replicate};
 ghost use Rattle.interleaving_core.specs.Histories.{DoesMore};
-ghost use Rattle.interleaving_core.specs.simulation.Turns.{IsTurn};
+ghost use Rattle.interleaving_core.specs.simulation.Transitions.{IsTransition};
 ghost use Rattle.schedule_text.specs.Items.{events_of, words};
 ghost use Rattle.schedule_text.specs.Readings.{IsFirstFault};
 ghost use Rattle.schedule_text.specs.declared.errors.TheConstants.{MOST_EVENTS};
@@ -31,7 +31,7 @@ fn act(
     event: Event,
 ) -> Result<Report, Code>
     ensures within { IfOk result (λ _. length machine.old.printed ≤ most_printed) }
-    ensures turns { IfOk result (λ report. IsTurn machine.old event (machine.new, report)) }
+    ensures transitions { IfOk result (λ report. IsTransition machine.old event (machine.new, report)) }
     ensures does { IfOk result (λ report. DoesMore machine.old (event ∷ []) (report ∷ []) machine.new) }
     ensures same { OnErr result (machine.new ≡ machine.old) }
     ensures held { IfErr result (IsNotDone machine.old most_printed event) }

@@ -1,11 +1,11 @@
 //! A session: a machine that may be closed, the allocator that its events take memory from, and why the last source was refused.
 
 ghost use Rattle.std.specs.Prelude.{◌≡◌, ◌≤◌, ◌⊎◌, [], IfErr, IfOk, None, drop, length, take};
-ghost use Rattle.cilvm_c.specs.Openings.{IsOpening};
-ghost use Rattle.cilvm_c.specs.Sessions.{AreUsed, IsRead, live_in, printed_by, standing_of, wait_of, used_in};
+ghost use Rattle.cilvm_c.specs.InitialStates.{IsInitial};
+ghost use Rattle.cilvm_c.specs.Sessions.{AreUsed, IsRead, live_in, printed_by, status_of, wait_of, used_in};
 ghost use Rattle.cilvm_c.specs.Steps.{HasDoneOne, HasRun, HasStepped};
 
-use crate::codes::{Code, failure_code, number_of, schedule_code, standing_code, wait_code};
+use crate::codes::{Code, failure_code, number_of, schedule_code, status_code, wait_code};
 use crate::running::{act_by_number, make_steps, run_text};
 use acceptance::{Failure, machine_of};
 use cil_model::events::Event;
@@ -51,7 +51,7 @@ impl Session {
     /// Opens the session with the machine of a source, before its first event. Where there is none, it is closed, and its reason explains
     /// why, unless memory ran out.
     pub(crate) fn open(&mut self, source: &[u8], limits: Limits, most_printed: usize) -> u32
-        ensures { IsOpening source.now limits most_printed result self.new }
+        ensures { IsInitial source.now limits most_printed result self.new }
     {
         self.close();
         match machine_of(self.alloc, source, limits) {
@@ -112,11 +112,11 @@ impl Session {
 
     /// The state of a thread.
     pub(crate) fn end_of(&self, thread: u8) -> u32
-        ensures { result ≡ standing_of self.now.machine thread }
+        ensures { result ≡ status_of self.now.machine thread }
     {
         match &self.machine {
             None => number_of(Code::Closed),
-            Some(machine) => number_of(standing_code(
+            Some(machine) => number_of(status_code(
                 machine.end_of(thread),
                 machine.is_live(thread),
             )),
@@ -157,7 +157,7 @@ impl Session {
         }
     }
 
-    /// Copies what was printed, from this place on, as much as the buffer takes, and returns how much that is.
+    /// Copies what was printed, from this index on, up to the length of the buffer, and returns the number of bytes copied.
     pub(crate) fn read(&self, from: usize, to: &mut [u8]) -> usize
         ensures { IsRead (printed_by self.now.machine) from to.new result }
     {
@@ -184,7 +184,7 @@ impl Session {
     }
 }
 
-/// Copies bytes from this place on, as much as the buffer takes, and returns how many.
+/// Copies bytes from this index on, up to the length of the buffer, and returns the number of bytes copied.
 fn copy_from(bytes: &[u8], from: usize, to: &mut [u8]) -> usize
     ensures { IsRead bytes.now from to.new result }
 {

@@ -17,8 +17,8 @@ use Rattle.name_tables.proofs.NumberLaws.{none_is_some}
 use Rattle.class_layout.specs.ByClass.{by_class, interface_numbers, assignable_row, with_interfaces, marked_at}
 use Rattle.resolved_code.specs.Numbered.{class_name}
 use Rattle.name_tables.proofs.Lists.{option_map_of_map}
-use Rattle.class_layout.proofs.Places.{same_elements}
-use Rattle.resolved_code.proofs.Numbers.Classes.{found_at, not_declared, known_apart, number_equal, among_numbers, number_of_place}
+use Rattle.class_layout.proofs.Indices.{same_elements}
+use Rattle.resolved_code.proofs.Numbers.Classes.{found_at, not_declared, known_apart, number_equal, among_numbers, number_of_index}
 
 module _ (tree : Tree) where
   abbrev listed : List (List ℕ)
@@ -79,4 +79,4 @@ module _ (tree : Tree) where
       at j (Some e) h =
           let within : j < length (declarations tree) = slice_get_within (declarations tree) j e h in
           let l : j < count = omega (arith, within, counted) in
-          marked j l ∙ ap (λ ms. Some (list_any (λ m. m == j) ms)) are ∙ ap Some (among_links e.0 j (number_of_place tree legal j e h) (chain_of tree c)) ∙ sym (answered j (Some e) h)
+          marked j l ∙ ap (λ ms. Some (list_any (λ m. m == j) ms)) are ∙ ap Some (among_links e.0 j (number_of_index tree legal j e h) (chain_of tree c)) ∙ sym (answered j (Some e) h)

@@ -48,28 +48,28 @@ of_either (z ∷ zs) ys (suc i) x h = by_rest (of_either zs ys i x h)
     by_rest (inl there) = inl there
     by_rest (inr (p, e, there)) = inr (p, omega (arith, e), there)
 
--- the item at a place of the second list is at that place after the first list
-behind : {X : Type 0} (xs ys : List X) (p place : ℕ) → place ≡ length xs + p → slice_get (xs ++ ys) place ≡ slice_get ys p
-behind [] ys p place e =
-    let same : place ≡ p = omega (arith, e) in
+-- the item at an index of the second list is at that index after the first list
+following : {X : Type 0} (xs ys : List X) (p index : ℕ) → index ≡ length xs + p → slice_get (xs ++ ys) index ≡ slice_get ys p
+following [] ys p index e =
+    let same : index ≡ p = omega (arith, e) in
     ap (slice_get ys) same
-behind (x ∷ xs) ys p zero e = absurd (omega (arith, e))
-behind (x ∷ xs) ys p (suc place) e = behind xs ys p place (omega (arith, e))
+following (x ∷ xs) ys p zero e = absurd (omega (arith, e))
+following (x ∷ xs) ys p (suc index) e = following xs ys p index (omega (arith, e))
 
 -- ---- fields that one class declares
 
--- where no name occurs twice, a field is found at its own place
+-- where no name occurs twice, a field is found at its own index
 found_own : (c : ClassName) (f : Field) (fs : List Field) (further : List (FieldKey × DeclaredType)) (i p : ℕ) → has_repeat same_name fs ≡ false → slice_get fs p ≡ Some f → position_from (keyed c f) i (map (key_in c) fs ++ further) ≡ Some (i + p)
 found_own c f [] further i p once at = absurd (none_is_some f at)
 found_own c f (g ∷ gs) further i zero once at =
     let same : g ≡ f = cc in
     let named : keyed c f (key_in c g) ≡ true = own_alike c f g ∙ ap (λ (x : Field). same_text x.name f.name) same ∙ same_text_itself f.name in
-    let place : i ≡ i + 0 = omega arith in
-    ap (λ b. cond b (Some i) (position_from (keyed c f) (i + 1) (map (key_in c) gs ++ further))) named ∙ ap Some place
+    let index : i ≡ i + 0 = omega arith in
+    ap (λ b. cond b (Some i) (position_from (keyed c f) (i + 1) (map (key_in c) gs ++ further))) named ∙ ap Some index
 found_own c f (g ∷ gs) further i (suc p) once at =
     let other : keyed c f (key_in c g) ≡ false = own_alike c f g ∙ passes_not (same_name g) gs p f (or_parts _ _ once).0 at in
-    let place : i + 1 + p ≡ i + suc p = omega arith in
-    ap (λ b. cond b (Some i) (position_from (keyed c f) (i + 1) (map (key_in c) gs ++ further))) other ∙ found_own c f gs further (i + 1) p (or_parts _ _ once).1 at ∙ ap Some place
+    let index : i + 1 + p ≡ i + suc p = omega arith in
+    ap (λ b. cond b (Some i) (position_from (keyed c f) (i + 1) (map (key_in c) gs ++ further))) other ∙ found_own c f gs further (i + 1) p (or_parts _ _ once).1 at ∙ ap Some index
 
 module _ (tree : Tree) (legal : IsLegal tree) where
   abbrev IsPlacedAt : ClassName → ℕ → FieldKey × DeclaredType → Type 0
@@ -139,10 +139,10 @@ module _ (tree : Tree) (legal : IsLegal tree) where
       by_part : (slice_get (inherited tree c) i ≡ Some e) ⊎ ((p : ℕ) × (i ≡ length (inherited tree c) + p) × (slice_get (keyed_fields tree false c ++ []) p ≡ Some e)) →
           ((b : ClassName) → length (chain_of tree b) ≤ n → slice_get (instance_fields tree b) i ≡ Some e → IsPlacedAt b i e) → IsPlacedAt c i e
       by_part (inl there) further = by_base (base_of tree c) refl there further
-      by_part (inr (p, place, there)) further =
-          own_placed c p e (sym (ap (λ es. slice_get es p) (append-nil (keyed_fields tree false c))) ∙ there) ∙ ap (λ k. Some (length (hidden_slots tree c) + k)) (sym place)
+      by_part (inr (p, index, there)) further =
+          own_placed c p e (sym (ap (λ es. slice_get es p) (append-nil (keyed_fields tree false c))) ∙ there) ∙ ap (λ k. Some (length (hidden_slots tree c) + k)) (sym index)
 
-  -- the slot of a field is its place after the hidden slot
+  -- the slot of a field is its index after the hidden slot
   pub placed_in : (c : ClassName) (i : ℕ) (e : FieldKey × DeclaredType) → slice_get (instance_fields tree c) i ≡ Some e → IsPlacedAt c i e
   placed_in c = placed_within (length (chain_of tree c)) c (omega arith)
 
@@ -157,9 +157,9 @@ module _ (tree : Tree) (legal : IsLegal tree) where
   pub type_at_slot : (c : ClassName) (i : ℕ) (e : FieldKey × DeclaredType) → slice_get (instance_fields tree c) i ≡ Some e → (n : ℕ) → instance_slot tree e.0 ≡ Some n → slice_get (slot_types tree c) n ≡ Some (Some e.1)
   type_at_slot c i e at n is =
       let both : Some n ≡ Some (length (hidden_slots tree c) + i) = sym is ∙ placed_in c i e at in
-      let place : n ≡ length (hidden_slots tree c) + i = cc in
+      let index : n ≡ length (hidden_slots tree c) + i = cc in
       let types : List (Option DeclaredType) = map (λ (f : FieldKey × DeclaredType). Some f.1) (instance_fields tree c) in
-      behind (hidden_slots tree c) types i n place ∙ slice_get-map (λ (f : FieldKey × DeclaredType). Some f.1) (instance_fields tree c) i ∙
+      following (hidden_slots tree c) types i n index ∙ slice_get-map (λ (f : FieldKey × DeclaredType). Some f.1) (instance_fields tree c) i ∙
       ap (option_map (λ (f : FieldKey × DeclaredType). Some f.1)) at
 
   -- a reference exactly where the field does

@@ -21,11 +21,11 @@ use Rattle.resolved_code.proofs.LegalPrograms.Limits.{static_fields_few}
 use Rattle.class_layout.specs.declared.kinds.SlotKind.{SlotKind}
 use Rattle.class_layout.specs.ByClass.{by_class}
 use Rattle.class_layout.specs.Kinds.{own_kinds}
-use Rattle.class_layout.specs.FieldSlots.{number_after, slot_after, statics_after, numbered_by_flag, statics_by_flag, slots_by_flag, class_names}
+use Rattle.class_layout.specs.FieldSlots.{number_after, slot_after, statics_after, static_by_id, statics_by_flag, slots_by_flag, class_names}
 use Rattle.class_layout.proofs.SlotLaws.{of_flag, key_in, own_counted, statics_counted, all_statics}
 use Rattle.class_layout.proofs.ResolvedLaws.{IsClass, answer_given, declared_at, flags_alike, statics_alike}
 
--- what begins at a place, by the item there
+-- the rest of a list from an index on begins with the item there
 pub drop_at : {X : Type 0} (xs : List X) (i : ℕ) (x : X) → slice_get xs i ≡ Some x → drop i xs ≡ x ∷ drop (i + 1) xs
 drop_at [] i x h = absurd (none-some x h)
 drop_at (y ∷ ys) zero x h =
@@ -44,12 +44,12 @@ module _ {X : Type 0} (flag : X → Bool) (xs : List X) (i : ℕ) (d : X) (l : i
       ap (map flag) (drop-cons xs i d l) ∙ ap (λ n. flag (get_or xs i d) ∷ map flag (drop n xs)) next
 
   pub one_numbered : (s k t m own : ℕ) (before after all : List ℕ) → own ≡ (if flag (get_or xs i d) then s else k) → t ≡ number_after (flag (get_or xs i d)) s → m ≡ slot_after (flag (get_or xs i d)) k → after ≡ before ++ own ∷ [] →
-      before ++ numbered_by_flag s k (map flag (drop i xs)) ≡ all → after ++ numbered_by_flag t m (map flag (drop (i + 1) xs)) ≡ all
+      before ++ static_by_id s k (map flag (drop i xs)) ≡ all → after ++ static_by_id t m (map flag (drop (i + 1) xs)) ≡ all
   one_numbered s k t m own before after all o es ek a h =
       let b = flag (get_or xs i d) in
       let rest = map flag (drop (i + 1) xs) in
-      ap (λ ns. ns ++ numbered_by_flag t m rest) a ∙ append_assoc before (own ∷ []) (numbered_by_flag t m rest) ∙ ap (λ n. before ++ n ∷ numbered_by_flag t m rest) o ∙
-      ap (λ n. before ++ (if b then s else k) ∷ numbered_by_flag n m rest) es ∙ ap (λ n. before ++ (if b then s else k) ∷ numbered_by_flag (number_after b s) n rest) ek ∙ ap (λ bs. before ++ numbered_by_flag s k bs) (sym left) ∙ h
+      ap (λ ns. ns ++ static_by_id t m rest) a ∙ append_assoc before (own ∷ []) (static_by_id t m rest) ∙ ap (λ n. before ++ n ∷ static_by_id t m rest) o ∙
+      ap (λ n. before ++ (if b then s else k) ∷ static_by_id n m rest) es ∙ ap (λ n. before ++ (if b then s else k) ∷ static_by_id (number_after b s) n rest) ek ∙ ap (λ bs. before ++ static_by_id s k bs) (sym left) ∙ h
 
   pub one_static : (s t all : ℕ) → t ≡ number_after (flag (get_or xs i d)) s → statics_by_flag s (map flag (drop i xs)) ≡ all → statics_by_flag t (map flag (drop (i + 1) xs)) ≡ all
   one_static s t all e h = ap (λ n. statics_by_flag n (map flag (drop (i + 1) xs))) e ∙ ap (statics_by_flag s) (sym left) ∙ h
@@ -75,7 +75,7 @@ pub slots_grow : (n : ℕ) (bs : List Bool) → n ≤ slots_by_flag n bs
 slots_grow n [] = omega arith
 slots_grow n (b ∷ bs) = omega (arith, slot_grows b n, slots_grow (slot_after b n) bs)
 
--- what is counted up to a place, and there, is within the whole count
+-- what is counted up to an index, and there, is within the whole count
 module _ {X : Type 0} (flag : X → Bool) (xs : List X) (i : ℕ) (d : X) (within : i < length xs) where
   one_more : map flag (drop i xs) ≡ flag (get_or xs i d) ∷ map flag (drop (suc i) xs)
   one_more = ap (map flag) (drop-cons xs i d within)
@@ -92,7 +92,7 @@ module _ {X : Type 0} (flag : X → Bool) (xs : List X) (i : ℕ) (d : X) (withi
       let grow : slot_after (flag (get_or xs i d)) n ≤ slots_by_flag (slot_after (flag (get_or xs i d)) n) (map flag (drop (suc i) xs)) = slots_grow (slot_after (flag (get_or xs i d)) n) (map flag (drop (suc i) xs)) in
       omega (arith, e, split, grow, small)
 
--- as many slots are counted as there are instance fields
+-- the count of slots is the number of instance fields
 pub slots_counted : (n : ℕ) (fs : List Field) → slots_by_flag n (map (λ (f : Field). f.is_static) fs) ≡ n + length (of_flag false fs)
 slots_counted n [] = omega arith
 slots_counted n (f ∷ fs) = by_flag f.is_static (λ m. slots_counted m fs)

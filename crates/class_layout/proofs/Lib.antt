@@ -1,4 +1,4 @@
-pub mod Places
+pub mod Indices
 pub mod AncestorLaws
 pub mod Marks
 pub mod KindLaws

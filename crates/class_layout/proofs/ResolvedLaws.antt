@@ -19,23 +19,23 @@ use Rattle.name_tables.proofs.NumberLaws.{numbers_within, numbers_of_unknown}
 use Rattle.resolved_code.specs.Numbered.{class_name, element_at, type_at}
 use Rattle.resolved_code.specs.Resolved.{AllAlike, AreResolved, IsResolvedField, IsResolvedClass}
 use Rattle.resolved_code.proofs.ListLaws.RelatedLists.{AlikeTo, alike_to}
-use Rattle.resolved_code.specs.declared.types.NumberedElement.{NumberedElement}
-use Rattle.resolved_code.specs.declared.types.NumberedElement.TheVariants.{Int32, Int64, Object, String, Class}
-use Rattle.resolved_code.specs.declared.types.NumberedType.{NumberedType}
+use Rattle.resolved_code.specs.declared.types.ResolvedElement.{ResolvedElement}
+use Rattle.resolved_code.specs.declared.types.ResolvedElement.TheVariants.{Int32, Int64, Object, String, Class}
+use Rattle.resolved_code.specs.declared.types.ResolvedType.{ResolvedType}
 use Rattle.resolved_code.specs.declared.classes.ResolvedClass.{ResolvedClass}
 use Rattle.resolved_code.specs.declared.classes.ResolvedField.{ResolvedField}
 use Rattle.class_layout.specs.ByClass.{by_class, base_number, interface_numbers, base_at, chain_by}
-use Rattle.class_layout.specs.FieldSlots.{number_after, numbered_fields, statics_after, numbered_by_flag, statics_by_flag, slot_behind, first_slot}
+use Rattle.class_layout.specs.FieldSlots.{number_after, fields_by_id, statics_after, static_by_id, statics_by_flag, following_slot, first_slot}
 use Rattle.class_layout.specs.declared.kinds.SlotKind.{SlotKind}
 use Rattle.class_layout.specs.Kinds.{kind_at, kind_of, instance_kind, own_kinds, slot_kinds}
-use Rattle.class_layout.specs.NumberedKinds.{numbered_kind_at, kind_of_numbered, numbered_kind}
+use Rattle.class_layout.specs.ResolvedKinds.{resolved_kind_at, kind_of_resolved, resolved_kind}
 use Rattle.class_layout.proofs.AncestorLaws.{answer_at}
-use Rattle.resolved_code.proofs.Numbers.Classes.{FoundAt, found_at, number_of_place}
-use Rattle.class_layout.proofs.Places.{push_takes}
+use Rattle.resolved_code.proofs.Numbers.Classes.{FoundAt, found_at, number_of_index}
+use Rattle.class_layout.proofs.Indices.{push_takes}
 
--- ---- numbered fields, by whether each is static
+-- ---- resolved fields, by whether each is static
 
-pub numbered_alike : (s i : ℕ) (fs : List Field) → numbered_by_flag s i (map (λ (f : Field). f.is_static) fs) ≡ numbered_fields s i fs
+pub numbered_alike : (s i : ℕ) (fs : List Field) → static_by_id s i (map (λ (f : Field). f.is_static) fs) ≡ fields_by_id s i fs
 numbered_alike s i [] = refl
 numbered_alike s i (f ∷ fs) =
     ap (λ ns. (if f.is_static then s else i) ∷ ns) (numbered_alike (number_after f.is_static s) (if f.is_static then i else i + 1) fs)
@@ -62,9 +62,9 @@ module _ (tree : Tree) where
   answer_given answer n otherwise e there = answer_there answer n otherwise ∙ ap (λ o. option_map_or (λ (x : ClassName × Declaration). answer x.0) o otherwise) there
 
   -- the slot of the first instance field that a class declares
-  pub slot_alike : (kinds own : List (List SlotKind)) (n : ℕ) (e : ClassName × Declaration) → kinds ≡ by_class tree (slot_kinds tree) → own ≡ by_class tree (own_kinds tree) → slice_get (declarations tree) n ≡ Some e → slot_behind kinds own n ≡ first_slot tree e.0
+  pub slot_alike : (kinds own : List (List SlotKind)) (n : ℕ) (e : ClassName × Declaration) → kinds ≡ by_class tree (slot_kinds tree) → own ≡ by_class tree (own_kinds tree) → slice_get (declarations tree) n ≡ Some e → following_slot kinds own n ≡ first_slot tree e.0
   slot_alike kinds own n e all some there =
-      ap (λ rows. slot_behind rows own n) all ∙ ap (λ rows. slot_behind (by_class tree (slot_kinds tree)) rows n) some ∙
+      ap (λ rows. following_slot rows own n) all ∙ ap (λ rows. following_slot (by_class tree (slot_kinds tree)) rows n) some ∙
       ap (λ (row : List SlotKind). length row - length (unwrap_or (slice_get (by_class tree (own_kinds tree)) n) [])) (answer_given (slot_kinds tree) n [] e there) ∙
       ap (λ (row : List SlotKind). length (slot_kinds tree e.0) - length row) (answer_given (own_kinds tree) n [] e there)
 
@@ -79,12 +79,12 @@ module _ (tree : Tree) where
   -- an item more for the class of a number
   pub class_pushed : {X : Type 0} (answer : ClassName → X) (i : ℕ) (ys zs : List X) (y : X) → i < length (declarations tree) → ys ≡ map (λ (e : ClassName × Declaration). answer e.0) (take i (declarations tree)) →
       ((e : ClassName × Declaration) → slice_get (declarations tree) i ≡ Some e → y ≡ answer e.0) → zs ≡ ys ++ y ∷ [] → zs ≡ map (λ (e : ClassName × Declaration). answer e.0) (take (i + 1) (declarations tree))
-  class_pushed answer i ys zs y within before each after = by_place (slice_get_cases (declarations tree) i).1
+  class_pushed answer i ys zs y within before each after = by_index (slice_get_cases (declarations tree) i).1
     where
-      by_place : ((x : ClassName × Declaration) × (i < length (declarations tree)) × (slice_get (declarations tree) i ≡ Some x) × (get_or (declarations tree) i x ≡ x)) ⊎ ((length (declarations tree) ≤ i) × (slice_get (declarations tree) i ≡ None)) →
+      by_index : ((x : ClassName × Declaration) × (i < length (declarations tree)) × (slice_get (declarations tree) i ≡ Some x) × (get_or (declarations tree) i x ≡ x)) ⊎ ((length (declarations tree) ≤ i) × (slice_get (declarations tree) i ≡ None)) →
           zs ≡ map (λ (e : ClassName × Declaration). answer e.0) (take (i + 1) (declarations tree))
-      by_place (inl (x, l, e, g)) = push_takes (λ (z : ClassName × Declaration). answer z.0) (declarations tree) i x ys zs y within (sym g) before (each x e) after
-      by_place (inr (l, e)) = absurd (omega (arith, l, within))
+      by_index (inl (x, l, e, g)) = push_takes (λ (z : ClassName × Declaration). answer z.0) (declarations tree) i x ys zs y within (sym g) before (each x e) after
+      by_index (inr (l, e)) = absurd (omega (arith, l, within))
 
   -- all of them
   pub classes_pushed : {X : Type 0} (answer : ClassName → X) (i : ℕ) (ys : List X) → i ≡ length (declarations tree) → ys ≡ map (λ (e : ClassName × Declaration). answer e.0) (take i (declarations tree)) → ys ≡ by_class tree answer
@@ -105,7 +105,7 @@ module _ (tree : Tree) where
 
   -- ---- fields
 
-  element_kind : (e : NumberedElement) (f : Element) (n : ℕ) → element_at tree e ≡ Some f → numbered_kind_at e n ≡ kind_at f n
+  element_kind : (e : ResolvedElement) (f : Element) (n : ℕ) → element_at tree e ≡ Some f → resolved_kind_at e n ≡ kind_at f n
   element_kind e f (suc n) h = refl
   element_kind Int32 f zero h =
       let same : Int32Element ≡ f = cc in
@@ -121,29 +121,29 @@ module _ (tree : Tree) where
       ap (λ x. kind_at x 0) same
   element_kind (Class n) f zero h = by_name (class_name tree n) h
     where
-      by_name : (o : Option ClassName) → option_map ClassElement o ≡ Some f → numbered_kind_at (Class n) 0 ≡ kind_at f 0
+      by_name : (o : Option ClassName) → option_map ClassElement o ≡ Some f → resolved_kind_at (Class n) 0 ≡ kind_at f 0
       by_name None k = absurd (none-some f k)
       by_name (Some c) k =
           let same : ClassElement c ≡ f = cc in
           ap (λ x. kind_at x 0) same
 
-  type_kind : (n : NumberedType) (t : DeclaredType) → type_at tree n ≡ Some t → kind_of_numbered n ≡ kind_of (Some t)
+  type_kind : (n : ResolvedType) (t : DeclaredType) → type_at tree n ≡ Some t → kind_of_resolved n ≡ kind_of (Some t)
   type_kind n t h = by_element (element_at tree n.element) refl h
     where
-      by_element : (o : Option Element) → element_at tree n.element ≡ o → option_map {U = DeclaredType} (λ (e : Element). record { element = e; brackets = n.brackets }) o ≡ Some t → kind_of_numbered n ≡ kind_of (Some t)
+      by_element : (o : Option Element) → element_at tree n.element ≡ o → option_map {U = DeclaredType} (λ (e : Element). record { element = e; brackets = n.brackets }) o ≡ Some t → kind_of_resolved n ≡ kind_of (Some t)
       by_element None e k = absurd (none-some t k)
       by_element (Some f) e k =
           let typed : DeclaredType = record { element = f; brackets = n.brackets } in
           let same : typed ≡ t = cc in
           element_kind n.element f n.brackets e ∙ ap (λ x. kind_of (Some x)) same
 
-  field_kind : (f : Field) (r : ResolvedField) → IsResolvedField tree f r → numbered_kind r ≡ instance_kind f
+  field_kind : (f : Field) (r : ResolvedField) → IsResolvedField tree f r → resolved_kind r ≡ instance_kind f
   field_kind f r h =
-      ap (λ b. if b then None else Some (kind_of_numbered r.field_type)) h.is_static ∙ ap (λ k. if f.is_static then None else Some k) (type_kind r.field_type f.field_type h.field_type)
+      ap (λ b. if b then None else Some (kind_of_resolved r.field_type)) h.is_static ∙ ap (λ k. if f.is_static then None else Some k) (type_kind r.field_type f.field_type h.field_type)
 
-  field_kinds : (fs : List Field) (rs : List ResolvedField) → AllAlike (IsResolvedField tree) fs rs → filter_map numbered_kind rs ≡ filter_map instance_kind fs
+  field_kinds : (fs : List Field) (rs : List ResolvedField) → AllAlike (IsResolvedField tree) fs rs → filter_map resolved_kind rs ≡ filter_map instance_kind fs
   field_kinds [] [] h = refl
-  field_kinds (f ∷ fs) (r ∷ rs) h = ap (λ k. cons_option k (filter_map numbered_kind rs)) (field_kind f r h.0) ∙ ap (cons_option (instance_kind f)) (field_kinds fs rs h.1)
+  field_kinds (f ∷ fs) (r ∷ rs) h = ap (λ k. cons_option k (filter_map resolved_kind rs)) (field_kind f r h.0) ∙ ap (cons_option (instance_kind f)) (field_kinds fs rs h.1)
   field_kinds [] (r ∷ rs) h = absurd h
   field_kinds (f ∷ fs) [] h = absurd h
 
@@ -159,7 +159,7 @@ module _ (tree : Tree) where
     -- what the class of a number declares
     pub declared_at : (n : ℕ) (e : ClassName × Declaration) → slice_get (declarations tree) n ≡ Some e → declaration_of tree e.0 ≡ Some e.1
     declared_at n e h =
-        let found : FoundAt tree e.0 n = found_at tree e.0 n (number_of_place tree legal n e h) in
+        let found : FoundAt tree e.0 n = found_at tree e.0 n (number_of_index tree legal n e h) in
         let both : Some (e.0, found.0) ≡ Some e = sym found.2 ∙ h in
         let pairs : (e.0, found.0) ≡ e = cc in
         found.1 ∙ ap (λ (y : ClassName × Declaration). Some y.1) pairs
@@ -171,7 +171,7 @@ module _ (tree : Tree) where
         by_entry None p k = absurd (none-some c k)
         by_entry (Some e) p k =
             let same : e.0 ≡ c = cc in
-            subst (λ x. class_number tree x ≡ Some n) same (number_of_place tree legal n e p)
+            subst (λ x. class_number tree x ≡ Some n) same (number_of_index tree legal n e p)
 
     base_named : (o : Option ℕ) (p : Option ClassName) → option_map (class_name tree) o ≡ option_map Some p → o ≡ option_and_then (class_number tree) p
     base_named None None h = refl
@@ -220,8 +220,8 @@ module _ (tree : Tree) where
           each : (e : ClassName × Declaration) (r : ResolvedClass) → declaration_of tree e.0 ≡ Some e.1 → IsClass e r → r.interfaces ≡ interface_numbers tree e.0
           each e r known h = numbers_named r.interfaces e.1.interfaces h.interfaces ∙ ap (λ o. filter_map (class_number tree) (listed_by (λ (d : Declaration). d.interfaces) o)) (sym known)
 
-      pub own_alike : map (λ (r : ResolvedClass). filter_map numbered_kind r.fields) rs ≡ by_class tree (own_kinds tree)
-      own_alike = alike_by (own_kinds tree) (λ r. filter_map numbered_kind r.fields) each (declarations tree) rs declared_at are
+      pub own_alike : map (λ (r : ResolvedClass). filter_map resolved_kind r.fields) rs ≡ by_class tree (own_kinds tree)
+      own_alike = alike_by (own_kinds tree) (λ r. filter_map resolved_kind r.fields) each (declarations tree) rs declared_at are
         where
-          each : (e : ClassName × Declaration) (r : ResolvedClass) → declaration_of tree e.0 ≡ Some e.1 → IsClass e r → filter_map numbered_kind r.fields ≡ own_kinds tree e.0
+          each : (e : ClassName × Declaration) (r : ResolvedClass) → declaration_of tree e.0 ≡ Some e.1 → IsClass e r → filter_map resolved_kind r.fields ≡ own_kinds tree e.0
           each e r known h = field_kinds e.1.fields r.fields h.fields ∙ ap (λ o. filter_map instance_kind (listed_by (λ (d : Declaration). d.fields) o)) (sym known)

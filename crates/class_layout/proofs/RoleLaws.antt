@@ -18,7 +18,7 @@ use Rattle.name_tables.specs.Numbers.{class_number, chain_numbers, declarations,
 use Rattle.name_tables.specs.Sameness.{MethodIdentity, identity_of, same_identity, same_called, called_of}
 use Rattle.name_tables.specs.SamenessLaws.{same_identity_equal, same_identity_itself}
 use Rattle.name_tables.specs.declared.lookups.MemberNumber.{MemberNumber}
-use Rattle.resolved_code.specs.Found.{is_virtual_found, slot_filled_at, slot_over, slot_numbered}
+use Rattle.resolved_code.specs.Found.{is_virtual_found, slot_filled_at, slot_over, slot_by_id}
 use Rattle.resolved_code.specs.Identities.{identities, identity_number}
 use Rattle.resolved_code.specs.Resolved.{AllAlike, AreResolved, IsResolvedKind, IsResolvedMethod, BothAlike}
 use Rattle.resolved_code.specs.declared.classes.ResolvedClass.{ResolvedClass}
@@ -29,16 +29,16 @@ use Rattle.resolved_code.proofs.ListLaws.RelatedItems.{alike_at}
 use Rattle.class_layout.specs.declared.roles.Role.{Role}
 use Rattle.class_layout.specs.ByClass.{by_class, interface_numbers}
 use Rattle.class_layout.specs.Roles as by_role
-use Rattle.class_layout.specs.Roles.{role_by_flag, role_of_named, role_of_numbered, is_static_numbered, role_in, own_place, role_at, own_at, is_virtual_role, is_virtual_at, slot_by_role, slot_from, filler_from, filled_along, listed_filler}
-use Rattle.class_layout.specs.Targets.{chain_at, filler_over, filler_numbered, own_method, class_filler, is_lister, interface_filler, target_number}
-use Rattle.resolved_code.proofs.Numbers.Classes.{number_of_place}
+use Rattle.class_layout.specs.Roles.{role_by_flag, role_of_named, role_by_id, is_static_by_id, role_in, own_index, role_at, own_at, is_virtual_role, is_virtual_at, slot_by_role, slot_from, implementation_from, filled_along, listed_implementation}
+use Rattle.class_layout.specs.Targets.{chain_at, implementation_over, implementation_by_id, own_method, class_implementation, is_implementer, interface_implementation, target_number}
+use Rattle.resolved_code.proofs.Numbers.Classes.{number_of_index}
 use Rattle.class_layout.proofs.ResolvedLaws.{IsClass, answer_given, interfaces_alike, listed_alike}
 
 -- ---- kinds
 
 -- what a method is, by names and by numbers
 abbrev RoleAndObject : MethodKind → ResolvedKind → Type 0
-RoleAndObject k r = (role_of_numbered r ≡ role_of_named k) × (is_static_numbered r ≡ is_static k)
+RoleAndObject k r = (role_by_id r ≡ role_of_named k) × (is_static_by_id r ≡ is_static k)
 
 kinds_alike : (tree : Tree) (k : MethodKind) (r : ResolvedKind) → IsResolvedKind tree k r → RoleAndObject k r
 kinds_alike tree (Named.Static code) (KindOf.Static body) h = (refl, refl)
@@ -67,7 +67,7 @@ virtual_role (Named.Abstract true) = refl
 virtual_role (Named.Abstract false) = refl
 
 -- whether a method by numbers is virtual
-pub is_virtual_by : (tree : Tree) (k : MethodKind) (r : ResolvedKind) → IsResolvedKind tree k r → is_virtual_role (role_of_numbered r) ≡ is_virtual k
+pub is_virtual_by : (tree : Tree) (k : MethodKind) (r : ResolvedKind) → IsResolvedKind tree k r → is_virtual_role (role_by_id r) ≡ is_virtual k
 is_virtual_by tree k r h = ap is_virtual_role (kinds_alike tree k r h).0 ∙ virtual_role k
 
 slot_of_flag : (n : ℕ) (inherited : Option ℕ) (b : Bool) → slot_by_role n inherited (role_by_flag b) ≡ Some (if b then n else unwrap_or inherited n)
@@ -84,9 +84,9 @@ flag_of_false : (b : Bool) → not b ≡ same_flag false b
 flag_of_false true = refl
 flag_of_false false = refl
 
--- ---- places in lists
+-- ---- indices in lists
 
--- the item at a place that was found
+-- the item at an index that was found
 abbrev PassesAt : {X : Type 0} → (X → Bool) → List X → ℕ → ℕ → Type 0
 PassesAt {X} test xs s i = (j : ℕ) × (i ≡ s + j) × (y : X) × (slice_get xs j ≡ Some y) × (test y ≡ true)
 
@@ -97,13 +97,13 @@ passes_at {X} test s (x ∷ xs) i h = by_test (test x) refl h (λ g. passes_at t
     by_test : (b : Bool) → test x ≡ b → cond b (Some s) (position_from test (s + 1) xs) ≡ Some i → (position_from test (s + 1) xs ≡ Some i → PassesAt test xs (s + 1) i) → PassesAt test (x ∷ xs) s i
     by_test true e g further =
         let same : s ≡ i = cc in
-        let place : i ≡ s + 0 = omega arith in
-        (0, place, x, refl, e)
+        let index : i ≡ s + 0 = omega arith in
+        (0, index, x, refl, e)
     by_test false e g further =
         let r : PassesAt test xs (s + 1) i = further g in
-        let behind : i ≡ s + 1 + r.0 = r.1 in
-        let place : i ≡ s + suc r.0 = omega arith in
-        (suc r.0, place, r.2, r.3, r.4)
+        let following : i ≡ s + 1 + r.0 = r.1 in
+        let index : i ≡ s + suc r.0 = omega arith in
+        (suc r.0, index, r.2, r.3, r.4)
 
 -- an item that passes is found, or one before it
 found_there : {X : Type 0} (test : X → Bool) (s : ℕ) (xs : List X) (j : ℕ) (x : X) → slice_get xs j ≡ Some x → test x ≡ true → (i : ℕ) × (position_from test s xs ≡ Some i)
@@ -126,10 +126,10 @@ stands_before [] ys j x h = absurd (none-some x h)
 stands_before (z ∷ zs) ys zero x h = h
 stands_before (z ∷ zs) ys (suc j) x h = stands_before zs ys j x h
 
-stands_behind : {X : Type 0} (xs ys : List X) (x : X) → Stands ys x → Stands (xs ++ ys) x
-stands_behind [] ys x h = h
-stands_behind (z ∷ zs) ys x h =
-    let r : Stands (zs ++ ys) x = stands_behind zs ys x h in
+stands_after : {X : Type 0} (xs ys : List X) (x : X) → Stands ys x → Stands (xs ++ ys) x
+stands_after [] ys x h = h
+stands_after (z ∷ zs) ys x h =
+    let r : Stands (zs ++ ys) x = stands_after zs ys x h in
     (suc r.0, r.1)
 
 stands_in_rows : {R X : Type 0} (row : R → List X) (rs : List R) (n : ℕ) (r : R) (p : ℕ) (x : X) → slice_get rs n ≡ Some r → slice_get (row r) p ≡ Some x → Stands (flat_map row rs) x
@@ -137,7 +137,7 @@ stands_in_rows row [] n r p x h at = absurd (none-some r h)
 stands_in_rows row (q ∷ qs) zero r p x h at =
     let same : q ≡ r = cc in
     (p, stands_before (row q) (flat_map row qs) p x (ap (λ z. slice_get (row z) p) same ∙ at))
-stands_in_rows row (q ∷ qs) (suc n) r p x h at = stands_behind (row q) (flat_map row qs) x (stands_in_rows row qs n r p x h at)
+stands_in_rows row (q ∷ qs) (suc n) r p x h at = stands_after (row q) (flat_map row qs) x (stands_in_rows row qs n r p x h at)
 
 module _ (tree : Tree) (k : MethodIdentity) (i : ℕ) (numbered : identity_number tree k ≡ i) where
   -- ---- names and signatures by their numbers
@@ -150,7 +150,7 @@ module _ (tree : Tree) (k : MethodIdentity) (i : ℕ) (numbered : identity_numbe
 
   -- two that are not the same have two numbers
   apart : (x : MethodIdentity) → is_known x → same_identity k x ≡ false → i ≡ identity_number tree x → ⊥
-  apart x known other equal = by_place (position_from (same_identity k) 0 keys) refl
+  apart x known other equal = by_index (position_from (same_identity k) 0 keys) refl
     where
       found : (j : ℕ) × (position_from (same_identity x) 0 keys ≡ Some j)
       found = found_there (same_identity x) 0 keys known.0 x known.1 (same_identity_itself x)
@@ -161,21 +161,21 @@ module _ (tree : Tree) (k : MethodIdentity) (i : ℕ) (numbered : identity_numbe
       own : PassesAt (same_identity x) keys 0 found.0
       own = passes_at (same_identity x) 0 keys found.0 found.1
 
-      by_place : (o : Option ℕ) → position_from (same_identity k) 0 keys ≡ o → ⊥
-      by_place None p =
+      by_index : (o : Option ℕ) → position_from (same_identity k) 0 keys ≡ o → ⊥
+      by_index None p =
           let past : i ≡ length keys = sym numbered ∙ ap (λ z. unwrap_or z (length keys)) p in
           let inside : own.0 < length keys = slice_get_within keys own.0 own.2 own.3 in
-          let place : found.0 ≡ 0 + own.0 = own.1 in
+          let index : found.0 ≡ 0 + own.0 = own.1 in
           let all : i ≡ found.0 = equal ∙ number in
-          omega (arith, past, inside, place, all)
-      by_place (Some j) p =
+          omega (arith, past, inside, index, all)
+      by_index (Some j) p =
           let here : i ≡ j = sym numbered ∙ ap (λ z. unwrap_or z (length keys)) p in
           let others : PassesAt (same_identity k) keys 0 j = passes_at (same_identity k) 0 keys j p in
           let first : found.0 ≡ 0 + own.0 = own.1 in
           let second : j ≡ 0 + others.0 = others.1 in
           let all : i ≡ found.0 = equal ∙ number in
-          let place : others.0 ≡ own.0 = omega (arith, first, second, all, here) in
-          let both : Some others.2 ≡ Some own.2 = sym others.3 ∙ ap (slice_get keys) place ∙ own.3 in
+          let index : others.0 ≡ own.0 = omega (arith, first, second, all, here) in
+          let both : Some others.2 ≡ Some own.2 = sym others.3 ∙ ap (slice_get keys) index ∙ own.3 in
           let one : others.2 ≡ own.2 = cc in
           let same : k ≡ x = same_identity_equal k others.2 others.4 ∙ one ∙ sym (same_identity_equal x own.2 own.4) in
           lost (sym other ∙ ap (same_identity k) (sym same) ∙ same_identity_itself k)
@@ -200,11 +200,11 @@ module _ (tree : Tree) (k : MethodIdentity) (i : ℕ) (numbered : identity_numbe
   role_found : (ms : List Method) (rs : List ResolvedMethod) → all_known ms → AllAlike (IsResolvedMethod tree) ms rs → role_in i rs ≡ option_map (λ (m : Method). role_of_named m.kind) (find (λ m. same_identity k (identity_of m)) ms)
   role_found [] [] known h = refl
   role_found (m ∷ ms) (r ∷ rs) known h =
-      ap (λ b. option_map (λ (x : ResolvedMethod). role_of_numbered x.kind) (cond b (Some r) (find (λ (x : ResolvedMethod). i == x.identity) rs))) (test_alike m r (known 0 m refl) h.0) ∙
+      ap (λ b. option_map (λ (x : ResolvedMethod). role_by_id x.kind) (cond b (Some r) (find (λ (x : ResolvedMethod). i == x.identity) rs))) (test_alike m r (known 0 m refl) h.0) ∙
       by_test (same_identity k (identity_of m)) (role_found ms rs (λ p. known (suc p)) h.1)
     where
       by_test : (b : Bool) → role_in i rs ≡ option_map (λ (x : Method). role_of_named x.kind) (find (λ x. same_identity k (identity_of x)) ms) →
-          option_map (λ (x : ResolvedMethod). role_of_numbered x.kind) (cond b (Some r) (find (λ (x : ResolvedMethod). i == x.identity) rs)) ≡
+          option_map (λ (x : ResolvedMethod). role_by_id x.kind) (cond b (Some r) (find (λ (x : ResolvedMethod). i == x.identity) rs)) ≡
           option_map (λ (x : Method). role_of_named x.kind) (cond b (Some m) (find (λ x. same_identity k (identity_of x)) ms))
       by_test true further = ap Some (kinds_alike tree m.kind r.kind h.0.kind).0
       by_test false further = further
@@ -215,16 +215,16 @@ module _ (tree : Tree) (k : MethodIdentity) (i : ℕ) (numbered : identity_numbe
   own_test m = same_called (k, false) (called_of m)
 
   abbrev own_numbered : ResolvedMethod → Bool
-  own_numbered r = (i == r.identity) && not (is_static_numbered r.kind)
+  own_numbered r = (i == r.identity) && not (is_static_by_id r.kind)
 
-  own_found : (place : ℕ) (ms : List Method) (rs : List ResolvedMethod) → all_known ms → AllAlike (IsResolvedMethod tree) ms rs → position_from own_numbered place rs ≡ position_from own_test place ms
-  own_found place [] [] known h = refl
-  own_found place (m ∷ ms) (r ∷ rs) known h =
-      let object : not (is_static_numbered r.kind) ≡ same_flag false (is_static m.kind) = ap not (kinds_alike tree m.kind r.kind h.0.kind).1 ∙ flag_of_false (is_static m.kind) in
-      let test : own_numbered r ≡ own_test m = ap (λ b. b && not (is_static_numbered r.kind)) (test_alike m r (known 0 m refl) h.0) ∙ ap (λ b. same_identity k (identity_of m) && b) object in
-      ap (λ b. cond b (Some place) (position_from own_numbered (place + 1) rs)) test ∙ ap (λ o. cond (own_test m) (Some place) o) (own_found (place + 1) ms rs (λ p. known (suc p)) h.1)
-  own_found place [] (r ∷ rs) known h = absurd h
-  own_found place (m ∷ ms) [] known h = absurd h
+  own_found : (index : ℕ) (ms : List Method) (rs : List ResolvedMethod) → all_known ms → AllAlike (IsResolvedMethod tree) ms rs → position_from own_numbered index rs ≡ position_from own_test index ms
+  own_found index [] [] known h = refl
+  own_found index (m ∷ ms) (r ∷ rs) known h =
+      let object : not (is_static_by_id r.kind) ≡ same_flag false (is_static m.kind) = ap not (kinds_alike tree m.kind r.kind h.0.kind).1 ∙ flag_of_false (is_static m.kind) in
+      let test : own_numbered r ≡ own_test m = ap (λ b. b && not (is_static_by_id r.kind)) (test_alike m r (known 0 m refl) h.0) ∙ ap (λ b. same_identity k (identity_of m) && b) object in
+      ap (λ b. cond b (Some index) (position_from own_numbered (index + 1) rs)) test ∙ ap (λ o. cond (own_test m) (Some index) o) (own_found (index + 1) ms rs (λ p. known (suc p)) h.1)
+  own_found index [] (r ∷ rs) known h = absurd h
+  own_found index (m ∷ ms) [] known h = absurd h
 
   -- ---- classes
 
@@ -249,13 +249,13 @@ module _ (tree : Tree) (k : MethodIdentity) (i : ℕ) (numbered : identity_numbe
     own_known n = by_entry (slice_get (declarations tree) n) (slice_get rs n) refl (alike_at (IsClass tree) (declarations tree) rs are n)
       where
         at : ℕ → MemberNumber
-        at place = record { class = n; place = place }
+        at index = record { class = n; index = index }
 
         by_entry : (o : Option (ClassName × Declaration)) (p : Option ResolvedClass) → slice_get (declarations tree) n ≡ o → BothAlike (IsClass tree) o p →
-            option_and_then {U = MemberNumber} (λ (r : ResolvedClass). option_map (λ place. record { class = n; place = place }) (own_place i r.methods)) p ≡
-            option_map {U = MemberNumber} (λ place. record { class = n; place = place }) (option_and_then (λ (e : ClassName × Declaration). position_from own_test 0 e.1.methods) o)
+            option_and_then {U = MemberNumber} (λ (r : ResolvedClass). option_map (λ index. record { class = n; index = index }) (own_index i r.methods)) p ≡
+            option_map {U = MemberNumber} (λ index. record { class = n; index = index }) (option_and_then (λ (e : ClassName × Declaration). position_from own_test 0 e.1.methods) o)
         by_entry None None e h = refl
-        by_entry (Some x) (Some r) e h = ap (option_map {U = MemberNumber} (λ place. record { class = n; place = place })) (own_found 0 x.1.methods r.methods (known_in n x e) h.methods)
+        by_entry (Some x) (Some r) e h = ap (option_map {U = MemberNumber} (λ index. record { class = n; index = index })) (own_found 0 x.1.methods r.methods (known_in n x e) h.methods)
         by_entry None (Some r) e h = absurd h
         by_entry (Some x) None e h = absurd h
 
@@ -268,36 +268,36 @@ module _ (tree : Tree) (k : MethodIdentity) (i : ℕ) (numbered : identity_numbe
         by_method None = refl
         by_method (Some m) = slot_of_kind n inherited m.kind
 
-    slot_known : (ns : List ℕ) → by_role.slot_along rs i ns ≡ slot_numbered tree k ns
+    slot_known : (ns : List ℕ) → by_role.slot_along rs i ns ≡ slot_by_id tree k ns
     slot_known [] = refl
-    slot_known (n ∷ ns) = ap (slot_from rs i n) (slot_known ns) ∙ slot_over_known n (slot_numbered tree k ns)
+    slot_known (n ∷ ns) = ap (slot_from rs i n) (slot_known ns) ∙ slot_over_known n (slot_by_id tree k ns)
 
-    filler_over_known : (n : ℕ) (fills : Bool) (below : Option ℕ) → filler_from rs i n fills below ≡ filler_over tree k n fills below
-    filler_over_known n fills below = ap (λ o. if fills then option_map_or (λ (r : Role). Some n) o below else below) (role_known n) ∙ ap (λ o. if fills then o else below) (by_method (method_found tree k n))
+    implementation_over_known : (n : ℕ) (fills : Bool) (below : Option ℕ) → implementation_from rs i n fills below ≡ implementation_over tree k n fills below
+    implementation_over_known n fills below = ap (λ o. if fills then option_map_or (λ (r : Role). Some n) o below else below) (role_known n) ∙ ap (λ o. if fills then o else below) (by_method (method_found tree k n))
       where
         by_method : (o : Option Method) → option_map_or (λ (r : Role). Some n) (option_map (λ (m : Method). role_of_named m.kind) o) below ≡ option_map_or (λ (m : Method). Some n) o below
         by_method None = refl
         by_method (Some m) = refl
 
-    filler_known : (slot : ℕ) (ns : List ℕ) → by_role.filler_along rs i slot ns ≡ filler_numbered tree k slot ns
-    filler_known slot [] = refl
-    filler_known slot (n ∷ ns) =
-        ap (λ o. filler_from rs i n (option_map_or (λ s. s == slot) o false) (by_role.filler_along rs i slot ns)) (slot_known (n ∷ ns)) ∙
-        ap (filler_from rs i n (option_map_or (λ s. s == slot) (slot_numbered tree k (n ∷ ns)) false)) (filler_known slot ns) ∙
-        filler_over_known n (option_map_or (λ s. s == slot) (slot_numbered tree k (n ∷ ns)) false) (filler_numbered tree k slot ns)
+    implementation_known : (slot : ℕ) (ns : List ℕ) → by_role.implementation_along rs i slot ns ≡ implementation_by_id tree k slot ns
+    implementation_known slot [] = refl
+    implementation_known slot (n ∷ ns) =
+        ap (λ o. implementation_from rs i n (option_map_or (λ s. s == slot) o false) (by_role.implementation_along rs i slot ns)) (slot_known (n ∷ ns)) ∙
+        ap (implementation_from rs i n (option_map_or (λ s. s == slot) (slot_by_id tree k (n ∷ ns)) false)) (implementation_known slot ns) ∙
+        implementation_over_known n (option_map_or (λ s. s == slot) (slot_by_id tree k (n ∷ ns)) false) (implementation_by_id tree k slot ns)
 
     -- the method of a class
-    pub filled_known : (chain introduced : List ℕ) → filled_along rs i chain introduced ≡ class_filler tree k chain introduced
+    pub filled_known : (chain introduced : List ℕ) → filled_along rs i chain introduced ≡ class_implementation tree k chain introduced
     filled_known chain introduced =
-        ap (option_and_then (λ slot. option_and_then (own_at rs i) (by_role.filler_along rs i slot chain))) (slot_known introduced) ∙ by_slot (slot_numbered tree k introduced)
+        ap (option_and_then (λ slot. option_and_then (own_at rs i) (by_role.implementation_along rs i slot chain))) (slot_known introduced) ∙ by_slot (slot_by_id tree k introduced)
       where
         by_class_of : (o : Option ℕ) → option_and_then (own_at rs i) o ≡ option_and_then (own_method tree k) o
         by_class_of None = refl
         by_class_of (Some n) = own_known n
 
-        by_slot : (o : Option ℕ) → option_and_then (λ slot. option_and_then (own_at rs i) (by_role.filler_along rs i slot chain)) o ≡ option_and_then (λ slot. option_and_then (own_method tree k) (filler_numbered tree k slot chain)) o
+        by_slot : (o : Option ℕ) → option_and_then (λ slot. option_and_then (own_at rs i) (by_role.implementation_along rs i slot chain)) o ≡ option_and_then (λ slot. option_and_then (own_method tree k) (implementation_by_id tree k slot chain)) o
         by_slot None = refl
-        by_slot (Some slot) = ap (option_and_then (own_at rs i)) (filler_known slot chain) ∙ by_class_of (filler_numbered tree k slot chain)
+        by_slot (Some slot) = ap (option_and_then (own_at rs i)) (implementation_known slot chain) ∙ by_class_of (implementation_by_id tree k slot chain)
 
     -- ---- interfaces
 
@@ -314,19 +314,19 @@ module _ (tree : Tree) (k : MethodIdentity) (i : ℕ) (numbered : identity_numbe
 
     module _ (legal : IsLegal tree) where
       -- the method of an interface
-      pub listed_known : (chain : List ℕ) (interface : ℕ) → listed_filler tree rs i chain interface ≡ interface_filler tree (by_class tree (interface_numbers tree)) k chain interface
+      pub listed_known : (chain : List ℕ) (interface : ℕ) → listed_implementation tree rs i chain interface ≡ interface_implementation tree (by_class tree (interface_numbers tree)) k chain interface
       listed_known chain interface =
-          ap (λ (listed : List (List ℕ)). option_and_then (λ lister. option_and_then (λ found. filled_along rs i chain (chain_at tree found)) (find (is_virtual_at rs i) (chain_at tree lister))) (find (is_lister listed interface) chain)) (listed_alike tree legal rs are) ∙
-          by_lister (find (is_lister (by_class tree (interface_numbers tree)) interface) chain)
+          ap (λ (listed : List (List ℕ)). option_and_then (λ implementer. option_and_then (λ found. filled_along rs i chain (chain_at tree found)) (find (is_virtual_at rs i) (chain_at tree implementer))) (find (is_implementer listed interface) chain)) (listed_alike tree legal rs are) ∙
+          by_implementer (find (is_implementer (by_class tree (interface_numbers tree)) interface) chain)
         where
-          by_found : (o : Option ℕ) → option_and_then (λ found. filled_along rs i chain (chain_at tree found)) o ≡ option_and_then (λ found. class_filler tree k chain (chain_at tree found)) o
+          by_found : (o : Option ℕ) → option_and_then (λ found. filled_along rs i chain (chain_at tree found)) o ≡ option_and_then (λ found. class_implementation tree k chain (chain_at tree found)) o
           by_found None = refl
           by_found (Some n) = filled_known chain (chain_at tree n)
 
-          by_lister : (o : Option ℕ) → option_and_then (λ lister. option_and_then (λ found. filled_along rs i chain (chain_at tree found)) (find (is_virtual_at rs i) (chain_at tree lister))) o ≡
-              option_and_then (λ lister. option_and_then (λ found. class_filler tree k chain (chain_at tree found)) (find (is_virtual_found tree k) (chain_at tree lister))) o
-          by_lister None = refl
-          by_lister (Some n) =
+          by_implementer : (o : Option ℕ) → option_and_then (λ implementer. option_and_then (λ found. filled_along rs i chain (chain_at tree found)) (find (is_virtual_at rs i) (chain_at tree implementer))) o ≡
+              option_and_then (λ implementer. option_and_then (λ found. class_implementation tree k chain (chain_at tree found)) (find (is_virtual_found tree k) (chain_at tree implementer))) o
+          by_implementer None = refl
+          by_implementer (Some n) =
               ap (option_and_then (λ found. filled_along rs i chain (chain_at tree found))) (nearest_known (chain_at tree n)) ∙ by_found (find (is_virtual_found tree k) (chain_at tree n))
 
       -- ---- targets
@@ -344,16 +344,16 @@ module _ (tree : Tree) (k : MethodIdentity) (i : ℕ) (numbered : identity_numbe
             by_entry (Some r) = refl
 
         abbrev by_kind : Bool → Option MemberNumber
-        by_kind b = if b then option_and_then (interface_filler tree (by_class tree (interface_numbers tree)) k (chain_numbers tree d.0)) (class_number tree e.0) else class_filler tree k (chain_numbers tree d.0) (chain_numbers tree e.0)
+        by_kind b = if b then option_and_then (interface_implementation tree (by_class tree (interface_numbers tree)) k (chain_numbers tree d.0)) (class_number tree e.0) else class_implementation tree k (chain_numbers tree d.0) (chain_numbers tree e.0)
 
         -- where an interface's method is called
-        pub interface_target_alike : option_map_or (λ (r : ResolvedClass). r.is_interface) (slice_get rs class) false ≡ true → listed_filler tree rs i (chain_at tree object) class ≡ target_number tree e.0 k d.0
+        pub interface_target_alike : option_map_or (λ (r : ResolvedClass). r.is_interface) (slice_get rs class) false ≡ true → listed_implementation tree rs i (chain_at tree object) class ≡ target_number tree e.0 k d.0
         interface_target_alike h =
-            listed_known (chain_at tree object) class ∙ ap (λ ns. interface_filler tree (by_class tree (interface_numbers tree)) k ns class) (chain_given object d object_there) ∙
-            ap (option_and_then (interface_filler tree (by_class tree (interface_numbers tree)) k (chain_numbers tree d.0))) (sym (number_of_place tree legal class e there)) ∙ ap by_kind (sym (sym flag_given ∙ h))
+            listed_known (chain_at tree object) class ∙ ap (λ ns. interface_implementation tree (by_class tree (interface_numbers tree)) k ns class) (chain_given object d object_there) ∙
+            ap (option_and_then (interface_implementation tree (by_class tree (interface_numbers tree)) k (chain_numbers tree d.0))) (sym (number_of_index tree legal class e there)) ∙ ap by_kind (sym (sym flag_given ∙ h))
 
         -- where a class's method is called
         pub class_target_alike : option_map_or (λ (r : ResolvedClass). r.is_interface) (slice_get rs class) false ≡ false → filled_along rs i (chain_at tree object) (chain_at tree class) ≡ target_number tree e.0 k d.0
         class_target_alike h =
-            filled_known (chain_at tree object) (chain_at tree class) ∙ ap (λ ns. class_filler tree k ns (chain_at tree class)) (chain_given object d object_there) ∙
-            ap (class_filler tree k (chain_numbers tree d.0)) (chain_given class e there) ∙ ap by_kind (sym (sym flag_given ∙ h))
+            filled_known (chain_at tree object) (chain_at tree class) ∙ ap (λ ns. class_implementation tree k ns (chain_at tree class)) (chain_given object d object_there) ∙
+            ap (class_implementation tree k (chain_numbers tree d.0)) (chain_given class e there) ∙ ap by_kind (sym (sym flag_given ∙ h))

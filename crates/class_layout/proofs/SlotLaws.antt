@@ -26,13 +26,13 @@ use Rattle.resolved_code.proofs.ListLaws.Repeats.{has_repeat-map}
 use Rattle.name_tables.specs.Numbers.{class_number, declarations, field_at, source_entry}
 use Rattle.name_tables.proofs.NumberLaws.{none_is_some}
 use Rattle.class_layout.specs.Kinds.{own_kinds, slot_kinds, kind_of}
-use Rattle.class_layout.specs.FieldSlots.{number_after, numbered_fields, statics_after, first_slot, field_rows, class_names}
+use Rattle.class_layout.specs.FieldSlots.{number_after, fields_by_id, statics_after, first_slot, field_rows, class_names}
 use Rattle.cil_model.proofs.Legal.{unbroken}
 use Rattle.cil_model.proofs.Lists.{passes_not}
-use Rattle.resolved_code.proofs.Numbers.Classes.{FoundAt, found_at, not_declared, number_of_place, entries_stand_once}
+use Rattle.resolved_code.proofs.Numbers.Classes.{FoundAt, found_at, not_declared, number_of_index, entries_stand_once}
 use Rattle.class_layout.proofs.KindLaws.{filtered, slots_counted}
 
--- ---- places in lists
+-- ---- indices in lists
 
 -- a look-up goes past items that do not pass
 pub position_past : {X : Type 0} (test : X → Bool) (i : ℕ) (xs ys : List X) → list_any test xs ≡ false → position_from test i (xs ++ ys) ≡ position_from test (i + length xs) ys
@@ -52,7 +52,7 @@ of_flag flag fs = filter (λ (f : Field). same_flag f.is_static flag) fs
 -- the number of a field is where its key is found among those of its flag
 module _ {Y : Type 0} (flag : Bool) (key : Field → Y) (test : Y → Bool) (further : List Y) (f : Field) (alike : (g : Field) → test (key g) ≡ same_text g.name f.name) (flagged : f.is_static ≡ flag) where
   placed : (fs : List Field) (s i p : ℕ) → has_repeat same_name fs ≡ false → slice_get fs p ≡ Some f →
-      slice_get (numbered_fields s i fs) p ≡ position_from test (if flag then s else i) (map key (of_flag flag fs) ++ further)
+      slice_get (fields_by_id s i fs) p ≡ position_from test (if flag then s else i) (map key (of_flag flag fs) ++ further)
   placed [] s i p h e = absurd (none_is_some f e)
   placed (g ∷ gs) s i zero h e =
       let q : g ≡ f = cc in
@@ -76,15 +76,15 @@ module _ {Y : Type 0} (flag : Bool) (key : Field → Y) (test : Y → Bool) (fur
       other : test (key g) ≡ false
       other = alike g ∙ passes_not (same_name g) gs p f (or_parts _ _ h).0 e
 
-      by_flag : (v b : Bool) → ((t j : ℕ) → slice_get (numbered_fields t j gs) p ≡ position_from test (if v then t else j) (map key (of_flag v gs) ++ further)) →
-          slice_get (numbered_fields (number_after b s) (if b then i else i + 1) gs) p ≡
+      by_flag : (v b : Bool) → ((t j : ℕ) → slice_get (fields_by_id t j gs) p ≡ position_from test (if v then t else j) (map key (of_flag v gs) ++ further)) →
+          slice_get (fields_by_id (number_after b s) (if b then i else i + 1) gs) p ≡
           position_from test (if v then s else i) (map key (cond (same_flag b v) (g ∷ of_flag v gs) (of_flag v gs)) ++ further)
       by_flag true true rest = rest (s + 1) i ∙ sym (ap (λ t. cond t (Some s) (position_from test (s + 1) (map key (of_flag true gs) ++ further))) other)
       by_flag false true rest = rest (s + 1) i
       by_flag true false rest = rest s (i + 1)
       by_flag false false rest = rest s (i + 1) ∙ sym (ap (λ t. cond t (Some i) (position_from test (i + 1) (map key (of_flag false gs) ++ further))) other)
 
--- as many static fields are counted as there are
+-- the count of static fields is their number
 pub statics_counted : (s : ℕ) (fs : List Field) → statics_after s fs ≡ s + length (of_flag true fs)
 statics_counted s [] = omega arith
 statics_counted s (f ∷ fs) = by_flag f.is_static (λ t. statics_counted t fs)
@@ -146,7 +146,7 @@ module _ (tree : Tree) where
       omega (arith, all, split, mapped, whole, own)
 
   instance_placed : (c : ClassName) (f : Field) (s p : ℕ) → list_any (same_class c) (above c) ≡ false → has_repeat same_name (fields_declared tree c) ≡ false → slice_get (fields_declared tree c) p ≡ Some f → f.is_static ≡ false →
-      slice_get (numbered_fields s (first_slot tree c) (fields_declared tree c)) p ≡ instance_slot tree (record { declared_in = c; name = f.name })
+      slice_get (fields_by_id s (first_slot tree c) (fields_declared tree c)) p ≡ instance_slot tree (record { declared_in = c; name = f.name })
   instance_placed c f s p lone once at flagged =
       placed false (key_in c) (keyed c f) [] f (own_alike c f) flagged (fields_declared tree c) s (first_slot tree c) p once at ∙
       ap (λ n. position_from (keyed c f) n (keyed_fields tree false c ++ [])) (first_counted c) ∙
@@ -160,14 +160,14 @@ module _ (tree : Tree) where
   static_start s (c ∷ cs) zero = s
   static_start s (c ∷ cs) (suc n) = static_start (statics_after s (fields_declared tree c)) cs n
 
-  row_found : (cs : List ClassName) (s n : ℕ) (c : ClassName) → slice_get cs n ≡ Some c → slice_get (field_rows tree s cs) n ≡ Some (numbered_fields (static_start s cs n) (first_slot tree c) (fields_declared tree c))
+  row_found : (cs : List ClassName) (s n : ℕ) (c : ClassName) → slice_get cs n ≡ Some c → slice_get (field_rows tree s cs) n ≡ Some (fields_by_id (static_start s cs n) (first_slot tree c) (fields_declared tree c))
   row_found [] s n c e = absurd (none_is_some c e)
-  row_found (x ∷ xs) s zero c e = let q : x ≡ c = cc in ap (λ y. Some (numbered_fields s (first_slot tree y) (fields_declared tree y))) q
+  row_found (x ∷ xs) s zero c e = let q : x ≡ c = cc in ap (λ y. Some (fields_by_id s (first_slot tree y) (fields_declared tree y))) q
   row_found (x ∷ xs) s (suc n) c e = row_found xs (statics_after s (fields_declared tree x)) n c e
 
   static_placed : (c : ClassName) (f : Field) (i p : ℕ) → has_repeat same_name (fields_declared tree c) ≡ false → slice_get (fields_declared tree c) p ≡ Some f → f.is_static ≡ true →
       (cs : List ClassName) (s n : ℕ) → has_repeat same_class cs ≡ false → slice_get cs n ≡ Some c →
-      slice_get (numbered_fields (static_start s cs n) i (fields_declared tree c)) p ≡ position_from (keyed c f) s (flat_map (keyed_fields tree true) cs)
+      slice_get (fields_by_id (static_start s cs n) i (fields_declared tree c)) p ≡ position_from (keyed c f) s (flat_map (keyed_fields tree true) cs)
   static_placed c f i p once at flagged [] s n h e = absurd (none_is_some c e)
   static_placed c f i p once at flagged (x ∷ xs) s zero h e =
       let q : x ≡ c = cc in
@@ -271,26 +271,26 @@ module _ (tree : Tree) where
     where
       declared : fields_declared tree c ≡ d.fields
       declared =
-          let found : FoundAt tree c n = found_at tree c n (number_of_place tree legal n (c, d) h) in
+          let found : FoundAt tree c n = found_at tree c n (number_of_index tree legal n (c, d) h) in
           let both : Some (c, found.0) ≡ Some (c, d) = sym found.2 ∙ h in
           let pairs : (c, found.0) ≡ (c, d) = cc in
           let same : found.0 ≡ d = ap (λ (y : ClassName × Declaration). y.1) pairs in
           ap (listed_by (λ (x : Declaration). x.fields)) found.1 ∙ ap (λ (x : Declaration). x.fields) same
 
-      at_place : slice_get (fields_declared tree c) p ≡ Some f
-      at_place = ap (λ xs. slice_get xs p) declared ∙ at
+      at_index : slice_get (fields_declared tree c) p ≡ Some f
+      at_index = ap (λ xs. slice_get xs p) declared ∙ at
 
       named : slice_get (class_names tree) n ≡ Some c
       named = slice_get-map (λ (e : ClassName × Declaration). e.0) (declarations tree) n ∙ ap (option_map (λ (e : ClassName × Declaration). e.0)) h
 
-      row : slice_get (unwrap_or (slice_get (field_rows tree 0 (class_names tree)) n) []) p ≡ slice_get (numbered_fields (static_start 0 (class_names tree) n) (first_slot tree c) (fields_declared tree c)) p
+      row : slice_get (unwrap_or (slice_get (field_rows tree 0 (class_names tree)) n) []) p ≡ slice_get (fields_by_id (static_start 0 (class_names tree) n) (first_slot tree c) (fields_declared tree c)) p
       row = ap (λ o. slice_get (unwrap_or o []) p) (row_found (class_names tree) 0 n c named)
 
-      by_flag : (b : Bool) → f.is_static ≡ b → slice_get (numbered_fields (static_start 0 (class_names tree) n) (first_slot tree c) (fields_declared tree c)) p ≡ slot_of b (record { declared_in = c; name = f.name })
-      by_flag false e = instance_placed c f (static_start 0 (class_names tree) n) p (none_above legal c p f at_place) (once_declared legal c p f at_place) at_place e
-      by_flag true e = static_placed c f (first_slot tree c) p (once_declared legal c p f at_place) at_place e (class_names tree) 0 n (names_stand_once_too legal) named ∙ ap (position_from (keyed c f) 0) all_statics
+      by_flag : (b : Bool) → f.is_static ≡ b → slice_get (fields_by_id (static_start 0 (class_names tree) n) (first_slot tree c) (fields_declared tree c)) p ≡ slot_of b (record { declared_in = c; name = f.name })
+      by_flag false e = instance_placed c f (static_start 0 (class_names tree) n) p (none_above legal c p f at_index) (once_declared legal c p f at_index) at_index e
+      by_flag true e = static_placed c f (first_slot tree c) p (once_declared legal c p f at_index) at_index e (class_names tree) 0 n (names_stand_once_too legal) named ∙ ap (position_from (keyed c f) 0) all_statics
 
-  -- the number or slot of the field that a class and a place find
+  -- the number or slot of the field that a class and an index find
   pub slot_found : IsLegal tree → (n p : ℕ) (c : ClassName) (f : Field) → field_at tree (n, p) ≡ Some (c, f) →
       slice_get (unwrap_or (slice_get (field_rows tree 0 (class_names tree)) n) []) p ≡ slot_of f.is_static (record { declared_in = c; name = f.name })
   slot_found legal n p c f h = by_entry (slice_get (declarations tree) n) refl h

@@ -12,22 +12,22 @@ use Rattle.cil_model.specs.declared.trees.MethodKind.TheVariants.{Static, Instan
 use Rattle.cil_model.specs.Same.{same_class, same_options, same_flag}
 use Rattle.cil_model.specs.Declarations.{Declaration}
 use Rattle.cil_model.specs.Chains.{listed_by, chain_of, methods_declared, method_declared, interfaces_declared, is_interface, nearest, is_static, is_virtual, is_new_slot_method}
-use Rattle.cil_model.specs.Slots.{slot_filled, slot_along, filler_along, class_target, virtual_in, lister_along, interface_target, target}
+use Rattle.cil_model.specs.Slots.{slot_filled, slot_along, implementation_along, class_target, virtual_in, implementer_along, interface_target, target}
 use Rattle.cil_model.specs.Legality.{IsLegal}
 use Rattle.name_tables.specs.Sameness.{MethodIdentity, same_identity, identity_of, same_called, called_of}
 use Rattle.name_tables.specs.SamenessLaws.{identity_equivalence}
-use Rattle.name_tables.specs.Numbers.{declarations, class_number, chain_numbers, method_at, place_in, method_found}
+use Rattle.name_tables.specs.Numbers.{declarations, class_number, chain_numbers, method_at, index_in, method_found}
 use Rattle.name_tables.specs.declared.lookups.MemberNumber.{MemberNumber}
 use Rattle.name_tables.proofs.NumberLaws.{none_is_some, in_present}
 use Rattle.name_tables.proofs.Lists.{option_map_of_map}
-use Rattle.resolved_code.specs.Found.{is_virtual_found, slot_numbered}
+use Rattle.resolved_code.specs.Found.{is_virtual_found, slot_by_id}
 use Rattle.resolved_code.proofs.Numbers.Methods.{found_by_number, nothing_found}
 use Rattle.resolved_code.proofs.Numbers.Slots.{IsTied, tied, same_slot}
 use Rattle.resolved_code.specs.Numbered.{class_name}
 use Rattle.class_layout.specs.ByClass.{by_class, interface_numbers}
 use Rattle.class_layout.specs.declared.targets.Targets.{Targets}
-use Rattle.class_layout.specs.Targets.{chain_at, filler_over, filler_numbered, own_method, class_filler, is_lister, interface_filler, target_number, target_row, target_rows, targets_of, target_in}
-use Rattle.resolved_code.proofs.Numbers.Classes.{FoundAt, found_at, not_declared, among_numbers, number_of_place}
+use Rattle.class_layout.specs.Targets.{chain_at, implementation_over, implementation_by_id, own_method, class_implementation, is_implementer, interface_implementation, target_number, target_row, target_rows, targets_of, target_in}
+use Rattle.resolved_code.proofs.Numbers.Classes.{FoundAt, found_at, not_declared, among_numbers, number_of_index}
 use Rattle.class_layout.proofs.AncestorLaws.{answer_at, answer_of}
 
 false_is_true : {A : Type 0} → false ≡ true → A
@@ -64,7 +64,7 @@ find_own k (x ∷ xs) m h s = by_test (same_identity (identity_of x) k) refl h (
 module _ (tree : Tree) where
   -- what a number of a method refers to
   abbrev pub stands_at : MemberNumber → Option (ClassName × Method)
-  stands_at r = method_at tree (r.class, r.place)
+  stands_at r = method_at tree (r.class, r.index)
 
   -- the chain of a class by its number
   chain_known : (c : ClassName) (n : ℕ) → class_number tree c ≡ Some n → chain_at tree n ≡ chain_numbers tree c
@@ -74,23 +74,23 @@ module _ (tree : Tree) where
     abbrev numbers : List ClassName → List ℕ
     numbers = filter_map (class_number tree)
 
-    abbrev fillers : ClassName → List ClassName → Option (ClassName × Method)
-    fillers = filler_along tree k.name k.signature
+    abbrev implementations : ClassName → List ClassName → Option (ClassName × Method)
+    implementations = implementation_along tree k.name k.signature
 
     -- a method that fills a slot, and the number of its class, or neither
-    abbrev IsFiller : Option (ClassName × Method) → Option ℕ → Type 0
-    IsFiller None None = Unit {0}
-    IsFiller (Some f) (Some n) = (class_number tree f.0 ≡ Some n) × (method_declared tree k.name k.signature f.0 ≡ Some f.1) × (is_virtual f.1.kind ≡ true)
-    IsFiller None (Some n) = ⊥
-    IsFiller (Some f) None = ⊥
+    abbrev IsImplementation : Option (ClassName × Method) → Option ℕ → Type 0
+    IsImplementation None None = Unit {0}
+    IsImplementation (Some f) (Some n) = (class_number tree f.0 ≡ Some n) × (method_declared tree k.name k.signature f.0 ≡ Some f.1) × (is_virtual f.1.kind ≡ true)
+    IsImplementation None (Some n) = ⊥
+    IsImplementation (Some f) None = ⊥
 
-    filler_here : (c : ClassName) (n : ℕ) (f : Option Method) (fills : Bool) (rest : Option (ClassName × Method)) (below : Option ℕ) → class_number tree c ≡ Some n → method_declared tree k.name k.signature c ≡ f →
-        ((m : Method) → f ≡ Some m → fills ≡ true → is_virtual m.kind ≡ true) → IsFiller rest below →
-        IsFiller (option_map_or (λ (m : Method). if fills then Some (c, m) else rest) f rest) (if fills then option_map_or (λ (m : Method). Some n) f below else below)
-    filler_here c n None true rest below e g v h = h
-    filler_here c n None false rest below e g v h = h
-    filler_here c n (Some m) true rest below e g v h = (e, g, v m refl refl)
-    filler_here c n (Some m) false rest below e g v h = h
+    implementation_here : (c : ClassName) (n : ℕ) (f : Option Method) (fills : Bool) (rest : Option (ClassName × Method)) (below : Option ℕ) → class_number tree c ≡ Some n → method_declared tree k.name k.signature c ≡ f →
+        ((m : Method) → f ≡ Some m → fills ≡ true → is_virtual m.kind ≡ true) → IsImplementation rest below →
+        IsImplementation (option_map_or (λ (m : Method). if fills then Some (c, m) else rest) f rest) (if fills then option_map_or (λ (m : Method). Some n) f below else below)
+    implementation_here c n None true rest below e g v h = h
+    implementation_here c n None false rest below e g v h = h
+    implementation_here c n (Some m) true rest below e g v h = (e, g, v m refl refl)
+    implementation_here c n (Some m) false rest below e g v h = h
 
     -- what fills a slot is virtual
     fills_as_virtual : (s c : ClassName) (inherited : Option ClassName) (m : Method) → same_options same_class (slot_filled c inherited m) (Some s) ≡ true → is_virtual m.kind ≡ true
@@ -103,27 +103,27 @@ module _ (tree : Tree) where
     abbrev fills_slot : ClassName → ClassName → List ClassName → Bool
     fills_slot s c cs = same_options same_class (slot_along tree k.name k.signature (c ∷ cs)) (Some s)
 
-    filler_known : (s : ClassName) (i : ℕ) → class_number tree s ≡ Some i → (cs : List ClassName) → IsFiller (fillers s cs) (filler_numbered tree k i (numbers cs))
-    filler_known s i e [] = tt
-    filler_known s i e (c ∷ cs) = by_number (class_number tree c) refl (filler_known s i e cs) (tied tree k (c ∷ cs))
+    implementation_known : (s : ClassName) (i : ℕ) → class_number tree s ≡ Some i → (cs : List ClassName) → IsImplementation (implementations s cs) (implementation_by_id tree k i (numbers cs))
+    implementation_known s i e [] = tt
+    implementation_known s i e (c ∷ cs) = by_number (class_number tree c) refl (implementation_known s i e cs) (tied tree k (c ∷ cs))
       where
         virtually : (m : Method) → method_declared tree k.name k.signature c ≡ Some m → fills_slot s c cs ≡ true → is_virtual m.kind ≡ true
         virtually m g h =
             fills_as_virtual s c (slot_along tree k.name k.signature cs) m (
             sym (ap (λ f. same_options same_class (option_map_or (slot_filled c (slot_along tree k.name k.signature cs)) f (slot_along tree k.name k.signature cs)) (Some s)) g) ∙ h)
 
-        by_number : (o : Option ℕ) → class_number tree c ≡ o → IsFiller (fillers s cs) (filler_numbered tree k i (numbers cs)) →
-            IsTied tree (slot_along tree k.name k.signature (c ∷ cs)) (slot_numbered tree k (cons_option (class_number tree c) (numbers cs))) → IsFiller (fillers s (c ∷ cs)) (filler_numbered tree k i (cons_option o (numbers cs)))
+        by_number : (o : Option ℕ) → class_number tree c ≡ o → IsImplementation (implementations s cs) (implementation_by_id tree k i (numbers cs)) →
+            IsTied tree (slot_along tree k.name k.signature (c ∷ cs)) (slot_by_id tree k (cons_option (class_number tree c) (numbers cs))) → IsImplementation (implementations s (c ∷ cs)) (implementation_by_id tree k i (cons_option o (numbers cs)))
         by_number None g further h =
-            let P : Option Method → Type 0 = λ f. IsFiller (option_map_or (λ (m : Method). if fills_slot s c cs then Some (c, m) else fillers s cs) f (fillers s cs)) (filler_numbered tree k i (numbers cs)) in
+            let P : Option Method → Type 0 = λ f. IsImplementation (option_map_or (λ (m : Method). if fills_slot s c cs then Some (c, m) else implementations s cs) f (implementations s cs)) (implementation_by_id tree k i (numbers cs)) in
             subst P (sym (nothing_found tree k c g)) further
         by_number (Some n) g further h =
-            let T : Option ℕ → Type 0 = λ o. IsTied tree (slot_along tree k.name k.signature (c ∷ cs)) (slot_numbered tree k (cons_option o (numbers cs))) in
-            let one : fills_slot s c cs ≡ option_map_or (λ x. x == i) (slot_numbered tree k (n ∷ numbers cs)) false = same_slot tree k s i e _ _ (subst T g h) in
-            let P : Option Method → Type 0 = λ f. IsFiller (fillers s (c ∷ cs)) (if fills_slot s c cs then option_map_or (λ (m : Method). Some n) f (filler_numbered tree k i (numbers cs)) else filler_numbered tree k i (numbers cs)) in
-            let here : IsFiller (fillers s (c ∷ cs)) (if fills_slot s c cs then option_map_or (λ (m : Method). Some n) (method_found tree k n) (filler_numbered tree k i (numbers cs)) else filler_numbered tree k i (numbers cs)) =
-            subst P (sym (found_by_number tree k c n g)) (filler_here c n (method_declared tree k.name k.signature c) (fills_slot s c cs) (fillers s cs) (filler_numbered tree k i (numbers cs)) g refl virtually further) in
-            let Q : Bool → Type 0 = λ b. IsFiller (fillers s (c ∷ cs)) (filler_over tree k n b (filler_numbered tree k i (numbers cs))) in
+            let T : Option ℕ → Type 0 = λ o. IsTied tree (slot_along tree k.name k.signature (c ∷ cs)) (slot_by_id tree k (cons_option o (numbers cs))) in
+            let one : fills_slot s c cs ≡ option_map_or (λ x. x == i) (slot_by_id tree k (n ∷ numbers cs)) false = same_slot tree k s i e _ _ (subst T g h) in
+            let P : Option Method → Type 0 = λ f. IsImplementation (implementations s (c ∷ cs)) (if fills_slot s c cs then option_map_or (λ (m : Method). Some n) f (implementation_by_id tree k i (numbers cs)) else implementation_by_id tree k i (numbers cs)) in
+            let here : IsImplementation (implementations s (c ∷ cs)) (if fills_slot s c cs then option_map_or (λ (m : Method). Some n) (method_found tree k n) (implementation_by_id tree k i (numbers cs)) else implementation_by_id tree k i (numbers cs)) =
+            subst P (sym (found_by_number tree k c n g)) (implementation_here c n (method_declared tree k.name k.signature c) (fills_slot s c cs) (implementations s cs) (implementation_by_id tree k i (numbers cs)) g refl virtually further) in
+            let Q : Bool → Type 0 = λ b. IsImplementation (implementations s (c ∷ cs)) (implementation_over tree k n b (implementation_by_id tree k i (numbers cs))) in
             subst Q one here
 
     -- the number of a virtual method that a class declares
@@ -131,24 +131,24 @@ module _ (tree : Tree) where
     own_known c n m e g v =
         let found : FoundAt tree c n = found_at tree c n e in
         let own : Method → Bool = λ x. same_called (k, false) (called_of x) in
-        let numbered : option_map (λ p. method_at tree (n, p)) (place_in (λ d. d.methods) own tree n) ≡ option_map (λ x. Some (c, x)) (find own (methods_declared tree c)) =
+        let numbered : option_map (λ p. method_at tree (n, p)) (index_in (λ d. d.methods) own tree n) ≡ option_map (λ x. Some (c, x)) (find own (methods_declared tree c)) =
         in_present tree (λ d. d.methods) own own (λ x. refl) c found.0 n found.1 found.2 in
-        option_map_of_map (λ p. let r : MemberNumber = record { class = n; place = p } in r) stands_at (place_in (λ d. d.methods) own tree n) ∙ numbered ∙
+        option_map_of_map (λ p. let r : MemberNumber = record { class = n; index = p } in r) stands_at (index_in (λ d. d.methods) own tree n) ∙ numbered ∙
         ap (option_map (λ x. Some (c, x))) (find_own k (methods_declared tree c) m g (virtual_not_static m.kind v))
 
     -- a class's method
-    class_known : (d c : ClassName) → option_map stands_at (class_filler tree k (chain_numbers tree d) (chain_numbers tree c)) ≡ option_map Some (class_target tree k.name k.signature d c)
-    class_known d c = by_slot (slot_along tree k.name k.signature (chain_of tree c)) (slot_numbered tree k (chain_numbers tree c)) (tied tree k (chain_of tree c))
+    class_known : (d c : ClassName) → option_map stands_at (class_implementation tree k (chain_numbers tree d) (chain_numbers tree c)) ≡ option_map Some (class_target tree k.name k.signature d c)
+    class_known d c = by_slot (slot_along tree k.name k.signature (chain_of tree c)) (slot_by_id tree k (chain_numbers tree c)) (tied tree k (chain_of tree c))
       where
-        by_filler : (o : Option (ClassName × Method)) (p : Option ℕ) → IsFiller o p → option_map stands_at (option_and_then (own_method tree k) p) ≡ option_map Some o
-        by_filler None None h = refl
-        by_filler (Some f) (Some n) h = own_known f.0 n f.1 h.0 h.1 h.2
-        by_filler None (Some n) h = absurd h
-        by_filler (Some f) None h = absurd h
+        by_implementation : (o : Option (ClassName × Method)) (p : Option ℕ) → IsImplementation o p → option_map stands_at (option_and_then (own_method tree k) p) ≡ option_map Some o
+        by_implementation None None h = refl
+        by_implementation (Some f) (Some n) h = own_known f.0 n f.1 h.0 h.1 h.2
+        by_implementation None (Some n) h = absurd h
+        by_implementation (Some f) None h = absurd h
 
-        by_slot : (o : Option ClassName) (p : Option ℕ) → IsTied tree o p → option_map stands_at (option_and_then (λ slot. option_and_then (own_method tree k) (filler_numbered tree k slot (chain_numbers tree d))) p) ≡ option_map Some (option_and_then (λ slot. fillers slot (chain_of tree d)) o)
+        by_slot : (o : Option ClassName) (p : Option ℕ) → IsTied tree o p → option_map stands_at (option_and_then (λ slot. option_and_then (own_method tree k) (implementation_by_id tree k slot (chain_numbers tree d))) p) ≡ option_map Some (option_and_then (λ slot. implementations slot (chain_of tree d)) o)
         by_slot None None h = refl
-        by_slot (Some s) (Some i) h = by_filler (fillers s (chain_of tree d)) (filler_numbered tree k i (chain_numbers tree d)) (filler_known s i h (chain_of tree d))
+        by_slot (Some s) (Some i) h = by_implementation (implementations s (chain_of tree d)) (implementation_by_id tree k i (chain_numbers tree d)) (implementation_known s i h (chain_of tree d))
         by_slot None (Some i) h = absurd h
         by_slot (Some s) None h = absurd h
 
@@ -157,23 +157,23 @@ module _ (tree : Tree) where
     abbrev listed : List (List ℕ)
     listed = by_class tree (interface_numbers tree)
 
-    lister_known : (i : ClassName) (j : ℕ) → class_number tree i ≡ Some j → (cs : List ClassName) → IsTied tree (lister_along tree k.name k.signature i cs) (find (is_lister listed j) (numbers cs))
-    lister_known i j e [] = tt
-    lister_known i j e (c ∷ cs) = by_number (class_number tree c) refl (lister_known i j e cs)
+    implementer_known : (i : ClassName) (j : ℕ) → class_number tree i ≡ Some j → (cs : List ClassName) → IsTied tree (implementer_along tree k.name k.signature i cs) (find (is_implementer listed j) (numbers cs))
+    implementer_known i j e [] = tt
+    implementer_known i j e (c ∷ cs) = by_number (class_number tree c) refl (implementer_known i j e cs)
       where
-        by_test : (n : ℕ) (b : Bool) → class_number tree c ≡ Some n → IsTied tree (lister_along tree k.name k.signature i cs) (find (is_lister listed j) (numbers cs)) → IsTied tree (cond b (Some c) (lister_along tree k.name k.signature i cs)) (cond b (Some n) (find (is_lister listed j) (numbers cs)))
+        by_test : (n : ℕ) (b : Bool) → class_number tree c ≡ Some n → IsTied tree (implementer_along tree k.name k.signature i cs) (find (is_implementer listed j) (numbers cs)) → IsTied tree (cond b (Some c) (implementer_along tree k.name k.signature i cs)) (cond b (Some n) (find (is_implementer listed j) (numbers cs)))
         by_test n true g further = g
         by_test n false g further = further
 
-        by_number : (o : Option ℕ) → class_number tree c ≡ o → IsTied tree (lister_along tree k.name k.signature i cs) (find (is_lister listed j) (numbers cs)) → IsTied tree (lister_along tree k.name k.signature i (c ∷ cs)) (find (is_lister listed j) (cons_option o (numbers cs)))
+        by_number : (o : Option ℕ) → class_number tree c ≡ o → IsTied tree (implementer_along tree k.name k.signature i cs) (find (is_implementer listed j) (numbers cs)) → IsTied tree (implementer_along tree k.name k.signature i (c ∷ cs)) (find (is_implementer listed j) (cons_option o (numbers cs)))
         by_number None g further =
             let none : list_any (same_class i) (interfaces_declared tree c) ≡ false = ap (λ z. list_any (same_class i) (listed_by (λ (x : Declaration). x.interfaces) z)) (not_declared tree c g) in
-            let P : Bool → Type 0 = λ b. IsTied tree (cond b (Some c) (lister_along tree k.name k.signature i cs)) (find (is_lister listed j) (numbers cs)) in
+            let P : Bool → Type 0 = λ b. IsTied tree (cond b (Some c) (implementer_along tree k.name k.signature i cs)) (find (is_implementer listed j) (numbers cs)) in
             subst P (sym none) further
         by_number (Some n) g further =
-            let row : is_lister listed j n ≡ list_any (same_class i) (interfaces_declared tree c) =
+            let row : is_implementer listed j n ≡ list_any (same_class i) (interfaces_declared tree c) =
             ap (λ o. list_any (λ m. m == j) (unwrap_or o [])) (answer_at tree (interface_numbers tree) c n g) ∙ among_numbers tree i j e (interfaces_declared tree c) in
-            let P : Bool → Type 0 = λ b. IsTied tree (lister_along tree k.name k.signature i (c ∷ cs)) (cond b (Some n) (find (is_lister listed j) (numbers cs))) in
+            let P : Bool → Type 0 = λ b. IsTied tree (implementer_along tree k.name k.signature i (c ∷ cs)) (cond b (Some n) (find (is_implementer listed j) (numbers cs))) in
             subst P (sym row) (by_test n (list_any (same_class i) (interfaces_declared tree c)) g further)
 
     -- a class's name with something, and its number
@@ -213,25 +213,25 @@ module _ (tree : Tree) where
             subst P (sym (found_by_number tree k c n g)) (by_method n (method_declared tree k.name k.signature c) g further)
 
     -- an interface's method
-    interface_known : (d i : ClassName) (j : ℕ) → class_number tree i ≡ Some j → option_map stands_at (interface_filler tree listed k (chain_numbers tree d) j) ≡ option_map Some (interface_target tree k.name k.signature d i)
-    interface_known d i j e = by_lister (lister_along tree k.name k.signature i (chain_of tree d)) (find (is_lister listed j) (chain_numbers tree d)) (lister_known i j e (chain_of tree d))
+    interface_known : (d i : ClassName) (j : ℕ) → class_number tree i ≡ Some j → option_map stands_at (interface_implementation tree listed k (chain_numbers tree d) j) ≡ option_map Some (interface_target tree k.name k.signature d i)
+    interface_known d i j e = by_implementer (implementer_along tree k.name k.signature i (chain_of tree d)) (find (is_implementer listed j) (chain_numbers tree d)) (implementer_known i j e (chain_of tree d))
       where
         by_found : (o : Option (ClassName × Method)) (p : Option ℕ) → IsNearest o p →
-            option_map stands_at (option_and_then (λ found. class_filler tree k (chain_numbers tree d) (chain_at tree found)) p) ≡ option_map Some (option_and_then (λ (found : ClassName × Method). class_target tree k.name k.signature d found.0) o)
+            option_map stands_at (option_and_then (λ found. class_implementation tree k (chain_numbers tree d) (chain_at tree found)) p) ≡ option_map Some (option_and_then (λ (found : ClassName × Method). class_target tree k.name k.signature d found.0) o)
         by_found None None h = refl
-        by_found (Some f) (Some n) h = ap (λ ns. option_map stands_at (class_filler tree k (chain_numbers tree d) ns)) (chain_known f.0 n h) ∙ class_known d f.0
+        by_found (Some f) (Some n) h = ap (λ ns. option_map stands_at (class_implementation tree k (chain_numbers tree d) ns)) (chain_known f.0 n h) ∙ class_known d f.0
         by_found None (Some n) h = absurd h
         by_found (Some f) None h = absurd h
 
-        by_lister : (o : Option ClassName) (p : Option ℕ) → IsTied tree o p →
-            option_map stands_at (option_and_then (λ lister. option_and_then (λ found. class_filler tree k (chain_numbers tree d) (chain_at tree found)) (find (is_virtual_found tree k) (chain_at tree lister))) p) ≡
+        by_implementer : (o : Option ClassName) (p : Option ℕ) → IsTied tree o p →
+            option_map stands_at (option_and_then (λ implementer. option_and_then (λ found. class_implementation tree k (chain_numbers tree d) (chain_at tree found)) (find (is_virtual_found tree k) (chain_at tree implementer))) p) ≡
             option_map Some (option_and_then (λ l. option_and_then (λ (found : ClassName × Method). class_target tree k.name k.signature d found.0) (nearest (virtual_in tree k.name k.signature) (chain_of tree l))) o)
-        by_lister None None h = refl
-        by_lister (Some l) (Some n) h =
-            ap (λ ns. option_map stands_at (option_and_then (λ found. class_filler tree k (chain_numbers tree d) (chain_at tree found)) (find (is_virtual_found tree k) ns))) (chain_known l n h) ∙
+        by_implementer None None h = refl
+        by_implementer (Some l) (Some n) h =
+            ap (λ ns. option_map stands_at (option_and_then (λ found. class_implementation tree k (chain_numbers tree d) (chain_at tree found)) (find (is_virtual_found tree k) ns))) (chain_known l n h) ∙
             by_found (nearest (virtual_in tree k.name k.signature) (chain_of tree l)) (find (is_virtual_found tree k) (chain_numbers tree l)) (virtual_known (chain_of tree l))
-        by_lister None (Some n) h = absurd h
-        by_lister (Some l) None h = absurd h
+        by_implementer None (Some n) h = absurd h
+        by_implementer (Some l) None h = absurd h
 
   -- ---- the table
 
@@ -240,9 +240,9 @@ module _ (tree : Tree) where
   virtual_target c d n m e = by_kind (is_interface tree c)
     where
       by_kind : (b : Bool) →
-          option_map stands_at (if b then option_and_then (interface_filler tree (by_class tree (interface_numbers tree)) (identity_of m) (chain_numbers tree d)) (class_number tree c) else class_filler tree (identity_of m) (chain_numbers tree d) (chain_numbers tree c)) ≡
+          option_map stands_at (if b then option_and_then (interface_implementation tree (by_class tree (interface_numbers tree)) (identity_of m) (chain_numbers tree d)) (class_number tree c) else class_implementation tree (identity_of m) (chain_numbers tree d) (chain_numbers tree c)) ≡
           option_map Some (if b then interface_target tree m.name m.signature d c else class_target tree m.name m.signature d c)
-      by_kind true = ap (λ o. option_map stands_at (option_and_then (interface_filler tree (by_class tree (interface_numbers tree)) (identity_of m) (chain_numbers tree d)) o)) e ∙ interface_known (identity_of m) d c n e
+      by_kind true = ap (λ o. option_map stands_at (option_and_then (interface_implementation tree (by_class tree (interface_numbers tree)) (identity_of m) (chain_numbers tree d)) o)) e ∙ interface_known (identity_of m) d c n e
       by_kind false = class_known (identity_of m) d c
 
   row_tells : (c d : ClassName) (n class : ℕ) (m : Method) (method : MemberNumber) → class_number tree c ≡ Some n → class_name tree class ≡ Some d → stands_at method ≡ Some (c, m) →
@@ -262,36 +262,36 @@ module _ (tree : Tree) where
       by_row (Some row) = refl
 
   abbrev Tells : List (List Targets) → ℕ → MemberNumber → ClassName → ClassName → Method → Type 0
-  Tells rows class method d x y = option_map stands_at (option_and_then (target_in class method) (option_map targets_of (slice_get (unwrap_or (slice_get rows method.class) []) method.place))) ≡ option_map Some (target tree d x y)
+  Tells rows class method d x y = option_map stands_at (option_and_then (target_in class method) (option_map targets_of (slice_get (unwrap_or (slice_get rows method.class) []) method.index))) ≡ option_map Some (target tree d x y)
 
   -- what the table says of a method and a class of objects
   pub target_found : IsLegal tree → (rows : List (List Targets)) (class : ℕ) (method : MemberNumber) (c d : ClassName) (m : Method) → map (map targets_of) rows ≡ by_class tree (target_rows tree) → class_name tree class ≡ Some d → stands_at method ≡ Some (c, m) →
-      option_map stands_at (option_and_then (target_in class method) (option_map targets_of (slice_get (unwrap_or (slice_get rows method.class) []) method.place))) ≡ option_map Some (target tree d c m)
+      option_map stands_at (option_and_then (target_in class method) (option_map targets_of (slice_get (unwrap_or (slice_get rows method.class) []) method.index))) ≡ option_map Some (target tree d c m)
   target_found legal rows class method c d m are named at = by_entry (slice_get (declarations tree) method.class) refl at
     where
-      by_place : (a : ClassName) (x : Declaration) (y : Method) → slice_get (declarations tree) method.class ≡ Some (a, x) → slice_get x.methods method.place ≡ Some y → stands_at method ≡ Some (a, y) → Tells rows class method d a y
-      by_place a x y h g stands =
-          let number : class_number tree a ≡ Some method.class = number_of_place tree legal method.class (a, x) h in
+      by_index : (a : ClassName) (x : Declaration) (y : Method) → slice_get (declarations tree) method.class ≡ Some (a, x) → slice_get x.methods method.index ≡ Some y → stands_at method ≡ Some (a, y) → Tells rows class method d a y
+      by_index a x y h g stands =
+          let number : class_number tree a ≡ Some method.class = number_of_index tree legal method.class (a, x) h in
           let found : FoundAt tree a method.class = found_at tree a method.class number in
           let both : Some (a, found.0) ≡ Some (a, x) = sym found.2 ∙ h in
           let pairs : (a, found.0) ≡ (a, x) = cc in
           let same : found.0 ≡ x = ap (λ (z : ClassName × Declaration). z.1) pairs in
-          let own : slice_get (methods_declared tree a) method.place ≡ Some y =
-          ap (λ o. slice_get (listed_by (λ (z : Declaration). z.methods) o) method.place) found.1 ∙ ap (λ (z : Declaration). slice_get z.methods method.place) same ∙ g in
+          let own : slice_get (methods_declared tree a) method.index ≡ Some y =
+          ap (λ o. slice_get (listed_by (λ (z : Declaration). z.methods) o) method.index) found.1 ∙ ap (λ (z : Declaration). slice_get z.methods method.index) same ∙ g in
           let row : unwrap_or (slice_get (map (map targets_of) rows) method.class) [] ≡ target_rows tree a =
           ap (λ xs. unwrap_or (slice_get xs method.class) []) are ∙ ap (λ o. unwrap_or o []) (answer_at tree (target_rows tree) a method.class number) in
-          let entry : option_map targets_of (slice_get (unwrap_or (slice_get rows method.class) []) method.place) ≡ Some (target_row tree a y) =
-          sym (slice_get-map targets_of (unwrap_or (slice_get rows method.class) []) method.place) ∙ ap (λ xs. slice_get xs method.place) (mapped_row rows method.class ∙ row) ∙
-          slice_get-map (target_row tree a) (methods_declared tree a) method.place ∙ ap (option_map (target_row tree a)) own in
+          let entry : option_map targets_of (slice_get (unwrap_or (slice_get rows method.class) []) method.index) ≡ Some (target_row tree a y) =
+          sym (slice_get-map targets_of (unwrap_or (slice_get rows method.class) []) method.index) ∙ ap (λ xs. slice_get xs method.index) (mapped_row rows method.class ∙ row) ∙
+          slice_get-map (target_row tree a) (methods_declared tree a) method.index ∙ ap (option_map (target_row tree a)) own in
           ap (λ o. option_map stands_at (option_and_then (target_in class method) o)) entry ∙ row_tells a d method.class class y method number named stands
 
-      by_entry : (o : Option (ClassName × Declaration)) → slice_get (declarations tree) method.class ≡ o → option_and_then {U = ClassName × Method} (λ (e : ClassName × Declaration). option_map (λ x. (e.0, x)) (slice_get e.1.methods method.place)) o ≡ Some (c, m) → Tells rows class method d c m
+      by_entry : (o : Option (ClassName × Declaration)) → slice_get (declarations tree) method.class ≡ o → option_and_then {U = ClassName × Method} (λ (e : ClassName × Declaration). option_map (λ x. (e.0, x)) (slice_get e.1.methods method.index)) o ≡ Some (c, m) → Tells rows class method d c m
       by_entry None h g = absurd (none_is_some (c, m) g)
-      by_entry (Some (a, x)) h g = by_method (slice_get x.methods method.place) refl g
+      by_entry (Some (a, x)) h g = by_method (slice_get x.methods method.index) refl g
         where
-          by_method : (o : Option Method) → slice_get x.methods method.place ≡ o → option_map {U = ClassName × Method} (λ y. (a, y)) o ≡ Some (c, m) → Tells rows class method d c m
+          by_method : (o : Option Method) → slice_get x.methods method.index ≡ o → option_map {U = ClassName × Method} (λ y. (a, y)) o ≡ Some (c, m) → Tells rows class method d c m
           by_method None p z = absurd (none_is_some (c, m) z)
           by_method (Some y) p z =
               let pairs : (a, y) ≡ (c, m) = cc in
               let P : ClassName × Method → Type 0 = λ q. Tells rows class method d q.0 q.1 in
-              subst P pairs (by_place a x y h p (at ∙ ap Some (sym pairs)))
+              subst P pairs (by_index a x y h p (at ∙ ap Some (sym pairs)))

@@ -1,6 +1,6 @@
 pub mod ByClass
 pub mod Kinds
-pub mod NumberedKinds
+pub mod ResolvedKinds
 pub mod FieldSlots
 pub mod Roles
 pub mod Targets

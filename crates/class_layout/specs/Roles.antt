@@ -12,7 +12,7 @@ use Rattle.resolved_code.specs.declared.classes.ResolvedKind.{ResolvedKind}
 use Rattle.resolved_code.specs.declared.classes.ResolvedKind.TheVariants as KindOf
 use Rattle.class_layout.specs.declared.roles.Role.{Role}
 use Rattle.class_layout.specs.declared.roles.Role.TheVariants.{Plain, ReuseSlot, NewSlot}
-use Rattle.class_layout.specs.Targets.{chain_at, is_lister}
+use Rattle.class_layout.specs.Targets.{chain_at, is_implementer}
 
 -- newslot or not (II.10.3.1)
 abbrev pub role_by_flag : Bool → Role
@@ -27,33 +27,33 @@ role_of_named (NamedKind.Virtual is_new_slot code) = role_by_flag is_new_slot
 role_of_named (NamedKind.Abstract is_new_slot) = role_by_flag is_new_slot
 
 -- of a method by numbers
-abbrev pub role_of_numbered : ResolvedKind → Role
-role_of_numbered (KindOf.Static body) = Plain
-role_of_numbered (KindOf.Instance body) = Plain
-role_of_numbered (KindOf.Virtual is_new_slot body) = role_by_flag is_new_slot
-role_of_numbered (KindOf.Abstract is_new_slot) = role_by_flag is_new_slot
+abbrev pub role_by_id : ResolvedKind → Role
+role_by_id (KindOf.Static body) = Plain
+role_by_id (KindOf.Instance body) = Plain
+role_by_id (KindOf.Virtual is_new_slot body) = role_by_flag is_new_slot
+role_by_id (KindOf.Abstract is_new_slot) = role_by_flag is_new_slot
 
 -- a static method has no object (II.15.4.2)
-abbrev pub is_static_numbered : ResolvedKind → Bool
-is_static_numbered (KindOf.Static body) = true
-is_static_numbered (KindOf.Instance body) = false
-is_static_numbered (KindOf.Virtual is_new_slot body) = false
-is_static_numbered (KindOf.Abstract is_new_slot) = false
+abbrev pub is_static_by_id : ResolvedKind → Bool
+is_static_by_id (KindOf.Static body) = true
+is_static_by_id (KindOf.Instance body) = false
+is_static_by_id (KindOf.Virtual is_new_slot body) = false
+is_static_by_id (KindOf.Abstract is_new_slot) = false
 
 -- the role of the first method with a name and signature
 abbrev pub role_in : ℕ → List ResolvedMethod → Option Role
-role_in i rs = option_map (λ (r : ResolvedMethod). role_of_numbered r.kind) (find (λ (r : ResolvedMethod). i == r.identity) rs)
+role_in i rs = option_map (λ (r : ResolvedMethod). role_by_id r.kind) (find (λ (r : ResolvedMethod). i == r.identity) rs)
 
--- the place of the first method with a name and signature that has an object
-abbrev pub own_place : ℕ → List ResolvedMethod → Option ℕ
-own_place i rs = position_from (λ (r : ResolvedMethod). (i == r.identity) && not (is_static_numbered r.kind)) 0 rs
+-- the index of the first method with a name and signature that has an object
+abbrev pub own_index : ℕ → List ResolvedMethod → Option ℕ
+own_index i rs = position_from (λ (r : ResolvedMethod). (i == r.identity) && not (is_static_by_id r.kind)) 0 rs
 
 -- the same, in the class of a number
 abbrev pub role_at : List ResolvedClass → ℕ → ℕ → Option Role
 role_at classes i n = option_and_then (λ (r : ResolvedClass). role_in i r.methods) (slice_get classes n)
 
 abbrev pub own_at : List ResolvedClass → ℕ → ℕ → Option MemberNumber
-own_at classes i n = option_and_then (λ (r : ResolvedClass). option_map (λ place. record { class = n; place = place }) (own_place i r.methods)) (slice_get classes n)
+own_at classes i n = option_and_then (λ (r : ResolvedClass). option_map (λ index. record { class = n; index = index }) (own_index i r.methods)) (slice_get classes n)
 
 -- a method that fills a slot is virtual
 abbrev pub is_virtual_role : Role → Bool
@@ -80,20 +80,20 @@ slot_along classes i [] = None
 slot_along classes i (n ∷ ns) = slot_from classes i n (slot_along classes i ns)
 
 -- the nearest class whose method fills a slot as seen from a class, by what holds as seen from its base
-abbrev pub filler_from : List ResolvedClass → ℕ → ℕ → Bool → Option ℕ → Option ℕ
-filler_from classes i n fills below = if fills then option_map_or (λ (r : Role). Some n) (role_at classes i n) below else below
+abbrev pub implementation_from : List ResolvedClass → ℕ → ℕ → Bool → Option ℕ → Option ℕ
+implementation_from classes i n fills below = if fills then option_map_or (λ (r : Role). Some n) (role_at classes i n) below else below
 
 -- the nearest class of a chain whose method fills a slot
-abbrev pub filler_along : List ResolvedClass → ℕ → ℕ → List ℕ → Option ℕ
-filler_along classes i slot [] = None
-filler_along classes i slot (n ∷ ns) = filler_from classes i n (option_map_or (λ s. s == slot) (slot_along classes i (n ∷ ns)) false) (filler_along classes i slot ns)
+abbrev pub implementation_along : List ResolvedClass → ℕ → ℕ → List ℕ → Option ℕ
+implementation_along classes i slot [] = None
+implementation_along classes i slot (n ∷ ns) = implementation_from classes i n (option_map_or (λ s. s == slot) (slot_along classes i (n ∷ ns)) false) (implementation_along classes i slot ns)
 
 -- the method that fills along one chain the slot that is known along another
 abbrev pub filled_along : List ResolvedClass → ℕ → List ℕ → List ℕ → Option MemberNumber
-filled_along classes i chain introduced = option_and_then (λ slot. option_and_then (own_at classes i) (filler_along classes i slot chain)) (slot_along classes i introduced)
+filled_along classes i chain introduced = option_and_then (λ slot. option_and_then (own_at classes i) (implementation_along classes i slot chain)) (slot_along classes i introduced)
 
 -- the method that fills the slot of the nearest virtual method, as seen from the nearest class of a chain that lists the interface
-abbrev pub listed_filler : Tree → List ResolvedClass → ℕ → List ℕ → ℕ → Option MemberNumber
-listed_filler tree classes i chain interface =
-    option_and_then (λ lister. option_and_then (λ found. filled_along classes i chain (chain_at tree found)) (find (is_virtual_at classes i) (chain_at tree lister)))
-    (find (is_lister (map (λ (r : ResolvedClass). r.interfaces) classes) interface) chain)
+abbrev pub listed_implementation : Tree → List ResolvedClass → ℕ → List ℕ → ℕ → Option MemberNumber
+listed_implementation tree classes i chain interface =
+    option_and_then (λ implementer. option_and_then (λ found. filled_along classes i chain (chain_at tree found)) (find (is_virtual_at classes i) (chain_at tree implementer)))
+    (find (is_implementer (map (λ (r : ResolvedClass). r.interfaces) classes) interface) chain)

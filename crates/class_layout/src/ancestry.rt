@@ -14,7 +14,7 @@ use crate::classes::Classes;
 use crate::rows::{flag_at, row_at};
 use cil_model::memory::NoMemory;
 use resolved_code::type_tests::TypeTest;
-use resolved_code::types::NumberedType;
+use resolved_code::types::ResolvedType;
 use std::alloc::Global;
 
 /// For each class, whether it may be given for each class.
@@ -87,7 +87,7 @@ impl Ancestry {
     }
 
     /// Whether a value of the first type may be given where the second is expected.
-    pub fn is_assignable(&self, from: NumberedType, to: NumberedType) -> bool
+    pub fn is_assignable(&self, from: ResolvedType, to: ResolvedType) -> bool
         ensures { (tree : Tree) → IsAncestry tree self.now → (a b : DeclaredType) → type_at tree from ≡ Some a → type_at tree to ≡ Some b → result ≡ is_assignable tree a b }
     {
         match from.test_for(to) {

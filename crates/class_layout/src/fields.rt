@@ -5,7 +5,7 @@ ghost use Rattle.std.specs.List.{list_any};
 ghost use Rattle.std.specs.Option.{option_map_or};
 ghost use Rattle.class_layout.specs.ByClass.{by_class};
 ghost use Rattle.class_layout.specs.Kinds.{own_kinds, hidden_kinds, chain_kinds, slot_kinds, is_reference_kind};
-ghost use Rattle.class_layout.specs.NumberedKinds.{kind_of_numbered, numbered_kind};
+ghost use Rattle.class_layout.specs.ResolvedKinds.{kind_of_resolved, resolved_kind};
 
 use crate::classes::Classes;
 use crate::kinds::SlotKind;
@@ -13,26 +13,26 @@ use crate::rows::row_at;
 use cil_model::memory::NoMemory;
 use name_tables::numbers::THREAD;
 use resolved_code::classes::{ResolvedClass, ResolvedField};
-use resolved_code::types::{NumberedElement, NumberedType};
+use resolved_code::types::{ResolvedElement, ResolvedType};
 use std::alloc::Global;
 
-fn kind_of(field_type: NumberedType) -> SlotKind
-    ensures { result ≡ kind_of_numbered field_type }
+fn kind_of(field_type: ResolvedType) -> SlotKind
+    ensures { result ≡ kind_of_resolved field_type }
 {
     if field_type.brackets > 0 {
         return SlotKind::Reference;
     }
     match field_type.element {
-        NumberedElement::Int32 => SlotKind::Int32,
-        NumberedElement::Int64 => SlotKind::Int64,
-        NumberedElement::Object | NumberedElement::String | NumberedElement::Class(_) => {
+        ResolvedElement::Int32 => SlotKind::Int32,
+        ResolvedElement::Int64 => SlotKind::Int64,
+        ResolvedElement::Object | ResolvedElement::String | ResolvedElement::Class(_) => {
             SlotKind::Reference
         }
     }
 }
 
 fn instance_kind(field: ResolvedField) -> Option<SlotKind>
-    ensures { result ≡ numbered_kind field }
+    ensures { result ≡ resolved_kind field }
 {
     if field.is_static {
         None
@@ -42,7 +42,7 @@ fn instance_kind(field: ResolvedField) -> Option<SlotKind>
 }
 
 fn instance_kinds(alloc: Global, fields: &[ResolvedField]) -> Result<Vec<SlotKind>, NoMemory>
-    ensures { IfOk result (λ v. v.items ≡ filter_map numbered_kind fields.now) }
+    ensures { IfOk result (λ v. v.items ≡ filter_map resolved_kind fields.now) }
 {
     let mut kinds = Vec::new(alloc);
     for field in fields {
@@ -59,7 +59,7 @@ pub fn all_own_kinds(
     alloc: Global,
     classes: &[ResolvedClass],
 ) -> Result<Vec<Vec<SlotKind>>, NoMemory>
-    ensures { IfOk result (λ v. map (λ row. row.items) v.items ≡ map (λ r. filter_map numbered_kind r.fields) classes.now) }
+    ensures { IfOk result (λ v. map (λ row. row.items) v.items ≡ map (λ r. filter_map resolved_kind r.fields) classes.now) }
 {
     let mut rows = Vec::new(alloc);
     for class in classes {

@@ -23,7 +23,7 @@ use crate::slots::{all_fields, number_at};
 use crate::targets::{Targets, all_targets, target_at};
 use cil_model::memory::NoMemory;
 use name_tables::lookups::MemberNumber;
-use resolved_code::types::NumberedType;
+use resolved_code::types::ResolvedType;
 use std::alloc::Global;
 
 /// Where the fields of a program lie, which methods its virtual calls run, and which types may be given for others. Contracts say whose
@@ -35,7 +35,7 @@ pub struct Layout {
     targets: Vec<Vec<Targets>>,
 }
 
-/// Each part gives back its own.
+/// Each part is dropped.
 impl Drop for Layout {
     fn drop(self) {
         let Layout {
@@ -67,9 +67,9 @@ impl Layout {
         })
     }
 
-    /// Whether a value of the first type may be given where the second is expected (ECMA-335 I.8.7). An array may be given for one with as many
+    /// Whether a value of the first type may be given where the second is expected (ECMA-335 I.8.7). An array may be given for one with the same number of
     /// brackets where its element may be given for the other's, and for `object` with fewer.
-    pub fn assignable(&self, from: NumberedType, to: NumberedType) -> bool
+    pub fn assignable(&self, from: ResolvedType, to: ResolvedType) -> bool
         ensures { (tree : Tree) → IsLayout tree self.now → (a b : DeclaredType) → type_at tree from ≡ Some a → type_at tree to ≡ Some b → result ≡ is_assignable tree a b }
     {
         self.ancestry.is_assignable(from, to)
@@ -99,17 +99,17 @@ impl Layout {
     /// The slot of an instance field, the same in objects of its class and of every class below, or the number of a static field among
     /// all static fields (this profile). The number has to be that of a field, which has one.
     pub fn slot(&self, field: MemberNumber) -> Option<usize>
-        ensures instance { (tree : Tree) → IsLayout tree self.now → (c : ClassName) (f : Field) → field_at tree (field.class, field.place) ≡ Some (c, f) → f.is_static ≡ false → result ≡ instance_slot tree (record { declared_in = c; name = f.name }) }
-        ensures static_field { (tree : Tree) → IsLayout tree self.now → (c : ClassName) (f : Field) → field_at tree (field.class, field.place) ≡ Some (c, f) → f.is_static ≡ true → result ≡ static_slot tree (record { declared_in = c; name = f.name }) }
+        ensures instance { (tree : Tree) → IsLayout tree self.now → (c : ClassName) (f : Field) → field_at tree (field.class, field.index) ≡ Some (c, f) → f.is_static ≡ false → result ≡ instance_slot tree (record { declared_in = c; name = f.name }) }
+        ensures static_field { (tree : Tree) → IsLayout tree self.now → (c : ClassName) (f : Field) → field_at tree (field.class, field.index) ≡ Some (c, f) → f.is_static ≡ true → result ≡ static_slot tree (record { declared_in = c; name = f.name }) }
     {
-        number_at(row_at(self.fields.as_slice(), field.class), field.place)
+        number_at(row_at(self.fields.as_slice(), field.class), field.index)
     }
 
     /// The method that runs where a method is called on an object of a class (ECMA-335 II.10.3, II.12.2; where an interface is listed
     /// again, this profile); a method that is not virtual is its own. None where no method of the class fills the slot. The numbers
     /// have to be those of a class and of a method.
     pub fn target(&self, class: usize, method: MemberNumber) -> Option<MemberNumber>
-        ensures { (tree : Tree) → IsLayout tree self.now → (c d : ClassName) (m : Method) → class_name tree class ≡ Some d → method_at tree (method.class, method.place) ≡ Some (c, m) → option_map (λ n. method_at tree (n.class, n.place)) result ≡ option_map Some (target tree d c m) }
+        ensures { (tree : Tree) → IsLayout tree self.now → (c d : ClassName) (m : Method) → class_name tree class ≡ Some d → method_at tree (method.class, method.index) ≡ Some (c, m) → option_map (λ n. method_at tree (n.class, n.index)) result ≡ option_map Some (target tree d c m) }
     {
         target_at(self.targets.as_slice(), class, method)
     }

@@ -10,7 +10,7 @@ mod fields;
 mod kinds;
 pub mod laws;
 mod layout;
-mod namesakes;
+mod method_families;
 mod program;
 mod roles;
 mod rows;

@@ -2,7 +2,7 @@
 
 ghost use Rattle.std.specs.Prelude.{◌≡◌, ◌==◌, ◌&&◌, not, IfOk, find, map, option_map};
 ghost use Rattle.std.specs.List.{position_from};
-ghost use Rattle.class_layout.specs.Roles.{role_of_numbered, is_virtual_role, is_static_numbered, role_in, own_place};
+ghost use Rattle.class_layout.specs.Roles.{role_by_id, is_virtual_role, is_static_by_id, role_in, own_index};
 
 use cil_model::memory::NoMemory;
 use resolved_code::classes::{ResolvedClass, ResolvedKind, ResolvedMethod};
@@ -20,7 +20,7 @@ pub enum Role {
 }
 
 fn role_of(kind: &ResolvedKind) -> Role
-    ensures { result ≡ role_of_numbered kind.now }
+    ensures { result ≡ role_by_id kind.now }
 {
     match kind {
         ResolvedKind::Static(_) | ResolvedKind::Instance(_) => Role::Plain,
@@ -36,7 +36,7 @@ fn role_of(kind: &ResolvedKind) -> Role
 
 /// Whether a method is virtual; an abstract one is too (ECMA-335 II.15.4.2).
 pub fn is_virtual(kind: &ResolvedKind) -> bool
-    ensures { result ≡ is_virtual_role (role_of_numbered kind.now) }
+    ensures { result ≡ is_virtual_role (role_by_id kind.now) }
 {
     match role_of(kind) {
         Role::Plain => false,
@@ -72,18 +72,18 @@ pub fn roles(
 }
 
 fn is_own(method: &ResolvedMethod, identity: usize) -> bool
-    ensures { result ≡ ((identity == method.now.identity) && not (is_static_numbered method.now.kind)) }
+    ensures { result ≡ ((identity == method.now.identity) && not (is_static_by_id method.now.kind)) }
 {
     identity == method.identity && !matches!(method.kind, ResolvedKind::Static(_))
 }
 
-/// The place of the first of these methods with a name and signature that has an object.
-pub fn own_place(methods: &[ResolvedMethod], identity: usize) -> Option<usize>
-    ensures { result ≡ own_place identity methods.now }
+/// The index of the first of these methods with a name and signature that has an object.
+pub fn own_index(methods: &[ResolvedMethod], identity: usize) -> Option<usize>
+    ensures { result ≡ own_index identity methods.now }
 {
-    for place in 0..methods.len() {
-        if is_own(&methods[place], identity) {
-            return Some(place);
+    for index in 0..methods.len() {
+        if is_own(&methods[index], identity) {
+            return Some(index);
         }
     }
     None

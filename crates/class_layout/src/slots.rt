@@ -4,7 +4,7 @@ ghost use Rattle.std.specs.Prelude.{◌≡◌, ◌+◌, ◌<◌, ◌^◌, [], If
 ghost use Rattle.resolved_code.specs.Resolved.{AreResolved};
 ghost use Rattle.class_layout.specs.ByClass.{by_class};
 ghost use Rattle.class_layout.specs.Kinds.{own_kinds, slot_kinds};
-ghost use Rattle.class_layout.specs.FieldSlots.{number_after, slot_after, numbered_by_flag, statics_by_flag, slots_by_flag, slot_behind, field_rows, class_names};
+ghost use Rattle.class_layout.specs.FieldSlots.{number_after, slot_after, static_by_id, statics_by_flag, slots_by_flag, following_slot, field_rows, class_names};
 
 use crate::classes::Classes;
 use crate::kinds::SlotKind;
@@ -43,7 +43,7 @@ fn field_row(
 ) -> Result<Vec<usize>, NoMemory>
     requires statics { statics_by_flag first_static (map (λ f. f.is_static) fields.now) < 2 ^ 64 }
     requires slots { slots_by_flag first_slot (map (λ f. f.is_static) fields.now) < 2 ^ 64 }
-    ensures { IfOk result (λ v. v.items ≡ numbered_by_flag first_static first_slot (map (λ f. f.is_static) fields.now)) }
+    ensures { IfOk result (λ v. v.items ≡ static_by_id first_static first_slot (map (λ f. f.is_static) fields.now)) }
 {
     let mut numbers = Vec::new(alloc);
     let mut next_static = first_static;
@@ -70,14 +70,14 @@ fn statics_after(first: usize, fields: &[ResolvedField]) -> usize
 
 /// The slot of the first instance field that a class itself declares: after those that it inherits.
 fn first_slot(own: &[Vec<SlotKind>], kinds: &[Vec<SlotKind>], class: usize) -> usize
-    ensures behind { result ≡ slot_behind (map (λ row. row.items) kinds.now) (map (λ row. row.items) own.now) class }
+    ensures following { result ≡ following_slot (map (λ row. row.items) kinds.now) (map (λ row. row.items) own.now) class }
     ensures fits { result + length (unwrap_or (slice_get (map (λ row. row.items) own.now) class) []) < 2 ^ 64 }
 {
     let all = row_at(kinds, class).len();
     all.saturating_sub(row_at(own, class).len())
 }
 
-/// The number of each static field and the slot of each instance field, by its class and its place.
+/// The number of each static field and the slot of each instance field, by its class and its index.
 pub fn all_fields(
     alloc: Global,
     classes: &Classes,
@@ -100,9 +100,9 @@ pub fn all_fields(
     Ok(rows)
 }
 
-/// The number or slot at a place of a row.
-pub fn number_at(numbers: &[usize], place: usize) -> Option<usize>
-    ensures { result ≡ slice_get numbers.now place }
+/// The number or slot at an index of a row.
+pub fn number_at(numbers: &[usize], index: usize) -> Option<usize>
+    ensures { result ≡ slice_get numbers.now index }
 {
-    numbers.get(place).copied()
+    numbers.get(index).copied()
 }

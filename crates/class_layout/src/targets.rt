@@ -13,7 +13,7 @@ ghost use Rattle.class_layout.specs.ByClass.{by_class};
 ghost use Rattle.class_layout.specs.Targets.{target_number, target_row, target_rows, targets_of, target_in};
 
 use crate::classes::Classes;
-use crate::namesakes::Namesakes;
+use crate::method_families::MethodFamilies;
 use crate::roles::is_virtual;
 use crate::rows::{entry_at, row_at};
 use cil_model::memory::NoMemory;
@@ -40,23 +40,23 @@ fn is_interface(classes: &Classes, class: usize) -> bool
 }
 
 /// The method that runs where a virtual method of a class or interface is called on an object of a class.
-fn target_number(methods: &Namesakes, class: usize, object: usize) -> Option<MemberNumber>
+fn target_number(methods: &MethodFamilies, class: usize, object: usize) -> Option<MemberNumber>
     requires { AreResolved methods.now.classes.now.program.now methods.now.classes.now.all.now }
     ensures { (k : MethodIdentity) (e d : ClassName × Declaration) → identity_number methods.now.classes.now.program.now k ≡ methods.now.identity →
         slice_get (declarations methods.now.classes.now.program.now) class ≡ Some e → slice_get (declarations methods.now.classes.now.program.now) object ≡ Some d → result ≡ target_number methods.now.classes.now.program.now e.0 k d.0 }
 {
     let chain = methods.classes.chain(object);
     if is_interface(methods.classes, class) {
-        methods.interface_filler(chain, class)
+        methods.interface_implementation(chain, class)
     } else {
-        methods.class_filler(chain, methods.classes.chain(class))
+        methods.class_implementation(chain, methods.classes.chain(class))
     }
 }
 
 /// The methods that run on objects of each class, where a virtual one of these methods is called.
 fn named_row(
     alloc: Global,
-    methods: &Namesakes,
+    methods: &MethodFamilies,
     class: usize,
 ) -> Result<Vec<Option<MemberNumber>>, NoMemory>
     requires { AreResolved methods.now.classes.now.program.now methods.now.classes.now.all.now }
@@ -80,7 +80,7 @@ fn class_row(
     ensures { IfOk result (λ v. (e : ClassName × Declaration) (m : Method) → slice_get (declarations classes.now.program.now) class ≡ Some e →
         IsResolvedMethod classes.now.program.now m method.now → v.items ≡ by_class classes.now.program.now (target_number classes.now.program.now e.0 (identity_of m))) }
 {
-    let methods = Namesakes::new(alloc, classes, method.identity)?;
+    let methods = MethodFamilies::new(alloc, classes, method.identity)?;
     named_row(alloc, &methods, class)
 }
 
@@ -113,13 +113,13 @@ fn rows_of(
         AllAlike (IsResolvedMethod classes.now.program.now) e.1.methods methods.now → map targets_of v.items ≡ map (target_row classes.now.program.now e.0) e.1.methods) }
 {
     let mut rows = Vec::new(alloc);
-    for place in 0..methods.len() {
-        rows.push(method_targets(alloc, classes, class, &methods[place])?)?;
+    for index in 0..methods.len() {
+        rows.push(method_targets(alloc, classes, class, &methods[index])?)?;
     }
     Ok(rows)
 }
 
-/// The methods that run where each method is called, by its class and its place.
+/// The methods that run where each method is called, by its class and its index.
 pub fn all_targets(alloc: Global, classes: &Classes) -> Result<Vec<Vec<Targets>>, NoMemory>
     requires { AreResolved classes.now.program.now classes.now.all.now }
     ensures { IfOk result (λ v. map (λ row. map targets_of row.items) v.items ≡ by_class classes.now.program.now (target_rows classes.now.program.now)) }
@@ -134,9 +134,9 @@ pub fn all_targets(alloc: Global, classes: &Classes) -> Result<Vec<Vec<Targets>>
 
 /// The method that runs where a method is called on an object of a class.
 pub fn target_at(rows: &[Vec<Targets>], class: usize, method: MemberNumber) -> Option<MemberNumber>
-    ensures { result ≡ option_and_then (target_in class method) (option_map targets_of (slice_get (unwrap_or (slice_get (map (λ row. row.items) rows.now) method.class) []) method.place)) }
+    ensures { result ≡ option_and_then (target_in class method) (option_map targets_of (slice_get (unwrap_or (slice_get (map (λ row. row.items) rows.now) method.class) []) method.index)) }
 {
-    match row_at(rows, method.class).get(method.place) {
+    match row_at(rows, method.class).get(method.index) {
         None => None,
         Some(Targets::Itself) => Some(method),
         Some(Targets::ByClass(row)) => entry_at(row.as_slice(), class),

@@ -1,5 +1,5 @@
--- Walks over the cells of a block, and the collector's place in it.
+-- Walks over the cells of a block, and the collector's cursor in it.
 pub mod FirstCells
 pub mod Walks
 pub mod ChangedBlocks
-pub mod CollectorPlaces
+pub mod CollectorOffsets

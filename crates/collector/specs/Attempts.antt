@@ -21,7 +21,7 @@ abbrev pub with_loaded : Cell → ℕ → Attempt → Attempt
 with_loaded c zero t = record t { stage = Loaded; monitor = c.monitor }
 with_loaded c (suc slot) t = record t { stage = Loaded; word = word_of c slot }
 
--- whether two monitors are equal: both free, or held by one thread that entered as often
+-- whether two monitors are equal: both free, or held by one thread that entered both the same number of times
 abbrev pub is_same_monitor : Monitor → Monitor → Bool
 is_same_monitor Free Free = true
 is_same_monitor Free (Held owner count) = false
@@ -41,8 +41,8 @@ stage_number Loaded = 1
 stage_number Stored = 2
 
 -- the events spent on a word: three for each check that failed, and those of the attempt under way
-abbrev pub spent : Attempt → ℕ
-spent t = 3 * t.failed_checks + stage_number t.stage
+abbrev pub attempt_cost : Attempt → ℕ
+attempt_cost t = 3 * t.failed_checks + stage_number t.stage
 
 -- the most events that are spent on a word before it is copied in one event
 abbrev pub most_spent : ℕ

@@ -62,4 +62,4 @@ pub record IsForwardable (layout : Layout) (o : Objects) (a : Addr) (slot word :
 
 -- what is found at an address of a block
 abbrev pub found_at : Cells → ℕ → Found
-found_at s at = record { place = at - s.start; object = record { number = at } }
+found_at s at = record { offset = at - s.start; object = record { number = at } }

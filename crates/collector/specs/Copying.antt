@@ -4,7 +4,7 @@ use Rattle.std.specs.Prelude.{ℕ, zero, suc, ◌+◌, ◌-◌, nat_lt, ◌&&◌
 use Rattle.std.specs.Option.{option_map_or}
 use Rattle.cil_model.specs.declared.trees.Tree.{Tree}
 use Rattle.object_memory.specs.declared.addresses.Addr.{Addr}
-pub use Rattle.object_memory.specs.Cells.{address_behind}
+pub use Rattle.object_memory.specs.Cells.{address_after_cell}
 use Rattle.object_memory.specs.Cells.{Cell, Cells, cell_in, size, store_monitor, store_slot}
 use Rattle.object_memory.specs.Spaces.{found_in, has_other, with_shell}
 use Rattle.object_memory.specs.Objects.{Objects, with_cell}
@@ -28,10 +28,10 @@ shell_made o a c = if needs_copy c then record o { spaces = with_shell o.spaces 
 -- the next object of the old block is looked at; and whether there was one
 abbrev pub shell_step : Progress → Objects → Option Cell → Progress × Objects × Bool
 shell_step p o None = (p, o, false)
-shell_step p o (Some c) = (record p { place = p.place + size c }, shell_made o (address_behind o.spaces.old p.place) c, true)
+shell_step p o (Some c) = (record p { cursor = p.cursor + size c }, shell_made o (address_after_cell o.spaces.old p.cursor) c, true)
 
 abbrev pub looked_on : Progress → Objects → Progress × Objects × Bool
-looked_on p o = shell_step p o (cell_in o.spaces.old (address_behind o.spaces.old p.place))
+looked_on p o = shell_step p o (cell_in o.spaces.old (address_after_cell o.spaces.old p.cursor))
 
 -- ---- words
 
@@ -41,25 +41,25 @@ word_stored tree o t from to zero = with_cell (store_monitor t.monitor) o to
 word_stored tree o t from to (suc slot) = with_cell (store_slot slot (copied_word tree o.spaces from slot t.word)) o to
 
 -- how far the collector is after a word of the object at an address
-abbrev pub behind_word : Progress → Cells → Addr → Cell → ℕ → Progress
-behind_word p s a c word =
-    if nat_lt word (length c.slots) then record p { place = a.number - s.start; copied_words = word + 1; attempt = no_attempt }
-    else record p { place = a.number - s.start + size c; copied_words = 0; attempt = no_attempt }
+abbrev pub after_word : Progress → Cells → Addr → Cell → ℕ → Progress
+after_word p s a c word =
+    if nat_lt word (length c.slots) then record p { cursor = a.number - s.start; copied_words = word + 1; attempt = no_attempt }
+    else record p { cursor = a.number - s.start + size c; copied_words = 0; attempt = no_attempt }
 
 -- the collector at the next word of the object, with an attempt under way
 abbrev pub before_word : Progress → Cells → Addr → Attempt → Progress
-before_word p s a t = record p { place = a.number - s.start; attempt = t }
+before_word p s a t = record p { cursor = a.number - s.start; attempt = t }
 
 -- the word is loaded; or, after three failed checks of it, loaded and stored in one event
 abbrev pub word_begun : Tree → Progress → Objects → Addr → Cell → Addr → Progress × Objects
 word_begun tree p o a c b =
     if nat_lt p.attempt.failed_checks MOST_FAILED_CHECKS then (before_word p o.spaces.old a (with_loaded c p.copied_words p.attempt), o)
-    else (behind_word p o.spaces.old a c p.copied_words, word_stored tree o (with_loaded c p.copied_words p.attempt) c b p.copied_words)
+    else (after_word p o.spaces.old a c p.copied_words, word_stored tree o (with_loaded c p.copied_words p.attempt) c b p.copied_words)
 
 -- where the old copy still has what was loaded, the word is copied; else its next attempt begins
 abbrev pub word_checked : Progress → Cells → Addr → Cell → Progress
 word_checked p s a c =
-    if has_loaded p.attempt c p.copied_words then behind_word p s a c p.copied_words
+    if has_loaded p.attempt c p.copied_words then after_word p s a c p.copied_words
     else before_word p s a (record no_attempt { failed_checks = p.attempt.failed_checks + 1 })
 
 -- a step at the next word of an object with two copies
@@ -71,11 +71,11 @@ word_step Stored tree p o a c b = (word_checked p o.spaces.old a c, o)
 abbrev pub object_copied : Tree → Progress → Objects → Addr → Cell → Addr → Progress × Objects × Bool
 object_copied tree p o a c b = ((word_step p.attempt.stage tree p o a c b).0, (word_step p.attempt.stage tree p o a c b).1, true)
 
--- the next object with two copies, from the place on
+-- the next object with two copies, from the cursor on
 abbrev pub copied_at : Tree → Progress → Objects → Option ℕ → Progress × Objects × Bool
 copied_at tree p o None = (p, o, false)
 copied_at tree p o (Some at) =
     option_map_or (λ (c : Cell). option_map_or (object_copied tree p o (record { number = at }) c) c.other (p, o, false)) (cell_in o.spaces.old (record { number = at })) (p, o, false)
 
 abbrev pub copied_on : Tree → Progress → Objects → Progress × Objects × Bool
-copied_on tree p o = copied_at tree p o (found_in has_other o.spaces.old (o.spaces.old.start + p.place))
+copied_on tree p o = copied_at tree p o (found_in has_other o.spaces.old (o.spaces.old.start + p.cursor))

@@ -14,7 +14,7 @@ use Rattle.collector.specs.declared.progress.Progress.{Progress}
 
 -- nothing is done
 abbrev pub no_progress : Progress
-no_progress = record { scanned_statics = false; scanned_slots = 0; place = 0; copied_words = 0; attempt = no_attempt; flipped_statics = 0 }
+no_progress = record { scanned_statics = false; scanned_slots = 0; cursor = 0; copied_words = 0; attempt = no_attempt; flipped_statics = 0 }
 
 -- whether a cycle is open while a phase is posted
 abbrev pub is_of_cycle : Phase → Bool
@@ -93,20 +93,20 @@ is_read Reclaim c = false
 abbrev pub HasLooked : Phase → Progress → Spaces → Addr → Type 0
 HasLooked Idle p m a = ⊥
 HasLooked Mark p m a = ⊥
-HasLooked Allocate p m a = a.number < m.old.start + p.place
+HasLooked Allocate p m a = a.number < m.old.start + p.cursor
 HasLooked Copy p m a = Unit {0}
 HasLooked PreFlip p m a = Unit {0}
 HasLooked HeapFlip p m a = Unit {0}
 HasLooked ThreadFlip p m a = Unit {0}
 HasLooked Reclaim p m a = Unit {0}
 
--- whether it has copied a word of the old object at an address, its monitor or 1 more than a slot's number; in Copy those before its place, and of the
--- object that is there those that it has counted as copied
+-- whether it has copied a word of the old object at an address, its monitor or 1 more than a slot's number; in Copy those of the objects before its cursor, and
+-- of the object that is there those that it has counted as copied
 abbrev pub HasCopied : Phase → Progress → Spaces → Addr → ℕ → Type 0
 HasCopied Idle p m a word = ⊥
 HasCopied Mark p m a word = ⊥
 HasCopied Allocate p m a word = ⊥
-HasCopied Copy p m a word = (a.number < m.old.start + p.place) ⊎ ((a.number ≡ m.old.start + p.place) × (word < p.copied_words))
+HasCopied Copy p m a word = (a.number < m.old.start + p.cursor) ⊎ ((a.number ≡ m.old.start + p.cursor) × (word < p.copied_words))
 HasCopied PreFlip p m a word = Unit {0}
 HasCopied HeapFlip p m a word = Unit {0}
 HasCopied ThreadFlip p m a word = Unit {0}

@@ -7,9 +7,9 @@ use Rattle.cil_model.specs.declared.phases.Phase.TheVariants.{Mark, Allocate, Co
 use Rattle.cil_model.specs.declared.trees.Tree.{Tree}
 use Rattle.object_memory.specs.declared.addresses.Addr.{Addr}
 use Rattle.object_memory.specs.Cells.{Cell, cell_in}
-use Rattle.object_memory.specs.Spaces.{Spaces, AreSpaces, HasShellRoom, IsPlace, forward_word, is_noted}
+use Rattle.object_memory.specs.Spaces.{Spaces, AreSpaces, HasShellRoom, IsOffset, forward_word, is_noted}
 use Rattle.collector.specs.References.{SlotsPass, holds_reference, reference_in}
-use Rattle.collector.specs.Attempts.{has_loaded, most_spent, spent}
+use Rattle.collector.specs.Attempts.{has_loaded, most_spent, attempt_cost}
 use Rattle.collector.specs.Phases.{HasCopied, HasLooked, is_before_copies, is_live, is_marked_address, is_marked_old, is_new_address, is_of_cycle, is_read}
 use Rattle.collector.specs.declared.progress.Progress.{Progress}
 use Rattle.collector.specs.declared.progress.Stage.TheVariants.{Loaded, Stored}
@@ -44,7 +44,7 @@ IsCopiedWord tree m from to (suc slot) = IsCopiedSlot tree m from to slot
 -- the collector has stored the word that comes next, and the old copy has what was loaded still
 pub record HasStored (posted : Phase) (p : Progress) (m : Spaces) (a : Addr) (from : Cell) (word : ℕ) : Type 0 where
   pub copying : posted ≡ Copy
-  pub here : a.number ≡ m.old.start + p.place
+  pub here : a.number ≡ m.old.start + p.cursor
   pub next : word ≡ p.copied_words
   pub stored : p.attempt.stage ≡ Stored
   pub same : has_loaded p.attempt from word ≡ true
@@ -71,22 +71,22 @@ pub record AreCopied (tree : Tree) (posted : Phase) (p : Progress) (m : Spaces) 
   pub new_references : (b : Addr) (d : Cell) → cell_in m.new b ≡ Some d → SlotsPass tree (is_new_address m) d
   pub room : (posted ≡ Mark) ⊎ (posted ≡ Allocate) → HasShellRoom m
 
--- ---- the place
+-- ---- the cursor
 
 -- While objects get their copies and their words, the collector is where an old object begins or after all of them; and only of an object with
 -- another copy it may have copied a part of the words, or have begun with the next one, which takes few attempts.
-pub record HasPlace (posted : Phase) (p : Progress) (m : Spaces) : Type 0 where
-  pub place : (posted ≡ Allocate) ⊎ (posted ≡ Copy) → IsPlace m.old (m.old.start + p.place)
-  pub attempts : posted ≡ Copy → spent p.attempt ≤ most_spent
-  pub words : posted ≡ Copy → p.copied_words + spent p.attempt ≢ 0 →
-      (c : Cell) × (cell_in m.old (record { number = m.old.start + p.place }) ≡ Some c) × (c.other ≢ None) × (p.copied_words ≤ length c.slots)
+pub record HasCursor (posted : Phase) (p : Progress) (m : Spaces) : Type 0 where
+  pub offset : (posted ≡ Allocate) ⊎ (posted ≡ Copy) → IsOffset m.old (m.old.start + p.cursor)
+  pub attempts : posted ≡ Copy → attempt_cost p.attempt ≤ most_spent
+  pub words : posted ≡ Copy → p.copied_words + attempt_cost p.attempt ≢ 0 →
+      (c : Cell) × (cell_in m.old (record { number = m.old.start + p.cursor }) ≡ Some c) × (c.other ≢ None) × (p.copied_words ≤ length c.slots)
 
 -- ---- what is loaded
 
 -- While Copy is posted: what the collector has loaded of a slot that holds a reference refers to what is live, whatever the slot holds by now.
 abbrev pub IsLoaded : Tree → Progress → Spaces → Type 0
 IsLoaded tree p m =
-    p.attempt.stage ≡ Loaded → (c : Cell) → cell_in m.old (record { number = m.old.start + p.place }) ≡ Some c →
+    p.attempt.stage ≡ Loaded → (c : Cell) → cell_in m.old (record { number = m.old.start + p.cursor }) ≡ Some c →
     (slot : ℕ) → p.copied_words ≡ suc slot → holds_reference tree c.kind slot ≡ true → is_live Copy m (reference_in p.attempt.word) ≡ true
 
 -- ---- marks
@@ -111,15 +111,15 @@ pub record AreMarked (tree : Tree) (has_round : Bool) (p : Progress) (m : Spaces
 -- While the new block is cleared, the collector is where a new object begins or after all of them, and the objects before have neither a mark nor
 -- another copy.
 pub record IsCleared (p : Progress) (m : Spaces) : Type 0 where
-  pub place : IsPlace m.new (m.new.start + p.place)
-  pub objects : (b : Addr) (d : Cell) → cell_in m.new b ≡ Some d → b.number < m.new.start + p.place → is_noted d ≡ false
+  pub offset : IsOffset m.new (m.new.start + p.cursor)
+  pub objects : (b : Addr) (d : Cell) → cell_in m.new b ≡ Some d → b.number < m.new.start + p.cursor → is_noted d ≡ false
 
 -- ---- the heap
 
 pub record IsSoundHeap (tree : Tree) (posted : Phase) (has_round : Bool) (words : ℕ) (p : Progress) (m : Spaces) : Type 0 where
   pub blocks : AreBlocks posted words m
   pub copies : AreCopied tree posted p m
-  pub place : HasPlace posted p m
+  pub cursor : HasCursor posted p m
   pub loaded : posted ≡ Copy → IsLoaded tree p m
   pub marks : posted ≡ Mark → AreMarked tree has_round p m
   pub cleared : posted ≡ Reclaim → IsCleared p m

@@ -8,7 +8,7 @@ ghost use Rattle.object_memory.specs.Cells.{Cell, cell_in};
 ghost use Rattle.object_memory.specs.Spaces.{AreSpaces, cell_at, slots_at};
 ghost use Rattle.collector.specs.Attempts.{has_loaded, is_same_monitor, with_loaded};
 ghost use Rattle.collector.specs.Conditions.{IsForwardable, IsReadable, IsSoundFor, IsSoundIn, found_at};
-ghost use Rattle.collector.specs.Copying.{behind_word, copied_on, looked_on, needs_copy, word_checked, word_begun, word_stored};
+ghost use Rattle.collector.specs.Copying.{after_word, copied_on, looked_on, needs_copy, word_checked, word_begun, word_stored};
 ghost use Rattle.collector.specs.Soundness.{copied_word};
 
 use crate::progress::{Attempt, MOST_FAILED_CHECKS, Progress, Stage};
@@ -24,10 +24,10 @@ pub fn shell_step(progress: &mut Progress, heap: &mut Heap) -> bool
     requires { IsSoundIn Allocate progress.old heap.old }
     ensures { (progress.new, heap.new, result) ≡ looked_on progress.old heap.old }
 {
-    let Some(object) = heap.old_at(progress.place) else {
+    let Some(object) = heap.old_at(progress.cursor) else {
         return false;
     };
-    progress.place += heap.size(object);
+    progress.cursor += heap.size(object);
     if needs_copy(heap, object) {
         heap.shell(object);
     }
@@ -42,7 +42,7 @@ fn needs_copy(heap: &Heap, object: Addr) -> bool
     heap.is_marked(object) && heap.other(object).is_none()
 }
 
-/// One step at the next word of the next old object with two copies, from the place on: the monitor first, then slot by slot. A word is
+/// One step at the next word of the next old object with two copies, from the cursor on: the monitor first, then slot by slot. A word is
 /// loaded from the old copy, stored in the new one (a reference by its forward), and checked: where the old copy has another word by
 /// then, the next attempt begins. After three failed checks the word is loaded and stored in one step. Objects without another copy are
 /// passed over in the same step. False where no word is left; nothing changes then. (Hudson and Moss, "Sapphire".)
@@ -50,7 +50,7 @@ pub fn copy_step(progress: &mut Progress, heap: &mut Heap, layout: &Layout) -> b
     requires { IsSoundFor layout.now Copy progress.old heap.old }
     ensures { (tree : Tree) → IsLayout tree layout.now → (progress.new, heap.new, result) ≡ copied_on tree progress.old heap.old }
 {
-    let Some(twin) = next_copied(heap, progress.place) else {
+    let Some(twin) = next_copied(heap, progress.cursor) else {
         return false;
     };
     match progress.attempt.stage {
@@ -64,7 +64,7 @@ pub fn copy_step(progress: &mut Progress, heap: &mut Heap, layout: &Layout) -> b
                 progress.copied_words,
                 &progress.attempt,
             );
-            progress.place = twin.found.place;
+            progress.cursor = twin.found.offset;
             progress.attempt.stage = Stage::Stored;
         }
         Stage::Stored => check_word(progress, heap, twin.found),
@@ -76,14 +76,14 @@ pub fn copy_step(progress: &mut Progress, heap: &mut Heap, layout: &Layout) -> b
 fn begin_word(progress: &mut Progress, heap: &mut Heap, layout: &Layout, next: Found, copy: Addr)
     requires spaces { AreSpaces heap.old.spaces }
     requires there { IsSome (cell_in heap.old.spaces.old next.object) × IsSome (cell_at heap.old.spaces copy) }
-    requires place { next ≡ found_at heap.old.spaces.old next.object.number }
+    requires offset { next ≡ found_at heap.old.spaces.old next.object.number }
     requires slots { 0 < progress.old.copied_words → IsReadable layout.now heap.old next.object (progress.old.copied_words - 1) × (progress.old.copied_words ≤ length (slots_at heap.old.spaces copy)) }
     ensures { (tree : Tree) → IsLayout tree layout.now → (c : Cell) → cell_in heap.old.spaces.old next.object ≡ Some c → (progress.new, heap.new) ≡ word_begun tree progress.old heap.old next.object c copy }
 {
     let word = progress.copied_words;
     load_word(heap, next.object, word, &mut progress.attempt);
     if progress.attempt.failed_checks < MOST_FAILED_CHECKS {
-        progress.place = next.place;
+        progress.cursor = next.offset;
     } else {
         let attempt = progress.attempt;
         pass_word(progress, heap, next);
@@ -110,7 +110,7 @@ fn load_word(heap: &Heap, object: Addr, word: u32, attempt: &mut Attempt)
 fn check_word(progress: &mut Progress, heap: &Heap, next: Found)
     requires spaces { AreSpaces heap.now.spaces }
     requires there { IsSome (cell_in heap.now.spaces.old next.object) }
-    requires place { next ≡ found_at heap.now.spaces.old next.object.number }
+    requires offset { next ≡ found_at heap.now.spaces.old next.object.number }
     requires slot { (c : Cell) → cell_in heap.now.spaces.old next.object ≡ Some c → progress.old.copied_words ≤ length c.slots }
     requires few { progress.old.attempt.failed_checks < MOST_FAILED_CHECKS }
     ensures { (c : Cell) → cell_in heap.now.spaces.old next.object ≡ Some c → progress.new ≡ word_checked progress.old heap.now.spaces.old next.object c }
@@ -118,7 +118,7 @@ fn check_word(progress: &mut Progress, heap: &Heap, next: Found)
     if has_loaded(heap, next.object, progress.copied_words, &progress.attempt) {
         pass_word(progress, heap, next);
     } else {
-        progress.place = next.place;
+        progress.cursor = next.offset;
         progress.attempt = Attempt {
             failed_checks: progress.attempt.failed_checks + 1,
             ..Attempt::none()
@@ -139,7 +139,7 @@ fn has_loaded(heap: &Heap, object: Addr, word: u32, attempt: &Attempt) -> bool
     }
 }
 
-/// Whether two monitors are equal: both free, or held by one thread that entered as often.
+/// Whether two monitors are equal: both free, or held by one thread that entered both the same number of times.
 fn is_same_monitor(a: Monitor, b: Monitor) -> bool
     ensures { result ≡ is_same_monitor a b }
 {
@@ -162,15 +162,15 @@ fn is_same_monitor(a: Monitor, b: Monitor) -> bool
 fn pass_word(progress: &mut Progress, heap: &Heap, next: Found)
     requires spaces { AreSpaces heap.now.spaces }
     requires there { IsSome (cell_in heap.now.spaces.old next.object) }
-    requires place { next ≡ found_at heap.now.spaces.old next.object.number }
-    ensures { (c : Cell) → cell_in heap.now.spaces.old next.object ≡ Some c → progress.new ≡ behind_word progress.old heap.now.spaces.old next.object c progress.old.copied_words }
+    requires offset { next ≡ found_at heap.now.spaces.old next.object.number }
+    ensures { (c : Cell) → cell_in heap.now.spaces.old next.object ≡ Some c → progress.new ≡ after_word progress.old heap.now.spaces.old next.object c progress.old.copied_words }
 {
     progress.attempt = Attempt::none();
     if progress.copied_words < heap.slots(next.object) {
-        progress.place = next.place;
+        progress.cursor = next.offset;
         progress.copied_words += 1;
     } else {
-        progress.place = next.place + heap.size(next.object);
+        progress.cursor = next.offset + heap.size(next.object);
         progress.copied_words = 0;
     }
 }
@@ -196,7 +196,7 @@ fn copied_word(heap: &Heap, layout: &Layout, object: Addr, slot: u32, word: u64)
     ensures { (tree : Tree) → IsLayout tree layout.now → (c : Cell) → cell_in heap.now.spaces.old object ≡ Some c → result ≡ copied_word tree heap.now.spaces c slot word }
 {
     if holds_reference(layout, heap.kind(object), slot) {
-        forward(heap, Value::held(ValueKind::Ref, word)).word()
+        forward(heap, Value::of_word(ValueKind::Ref, word)).word()
     } else {
         word
     }

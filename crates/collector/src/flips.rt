@@ -4,7 +4,7 @@ ghost use Rattle.std.specs.Prelude.{◌≡◌, ◌<◌, ◌^◌, [], true, lengt
 ghost use Rattle.space_block.specs.Rows.{blank};
 ghost use Rattle.cil_model.specs.declared.phases.Phase.TheVariants.{Reclaim};
 ghost use Rattle.collector.specs.Conditions.{AreThere, IsSoundIn};
-ghost use Rattle.collector.specs.Flips.{cleared_on, flipped_on, retired};
+ghost use Rattle.collector.specs.Flips.{cleared_on, flipped_on, retire_old};
 
 use crate::progress::Progress;
 use crate::walks::next_noted;
@@ -28,16 +28,16 @@ pub fn flip_static_step(progress: &mut Progress, heap: &Heap, statics: &mut [Val
     true
 }
 
-/// Takes mark and other copy off the next object of the new block that has either, from the place on; the others are passed over in the
+/// Takes mark and other copy off the next object of the new block that has either, from the cursor on; the others are passed over in the
 /// same step. False where none has; nothing changes then.
 pub fn clear_step(progress: &mut Progress, heap: &mut Heap) -> bool
     requires { IsSoundIn Reclaim progress.old heap.old }
     ensures { (progress.new, heap.new, result) ≡ cleared_on progress.old heap.old }
 {
-    let Some(next) = next_noted(heap, progress.place) else {
+    let Some(next) = next_noted(heap, progress.cursor) else {
         return false;
     };
-    progress.place = next.place + heap.size(next.object);
+    progress.cursor = next.offset + heap.size(next.object);
     heap.clear(next.object);
     true
 }
@@ -46,7 +46,7 @@ pub fn clear_step(progress: &mut Progress, heap: &mut Heap) -> bool
 /// grey list are handed out.
 pub fn retire(heap: &mut Heap) -> (Block, Vec<Addr>)
     requires { heap.old.spaces.is_open ≡ true }
-    ensures heap { heap.new ≡ retired heap.old }
+    ensures heap { heap.new ≡ retire_old heap.old }
     ensures block { result.0 ≡ blank heap.old.spaces.old.words }
     ensures grey { result.1.items ≡ [] }
 {

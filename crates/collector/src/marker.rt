@@ -64,7 +64,7 @@ fn scan_slot(heap: &mut Heap, layout: &Layout, object: Addr, slot: u32)
 {
     if holds_reference(layout, heap.kind(object), slot) {
         let word = heap.slot(object, slot);
-        mark(heap, Value::held(ValueKind::Ref, word));
+        mark(heap, Value::of_word(ValueKind::Ref, word));
     }
 }
 

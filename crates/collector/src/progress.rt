@@ -55,7 +55,7 @@ pub struct Progress {
     pub scanned_slots: u32,
     /// How many words lie before the next object that it looks at: of the old block while it makes and fills copies, of the new one
     /// while it takes marks off.
-    pub place: u32,
+    pub cursor: u32,
     /// How many words of that object it has copied: the monitor comes first, and then the slots.
     pub copied_words: u32,
     /// Its attempt to copy the next word.
@@ -74,7 +74,7 @@ impl Progress {
         Progress {
             scanned_statics: false,
             scanned_slots: 0,
-            place: 0,
+            cursor: 0,
             copied_words: 0,
             attempt: Attempt::none(),
             flipped_statics: 0,

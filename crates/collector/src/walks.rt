@@ -1,8 +1,8 @@
-//! The next object of a block that there is work at, from a place on.
+//! The next object of a block that there is work at, from an offset on.
 
 ghost use Rattle.std.specs.Prelude.{◌≡◌, ◌+◌, Some, IfSome, IsSome, option_map};
 ghost use Rattle.object_memory.specs.Cells.{Cell, cell_in};
-ghost use Rattle.object_memory.specs.Spaces.{AreSpaces, IsPlace, cell_at, found_in, has_other, is_noted};
+ghost use Rattle.object_memory.specs.Spaces.{AreSpaces, IsOffset, cell_at, found_in, has_other, is_noted};
 ghost use Rattle.collector.specs.Conditions.{found_at};
 
 use object_memory::{Addr, Heap};
@@ -10,7 +10,7 @@ use object_memory::{Addr, Heap};
 /// An object of a block, and how many words of the block lie before it.
 #[derive(Clone, Copy)]
 pub(crate) struct Found {
-    pub place: u32,
+    pub offset: u32,
     pub object: Addr,
 }
 
@@ -21,18 +21,18 @@ pub(crate) struct Twin {
     pub copy: Addr,
 }
 
-/// The first object of the old block that has another copy, at a place or after it.
-pub(crate) fn next_copied(heap: &Heap, place: u32) -> Option<Twin>
+/// The first object of the old block that has another copy, at an offset or after it.
+pub(crate) fn next_copied(heap: &Heap, offset: u32) -> Option<Twin>
     requires spaces { AreSpaces heap.now.spaces }
-    requires place { IsPlace heap.now.spaces.old (heap.now.spaces.old.start + place) }
-    ensures found { option_map (λ t. t.found) result ≡ option_map (found_at heap.now.spaces.old) (found_in has_other heap.now.spaces.old (heap.now.spaces.old.start + place)) }
+    requires offset { IsOffset heap.now.spaces.old (heap.now.spaces.old.start + offset) }
+    ensures found { option_map (λ t. t.found) result ≡ option_map (found_at heap.now.spaces.old) (found_in has_other heap.now.spaces.old (heap.now.spaces.old.start + offset)) }
     ensures there { IfSome result (λ t. IsSome (cell_in heap.now.spaces.old t.found.object)) }
     ensures copy { IfSome result (λ t. option_map (λ c. c.other) (cell_at heap.now.spaces t.found.object) ≡ Some (Some t.copy)) }
 {
-    let mut at = place;
+    let mut at = offset;
     while let Some(object) = heap.old_at(at) {
         if let Some(copy) = heap.other(object) {
-            let found = Found { place: at, object };
+            let found = Found { offset: at, object };
             return Some(Twin { found, copy });
         }
         at += heap.size(object);
@@ -40,17 +40,17 @@ pub(crate) fn next_copied(heap: &Heap, place: u32) -> Option<Twin>
     None
 }
 
-/// The first object of the new block that has a mark or another copy, at a place or after it.
-pub(crate) fn next_noted(heap: &Heap, place: u32) -> Option<Found>
+/// The first object of the new block that has a mark or another copy, at an offset or after it.
+pub(crate) fn next_noted(heap: &Heap, offset: u32) -> Option<Found>
     requires spaces { AreSpaces heap.now.spaces }
-    requires place { IsPlace heap.now.spaces.new (heap.now.spaces.new.start + place) }
-    ensures found { result ≡ option_map (found_at heap.now.spaces.new) (found_in is_noted heap.now.spaces.new (heap.now.spaces.new.start + place)) }
+    requires offset { IsOffset heap.now.spaces.new (heap.now.spaces.new.start + offset) }
+    ensures found { result ≡ option_map (found_at heap.now.spaces.new) (found_in is_noted heap.now.spaces.new (heap.now.spaces.new.start + offset)) }
     ensures there { IfSome result (λ f. IsSome (cell_in heap.now.spaces.new f.object)) }
 {
-    let mut at = place;
+    let mut at = offset;
     while let Some(object) = heap.new_at(at) {
         if is_noted(heap, object) {
-            return Some(Found { place: at, object });
+            return Some(Found { offset: at, object });
         }
         at += heap.size(object);
     }

@@ -12,8 +12,8 @@ use Rattle.clap.specs.declared.builder.value_parser.ValueParser.TheVariants as v
 use Rattle.clap.specs.Words.{IsAmong, Kinds}
 use Rattle.clap.specs.declared.error.Error.{Error}
 use Rattle.clap.specs.declared.error.kind.ErrorKind.TheVariants.{DisplayVersion, ValueValidation}
-use Rattle.orders.specs.declared.order.Order.{Order}
-use Rattle.command_line.specs.CommandLine.{run, AnswersBy, FaultIs, IsOfNone, Refuses, Wanted, cilvm_app, faults_of, number_in, threads_app, threads_in, wanted_by, wanted_in, wanted_of}
+use Rattle.commands.specs.declared.order.Order.{Order}
+use Rattle.command_line.specs.CommandLine.{run, AnswersBy, FaultIs, IsOfNone, Refuses, Request, cilvm_app, faults_of, number_in, threads_app, threads_in, request_by, request_in, request_of}
 use Rattle.command_line.specs.declared.line.LineFault.{LineFault}
 use Rattle.command_line.specs.declared.line.LineFault.TheVariants.{Help, Version, Bad, Memory}
 
@@ -57,11 +57,11 @@ unfolding clap_on_literals
 threads_app-simple = refl
 
 -- what clap found is what the words ask for
-pub wanted_in-found : (a : App) (words : List Text) (m : ArgMatches) → a ≡ cilvm_app → HasMatchesOf a words m
-    → wanted_in (subcommand_of cilvm_app words) ≡ wanted_in (subcommand_rows_of m)
-wanted_in-found a words m is found =
+pub request_in-found : (a : App) (words : List Text) (m : ArgMatches) → a ≡ cilvm_app → HasMatchesOf a words m
+    → request_in (subcommand_of cilvm_app words) ≡ request_in (subcommand_rows_of m)
+request_in-found a words m is found =
     let rows = (found (ap is_simple is ∙ cilvm_app-simple)).1 in
-    ap wanted_in (ap (λ (x : App). subcommand_of x words) (sym is) ∙ sym rows)
+    ap request_in (ap (λ (x : App). subcommand_of x words) (sym is) ∙ sym rows)
 
 -- the same, where `threads` reads the words
 pub threads_in-found : (a : App) (words : List Text) (m : ArgMatches) → a ≡ threads_app → HasMatchesOf a words m
@@ -78,27 +78,27 @@ pub exact_at : (a app : App) → a ≡ app → is_simple_and_free app ≡ true �
 exact_at a app is exact = ap is_simple_and_free is ∙ exact
 
 -- an error of clap becomes a fault that the words deserve
-pub refuses : (faults : Kinds) (wanted : Option Wanted) (e : Error) (fault : LineFault) → HasKind faults e → FaultIs (kind_of e) fault
-    → Refuses faults wanted fault
-refuses faults wanted e (Help text) (inl memory) is = absurd (cc (sym is ∙ memory))
-refuses faults wanted e (Help text) (inr among) is = subst (λ (k : ErrorKind). IsAmong k faults) is among
-refuses faults wanted e (Version text) (inl memory) is = absurd (cc (sym is ∙ memory))
-refuses faults wanted e (Version text) (inr among) is = subst (λ (k : ErrorKind). IsAmong k faults) is among
-refuses faults wanted e (Bad text) (inl memory) is = absurd (is.2 memory)
-refuses faults wanted e (Bad text) (inr among) is = inl (kind_of e, among, is.0, is.1)
-refuses faults wanted e Memory kind is = tt
+pub refuses : (faults : Kinds) (requested : Option Request) (e : Error) (fault : LineFault) → HasKind faults e → FaultIs (kind_of e) fault
+    → Refuses faults requested fault
+refuses faults requested e (Help text) (inl memory) is = absurd (cc (sym is ∙ memory))
+refuses faults requested e (Help text) (inr among) is = subst (λ (k : ErrorKind). IsAmong k faults) is among
+refuses faults requested e (Version text) (inl memory) is = absurd (cc (sym is ∙ memory))
+refuses faults requested e (Version text) (inr among) is = subst (λ (k : ErrorKind). IsAmong k faults) is among
+refuses faults requested e (Bad text) (inl memory) is = absurd (is.2 memory)
+refuses faults requested e (Bad text) (inr among) is = inl (kind_of e, among, is.0, is.1)
+refuses faults requested e Memory kind is = tt
 
 -- what the words ask for, or that they ask for nothing, where clap takes them
-pub answers_wanted : (faults : Kinds) (wanted w : Option Wanted) (answer : Result Order LineFault) → wanted ≡ w → faults ≡ []
-    → IfOk answer (λ order. w ≡ Some (wanted_of order)) → IfErr answer (IsOfNone w) → AnswersBy faults wanted answer
-answers_wanted faults wanted w (Ok order) found free value none = (free, found ∙ value)
-answers_wanted faults wanted w (Err (Bad text)) found free value none = inr (found ∙ none)
-answers_wanted faults wanted w (Err Memory) found free value none = tt
-answers_wanted faults wanted w (Err (Help text)) found free value none = absurd none
-answers_wanted faults wanted w (Err (Version text)) found free value none = absurd none
+pub answers_requested : (faults : Kinds) (requested w : Option Request) (answer : Result Order LineFault) → requested ≡ w → faults ≡ []
+    → IfOk answer (λ order. w ≡ Some (request_of order)) → IfErr answer (IsOfNone w) → AnswersBy faults requested answer
+answers_requested faults requested w (Ok order) found free value none = (free, found ∙ value)
+answers_requested faults requested w (Err (Bad text)) found free value none = inr (found ∙ none)
+answers_requested faults requested w (Err Memory) found free value none = tt
+answers_requested faults requested w (Err (Help text)) found free value none = absurd none
+answers_requested faults requested w (Err (Version text)) found free value none = absurd none
 
 -- the definitions at words that are written out
-run_example : wanted_by (codes "cilvm" ∷ codes "run" ∷ codes "p.il" ∷ codes "--schedule" ∷ codes "s0*5" ∷ codes "--budget=3" ∷ [])
+run_example : request_by (codes "cilvm" ∷ codes "run" ∷ codes "p.il" ∷ codes "--schedule" ∷ codes "s0*5" ∷ codes "--budget=3" ∷ [])
     ≡ Some (run (codes "p.il") (codes "s0*5") None (record { words = 65536; max_words = 65536; budget = 3; depth = 64 }) false false)
 unfolding clap_on_literals
 run_example = refl
@@ -112,9 +112,9 @@ words_63 : faults_of (codes "cilvm" ∷ codes "run" ∷ codes "p.il" ∷ codes "
 unfolding clap_on_literals
 words_63 = refl
 
--- a source in the place of a command asks for what it asks for after `threads`
-source_example : wanted_by (codes "cilvm" ∷ codes "p.il" ∷ codes "--workers" ∷ codes "2" ∷ codes "--stop-at-deadlock" ∷ [])
-    ≡ wanted_by (codes "cilvm" ∷ codes "threads" ∷ codes "p.il" ∷ codes "--workers" ∷ codes "2" ∷ codes "--stop-at-deadlock" ∷ [])
+-- a source in place of a command asks for what it asks for after `threads`
+source_example : request_by (codes "cilvm" ∷ codes "p.il" ∷ codes "--workers" ∷ codes "2" ∷ codes "--stop-at-deadlock" ∷ [])
+    ≡ request_by (codes "cilvm" ∷ codes "threads" ∷ codes "p.il" ∷ codes "--workers" ∷ codes "2" ∷ codes "--stop-at-deadlock" ∷ [])
 unfolding clap_on_literals
 source_example = refl
 

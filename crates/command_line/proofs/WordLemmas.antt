@@ -4,6 +4,6 @@ use Rattle.std.specs.Prelude.{option_map, slice_get}
 use Rattle.std.proofs.lemmas.Option.{slice_get-map}
 use Rattle.clap.specs.Words.{Text}
 
--- the text of the word at a place
-pub word_at : (words : List (Bor Text)) (place : ℕ) → slice_get (map (λ w. w.now) words) place ≡ option_map (λ w. w.now) (slice_get words place)
-word_at words place = slice_get-map (λ (w : Bor Text). w.now) words place
+-- the text of the word at an index
+pub word_at : (words : List (Bor Text)) (index : ℕ) → slice_get (map (λ w. w.now) words) index ≡ option_map (λ w. w.now) (slice_get words index)
+word_at words index = slice_get-map (λ (w : Bor Text). w.now) words index

@@ -21,19 +21,19 @@ use Rattle.cil_model.specs.Ranges.{are_numbers_in_range}
 use Rattle.cil_model.specs.declared.limits.Limits.{Limits}
 use Rattle.cil_model.specs.declared.limits.TheConstants.{LEAST_WORDS, MOST_WORDS}
 use Rattle.cil_model.specs.declared.limits.TheConstants.{MOST_BUDGET, MOST_DEPTH}
-use Rattle.orders.specs.declared.given_limits.GivenLimits.{GivenLimits}
-use Rattle.orders.specs.declared.order.Order.{Order}
-use Rattle.orders.specs.declared.order.Order.TheVariants.{Check, Run, Trace, Picture, Explore, Flip}
-use Rattle.orders.specs.declared.run.TheConstants.{LEAST_OUTPUT, MOST_OUTPUT}
-use Rattle.orders.specs.declared.part.Part.{Part}
-use Rattle.orders.specs.declared.run.RunKind.{RunKind}
-use Rattle.orders.specs.declared.run.RunKind.TheVariants.{Schedule, Replay, Workers}
-use Rattle.orders.specs.declared.part.TheConstants.{LAST_NUMBER}
+use Rattle.commands.specs.declared.given_limits.GivenLimits.{GivenLimits}
+use Rattle.commands.specs.declared.order.Order.{Order}
+use Rattle.commands.specs.declared.order.Order.TheVariants.{Check, Run, Trace, Picture, Explore, Flip}
+use Rattle.commands.specs.declared.run.TheConstants.{LEAST_OUTPUT, MOST_OUTPUT}
+use Rattle.commands.specs.declared.part.Part.{Part}
+use Rattle.commands.specs.declared.run.RunKind.{RunKind}
+use Rattle.commands.specs.declared.run.RunKind.TheVariants.{Schedule, Replay, Workers}
+use Rattle.commands.specs.declared.part.TheConstants.{LAST_NUMBER}
 use Rattle.cil_model.specs.declared.stops.StopAt.{StopAt}
 use Rattle.cil_model.specs.declared.stops.StopAt.TheVariants.{Deadlock, End}
-use Rattle.orders.specs.declared.extents.Extent.{Extent}
-use Rattle.orders.specs.declared.extents.Goal.{Goal}
-use Rattle.orders.specs.declared.extents.Goal.TheVariants.{Fault, Deadlock, Output}
+use Rattle.commands.specs.declared.extents.Extent.{Extent}
+use Rattle.commands.specs.declared.extents.Goal.{Goal}
+use Rattle.commands.specs.declared.extents.Goal.TheVariants.{Fault, Deadlock, Output}
 use Rattle.command_line.specs.declared.line.LineFault.{LineFault}
 use Rattle.command_line.specs.declared.line.LineFault.TheVariants.{Help, Version, Bad, Memory}
 
@@ -67,8 +67,8 @@ flag_rule id = record (new_rule id) { long = Some id; action = Some SetTrue }
 abbrev pub with_default : Text → Rule → Rule
 with_default text rule = record rule { defaults = text ∷ [] }
 
-abbrev pub needed : Rule → Rule
-needed rule = record rule { required = true }
+abbrev pub required_rule : Rule → Rule
+required_rule rule = record rule { required = true }
 
 abbrev pub with_limits : App → App
 with_limits a = with_rule (with_rule (with_rule (with_rule a
@@ -110,7 +110,7 @@ abbrev pub check_app : App
 check_app = with_explain (with_source (codes "check"))
 
 abbrev pub run_app : App
-run_app = with_run_options (with_stats (with_output (with_rule (with_source (codes "run")) (needed (text_rule (codes "schedule"))))))
+run_app = with_run_options (with_stats (with_output (with_rule (with_source (codes "run")) (required_rule (text_rule (codes "schedule"))))))
 
 abbrev pub replay_app : App
 replay_app = with_given_limits (with_explain (with_stats (with_output (with_files (codes "replay")))))
@@ -141,8 +141,8 @@ explore_app = with_run_options (with_rule (with_rule (with_rule (with_rule (with
 -- all four numbers have to be given
 abbrev pub flip_app : App
 flip_app = with_rule (with_rule (with_rule (with_rule (new_app (codes "flip"))
-    (needed (number_rule (codes "seats") 1 16))) (needed (number_rule (codes "objects") 1 256)))
-    (needed (number_rule (codes "slots") 1 16))) (needed (number_rule (codes "rounds") 0 10000))
+    (required_rule (number_rule (codes "seats") 1 16))) (required_rule (number_rule (codes "objects") 1 256)))
+    (required_rule (number_rule (codes "slots") 1 16))) (required_rule (number_rule (codes "rounds") 0 10000))
 
 abbrev pub with_required_subcommand : App → App
 with_required_subcommand a =
@@ -160,28 +160,28 @@ cilvm_app = with_subcommand (with_subcommand (with_subcommand (with_subcommand (
 -- ---- what the words ask for
 
 -- the command with its files and options
-pub data Wanted : Type 0 where
-  check : Text → Bool → Wanted
-  run : Text → Text → Option ℕ → Limits → Bool → Bool → Wanted
-  replay : Text → Text → Option ℕ → GivenLimits → Bool → Bool → Wanted
-  trace : Text → Text → GivenLimits → Bool → Wanted
-  picture : Text → Text → ℕ → Option ℕ → GivenLimits → Bool → Wanted
-  threads : Text → ℕ → Option Text → StopAt → Option ℕ → Limits → Bool → Bool → Wanted
-  explore : Text → Extent → Option Text → Limits → Bool → Wanted
-  flip : ℕ → ℕ → ℕ → ℕ → Wanted
+pub data Request : Type 0 where
+  check : Text → Bool → Request
+  run : Text → Text → Option ℕ → Limits → Bool → Bool → Request
+  replay : Text → Text → Option ℕ → GivenLimits → Bool → Bool → Request
+  trace : Text → Text → GivenLimits → Bool → Request
+  picture : Text → Text → ℕ → Option ℕ → GivenLimits → Bool → Request
+  threads : Text → ℕ → Option Text → StopAt → Option ℕ → Limits → Bool → Bool → Request
+  explore : Text → Extent → Option Text → Limits → Bool → Request
+  flip : ℕ → ℕ → ℕ → ℕ → Request
 
-abbrev pub wanted_run : Text → Option ℕ → Bool → Bool → RunKind → Wanted
-wanted_run file most_printed explain stats (Schedule text limits) = run file text.now most_printed limits explain stats
-wanted_run file most_printed explain stats (Replay schedule limits expected) = replay file schedule.now most_printed limits explain stats
-wanted_run file most_printed explain stats (Workers workers kept stop_at limits) = threads file workers.count (option_map (λ name. name.now) kept) stop_at most_printed limits explain stats
+abbrev pub requested_run : Text → Option ℕ → Bool → Bool → RunKind → Request
+requested_run file most_printed explain stats (Schedule text limits) = run file text.now most_printed limits explain stats
+requested_run file most_printed explain stats (Replay schedule limits expected) = replay file schedule.now most_printed limits explain stats
+requested_run file most_printed explain stats (Workers workers kept stop_at limits) = threads file workers.count (option_map (λ name. name.now) kept) stop_at most_printed limits explain stats
 
-abbrev pub wanted_of : Order → Wanted
-wanted_of (Check file explain) = check file.now explain
-wanted_of (Run r) = wanted_run r.file.now r.most_printed r.explain r.stats r.kind
-wanted_of (Trace file schedule limits expected explain) = trace file.now schedule.now limits explain
-wanted_of (Picture file schedule part limits expected explain) = picture file.now schedule.now part.first part.last limits explain
-wanted_of (Explore file extent kept limits explain) = explore file.now extent (option_map (λ name. name.now) kept) limits explain
-wanted_of (Flip sizes) = flip sizes.seats sizes.objects sizes.slots sizes.rounds
+abbrev pub request_of : Order → Request
+request_of (Check file explain) = check file.now explain
+request_of (Run r) = requested_run r.file.now r.most_printed r.explain r.stats r.kind
+request_of (Trace file schedule limits expected explain) = trace file.now schedule.now limits explain
+request_of (Picture file schedule part limits expected explain) = picture file.now schedule.now part.first part.last limits explain
+request_of (Explore file extent kept limits explain) = explore file.now extent (option_map (λ name. name.now) kept) limits explain
+request_of (Flip sizes) = flip sizes.seats sizes.objects sizes.slots sizes.rounds
 
 -- the number that the text writes in decimal digits, where it lies in the range
 abbrev pub number_in : ℕ → ℕ → Text → Option ℕ
@@ -213,7 +213,7 @@ is_true (Some text) = bytes_eq text (codes "true")
 abbrev pub flag_at : Text → List Row → Bool
 flag_at id rows = is_true (first_of id rows)
 
-abbrev pub check_in : List Row → Option Wanted
+abbrev pub check_in : List Row → Option Request
 check_in rows = option_map (λ file. check file (flag_at (codes "explain") rows)) (first_of (codes "file") rows)
 
 -- a source's file, a schedule and the limits of a run
@@ -229,7 +229,7 @@ given_at least most id rows = option_map_or (λ text. option_map Some (number_in
 abbrev pub output_in : List Row → Option (Option ℕ)
 output_in rows = given_at LEAST_OUTPUT MOST_OUTPUT (codes "output") rows
 
-abbrev pub run_in : List Row → Option Wanted
+abbrev pub run_in : List Row → Option Request
 run_in rows = option_and_then (λ most. option_map (λ (s : Text × Text × Limits). run s.0 s.1 most s.2 (flag_at (codes "explain") rows) (flag_at (codes "stats") rows)) (scheduled_in rows)) (output_in rows)
 
 -- the limits that are given
@@ -247,11 +247,11 @@ abbrev pub replayed_in : List Row → Option (Text × Text × GivenLimits)
 replayed_in rows = option_and_then (λ file. option_and_then (λ schedule. option_map (λ given. (file, schedule, given))
     (given_in rows)) (first_of (codes "schedule") rows)) (first_of (codes "file") rows)
 
-abbrev pub replay_in : List Row → Option Wanted
+abbrev pub replay_in : List Row → Option Request
 replay_in rows = option_and_then (λ most. option_map (λ (s : Text × Text × GivenLimits). replay s.0 s.1 most s.2 (flag_at (codes "explain") rows) (flag_at (codes "stats") rows))
     (replayed_in rows)) (output_in rows)
 
-abbrev pub trace_in : List Row → Option Wanted
+abbrev pub trace_in : List Row → Option Request
 trace_in rows = option_map (λ (s : Text × Text × GivenLimits). trace s.0 s.1 s.2 (flag_at (codes "explain") rows)) (replayed_in rows)
 
 -- the last event that is drawn, where one is said: not before the first one
@@ -262,7 +262,7 @@ last_in first rows = option_map_or (λ text. option_map Some (number_in first LA
 abbrev pub part_in : List Row → Option (ℕ × Option ℕ)
 part_in rows = option_and_then (λ first. option_map (λ last. (first, last)) (last_in first rows)) (number_at 1 LAST_NUMBER (codes "from") rows)
 
-abbrev pub picture_in : List Row → Option Wanted
+abbrev pub picture_in : List Row → Option Request
 picture_in rows = option_and_then (λ (p : ℕ × Option ℕ). option_map (λ (s : Text × Text × GivenLimits). picture s.0 s.1 p.0 p.1 s.2 (flag_at (codes "explain") rows))
     (replayed_in rows)) (part_in rows)
 
@@ -279,7 +279,7 @@ stop_at_in rows = if flag_at (codes "stop-at-deadlock") rows then Deadlock else 
 abbrev pub is_explained_in : List Row → Bool
 is_explained_in rows = if flag_at (codes "explain") rows then true else flag_at (codes "stop-at-deadlock") rows
 
-abbrev pub threads_in : List Row → Option Wanted
+abbrev pub threads_in : List Row → Option Request
 threads_in rows = option_and_then (λ most. option_map (λ (s : Text × ℕ × Limits). threads s.0 s.1 (first_of (codes "record") rows) (stop_at_in rows) most s.2 (is_explained_in rows) (flag_at (codes "stats") rows))
     (worked_in rows)) (output_in rows)
 
@@ -290,10 +290,10 @@ goal_in text =
     else (if bytes_eq text (codes "deadlock") then Some Deadlock
     else (if bytes_eq text (codes "output") then Some Output else None))
 
--- none where no text is given; no answer where the text can't be read
-abbrev pub said : {X : Type 0} → (Text → Option X) → Option Text → Option (Option X)
-said read None = Some None
-said read (Some text) = option_map (λ x. Some x) (read text)
+-- none where no text is given; no result where the text can't be read
+abbrev pub parsed_option : {X : Type 0} → (Text → Option X) → Option Text → Option (Option X)
+parsed_option read None = Some None
+parsed_option read (Some text) = option_map (λ x. Some x) (read text)
 
 -- the bounds of an exploration
 abbrev pub extent_in : List Row → Option Extent
@@ -301,7 +301,7 @@ extent_in rows = option_and_then (λ states. option_and_then (λ preemptions. op
   states = states;
   preemptions = preemptions;
   until = until;
-}) (said goal_in (first_of (codes "until") rows))) (said (number_in 0 1000) (first_of (codes "preemptions") rows)))
+}) (parsed_option goal_in (first_of (codes "until") rows))) (parsed_option (number_in 0 1000) (first_of (codes "preemptions") rows)))
     (number_at 1 1000000 (codes "states") rows)
 
 -- a source's file, the bounds of its exploration, and the limits of its runs
@@ -309,17 +309,17 @@ abbrev pub explored_in : List Row → Option (Text × Extent × Limits)
 explored_in rows = option_and_then (λ file. option_and_then (λ extent. option_map (λ limits. (file, extent, limits))
     (limits_in rows)) (extent_in rows)) (first_of (codes "file") rows)
 
-abbrev pub explore_in : List Row → Option Wanted
+abbrev pub explore_in : List Row → Option Request
 explore_in rows = option_map (λ (s : Text × Extent × Limits). explore s.0 s.1 (first_of (codes "save") rows) s.2 (flag_at (codes "explain") rows)) (explored_in rows)
 
-abbrev pub flip_in : List Row → Option Wanted
+abbrev pub flip_in : List Row → Option Request
 flip_in rows = option_and_then (λ seats. option_and_then (λ objects. option_and_then (λ slots.
     option_map (flip seats objects slots) (number_at 0 10000 (codes "rounds") rows))
     (number_at 1 16 (codes "slots") rows)) (number_at 1 256 (codes "objects") rows))
     (number_at 1 16 (codes "seats") rows)
 
 -- what a subcommand's name and its matches ask for
-abbrev pub named_in : Text → List Row → Option Wanted
+abbrev pub named_in : Text → List Row → Option Request
 named_in name rows =
     if bytes_eq name (codes "check") then check_in rows
     else (if bytes_eq name (codes "threads") then threads_in rows
@@ -330,8 +330,8 @@ named_in name rows =
     else (if bytes_eq name (codes "explore") then explore_in rows
     else (if bytes_eq name (codes "flip") then flip_in rows else None)))))))
 
-abbrev pub wanted_in : Option (Text × List Row) → Option Wanted
-wanted_in = option_and_then (λ p. named_in p.0 p.1)
+abbrev pub request_in : Option (Text × List Row) → Option Request
+request_in = option_and_then (λ p. named_in p.0 p.1)
 
 -- a file's name ends in `.il`, as no command does
 abbrev pub is_source_name : Text → Bool
@@ -342,10 +342,10 @@ abbrev pub begins_with_source : List Text → Bool
 begins_with_source words = option_map_or is_source_name (slice_get words 1) false
 
 -- what the words ask for, by what clap finds in them: where they begin with a source, all of them are for `threads`
-abbrev pub wanted_by : List Text → Option Wanted
-wanted_by words =
+abbrev pub request_by : List Text → Option Request
+request_by words =
     if begins_with_source words then threads_in (matches_of threads_app words)
-    else wanted_in (subcommand_of cilvm_app words)
+    else request_in (subcommand_of cilvm_app words)
 
 -- what clap has against the words, a wish for help or for the version among it
 abbrev pub faults_of : List Text → Kinds
@@ -365,24 +365,24 @@ FaultIs k (Bad text) = (k ≢ DisplayHelp) × (k ≢ DisplayVersion) × (k ≢ O
 FaultIs k Memory = ⊤
 
 -- the fault of words that ask for nothing
-abbrev pub IsOfNone : Option Wanted → LineFault → Type 0
-IsOfNone wanted (Bad text) = wanted ≡ None
-IsOfNone wanted Memory = ⊤
-IsOfNone wanted _ = ⊥
+abbrev pub IsOfNone : Option Request → LineFault → Type 0
+IsOfNone requested (Bad text) = requested ≡ None
+IsOfNone requested Memory = ⊤
+IsOfNone requested _ = ⊥
 
-abbrev pub Refuses : Kinds → Option Wanted → LineFault → Type 0
-Refuses faults wanted (Help text) = IsAmong DisplayHelp faults
-Refuses faults wanted (Version text) = IsAmong DisplayVersion faults
-Refuses faults wanted (Bad text) = HasMistake faults ⊎ (wanted ≡ None)
-Refuses faults wanted Memory = ⊤
+abbrev pub Refuses : Kinds → Option Request → LineFault → Type 0
+Refuses faults requested (Help text) = IsAmong DisplayHelp faults
+Refuses faults requested (Version text) = IsAmong DisplayVersion faults
+Refuses faults requested (Bad text) = HasMistake faults ⊎ (requested ≡ None)
+Refuses faults requested Memory = ⊤
 
 -- Ok comes where clap has nothing against the words, and holds what they ask for
-abbrev pub AnswersBy : Kinds → Option Wanted → Result Order LineFault → Type 0
-AnswersBy faults wanted (Ok order) = (faults ≡ []) × (wanted ≡ Some (wanted_of order))
-AnswersBy faults wanted (Err fault) = Refuses faults wanted fault
+abbrev pub AnswersBy : Kinds → Option Request → Result Order LineFault → Type 0
+AnswersBy faults requested (Ok order) = (faults ≡ []) × (requested ≡ Some (request_of order))
+AnswersBy faults requested (Err fault) = Refuses faults requested fault
 
 abbrev pub Answers : List Text → Result Order LineFault → Type 0
-Answers words answer = AnswersBy (faults_of words) (wanted_by words) answer
+Answers words answer = AnswersBy (faults_of words) (request_by words) answer
 
 -- the numbers of events from 1 on, of which the last one is not before the first
 abbrev pub IsPartInRange : Part → Type 0

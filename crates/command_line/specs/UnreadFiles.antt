@@ -5,7 +5,7 @@ use Rattle.std.specs.Prelude.{◌≡◌, ◌≢◌, ◌++◌, ◌∷◌, [], ℕ
 use Rattle.std.specs.declared.io.Error.{Error}
 use Rattle.std.specs.declared.io.ErrorKind.TheVariants.{OutOfMemory}
 
--- `?` in the place of a control character
+-- `?` in place of a control character
 abbrev pub shown_character : ℕ → ℕ
 shown_character c = if is_control c then 63 else c
 
@@ -18,8 +18,8 @@ abbrev pub IsLineOf : List ℕ → List ℕ → List ℕ → Type 0
 IsLineOf what file line = (why : List ℕ) × (line ≡ codes "cilvm: cannot " ++ what ++ codes " " ++ shown_name file ++ codes ": " ++ why ++ 10 ∷ [])
 
 -- what follows `device`: that line, and nothing where memory ran out
-abbrev pub IsToldOf : List ℕ → List ℕ → Error → List ℕ → Type 0
-IsToldOf what file error text = (error_kind error ≡ OutOfMemory → text ≡ []) × (error_kind error ≢ OutOfMemory → IsLineOf what file text)
+abbrev pub IsReportedOf : List ℕ → List ℕ → Error → List ℕ → Type 0
+IsReportedOf what file error text = (error_kind error ≡ OutOfMemory → text ≡ []) × (error_kind error ≢ OutOfMemory → IsLineOf what file text)
 
 -- the line that names a file that is not a `.run` file
 abbrev pub malformed_line : List ℕ → List ℕ

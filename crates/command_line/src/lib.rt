@@ -3,7 +3,7 @@
 //! lists them, and a usage error only where it lists one or the arguments ask for nothing. Control characters of a file name are written as `?`.
 #![tactic(auto)]
 
-mod commands;
+mod clap_commands;
 mod line;
 mod unread;
 mod version;

@@ -3,21 +3,21 @@ ghost use Rattle.std.specs.Prelude.{◌≡◌, ◌≤◌, IfErr, IfOk, IfSome, S
 ghost use Rattle.clap.specs.Words.{fault_of, found_of, first_of, kind_of, matches_of, rows_of, subcommand_of, subcommand_rows_of};
 ghost use Rattle.command_line.specs.CommandLine.{Answers, AnswersBy, begins_with_source, cilvm_app, is_source_name, threads_app};
 ghost use Rattle.command_line.specs.CommandLine.{AreGivenInRange, FaultIs, IsInRange, IsOfNone, IsOutputInRange, IsPartInRange, check_in, limits_in, most_in, output_in};
-ghost use Rattle.command_line.specs.CommandLine.{flag_at, number_at, number_in, flip_in, part_in, is_explained_in, picture_in, replay_in, replayed_in, run_in, scheduled_in, stop_at_in, threads_in, trace_in, wanted_in};
-ghost use Rattle.command_line.specs.CommandLine.{explore_in, explored_in, extent_in, given_at, given_in, goal_in, said, wanted_of, worked_in};
+ghost use Rattle.command_line.specs.CommandLine.{flag_at, number_at, number_in, flip_in, part_in, is_explained_in, picture_in, replay_in, replayed_in, run_in, scheduled_in, stop_at_in, threads_in, trace_in, request_in};
+ghost use Rattle.command_line.specs.CommandLine.{explore_in, explored_in, extent_in, given_at, given_in, goal_in, parsed_option, request_of, worked_in};
 ghost use Rattle.cil_model.specs.Ranges.{are_numbers_in_range};
 ghost use Rattle.command_line.specs.declared.line.LineFault.TheVariants.{Memory};
 
-use crate::commands::{MOST_PREEMPTIONS, MOST_STATES, cilvm_command, threads_command};
+use crate::clap_commands::{MOST_PREEMPTIONS, MOST_STATES, cilvm_command, threads_command};
 use cil_model::limits::{LEAST_WORDS, Limits, MOST_BUDGET, MOST_DEPTH, MOST_WORDS};
 use cil_model::stops::StopAt;
 use clap::error::ErrorKind;
 use clap::{ArgMatches, Error};
-use flip_trial::Sizes;
-use orders::{
+use commands::{
     Extent, GivenLimits, Goal, LAST_NUMBER, LEAST_OUTPUT, MOST_OUTPUT, Order, Part, Run, RunKind,
     Workers,
 };
+use flip_stress::Sizes;
 use std::alloc::{AllocError, Global};
 
 /// Why the words of a command line hold no command.
@@ -72,57 +72,60 @@ fn is_source_name(name: &str) -> bool
     name.as_bytes().ends_with(b".il")
 }
 
-/// Reads the words of `threads`, of which the first is the program's name in the place of the command's.
+/// Reads the words of `threads`, of which the first is the program's name in place of the command's.
 fn threads_order<'a>(alloc: Global, words: &'a [&'a str]) -> Result<Order<'a>, LineFault>
     ensures answer { AnswersBy (fault_of threads_app (map (λ word. word.now) words.entry.now)) (threads_in (matches_of threads_app (map (λ word. word.now) words.entry.now))) result }
     ensures range { IfOk result IsInRange }
 {
     let command = threads_command(alloc)?;
     match command.try_get_matches_from(words) {
-        Ok(matches) => wanted_threads_order(alloc, &matches),
+        Ok(matches) => requested_threads_order(alloc, &matches),
         Err(error) => Err(line_fault(alloc, &error)),
     }
 }
 
 /// Reads the words of a command line that names a command.
 fn command_order<'a>(alloc: Global, words: &'a [&'a str]) -> Result<Order<'a>, LineFault>
-    ensures answer { AnswersBy (fault_of cilvm_app (map (λ word. word.now) words.entry.now)) (wanted_in (subcommand_of cilvm_app (map (λ word. word.now) words.entry.now))) result }
+    ensures answer { AnswersBy (fault_of cilvm_app (map (λ word. word.now) words.entry.now)) (request_in (subcommand_of cilvm_app (map (λ word. word.now) words.entry.now))) result }
     ensures range { IfOk result IsInRange }
 {
     let command = cilvm_command(alloc)?;
     match command.try_get_matches_from(words) {
-        Ok(matches) => wanted_order(alloc, &matches),
+        Ok(matches) => requested_order(alloc, &matches),
         Err(error) => Err(line_fault(alloc, &error)),
     }
 }
 
 /// The command that the matches hold.
-fn wanted_order<'a>(alloc: Global, matches: &ArgMatches<'a>) -> Result<Order<'a>, LineFault>
-    ensures value { IfOk result (λ order. wanted_in (subcommand_rows_of matches.now) ≡ Some (wanted_of order)) }
+fn requested_order<'a>(alloc: Global, matches: &ArgMatches<'a>) -> Result<Order<'a>, LineFault>
+    ensures value { IfOk result (λ order. request_in (subcommand_rows_of matches.now) ≡ Some (request_of order)) }
     ensures range { IfOk result IsInRange }
-    ensures none { IfErr result (IsOfNone (wanted_in (subcommand_rows_of matches.now))) }
+    ensures none { IfErr result (IsOfNone (request_in (subcommand_rows_of matches.now))) }
 {
-    match wanted(matches) {
+    match requested_command(matches) {
         Some(order) => Ok(order),
-        None => Err(LineFault::Bad(told_of_none(alloc, matches)?)),
+        None => Err(LineFault::Bad(reported_of_none(alloc, matches)?)),
     }
 }
 
 /// The command that the matches of `threads` hold.
-fn wanted_threads_order<'a>(alloc: Global, found: &ArgMatches<'a>) -> Result<Order<'a>, LineFault>
-    ensures value { IfOk result (λ order. threads_in (rows_of (found_of found.now)) ≡ Some (wanted_of order)) }
+fn requested_threads_order<'a>(
+    alloc: Global,
+    found: &ArgMatches<'a>,
+) -> Result<Order<'a>, LineFault>
+    ensures value { IfOk result (λ order. threads_in (rows_of (found_of found.now)) ≡ Some (request_of order)) }
     ensures range { IfOk result IsInRange }
     ensures none { IfErr result (IsOfNone (threads_in (rows_of (found_of found.now)))) }
 {
-    match wanted_threads(found) {
+    match requested_threads(found) {
         Some(order) => Ok(order),
-        None => Err(LineFault::Bad(told_of_none(alloc, found)?)),
+        None => Err(LineFault::Bad(reported_of_none(alloc, found)?)),
     }
 }
 
 /// The error of words that clap takes and that hold no command: of a last event before the first one, or of an unknown goal. It fails only if memory
 /// runs out.
-fn told_of_none(alloc: Global, matches: &ArgMatches<'_>) -> Result<String, AllocError> {
+fn reported_of_none(alloc: Global, matches: &ArgMatches<'_>) -> Result<String, AllocError> {
     if let Some((_, found)) = matches.subcommand() {
         if let Some(first) = text(found, "from") {
             let last = text(found, "to").unwrap_or("");
@@ -146,7 +149,7 @@ fn line_fault(alloc: Global, error: &Error) -> LineFault
     if kind == ErrorKind::OutOfMemory {
         return LineFault::Memory;
     }
-    match told(alloc, error) {
+    match error_text(alloc, error) {
         Ok(text) if kind == ErrorKind::DisplayHelp => LineFault::Help(text),
         Ok(text) if kind == ErrorKind::DisplayVersion => LineFault::Version(text),
         Ok(text) => LineFault::Bad(text),
@@ -156,7 +159,7 @@ fn line_fault(alloc: Global, error: &Error) -> LineFault
 
 /// What clap prints of an error, but for its tip how to pass an option that there is not as a value: no one means that. The only error is
 /// out of memory.
-fn told(alloc: Global, error: &Error) -> Result<String, AllocError> {
+fn error_text(alloc: Global, error: &Error) -> Result<String, AllocError> {
     let text = error.to_string(alloc)?;
     let Some((mistake, tip)) = text.as_str().split_once("\n\n  tip: to pass '") else {
         return Ok(text);
@@ -167,26 +170,26 @@ fn told(alloc: Global, error: &Error) -> Result<String, AllocError> {
     }
 }
 
-fn wanted<'a>(matches: &ArgMatches<'a>) -> Option<Order<'a>>
-    ensures value { option_map wanted_of result ≡ wanted_in (subcommand_rows_of matches.now) }
+fn requested_command<'a>(matches: &ArgMatches<'a>) -> Option<Order<'a>>
+    ensures value { option_map request_of result ≡ request_in (subcommand_rows_of matches.now) }
     ensures range { IfSome result IsInRange }
 {
     let (name, found) = matches.subcommand()?;
     match name {
-        "check" => wanted_check(found),
-        "threads" => wanted_threads(found),
-        "run" => wanted_run(found),
-        "replay" => wanted_replay(found),
-        "trace" => wanted_trace(found),
-        "picture" => wanted_picture(found),
-        "explore" => wanted_explore(found),
-        "flip" => wanted_flip(found),
+        "check" => requested_check(found),
+        "threads" => requested_threads(found),
+        "run" => requested_run(found),
+        "replay" => requested_replay(found),
+        "trace" => requested_trace(found),
+        "picture" => requested_picture(found),
+        "explore" => requested_explore(found),
+        "flip" => requested_flip(found),
         _ => None,
     }
 }
 
-fn wanted_check<'a>(found: &ArgMatches<'a>) -> Option<Order<'a>>
-    ensures value { option_map wanted_of result ≡ check_in (rows_of (found_of found.now)) }
+fn requested_check<'a>(found: &ArgMatches<'a>) -> Option<Order<'a>>
+    ensures value { option_map request_of result ≡ check_in (rows_of (found_of found.now)) }
     ensures range { IfSome result IsInRange }
 {
     let file = text(found, "file")?;
@@ -194,12 +197,12 @@ fn wanted_check<'a>(found: &ArgMatches<'a>) -> Option<Order<'a>>
     Some(Order::Check { file, explain })
 }
 
-fn wanted_run<'a>(found: &ArgMatches<'a>) -> Option<Order<'a>>
-    ensures value { option_map wanted_of result ≡ run_in (rows_of (found_of found.now)) }
+fn requested_run<'a>(found: &ArgMatches<'a>) -> Option<Order<'a>>
+    ensures value { option_map request_of result ≡ run_in (rows_of (found_of found.now)) }
     ensures range { IfSome result IsInRange }
 {
     let most_printed = most_printed(found)?;
-    let (file, text, limits) = scheduled(found)?;
+    let (file, text, limits) = schedule_arguments(found)?;
     Some(Order::Run(Run {
         file,
         kind: RunKind::Schedule { text, limits },
@@ -209,12 +212,12 @@ fn wanted_run<'a>(found: &ArgMatches<'a>) -> Option<Order<'a>>
     }))
 }
 
-fn wanted_replay<'a>(found: &ArgMatches<'a>) -> Option<Order<'a>>
-    ensures value { option_map wanted_of result ≡ replay_in (rows_of (found_of found.now)) }
+fn requested_replay<'a>(found: &ArgMatches<'a>) -> Option<Order<'a>>
+    ensures value { option_map request_of result ≡ replay_in (rows_of (found_of found.now)) }
     ensures range { IfSome result IsInRange }
 {
     let most_printed = most_printed(found)?;
-    let (file, schedule, limits) = replayed(found)?;
+    let (file, schedule, limits) = replay_arguments(found)?;
     let kind = RunKind::Replay {
         schedule,
         limits,
@@ -230,7 +233,7 @@ fn wanted_replay<'a>(found: &ArgMatches<'a>) -> Option<Order<'a>>
 }
 
 /// The source's file, the file of a schedule, and the limits that are given.
-fn replayed<'a>(found: &ArgMatches<'a>) -> Option<(&'a str, &'a str, GivenLimits)>
+fn replay_arguments<'a>(found: &ArgMatches<'a>) -> Option<(&'a str, &'a str, GivenLimits)>
     ensures value { option_map (λ s. (s.0.now, s.1.now, s.2)) result ≡ replayed_in (rows_of (found_of found.now)) }
     ensures range { IfSome result (λ s. AreGivenInRange s.2) }
 {
@@ -268,11 +271,11 @@ fn given_number(found: &ArgMatches<'_>, id: &str, least: u32, most: u32) -> Opti
     }
 }
 
-fn wanted_trace<'a>(found: &ArgMatches<'a>) -> Option<Order<'a>>
-    ensures value { option_map wanted_of result ≡ trace_in (rows_of (found_of found.now)) }
+fn requested_trace<'a>(found: &ArgMatches<'a>) -> Option<Order<'a>>
+    ensures value { option_map request_of result ≡ trace_in (rows_of (found_of found.now)) }
     ensures range { IfSome result IsInRange }
 {
-    let (file, schedule, limits) = replayed(found)?;
+    let (file, schedule, limits) = replay_arguments(found)?;
     let explain = flag(found, "explain");
     Some(Order::Trace {
         file,
@@ -283,12 +286,12 @@ fn wanted_trace<'a>(found: &ArgMatches<'a>) -> Option<Order<'a>>
     })
 }
 
-fn wanted_picture<'a>(found: &ArgMatches<'a>) -> Option<Order<'a>>
-    ensures value { option_map wanted_of result ≡ picture_in (rows_of (found_of found.now)) }
+fn requested_picture<'a>(found: &ArgMatches<'a>) -> Option<Order<'a>>
+    ensures value { option_map request_of result ≡ picture_in (rows_of (found_of found.now)) }
     ensures range { IfSome result IsInRange }
 {
     let part = part(found)?;
-    let (file, schedule, limits) = replayed(found)?;
+    let (file, schedule, limits) = replay_arguments(found)?;
     let explain = flag(found, "explain");
     Some(Order::Picture {
         file,
@@ -313,12 +316,12 @@ fn part(found: &ArgMatches<'_>) -> Option<Part>
     Some(Part::new(first, last))
 }
 
-fn wanted_threads<'a>(found: &ArgMatches<'a>) -> Option<Order<'a>>
-    ensures value { option_map wanted_of result ≡ threads_in (rows_of (found_of found.now)) }
+fn requested_threads<'a>(found: &ArgMatches<'a>) -> Option<Order<'a>>
+    ensures value { option_map request_of result ≡ threads_in (rows_of (found_of found.now)) }
     ensures range { IfSome result IsInRange }
 {
     let most_printed = most_printed(found)?;
-    let (file, workers, limits) = worked(found)?;
+    let (file, workers, limits) = worker_arguments(found)?;
     let kind = RunKind::Workers {
         workers,
         record: text(found, "record"),
@@ -360,11 +363,11 @@ fn stop_at(found: &ArgMatches<'_>) -> StopAt
     }
 }
 
-fn wanted_explore<'a>(found: &ArgMatches<'a>) -> Option<Order<'a>>
-    ensures value { option_map wanted_of result ≡ explore_in (rows_of (found_of found.now)) }
+fn requested_explore<'a>(found: &ArgMatches<'a>) -> Option<Order<'a>>
+    ensures value { option_map request_of result ≡ explore_in (rows_of (found_of found.now)) }
     ensures range { IfSome result IsInRange }
 {
-    let (file, extent, limits) = explored(found)?;
+    let (file, extent, limits) = explore_arguments(found)?;
     let save = text(found, "save");
     let explain = flag(found, "explain");
     Some(Order::Explore {
@@ -376,8 +379,8 @@ fn wanted_explore<'a>(found: &ArgMatches<'a>) -> Option<Order<'a>>
     })
 }
 
-fn wanted_flip<'a>(found: &ArgMatches<'a>) -> Option<Order<'a>>
-    ensures value { option_map wanted_of result ≡ flip_in (rows_of (found_of found.now)) }
+fn requested_flip<'a>(found: &ArgMatches<'a>) -> Option<Order<'a>>
+    ensures value { option_map request_of result ≡ flip_in (rows_of (found_of found.now)) }
     ensures range { IfSome result IsInRange }
 {
     let seats = number(found, "seats", 1, 16)?;
@@ -388,7 +391,7 @@ fn wanted_flip<'a>(found: &ArgMatches<'a>) -> Option<Order<'a>>
 }
 
 /// The source's file, the schedule and the limits of a run.
-fn scheduled<'a>(found: &ArgMatches<'a>) -> Option<(&'a str, &'a str, Limits)>
+fn schedule_arguments<'a>(found: &ArgMatches<'a>) -> Option<(&'a str, &'a str, Limits)>
     ensures value { option_map (λ s. (s.0.now, s.1.now, s.2)) result ≡ scheduled_in (rows_of (found_of found.now)) }
     ensures range { IfSome result (λ s. are_numbers_in_range s.2 ≡ true) }
 {
@@ -399,7 +402,7 @@ fn scheduled<'a>(found: &ArgMatches<'a>) -> Option<(&'a str, &'a str, Limits)>
 }
 
 /// The source's file, the workers and the limits of a run.
-fn worked<'a>(found: &ArgMatches<'a>) -> Option<(&'a str, Workers, Limits)>
+fn worker_arguments<'a>(found: &ArgMatches<'a>) -> Option<(&'a str, Workers, Limits)>
     ensures value { option_map (λ s. (s.0.now, s.1.count, s.2)) result ≡ worked_in (rows_of (found_of found.now)) }
     ensures range { IfSome result (λ s. are_numbers_in_range s.2 ≡ true) }
 {
@@ -410,7 +413,7 @@ fn worked<'a>(found: &ArgMatches<'a>) -> Option<(&'a str, Workers, Limits)>
 }
 
 /// The source's file, the bounds of its exploration, and the limits of its runs.
-fn explored<'a>(found: &ArgMatches<'a>) -> Option<(&'a str, Extent, Limits)>
+fn explore_arguments<'a>(found: &ArgMatches<'a>) -> Option<(&'a str, Extent, Limits)>
     ensures value { option_map (λ s. (s.0.now, s.1, s.2)) result ≡ explored_in (rows_of (found_of found.now)) }
     ensures range { IfSome result (λ s. are_numbers_in_range s.2 ≡ true) }
 {
@@ -436,7 +439,7 @@ fn extent(found: &ArgMatches<'_>) -> Option<Extent>
 
 /// The maximum number of preemptions; none if none is given.
 fn most_preemptions(found: &ArgMatches<'_>) -> Option<Option<u32>>
-    ensures { result ≡ said (number_in 0 1000) (first_of (codes "preemptions") (rows_of (found_of found.now))) }
+    ensures { result ≡ parsed_option (number_in 0 1000) (first_of (codes "preemptions") (rows_of (found_of found.now))) }
 {
     match text(found, "preemptions") {
         None => Some(None),
@@ -446,7 +449,7 @@ fn most_preemptions(found: &ArgMatches<'_>) -> Option<Option<u32>>
 
 /// The outcome at which an exploration stops; none if none is given.
 fn goal(found: &ArgMatches<'_>) -> Option<Option<Goal>>
-    ensures { result ≡ said goal_in (first_of (codes "until") (rows_of (found_of found.now))) }
+    ensures { result ≡ parsed_option goal_in (first_of (codes "until") (rows_of (found_of found.now))) }
 {
     match text(found, "until") {
         None => Some(None),

@@ -1,6 +1,6 @@
 //! What is reported of a file that is not read or not written.
 ghost use Rattle.std.specs.Prelude.{◌≡◌, IfOk, codes, string_bytes};
-ghost use Rattle.command_line.specs.UnreadFiles.{IsLineOf, IsToldOf, malformed_line, shown_character, shown_name};
+ghost use Rattle.command_line.specs.UnreadFiles.{IsLineOf, IsReportedOf, malformed_line, shown_character, shown_name};
 
 use std::alloc::{AllocError, Global};
 use std::io;
@@ -32,9 +32,9 @@ pub struct Malformed<'a> {
 }
 
 impl Malformed<'_> {
-    /// What follows the line `error 505` on the standard error: a line that names the file, with `?` in the place of each control character of
+    /// What follows the line `error 505` on the standard error: a line that names the file, with `?` in place of each control character of
     /// its name. Fails only if memory runs out.
-    pub fn told(&self, alloc: Global) -> Result<String, AllocError>
+    pub fn error_text(&self, alloc: Global) -> Result<String, AllocError>
         ensures { IfOk result (λ text. string_bytes text ≡ malformed_line self.now.file.now) }
     {
         let name = shown_name(alloc, self.file)?;
@@ -45,29 +45,34 @@ impl Malformed<'_> {
 }
 
 impl Unread<'_> {
-    /// What follows the line `device` on the standard error: the line `cilvm: cannot read FILE: WHY`, with `?` in the place of each
+    /// What follows the line `device` on the standard error: the line `cilvm: cannot read FILE: WHY`, with `?` in place of each
     /// control character of the file's name. It is empty where memory ran out, since that is printed as `memory` alone. The only error is
     /// out of memory.
-    pub fn told(&self, alloc: Global) -> Result<String, AllocError>
-        ensures { IfOk result (λ text. IsToldOf (codes "read") self.now.file.now self.now.error (string_bytes text)) }
+    pub fn error_text(&self, alloc: Global) -> Result<String, AllocError>
+        ensures { IfOk result (λ text. IsReportedOf (codes "read") self.now.file.now self.now.error (string_bytes text)) }
     {
-        told_of(alloc, "read", self.file, self.error)
+        reported_of(alloc, "read", self.file, self.error)
     }
 }
 
 impl Unwritten<'_> {
     /// What follows the line `device` on the standard error: the line `cilvm: cannot write FILE: WHY`, as that of `Unread`. It is empty
     /// where memory ran out. The only error is out of memory.
-    pub fn told(&self, alloc: Global) -> Result<String, AllocError>
-        ensures { IfOk result (λ text. IsToldOf (codes "write") self.now.file.now self.now.error (string_bytes text)) }
+    pub fn error_text(&self, alloc: Global) -> Result<String, AllocError>
+        ensures { IfOk result (λ text. IsReportedOf (codes "write") self.now.file.now self.now.error (string_bytes text)) }
     {
-        told_of(alloc, "write", self.file, self.error)
+        reported_of(alloc, "write", self.file, self.error)
     }
 }
 
 /// What is reported of a file for which this could not be done.
-fn told_of(alloc: Global, what: &str, file: &str, error: io::Error) -> Result<String, AllocError>
-    ensures { IfOk result (λ text. IsToldOf what.now file.now error (string_bytes text)) }
+fn reported_of(
+    alloc: Global,
+    what: &str,
+    file: &str,
+    error: io::Error,
+) -> Result<String, AllocError>
+    ensures { IfOk result (λ text. IsReportedOf what.now file.now error (string_bytes text)) }
 {
     if error.kind() == ErrorKind::OutOfMemory {
         return Ok(String::new(alloc));

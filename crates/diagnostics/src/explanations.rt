@@ -57,7 +57,7 @@ fn untyped_method(
 }
 
 /// Why the method of a number has no typing.
-fn untyped(
+fn untyped_text(
     alloc: Global,
     named: Named,
     program: &Program,
@@ -92,7 +92,7 @@ pub fn explain_error(
             program,
             method,
             failure,
-        } => untyped(alloc, named, program, *method, failure),
+        } => untyped_text(alloc, named, program, *method, failure),
         SourceError::OutOfMemory => Err(NoMemory),
     }
 }

@@ -6,14 +6,14 @@ use Rattle.cil_model.specs.declared.limits.Limits.{Limits}
 use Rattle.cil_model.specs.declared.reports.Report.{Report}
 use Rattle.outputs.specs.Taken.{Fails, Taken, Takes}
 use Rattle.outputs.proofs.TakenLaws.{fails_second, takes_both}
-use Rattle.source_runs.specs.simulation.MachineContents.{Content}
+use Rattle.source_runs.specs.simulation.MachineStates.{MachineState}
 use Rattle.source_runs.specs.simulation.threads_monitors.Threads.{end_of}
 use Rattle.driver.specs.Outcomes.{IsEndText, IsMachineShown, IsMachineShownInPart, IsRunShown, IsRunShownInPart}
 use Rattle.driver.specs.Outputs.{OutputState}
 use Rattle.driver.specs.Threads.{lines_from}
 use Rattle.driver.proofs.OutcomeLemmas.{live_text}
 
-module _ (explain : Bool) (source : List ℕ) (limits : Limits) (events : List Event) (reports : List Report) (c : Content) (o m : OutputState) where
+module _ (explain : Bool) (source : List ℕ) (limits : Limits) (events : List Event) (reports : List Report) (c : MachineState) (o m : OutputState) where
   -- a write of what the machine shows failed
   pub cut_run : IsMachineShownInPart explain c o m → IsRunShownInPart explain source limits events reports c o m
   cut_run (live, explains, cut) = (live, live_text explain explain source limits (zip events reports) c live explains, cut)

@@ -3,9 +3,9 @@ use Rattle.std.proofs.Common.{◌≡◌, ◌⊎◌, ◌++◌, ℕ, Bool, true, f
 use Rattle.std.specs.List.{zip}
 use Rattle.std.specs.Prelude.{IfErr, IfSome, OnErr}
 use Rattle.source_runs.proofs.simulation.Representation.VisibleState.{ends_stand, printed_stands}
-use Rattle.source_runs.specs.simulation.MachineContents.{Content}
+use Rattle.source_runs.specs.simulation.MachineStates.{MachineState}
 use Rattle.source_runs.specs.simulation.Runs.{StandsAfter}
-use Rattle.source_runs.specs.simulation.StandsFor.{Represents}
+use Rattle.source_runs.specs.simulation.Refines.{Represents}
 use Rattle.source_runs.specs.simulation.threads_monitors.Threads.{end_of}
 use Rattle.source_runs.specs.reference_machine.States.{State}
 use Rattle.cil_model.specs.declared.events.Event.{Event}
@@ -25,7 +25,7 @@ use Rattle.run_files.specs.declared.file.RunFile.{RunFile}
 use Rattle.driver.specs.Threads.{ends_of, lines_from, status_of}
 use Rattle.outputs.specs.Taken.{Fails, HasGrown, Taken, Takes}
 use Rattle.outputs.proofs.TakenLaws.{fails_first, fails_second, takes_both}
-use Rattle.source_runs.proofs.RunLemmas.{comes_to}
+use Rattle.source_runs.proofs.RunLemmas.{results_in}
 use Rattle.source_runs.proofs.interleaving_core.Runs.LongerRuns.{has_done}
 use Rattle.source_runs.specs.shared_machine.interleaving_core.Histories.{HasDone}
 
@@ -48,23 +48,23 @@ pub no_explanation : (asked : Bool) → IsExplanation asked []
 no_explanation true = tt
 no_explanation false = refl
 
--- nothing explains how threads stand, as where memory is wanted
-pub no_thread_text : (explain : Bool) (c : Content) → IsThreadText explain c []
+-- nothing explains the states of threads, as where memory runs out
+pub no_thread_text : (explain : Bool) (c : MachineState) → IsThreadText explain c []
 no_thread_text true c = inl refl
 no_thread_text false c = refl
 
--- the whole text explains how threads stand, where that is asked for
-pub whole_thread_text : (explain : Bool) (c : Content) (text : List ℕ) → explain ≡ true → AreThreadsExplained c text → IsThreadText explain c text
+-- the whole text explains the states of threads, where that is asked for
+pub whole_thread_text : (explain : Bool) (c : MachineState) (text : List ℕ) → explain ≡ true → AreThreadsExplained c text → IsThreadText explain c text
 whole_thread_text true c text asked are = inr are
 whole_thread_text false c text asked are = absurd (cc asked)
 
--- nothing explains how threads ended, as where memory is wanted
+-- nothing explains how threads ended, as where memory runs out
 pub no_end_text : (explain : Bool) (source : List ℕ) (limits : Limits) (events : List (Event × Report)) → IsEndText explain source limits events []
 no_end_text true source limits events = inl refl
 no_end_text false source limits events = refl
 
 -- what explains how live threads stand, and nothing of those that ended
-pub live_text : (explain ended : Bool) (source : List ℕ) (limits : Limits) (events : List (Event × Report)) (c : Content) (text : List ℕ) → IsThreadText explain c text
+pub live_text : (explain ended : Bool) (source : List ℕ) (limits : Limits) (events : List (Event × Report)) (c : MachineState) (text : List ℕ) → IsThreadText explain c text
     → IsRunText explain ended source limits events c text
 live_text explain ended source limits events c text explains = (text, [], explains, no_end_text ended source limits events, sym (append-nil text))
 
@@ -75,7 +75,7 @@ whole_end_text true source limits events text asked are = inr are
 whole_end_text false source limits events text asked are = absurd (cc asked)
 
 -- what a machine shows is what the state shows that it represents
-shown_of : (c : Content) (state : State) (more : List ℕ) (o o' : OutputState) (status : ℕ) → Represents c state → IsShown c.printed (map end_of c.threads) more o o' status
+shown_of : (c : MachineState) (state : State) (more : List ℕ) (o o' : OutputState) (status : ℕ) → Represents c state → IsShown c.printed (map end_of c.threads) more o o' status
     → IsShown state.printed (ends_of state) more o o' status
 shown_of c state more o o' status represents shown =
     subst (λ p. IsShown p (ends_of state) more o o' status) (printed_stands c state represents)
@@ -115,7 +115,7 @@ abbrev no_differences : Differences
 no_differences = record { source = false; limits = false; output = false }
 
 -- a machine that was run shows a run
-run_of : (source : List ℕ) (limits : Limits) (text : List ℕ) (most : Option ℕ) (expected : Option RunFile) (explain stats ended stopped : Bool) (done : List Event) (reports : List Report) (c : Content) (more : List ℕ) (most_words : Option ℕ)
+run_of : (source : List ℕ) (limits : Limits) (text : List ℕ) (most : Option ℕ) (expected : Option RunFile) (explain stats ended stopped : Bool) (done : List Event) (reports : List Report) (c : MachineState) (more : List ℕ) (most_words : Option ℕ)
     (d : Differences) → d ≡ differences_from expected source limits c.printed
     → (by : IsRunBy source limits text done reports stopped c) → IsPrintedUpTo most c.printed → IsRunText explain ended source limits (zip done reports) c more
     → IfSome most_words (IsMostOfRun source limits (zip done reports))
@@ -130,7 +130,7 @@ run_of source limits text most expected explain stats ended stopped done reports
       done = done;
       are_done = by.are_done;
       reports = reports;
-      comes_to = comes_to source by.ran.0 limits done reports c by.ran.1 by.ran.2;
+      results_in = results_in source by.ran.0 limits done reports c by.ran.1 by.ran.2;
       within = subst (IsPrintedUpTo most) (printed_stands c after.state after.represents) within;
       after = c;
       represents = after.represents;
@@ -142,7 +142,7 @@ run_of source limits text most expected explain stats ended stopped done reports
           (ends_stand c after.state after.represents) found;
     }
 
-module _ (source : List ℕ) (limits : Limits) (text : List ℕ) (most : Option ℕ) (expected : Option RunFile) (explain stats stopped : Bool) (done : List Event) (reports : List Report) (c : Content) (by : IsRunBy source limits text done reports stopped c)
+module _ (source : List ℕ) (limits : Limits) (text : List ℕ) (most : Option ℕ) (expected : Option RunFile) (explain stats stopped : Bool) (done : List Event) (reports : List Report) (c : MachineState) (by : IsRunBy source limits text done reports stopped c)
     (within : IsPrintedUpTo most c.printed)
     (d : Differences) (differs : d ≡ differences_from expected source limits c.printed) (most_words : Option ℕ) (is_most : IfSome most_words (IsMostOfRun source limits (zip done reports))) where
   abbrev state : State
@@ -204,10 +204,10 @@ module _ (source : List ℕ) (limits : Limits) (text : List ℕ) (most : Option 
 
 -- ---- what a trace shows
 
-module _ (source : List ℕ) (limits : Limits) (text : List ℕ) (explain : Bool) (events : List Event) (begins after : Content) (reports : List Report) (o : OutputState) (between : Taken) (o' : OutputState)
+module _ (source : List ℕ) (limits : Limits) (text : List ℕ) (explain : Bool) (events : List Event) (begins after : MachineState) (reports : List Report) (o : OutputState) (between : Taken) (o' : OutputState)
     (ready : IsReady source limits text events begins) (traced : IsTraced begins events after reports o.out.contents between.contents) where
   abbrev done : HasDone ready.tree limits events reports after
-  done = has_done ready.tree limits begins after events reports ready.is_accepted.accepted ready.in_range ready.opened.begins traced.turns
+  done = has_done ready.tree limits begins after events reports ready.is_accepted.accepted ready.in_range ready.opened.begins traced.transitions
 
   -- all events are done
   by : IsRunBy source limits text events reports false after
@@ -234,7 +234,7 @@ module _ (source : List ℕ) (limits : Limits) (text : List ℕ) (explain : Bool
         events = events;
         reports = reports;
         state = stands.state;
-        comes_to = record { are_read = ready.are_read; by_events = record { tree = ready.tree; is_accepted = ready.is_accepted; in_range = ready.in_range; is_run = stands.is_run; budgets = stands.budgets; bounded = done.bounded } };
+        results_in = record { are_read = ready.are_read; by_events = record { tree = ready.tree; is_accepted = ready.is_accepted; in_range = ready.in_range; is_run = stands.is_run; budgets = stands.budgets; bounded = done.bounded } };
         begins = begins;
         opened = ready.opened;
         after = after;

@@ -1,15 +1,15 @@
 -- What a run that is drawn, whole or in part, shows of its source.
 use Rattle.std.proofs.Common.{◌≡◌, ◌++◌, ◌≤◌, ℕ, Bool, List, length, subst, ◌∙◌, ap}
 use Rattle.source_runs.proofs.simulation.Representation.VisibleState.{ends_stand}
-use Rattle.source_runs.specs.simulation.MachineContents.{Content}
+use Rattle.source_runs.specs.simulation.MachineStates.{MachineState}
 use Rattle.source_runs.specs.Runs.{IsReady}
 use Rattle.source_runs.proofs.interleaving_core.Runs.LongerRuns.{has_done}
 use Rattle.source_runs.specs.shared_machine.interleaving_core.Histories.{HasDone}
 use Rattle.cil_model.specs.declared.events.Event.{Event}
 use Rattle.cil_model.specs.declared.limits.Limits.{Limits}
 use Rattle.cil_model.specs.declared.reports.Report.{Report}
-use Rattle.orders.specs.Orders.{event_count}
-use Rattle.orders.specs.declared.part.Part.{Part}
+use Rattle.commands.specs.Orders.{event_count}
+use Rattle.commands.specs.declared.part.Part.{Part}
 use Rattle.outputs.specs.Taken.{Fails, Takes}
 use Rattle.run_picture.specs.Pictures.{IsPicture}
 use Rattle.run_picture.specs.declared.windows.TheConstants.{MOST_EVENTS}
@@ -18,11 +18,11 @@ use Rattle.driver.specs.Outputs.{OutputState}
 use Rattle.driver.specs.Pictures.{window_of}
 use Rattle.driver.specs.Threads.{lines_from, status_of}
 
-module _ (source : List ℕ) (limits : Limits) (text : List ℕ) (part : Part) (explain : Bool) (events : List Event) (begins after : Content) (reports : List Report) (o o' : OutputState)
+module _ (source : List ℕ) (limits : Limits) (text : List ℕ) (part : Part) (explain : Bool) (events : List Event) (begins after : MachineState) (reports : List Report) (o o' : OutputState)
     (ready : IsReady source limits text events begins) (few : event_count part (length events) ≤ MOST_EVENTS)
     (pictured : IsPicture begins events after reports (window_of part (length events)) o.out.contents o'.out.contents) (same : o'.texts ≡ o.texts) where
   done : HasDone ready.tree limits events reports after
-  done = has_done ready.tree limits begins after events reports ready.is_accepted.accepted ready.in_range ready.opened.begins pictured.turns
+  done = has_done ready.tree limits begins after events reports ready.is_accepted.accepted ready.in_range ready.opened.begins pictured.transitions
 
   -- what the machine that was drawn shows
   pub has_drawn : (status : ℕ) → AreThreadsShown explain after o.err o'.err status → HasDrawn source limits text part explain o o' status
@@ -34,7 +34,7 @@ module _ (source : List ℕ) (limits : Limits) (text : List ℕ) (part : Part) (
         few = few;
         reports = reports;
         state = stands.state;
-        comes_to = record { are_read = ready.are_read; by_events = record { tree = ready.tree; is_accepted = ready.is_accepted; in_range = ready.in_range; is_run = stands.is_run; budgets = stands.budgets; bounded = done.bounded } };
+        results_in = record { are_read = ready.are_read; by_events = record { tree = ready.tree; is_accepted = ready.is_accepted; in_range = ready.in_range; is_run = stands.is_run; budgets = stands.budgets; bounded = done.bounded } };
         begins = begins;
         opened = ready.opened;
         after = after;
@@ -57,7 +57,7 @@ module _ (source : List ℕ) (limits : Limits) (text : List ℕ) (part : Part) (
         few = few;
         reports = reports;
         state = stands.state;
-        comes_to = record { are_read = ready.are_read; by_events = record { tree = ready.tree; is_accepted = ready.is_accepted; in_range = ready.in_range; is_run = stands.is_run; budgets = stands.budgets; bounded = done.bounded } };
+        results_in = record { are_read = ready.are_read; by_events = record { tree = ready.tree; is_accepted = ready.is_accepted; in_range = ready.in_range; is_run = stands.is_run; budgets = stands.budgets; bounded = done.bounded } };
         begins = begins;
         opened = ready.opened;
         after = after;

@@ -10,31 +10,31 @@ use Rattle.cil_model.specs.declared.events.Event.TheVariants.{Step, Ack, Gc}
 use Rattle.cil_model.specs.declared.limits.Limits.{Limits}
 use Rattle.cil_model.specs.declared.limits.TheConstants.{MOST_THREADS}
 use Rattle.cil_model.specs.declared.reports.End.{End}
-use Rattle.schedule_text.specs.Items.{is_numbered}
+use Rattle.schedule_text.specs.Items.{has_thread_number}
 use Rattle.outputs.specs.Taken.{Fails, Taken, Takes}
 use Rattle.outputs.proofs.TakenLaws.{takes_both}
 use Rattle.source_runs.proofs.simulation.Representation.VisibleState.{ends_stand, printed_stands}
 use Rattle.source_runs.specs.acceptance.Sources.{HasRunTo}
 use Rattle.source_runs.specs.Runs.{IsPrintedUpTo}
-use Rattle.source_runs.proofs.RunLemmas.{comes_to}
+use Rattle.source_runs.proofs.RunLemmas.{results_in}
 use Rattle.source_runs.specs.shared_machine.Histories.{events_of, reports_of}
 use Rattle.source_runs.specs.shared_machine.declared.history.Entry.{Entry}
-use Rattle.source_runs.specs.simulation.MachineContents.{Content}
+use Rattle.source_runs.specs.simulation.MachineStates.{MachineState}
 use Rattle.source_runs.specs.simulation.Runs.{StandsAfter}
 use Rattle.source_runs.specs.simulation.threads_monitors.Threads.{end_of, is_live as is_live_thread}
 use Rattle.source_runs.specs.simulation.threads_monitors.declared.threads.Thread.{Thread}
 use Rattle.source_runs.specs.shared_machine.Work.{HasEnded, IsOwn, IsOwnOf}
-use Rattle.source_runs.specs.simulation.StandsFor.{Represents}
+use Rattle.source_runs.specs.simulation.Refines.{Represents}
 use Rattle.source_runs.specs.reference_machine.States.{State}
 use Rattle.cil_model.specs.declared.stops.StopAt.{StopAt}
 use Rattle.cil_model.specs.declared.stops.StopAt.TheVariants.{End as AtEnd, Deadlock as AtDeadlock}
-use Rattle.orders.specs.Orders.{record_file_of}
-use Rattle.orders.specs.declared.order.Order.{Order}
-use Rattle.orders.specs.declared.order.Order.TheVariants.{Check, Run as RunOrder, Trace, Picture, Explore, Flip}
-use Rattle.orders.specs.declared.run.Run.{Run}
-use Rattle.orders.specs.declared.run.RunKind.{RunKind}
-use Rattle.orders.specs.declared.run.RunKind.TheVariants.{Schedule, Replay, Workers}
-use Rattle.orders.specs.Runs.{record_file_of_kind}
+use Rattle.commands.specs.Orders.{record_file_of}
+use Rattle.commands.specs.declared.order.Order.{Order}
+use Rattle.commands.specs.declared.order.Order.TheVariants.{Check, Run as RunOrder, Trace, Picture, Explore, Flip}
+use Rattle.commands.specs.declared.run.Run.{Run}
+use Rattle.commands.specs.declared.run.RunKind.{RunKind}
+use Rattle.commands.specs.declared.run.RunKind.TheVariants.{Schedule, Replay, Workers}
+use Rattle.commands.specs.Runs.{record_file_of_kind}
 use Rattle.driver.specs.Outcomes.{AreCut, HasRunThreads, HaveEnded, IsOutcome, IsRunByWorkers, IsRunByWorkersInPart, IsRunDone, IsRunShown, IsRunShownInPart, IsRunText, status_after, stop_text}
 use Rattle.driver.specs.Outputs.{OutputState}
 use Rattle.driver.specs.Records.{IsRecordOf, is_short, status_with, texts_in, texts_over, too_long_text}
@@ -47,13 +47,13 @@ use Rattle.run_files.specs.RunFiles.{run_file}
 use Rattle.run_files.specs.declared.file.RunFile.{RunFile}
 
 -- a worker's own event names a thread that a machine can have
-own_numbered : (workers worker : ℕ) (e : Event) → IsOwn workers worker e → is_numbered e ≡ true
+own_numbered : (workers worker : ℕ) (e : Event) → IsOwn workers worker e → has_thread_number e ≡ true
 own_numbered workers worker (Step thread) own = lt-ltb thread MOST_THREADS own.0
 own_numbered workers worker (Ack thread) own = lt-ltb thread MOST_THREADS own.0
 own_numbered workers worker Gc own = refl
 
 -- so do all events of a history
-pub all_numbered : (workers : ℕ) (h : List Entry) → All (IsOwnOf workers) h → list_all is_numbered (events_of h) ≡ true
+pub all_numbered : (workers : ℕ) (h : List Entry) → All (IsOwnOf workers) h → list_all has_thread_number (events_of h) ≡ true
 all_numbered workers [] all = refl
 all_numbered workers (e ∷ es) all =
     rw (own_numbered workers e.worker e.event (All-head (IsOwnOf workers) e es all)) (all_numbered workers es (All-tail (IsOwnOf workers) e es all))
@@ -74,16 +74,16 @@ none_live (t ∷ ts) none =
     rw (not_shown_live (end_of t) here) (none_live ts later)
 
 -- how workers leave a machine is how they leave the state that it represents
-have_ended : (stop_at : StopAt) (c : Content) (s : State) (marked : Bool) → Represents c s → HasEnded stop_at c marked → HaveEnded stop_at c s
+have_ended : (stop_at : StopAt) (c : MachineState) (s : State) (marked : Bool) → Represents c s → HasEnded stop_at c marked → HaveEnded stop_at c s
 have_ended AtEnd c s marked represents none = subst (λ es. list_any is_live es ≡ false) (ends_stand c s represents) (none_live c.threads none)
 have_ended AtDeadlock c s marked represents (inl none) = inl (subst (λ es. list_any is_live es ≡ false) (ends_stand c s represents) (none_live c.threads none))
 have_ended AtDeadlock c s marked represents (inr (stop, deadlocked)) = inr deadlocked
 
 -- what is reported of a machine that workers ran
-abbrev pub reported_of : Content → List ℕ → List ℕ → List ℕ
+abbrev pub reported_of : MachineState → List ℕ → List ℕ → List ℕ
 reported_of c text last = lines_from 0 (map end_of c.threads) ++ text ++ last
 
-module _ (source : List ℕ) (limits : Limits) (workers : ℕ) (stop_at : StopAt) (most : Option ℕ) (asked explain stats stopped : Bool) (h : List Entry) (c : Content) (made : Record)
+module _ (source : List ℕ) (limits : Limits) (workers : ℕ) (stop_at : StopAt) (most : Option ℕ) (asked explain stats stopped : Bool) (h : List Entry) (c : MachineState) (made : Record)
     (ran : HasRunTo source limits (events_of h) (reports_of h) c) (own : All (IsOwnOf workers) h) (within : IsPrintedUpTo most c.printed)
     (marked : Bool) (ended : stopped ≡ false → HasEnded stop_at c marked) (is_record : IsRecordOf asked (events_of h) (run_file source limits workers c.printed) made)
     (most_words : Option ℕ) (is_most : IfSome most_words (IsMostOfRun source limits (zip (events_of h) (reports_of h)))) where
@@ -101,7 +101,7 @@ module _ (source : List ℕ) (limits : Limits) (workers : ℕ) (stop_at : StopAt
       record {
         entries = h;
         own = own;
-        comes_to = comes_to source ran.0 limits (events_of h) (reports_of h) c ran.1 ran.2;
+        results_in = results_in source ran.0 limits (events_of h) (reports_of h) c ran.1 ran.2;
         within = subst (IsPrintedUpTo most) (printed_stands c after.state after.represents) within;
         ended = λ whole. have_ended stop_at c after.state marked after.represents (ended whole);
         is_record = subst (λ p. IsRecordOf asked (events_of h) (run_file source limits workers p) made) (printed_stands c after.state after.represents) is_record;

@@ -23,7 +23,7 @@ use Rattle.outcome_text.specs.declared.summaries.Cause.TheVariants as cause
 use Rattle.outcome_text.specs.declared.summaries.Coverage.{Coverage}
 use Rattle.outcome_text.specs.declared.summaries.Coverage.TheVariants.{AllSchedules, FewPreemptions, Stopped}
 use Rattle.outcome_text.specs.declared.summaries.Summary.{Summary}
-use Rattle.orders.specs.declared.extents.Extent.{Extent}
+use Rattle.commands.specs.declared.extents.Extent.{Extent}
 use Rattle.outputs.specs.Taken.{Fails, Takes}
 use Rattle.run_files.specs.RunFiles.{run_file, text_of}
 use Rattle.driver.specs.Outputs.{OutputState}

@@ -1,30 +1,30 @@
--- What comes of an order: what is printed, and the status that the program ends with (this profile).
+-- What results from an order: what is printed, and the status that the program ends with (this profile).
 use Rattle.std.specs.Fmt.{decimal}
 use Rattle.std.specs.Prelude.{◌≡◌, ◌⊎◌, ◌*◌, ◌++◌, ◌∷◌, ◌<◌, ◌≤◌, [], ℕ, Bool, true, false, All, IfSome, List, None, Option, codes, is_some, length, map, if◌then◌else◌}
 use Rattle.std.specs.List.{list_any, zip}
-use Rattle.flip_trial.specs.Trial.{place_count}
-use Rattle.flip_trial.specs.declared.sizes.Sizes.{Sizes}
+use Rattle.flip_stress.specs.Stress.{slot_count}
+use Rattle.flip_stress.specs.declared.sizes.Sizes.{Sizes}
 use Rattle.end_explanations.specs.Replays.{AreEndsExplained}
 use Rattle.event_trace.specs.Deadlocks.{IsDeadlockOf}
 use Rattle.event_trace.specs.Texts.{threads_text}
 use Rattle.event_trace.specs.Traces.{IsTraced, IsTracedInPart}
 use Rattle.event_trace.specs.declared.errors.TraceError.{TraceError}
-use Rattle.event_trace.specs.declared.errors.TraceError.TheVariants.{Memory as WantsMemory, Device as CantWrite}
-use Rattle.source_runs.specs.simulation.Owed.{LeavesWhatIsOwed}
-use Rattle.source_runs.specs.simulation.StandsFor.{Represents}
+use Rattle.event_trace.specs.declared.errors.TraceError.TheVariants.{Memory as MemoryRanOut, Device as CantWrite}
+use Rattle.source_runs.specs.simulation.Owed.{LeavesOnlyOwed}
+use Rattle.source_runs.specs.simulation.Refines.{Represents}
 use Rattle.source_runs.specs.simulation.threads_monitors.Threads.{end_of}
 use Rattle.cil_model.specs.declared.events.Event.{Event}
 use Rattle.cil_model.specs.declared.limits.Limits.{Limits}
 use Rattle.source_runs.specs.reference_machine.States.{State}
 use Rattle.cil_model.specs.declared.reports.End.{End}
 use Rattle.cil_model.specs.declared.reports.Report.{Report}
-use Rattle.source_runs.specs.simulation.MachineContents.{Content}
+use Rattle.source_runs.specs.simulation.MachineStates.{MachineState}
 use Rattle.source_runs.specs.acceptance.Failures.{is_refusal, message_of}
 use Rattle.source_runs.specs.acceptance.Failures.{IsOfWriting, status_of_failure}
 use Rattle.outputs.specs.Taken.{Fails, Taken, Takes}
-use Rattle.orders.specs.GivenLimits.{limits_for}
-use Rattle.orders.specs.Orders.{event_count, is_explained}
-use Rattle.orders.specs.declared.part.Part.{Part}
+use Rattle.commands.specs.GivenLimits.{limits_for}
+use Rattle.commands.specs.Orders.{event_count, is_explained}
+use Rattle.commands.specs.declared.part.Part.{Part}
 use Rattle.cil_model.specs.declared.stops.StopAt.{StopAt}
 use Rattle.cil_model.specs.declared.stops.StopAt.TheVariants.{End as AtEnd, Deadlock as AtDeadlock}
 use Rattle.run_files.specs.RunFiles.{run_file}
@@ -44,29 +44,29 @@ use Rattle.source_runs.specs.shared_machine.declared.history.Entry.{Entry}
 use Rattle.source_runs.specs.shared_machine.Work.{IsDeadlocked, IsOwnOf}
 use Rattle.source_runs.specs.acceptance.declared.failure.Failure.{Failure}
 use Rattle.source_runs.specs.acceptance.declared.failure.Failure.TheVariants.{Memory, Device}
-use Rattle.orders.specs.declared.order.Order.{Order}
-use Rattle.orders.specs.declared.order.Order.TheVariants.{Check, Run as RunOrder, Trace, Picture, Explore, Flip}
-use Rattle.orders.specs.declared.run.Run.{Run}
-use Rattle.orders.specs.declared.run.RunKind.{RunKind}
-use Rattle.orders.specs.declared.run.RunKind.TheVariants.{Schedule, Replay, Workers}
+use Rattle.commands.specs.declared.order.Order.{Order}
+use Rattle.commands.specs.declared.order.Order.TheVariants.{Check, Run as RunOrder, Trace, Picture, Explore, Flip}
+use Rattle.commands.specs.declared.run.Run.{Run}
+use Rattle.commands.specs.declared.run.RunKind.{RunKind}
+use Rattle.commands.specs.declared.run.RunKind.TheVariants.{Schedule, Replay, Workers}
 use Rattle.source_runs.specs.acceptance.Sources.{IsLetIn, IsMade, IsNotAccepted, IsNotRun, IsOpened}
-use Rattle.source_runs.specs.Runs.{IsNotRunBy, IsPrintedUpTo, ComesTo, ComesToBy, IsReady}
+use Rattle.source_runs.specs.Runs.{IsNotRunBy, IsPrintedUpTo, ResultsIn, ResultsInBy, IsReady}
 use Rattle.source_runs.specs.shared_machine.Worlds.{AreDoneOf}
 use Rattle.schedule_text.specs.Items.{words}
 use Rattle.schedule_text.specs.Readings.{AreRead}
 
 -- the lines of each live thread of a machine, and of those that are deadlocked
-abbrev pub AreThreadsExplained : Content → List ℕ → Type 0
+abbrev pub AreThreadsExplained : MachineState → List ℕ → Type 0
 AreThreadsExplained c text = (deadlocked : List Bool) × IsDeadlockOf c deadlocked × (text ≡ threads_text c deadlocked)
 
 -- what explains how the threads of a machine stand, where that is asked for, unless memory runs out; else nothing
-abbrev pub IsThreadText : Bool → Content → List ℕ → Type 0
+abbrev pub IsThreadText : Bool → MachineState → List ℕ → Type 0
 IsThreadText false c text = text ≡ []
 IsThreadText true c text = (text ≡ []) ⊎ AreThreadsExplained c text
 
 -- the text on the threads that a fault or their budget ended in these events with their reports, which a new machine of the source performs
 abbrev pub AreEndsExplainedFor : List ℕ → Limits → List (Event × Report) → List ℕ → Type 0
-AreEndsExplainedFor source limits events text = (begins : Content) × IsMade source limits begins × AreEndsExplained source begins events text
+AreEndsExplainedFor source limits events text = (begins : MachineState) × IsMade source limits begins × AreEndsExplained source begins events text
 
 -- that text, if it is asked for, unless memory runs out; else nothing
 abbrev pub IsEndText : Bool → List ℕ → Limits → List (Event × Report) → List ℕ → Type 0
@@ -74,23 +74,23 @@ IsEndText false source limits events text = text ≡ []
 IsEndText true source limits events text = (text ≡ []) ⊎ AreEndsExplainedFor source limits events text
 
 -- what explains how the threads of a run are, where each is asked for: the live ones of its machine, and then those that a fault or their budget ended
-abbrev pub IsRunText : (live ended : Bool) → List ℕ → Limits → List (Event × Report) → Content → List ℕ → Type 0
+abbrev pub IsRunText : (live ended : Bool) → List ℕ → Limits → List (Event × Report) → MachineState → List ℕ → Type 0
 IsRunText live ended source limits events c text =
     (first second : List ℕ) × IsThreadText live c first × IsEndText ended source limits events second × (text ≡ first ++ second)
 
--- what is shown on the two outputs of bytes that were printed, of how the threads stand, and of what explains that; and the status
+-- what is shown on the two outputs of bytes that were printed, of the states of the threads, and of what explains them; and the status
 pub record IsShown (printed : List ℕ) (ends : List (Option End)) (text : List ℕ) (o o' : OutputState) (status : ℕ) : Type 0 where
   pub output : Takes o.out o'.out printed
   pub errors : Takes o.err o'.err (lines_from 0 ends ++ text)
   pub status_is : status ≡ status_of ends
 
--- what a machine has printed and how its threads stand is shown
-abbrev pub IsMachineShown : Bool → Content → OutputState → OutputState → ℕ → Type 0
+-- what a machine has printed and the states of its threads are shown
+abbrev pub IsMachineShown : Bool → MachineState → OutputState → OutputState → ℕ → Type 0
 IsMachineShown explain c o o' status =
     (text : List ℕ) × IsThreadText explain c text × IsShown c.printed (map end_of c.threads) text o o' status
 
--- what a run of a source has printed and how its threads stand is shown
-abbrev pub IsRunShown : Bool → List ℕ → Limits → List Event → List Report → Content → OutputState → OutputState → ℕ → Type 0
+-- what a run of a source has printed and the states of its threads are shown
+abbrev pub IsRunShown : Bool → List ℕ → Limits → List Event → List Report → MachineState → OutputState → OutputState → ℕ → Type 0
 IsRunShown explain source limits events reports c o o' status =
     (text : List ℕ) × IsRunText explain explain source limits (zip events reports) c text × IsShown c.printed (map end_of c.threads) text o o' status
 
@@ -100,22 +100,22 @@ abbrev pub AreCut : List ℕ → List ℕ → OutputState → OutputState → Ty
 AreCut first second o o' = (Fails o.out o'.out first × (o'.err ≡ o.err)) ⊎ (Takes o.out o'.out first × Fails o.err o'.err second)
 
 -- a write of that failed
-abbrev pub IsMachineShownInPart : Bool → Content → OutputState → OutputState → Type 0
+abbrev pub IsMachineShownInPart : Bool → MachineState → OutputState → OutputState → Type 0
 IsMachineShownInPart explain c o o' =
     (text : List ℕ) × IsThreadText explain c text × AreCut c.printed (lines_from 0 (map end_of c.threads) ++ text) o o'
 
 -- a write of what a run shows failed
-abbrev pub IsRunShownInPart : Bool → List ℕ → Limits → List Event → List Report → Content → OutputState → OutputState → Type 0
+abbrev pub IsRunShownInPart : Bool → List ℕ → Limits → List Event → List Report → MachineState → OutputState → OutputState → Type 0
 IsRunShownInPart explain source limits events reports c o o' =
     (text : List ℕ) × IsRunText explain explain source limits (zip events reports) c text × AreCut c.printed (lines_from 0 (map end_of c.threads) ++ text) o o'
 
 -- how the threads of a machine stand is shown, and what explains that; and the status
-abbrev pub AreThreadsShown : Bool → Content → Taken → Taken → ℕ → Type 0
+abbrev pub AreThreadsShown : Bool → MachineState → Taken → Taken → ℕ → Type 0
 AreThreadsShown explain c err err' status =
     (text : List ℕ) × IsThreadText explain c text × Takes err err' (lines_from 0 (map end_of c.threads) ++ text) × (status ≡ status_of (map end_of c.threads))
 
 -- a write of that failed
-abbrev pub AreThreadsShownInPart : Bool → Content → Taken → Taken → Type 0
+abbrev pub AreThreadsShownInPart : Bool → MachineState → Taken → Taken → Type 0
 AreThreadsShownInPart explain c err err' =
     (text : List ℕ) × IsThreadText explain c text × Fails err err' (lines_from 0 (map end_of c.threads) ++ text)
 
@@ -127,12 +127,12 @@ flip_text kept retired = codes "kept " ++ decimal kept ++ 10 ∷ codes "retired 
 
 -- it is done: every load gave what was stored, and with the status 0 each first copy is retired
 abbrev pub IsFlipDone : Sizes → OutputState → OutputState → ℕ → Type 0
-IsFlipDone sizes o o' status = (retired : ℕ) × Takes o.out o'.out (flip_text (sizes.rounds * place_count sizes) retired)
-    × ((status ≡ 3) ⊎ ((status ≡ 0) × (retired ≡ place_count sizes))) × (o'.err ≡ o.err) × (o'.texts ≡ o.texts)
+IsFlipDone sizes o o' status = (retired : ℕ) × Takes o.out o'.out (flip_text (sizes.rounds * slot_count sizes) retired)
+    × ((status ≡ 3) ⊎ ((status ≡ 0) × (retired ≡ slot_count sizes))) × (o'.err ≡ o.err) × (o'.texts ≡ o.texts)
 
 -- a write of the two lines failed
 abbrev pub IsFlipDoneInPart : Sizes → OutputState → OutputState → Type 0
-IsFlipDoneInPart sizes o o' = ((retired : ℕ) × Fails o.out o'.out (flip_text (sizes.rounds * place_count sizes) retired)) × (o'.err ≡ o.err)
+IsFlipDoneInPart sizes o o' = ((retired : ℕ) × Fails o.out o'.out (flip_text (sizes.rounds * slot_count sizes) retired)) × (o'.err ≡ o.err)
 
 -- ---- an order
 
@@ -173,8 +173,8 @@ stop_text stopped = if stopped then message_of Memory else []
 abbrev pub status_after : Bool → ℕ → ℕ
 status_after stopped status = if stopped then status_of_failure Memory else status
 
--- A run by a text comes to a state: the events done are the first of those that the text writes, and all of them unless memory ran out or the next
--- one would have printed beyond the bound. This is reported: how the threads stand, what explains that of a machine that represents the state and,
+-- A run by a text ends in a state: the events done are the first of those that the text writes, and all of them unless memory ran out or the next
+-- one would have printed beyond the bound. This is reported: the states of the threads, what explains them of a machine that represents the state and,
 -- where asked, of the threads that ended, whether memory ran out, in what the run differs from what is expected, and the numbers of the run.
 pub record IsRun (source : List ℕ) (limits : Limits) (text : List ℕ) (most : Option ℕ) (expected : Option RunFile) (explain stats ended stopped : Bool) (state : State) (reported : List ℕ) : Type 0 where
   pub events : List Event
@@ -182,9 +182,9 @@ pub record IsRun (source : List ℕ) (limits : Limits) (text : List ℕ) (most :
   pub done : List Event
   pub are_done : AreDoneOf events done stopped
   pub reports : List Report
-  pub comes_to : ComesToBy source limits done reports state
+  pub results_in : ResultsInBy source limits done reports state
   pub within : IsPrintedUpTo most state.printed
-  pub after : Content
+  pub after : MachineState
   pub represents : Represents after state
   pub explanation : List ℕ
   pub explains : IsRunText explain ended source limits (zip done reports) after explanation
@@ -213,44 +213,44 @@ HasNotTraced source limits text failure = IsNotRunBy source limits text failure 
 
 -- what the error of a trace becomes
 abbrev pub failure_of_tracing : TraceError → Failure
-failure_of_tracing WantsMemory = Memory
+failure_of_tracing MemoryRanOut = Memory
 failure_of_tracing CantWrite = Device
 
--- A run is traced. A machine that holds what the program begins with makes the turns of the events, with the reports of the run, and a
--- line of each is shown, and an empty line. It represents then the state that the run comes to, and what that has printed, and how its
--- threads stand, is shown as if it were not traced. Where the last event ends a cycle, the machine has no more words in use than are owed.
+-- A run is traced. A machine that holds what the program begins with makes the transitions of the events, with the reports of the run, and a
+-- line of each is shown, and an empty line. It then represents the state that the run ends in, and what was printed and the states of its
+-- threads are shown as if it were not traced. Where the last event ends a cycle, the machine has no more words in use than are owed.
 pub record HasTraced (source : List ℕ) (limits : Limits) (text : List ℕ) (explain : Bool) (o o' : OutputState) (status : ℕ) : Type 0 where
   pub events : List Event
   pub reports : List Report
   pub state : State
-  pub comes_to : ComesTo source limits text events reports state
-  pub begins : Content
-  pub opened : IsOpened comes_to.by_events.tree limits begins
-  pub after : Content
+  pub results_in : ResultsIn source limits text events reports state
+  pub begins : MachineState
+  pub opened : IsOpened results_in.by_events.tree limits begins
+  pub after : MachineState
   pub between : Taken
   pub traced : IsTraced begins events after reports o.out.contents between.contents
   pub represents : Represents after state
-  pub leaves : LeavesWhatIsOwed comes_to.by_events.tree limits events reports after
+  pub leaves : LeavesOnlyOwed results_in.by_events.tree limits events reports after
   pub explanation : List ℕ
   pub explains : IsThreadText explain after explanation
   pub shown : IsShown state.printed (ends_of state) explanation (record o { out = between }) o' status
   pub same : o'.texts ≡ o.texts
 
--- A run is drawn. A machine that holds what the program begins with makes the turns of the events, with the reports of the run, and a
--- picture of those of a part is shown, which are few. It represents then the state that the run comes to, and how the state's threads stand
--- is shown. Where the last event ends a cycle, the machine has no more words in use than are owed.
+-- A run is drawn. A machine that holds what the program begins with makes the transitions of the events, with the reports of the run, and a
+-- picture of those of a part is shown, which are few. It then represents the state that the run ends in, and the states of its threads
+-- are shown. Where the last event ends a cycle, the machine has no more words in use than are owed.
 pub record HasDrawn (source : List ℕ) (limits : Limits) (text : List ℕ) (part : Part) (explain : Bool) (o o' : OutputState) (status : ℕ) : Type 0 where
   pub events : List Event
   pub few : event_count part (length events) ≤ MOST_EVENTS
   pub reports : List Report
   pub state : State
-  pub comes_to : ComesTo source limits text events reports state
-  pub begins : Content
-  pub opened : IsOpened comes_to.by_events.tree limits begins
-  pub after : Content
+  pub results_in : ResultsIn source limits text events reports state
+  pub begins : MachineState
+  pub opened : IsOpened results_in.by_events.tree limits begins
+  pub after : MachineState
   pub pictured : IsPicture begins events after reports (window_of part (length events)) o.out.contents o'.out.contents
   pub represents : Represents after state
-  pub leaves : LeavesWhatIsOwed comes_to.by_events.tree limits events reports after
+  pub leaves : LeavesOnlyOwed results_in.by_events.tree limits events reports after
   pub explanation : List ℕ
   pub explains : IsThreadText explain after explanation
   pub errors : Takes o.err o'.err (lines_from 0 (ends_of state) ++ explanation)
@@ -260,7 +260,7 @@ pub record HasDrawn (source : List ℕ) (limits : Limits) (text : List ℕ) (par
 -- A picture would have more events than it may. Nothing is run, and their number is reported.
 pub record HasTooMany (source : List ℕ) (limits : Limits) (text : List ℕ) (part : Part) (o o' : OutputState) (status : ℕ) : Type 0 where
   pub events : List Event
-  pub begins : Content
+  pub begins : MachineState
   pub ready : IsReady source limits text events begins
   pub many : MOST_EVENTS < event_count part (length events)
   pub untouched : o'.out ≡ o.out
@@ -274,20 +274,21 @@ IsDrawn source limits text part explain o o' status = HasDrawn source limits tex
 
 -- how workers leave the threads of a run that memory did not stop: none is live, or, where the run may stop there, each live one waits for
 -- a monitor that another thread holds or for the end of a live thread
-abbrev pub HaveEnded : StopAt → Content → State → Type 0
+abbrev pub HaveEnded : StopAt → MachineState → State → Type 0
 HaveEnded AtEnd after state = list_any is_live (ends_of state) ≡ false
 HaveEnded AtDeadlock after state = (list_any is_live (ends_of state) ≡ false) ⊎ IsDeadlocked after
 
 -- Workers have run a source. There is a list of entries, each an event of its worker's own. The reference machine's run over the steps
--- among the events comes to this state, in which the threads have ended unless memory ran out. The record is that of these events, and this is
--- what is reported: how the threads stand, what explains that, why there is no record, whether memory ran out, for an event, a thread or the record, and the numbers of the run.
+-- among the events ends in this state, in which the threads have ended unless memory ran out. The record is that of these events, and this is
+-- what is reported: the states of the threads, what explains them, why there is no record, whether memory ran out, for an event, a thread or the record, and
+-- the numbers of the run.
 pub record IsRunByWorkers (source : List ℕ) (limits : Limits) (workers : ℕ) (stop_at : StopAt) (most : Option ℕ) (asked explain stats stopped : Bool) (state : State) (made : Record) (reported : List ℕ) : Type 0 where
   pub entries : List Entry
   pub own : All (IsOwnOf workers) entries
-  pub comes_to : ComesToBy source limits (events_of entries) (reports_of entries) state
+  pub results_in : ResultsInBy source limits (events_of entries) (reports_of entries) state
   pub within : IsPrintedUpTo most state.printed
   pub is_record : IsRecordOf asked (events_of entries) (run_file source limits workers state.printed) made
-  pub after : Content
+  pub after : MachineState
   pub ended : stopped ≡ false → HaveEnded stop_at after state
   pub represents : Represents after state
   pub explanation : List ℕ
@@ -359,18 +360,18 @@ pub record IsRunInPart (source : List ℕ) (limits : Limits) (text : List ℕ) (
 -- a run is traced in part: a prefix of the lines of its first events is shown
 pub record IsTraceInPart (source : List ℕ) (limits : Limits) (text : List ℕ) (o o' : OutputState) : Type 0 where
   pub events : List Event
-  pub begins : Content
+  pub begins : MachineState
   pub ready : IsReady source limits text events begins
-  pub after : Content
+  pub after : MachineState
   pub traced : IsTracedInPart begins events after o.out.contents o'.out.contents
   pub silent : o'.err ≡ o.err
 
 -- a run is traced to its end, and shown in part
 pub record IsTracedThenInPart (source : List ℕ) (limits : Limits) (text : List ℕ) (explain : Bool) (o o' : OutputState) : Type 0 where
   pub events : List Event
-  pub begins : Content
+  pub begins : MachineState
   pub ready : IsReady source limits text events begins
-  pub after : Content
+  pub after : MachineState
   pub reports : List Report
   pub between : Taken
   pub traced : IsTraced begins events after reports o.out.contents between.contents
@@ -379,23 +380,23 @@ pub record IsTracedThenInPart (source : List ℕ) (limits : Limits) (text : List
 -- a run is drawn in part: its first events are done, and nothing or a prefix of the picture is shown
 pub record IsPictureCut (source : List ℕ) (limits : Limits) (text : List ℕ) (part : Part) (o o' : OutputState) : Type 0 where
   pub events : List Event
-  pub begins : Content
+  pub begins : MachineState
   pub ready : IsReady source limits text events begins
   pub few : event_count part (length events) ≤ MOST_EVENTS
-  pub after : Content
+  pub after : MachineState
   pub pictured : IsPictureInPart begins events after (window_of part (length events)) o.out.contents o'.out.contents
   pub silent : o'.err ≡ o.err
 
--- a run is drawn, and a write failed of how its threads stand
+-- a run is drawn, and a write of the states of its threads failed
 pub record IsPicturedThenInPart (source : List ℕ) (limits : Limits) (text : List ℕ) (part : Part) (explain : Bool) (o o' : OutputState) : Type 0 where
   pub events : List Event
   pub few : event_count part (length events) ≤ MOST_EVENTS
   pub reports : List Report
   pub state : State
-  pub comes_to : ComesTo source limits text events reports state
-  pub begins : Content
-  pub opened : IsOpened comes_to.by_events.tree limits begins
-  pub after : Content
+  pub results_in : ResultsIn source limits text events reports state
+  pub begins : MachineState
+  pub opened : IsOpened results_in.by_events.tree limits begins
+  pub after : MachineState
   pub pictured : IsPicture begins events after reports (window_of part (length events)) o.out.contents o'.out.contents
   pub represents : Represents after state
   pub explanation : List ℕ
@@ -405,7 +406,7 @@ pub record IsPicturedThenInPart (source : List ℕ) (limits : Limits) (text : Li
 -- a write failed of the line that reports too many events
 pub record IsTooManyInPart (source : List ℕ) (limits : Limits) (text : List ℕ) (part : Part) (o o' : OutputState) : Type 0 where
   pub events : List Event
-  pub begins : Content
+  pub begins : MachineState
   pub ready : IsReady source limits text events begins
   pub many : MOST_EVENTS < event_count part (length events)
   pub cut : Fails o.err o'.err (too_many_text (event_count part (length events)))

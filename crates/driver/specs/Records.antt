@@ -11,7 +11,7 @@ use Rattle.driver.specs.declared.recording.RecordFiles.{RecordFiles}
 use Rattle.run_files.specs.RunFiles.{text_of}
 use Rattle.run_files.specs.declared.file.RunFile.{RunFile}
 
--- What comes of the record of a run with these events, whose `.run` file says this: where it is asked for, it is the text that the events are
+-- What results from the record of a run with these events, whose `.run` file says this: where it is asked for, it is the text that the events are
 -- written as, and the text of that file, unless the events are too many.
 abbrev pub IsRecordOf : Bool → List Event → RunFile → Record → Type 0
 IsRecordOf asked events file Unasked = asked ≡ false

@@ -6,12 +6,12 @@ use Rattle.cil_model.specs.declared.reports.Report.{Report}
 use Rattle.run_statistics.specs.Lines.{statistics_text}
 use Rattle.run_statistics.specs.MostWords.{IsMostInUse}
 use Rattle.source_runs.specs.acceptance.Sources.{IsMade}
-use Rattle.source_runs.specs.simulation.MachineContents.{Content}
+use Rattle.source_runs.specs.simulation.MachineStates.{MachineState}
 
 -- the most words in use of a new machine of a source that performs these events with their reports
 abbrev pub IsMostOfRun : List ℕ → Limits → List (Event × Report) → ℕ → Type 0
-IsMostOfRun source limits events most = (begins last : Content) × IsMade source limits begins × IsMostInUse begins events last most
+IsMostOfRun source limits events most = (begins last : MachineState) × IsMade source limits begins × IsMostInUse begins events last most
 
 -- what is reported of the numbers of a run by these events with these reports, which leaves this content and had at most this number of words in use
-abbrev pub stats_text : Bool → List Event → List Report → Content → Option ℕ → List ℕ
+abbrev pub stats_text : Bool → List Event → List Report → MachineState → Option ℕ → List ℕ
 stats_text stats events reports c most = if stats then statistics_text events reports c most else []

@@ -11,7 +11,7 @@ use Rattle.source_runs.specs.reference_machine.States.{State, Thread}
 abbrev pub ends_of : State → List (Option End)
 ends_of s = map (λ (thread : Thread). thread.ended) s.threads
 
--- the word for how a thread stands
+-- the word for the status of a thread
 abbrev pub end_text : Option End → List ℕ
 end_text None = codes "live"
 end_text (Some Done) = codes "done"

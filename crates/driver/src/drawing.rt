@@ -15,7 +15,7 @@ ghost use Rattle.driver.specs.Pictures.{too_many_text, window_of};
 use crate::command_outputs::Outputs;
 use crate::showing::show_threads_of;
 use cil_model::limits::Limits;
-use orders::Part;
+use commands::Part;
 use outputs::Out;
 use run_picture::{MOST_EVENTS, PictureError, Window, picture};
 use schedule_text::Item;
@@ -128,9 +128,9 @@ struct Grouped(usize);
 
 impl fmt::Display for Grouped {
     ghost use Rattle.std.specs.Prelude.{Some};
-    ghost use Rattle.driver.specs.Pictures.{grouped};
+    ghost use Rattle.driver.specs.Pictures.{group_digits};
 
-    ghost output = { λ number. Some (grouped number.0) };
+    ghost output = { λ number. Some (group_digits number.0) };
 
     fn fmt<W: fmt::Write>(&self, f: &mut fmt::Formatter<W>) -> fmt::Result {
         let number = self.0;

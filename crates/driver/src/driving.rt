@@ -8,7 +8,7 @@ ghost use Rattle.schedule_text.specs.Items.{events_of};
 ghost use Rattle.source_runs.specs.acceptance.Failures.{IsOfWriting};
 ghost use Rattle.source_runs.specs.acceptance.Sources.{IsLetIn, IsNotAccepted};
 ghost use Rattle.source_runs.specs.acceptance.declared.failure.Failure.TheVariants.{Device as DeviceFailure};
-ghost use Rattle.orders.specs.Orders.{record_file_of};
+ghost use Rattle.commands.specs.Orders.{record_file_of};
 ghost use Rattle.driver.specs.Outcomes.{HasNotRun, HasNotTraced, HasRun, HasTraced, IsChecked, IsCheckedInPart, IsDone, IsDoneInPart, IsFlipDone, IsFlipDoneInPart};
 ghost use Rattle.driver.specs.Outcomes.{IsNotChecked, IsNotDone, IsOutcome, IsOutcomeOrCut, IsReportCut, IsRunDone, IsRunDoneInPart, IsRunInPart, IsRunNotDone, IsTracedUpTo, failure_of_tracing};
 ghost use Rattle.driver.specs.Outputs.{IsGivenUp, output_state};
@@ -24,9 +24,9 @@ use crate::running_threads::show_threads;
 use crate::showing::{say_accepted, show, show_flip};
 use crate::statistics::{most_words_of, show_last};
 use cil_model::limits::Limits;
+use commands::{Order, Run, RunKind};
 use event_trace::{TraceError, trace};
-use flip_trial::Sizes;
-use orders::{Order, Run, RunKind};
+use flip_stress::Sizes;
 use outputs::{Device, Out};
 use run_files::RunFile;
 use schedule_text::Item;
@@ -40,18 +40,18 @@ use std::time::{Clock, Instant};
 /// schedule from `schedule`, which the others ignore. Faults are looked for in this order: the source, the limits,
 /// the schedule, the run.
 ///
-/// What a run prints goes to `out`, and how its threads stand to `err`, once the run has ended; where the command
+/// What a run prints goes to `out`, and the states of its threads to `err`, once the run has ended; where the command
 /// asks for that, what its live threads wait for follows, and of `run`, `replay` and `threads` how a fault or their budget ended threads, for
 /// which the events are performed again; neither if memory runs out for it. The numbers of the run come last. Nothing is written to `err` before
 /// all is written to `out`. A check that asks for explanations prints the notes on an accepted source to `err`, unless memory runs out for them.
-/// A trace has printed a line of each event and an empty line to `out` before. A picture goes to `out` in the place of what the run has printed;
+/// A trace has printed a line of each event and an empty line to `out` before. A picture goes to `out` in place of what the run has printed;
 /// where it would have more than 20,000 events, nothing is run, their number is reported on
 /// `err`, and the status is 2. A refusal prints `error` and its number to `err`, and what explains it where the
 /// command asks for that; out of memory prints `memory`, a failed write `device`, and only a failed write does. Where that can't be
 /// written either, the status is 5, and a prefix of it is written.
 ///
 /// Where memory runs out before an event of `run`, `replay` or `threads`, or a worker's thread can't be started, the run is stopped: what it has
-/// printed until then and how its threads stand is printed all the same, then `memory`, and the status is 5. So it is before an event by which the
+/// printed until then and the states of its threads are printed all the same, then `memory`, and the status is 5. So it is before an event by which the
 /// program would print more bytes than the command allows.
 ///
 /// A replay, a trace or a picture of which it is known what the `.run` file says has the limits of that file where no others are given. A replay reports
@@ -238,7 +238,7 @@ fn run_flip<W: Out, E: Out>(
     ensures given_up { IfErr result (IsGivenUp IsOfWriting (IsFlipDoneInPart sizes)
         (output_state W.taken E.taken outputs.old) (output_state W.taken E.taken outputs.new)) }
 {
-    let outcome = flip_trial::run(rt, alloc, sizes)?;
+    let outcome = flip_stress::run(rt, alloc, sizes)?;
     show_flip(outcome, &mut outputs.out)?;
     Ok(if outcome.finished { 0 } else { 3 })
 }

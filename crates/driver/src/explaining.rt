@@ -7,11 +7,11 @@ ghost use Rattle.driver.specs.Outcomes.{AreNotesShown, AreNotesShownInPart, IsEx
 
 use cil_model::limits::Limits;
 use cil_model::memory::NoMemory;
+use commands::{Order, RunKind};
 use diagnostics::{explain, explain_error, explain_limits, explain_schedule, note};
-use orders::{Order, RunKind};
 use outputs::{Device, Out};
 use schedule_text::read_schedule;
-use source_runs::{Failure, SourceError, status_of_failure, tell};
+use source_runs::{Failure, SourceError, status_of_failure, write_report};
 use std::alloc::Global;
 
 /// Writes a failure to the standard error, and after a refusal a text that explains it, where the order asks for one: of a source by what was
@@ -31,7 +31,7 @@ pub(crate) fn report_failure<E: Out>(
     ensures cut { IfErr result (λ _. (text : List ℕ)
         × IsExplanation (has_explanation order.now failure) text × Fails (E.taken err.old) (E.taken err.new) (message_of failure ++ text)) }
 {
-    tell(failure, err)?;
+    write_report(failure, err)?;
     write_reason(
         alloc,
         order,

@@ -16,7 +16,7 @@ use crate::recording::{RecordFiles, leave};
 use crate::showing::are_all_done;
 use cil_model::limits::Limits;
 use cil_model::memory::NoMemory;
-use orders::{Extent, Goal};
+use commands::{Extent, Goal};
 use outcome_search::{Bounds, Exploration, Found, explore};
 use outcome_text::schedule_text;
 use outputs::Out;

@@ -2,14 +2,14 @@
 
 ghost use Rattle.std.specs.Prelude.{◌≡◌, IfErr};
 ghost use Rattle.driver.specs.Explorations.{IsNotPictured};
-ghost use Rattle.event_trace.specs.Places.{ArePlacesOf};
+ghost use Rattle.event_trace.specs.MethodPositions.{ArePositionsOf};
 
 use cil_model::events::Event;
 use cil_model::instructions::Instruction;
 use cil_model::limits::{Limits, MOST_THREADS};
 use cil_model::memory::NoMemory;
 use cil_model::types::ClassName;
-use event_trace::{Machine, MethodPlaces, explain_threads, instruction_at};
+use event_trace::{Machine, MethodPositions, explain_threads, instruction_at};
 use instruction_text::{CharactersText, InstructionText, MethodNameText};
 use name_tables::bodies::lines_of;
 use source_runs::{Failure, machine_of};
@@ -29,7 +29,7 @@ struct Picture {
 }
 
 /// A picture of the run of a source by these events: a line for each instruction that is not local, with the number of its event, in the column of its
-/// thread; `+2` stands for two local instructions before it. The lines that explain what live threads wait for follow, and an empty line.
+/// thread; `+2` means two local instructions before it. The lines that explain what live threads wait for follow, and an empty line.
 pub(crate) fn picture_of(
     alloc: Global,
     source: &[u8],
@@ -39,7 +39,7 @@ pub(crate) fn picture_of(
     ensures { IfErr result (IsNotPictured source.now limits) }
 {
     let mut machine = machine_of(alloc, source, limits)?;
-    let methods = MethodPlaces::new(alloc, machine.tree())?;
+    let methods = MethodPositions::new(alloc, machine.tree())?;
     let mut picture = Picture {
         text: String::new(alloc),
         local: [0; MOST_THREADS],
@@ -57,11 +57,11 @@ impl Picture {
         &mut self,
         alloc: Global,
         machine: &mut Machine,
-        methods: &MethodPlaces,
+        methods: &MethodPositions,
         number: usize,
         event: Event,
     ) -> Result<(), NoMemory>
-        requires { ArePlacesOf machine.old.tree methods.now }
+        requires { ArePositionsOf machine.old.tree methods.now }
         ensures { machine.new.tree ≡ machine.old.tree }
     {
         if let Event::Step(thread) = event {
@@ -87,11 +87,11 @@ impl Picture {
         &mut self,
         alloc: Global,
         machine: &Machine,
-        methods: &MethodPlaces,
+        methods: &MethodPositions,
         number: usize,
         thread: u8,
     ) -> Result<(), NoMemory>
-        requires { ArePlacesOf machine.now.tree methods.now }
+        requires { ArePositionsOf machine.now.tree methods.now }
     {
         let cell = cell_of(alloc, machine, methods, thread)?;
         let digits = format!(in alloc; "{number}")?;
@@ -134,16 +134,16 @@ impl Picture {
 fn cell_of(
     alloc: Global,
     machine: &Machine,
-    methods: &MethodPlaces,
+    methods: &MethodPositions,
     thread: u8,
 ) -> Result<String, NoMemory>
-    requires { ArePlacesOf machine.now.tree methods.now }
+    requires { ArePositionsOf machine.now.tree methods.now }
 {
     let position = machine.position_of(thread);
     let Some(at) = instruction_at(machine, methods, position) else {
         return Ok(format!(in alloc; "-")?);
     };
-    let Some(line) = lines_of(at.found.method).get(at.place as usize) else {
+    let Some(line) = lines_of(at.found.method).get(at.pc as usize) else {
         return Ok(format!(in alloc; "-")?);
     };
     match &line.instruction {

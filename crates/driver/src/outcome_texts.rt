@@ -5,7 +5,7 @@ ghost use Rattle.driver.specs.Explorations.{IsExplorationText, IsNotPictured, Is
 
 use crate::outcome_pictures::picture_of;
 use cil_model::limits::Limits;
-use orders::Extent;
+use commands::Extent;
 use outcome_search::{Exploration, Found, Goal, Stop};
 use outcome_text::{Cause, Coverage, Summary, add_outcome, add_schedule};
 use source_runs::Failure;

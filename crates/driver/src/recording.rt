@@ -5,7 +5,7 @@ ghost use Rattle.std.specs.List.{list_all};
 ghost use Rattle.cil_model.specs.declared.events.Event.{Event};
 ghost use Rattle.outputs.specs.Taken.{Fails, Takes};
 ghost use Rattle.run_files.specs.RunFiles.{run_file};
-ghost use Rattle.schedule_text.specs.Items.{is_numbered};
+ghost use Rattle.schedule_text.specs.Items.{has_thread_number};
 ghost use Rattle.schedule_text.specs.Writings.{IsWritten};
 ghost use Rattle.source_runs.specs.shared_machine.Histories.{events_of};
 ghost use Rattle.driver.specs.Outcomes.{status_after, stop_text};
@@ -13,11 +13,11 @@ ghost use Rattle.driver.specs.Records.{IsRecordOf, is_short, status_with, texts_
 
 use crate::showing::show_stop;
 use cil_model::limits::Limits;
-use orders::Workers;
+use commands::Workers;
 use outputs::{Device, Out};
 use run_files::RunFile;
 use schedule_text::ScheduleError;
-use source_runs::{Failure, Outcome, status_of_failure, tell, write_record};
+use source_runs::{Failure, Outcome, status_of_failure, write_record, write_report};
 use std::alloc::Global;
 
 /// The texts of the two files of a record.
@@ -51,7 +51,7 @@ pub(crate) fn record_of(
     workers: Workers,
     outcome: &Outcome,
 ) -> Record
-    requires { IsTrue (list_all is_numbered (events_of outcome.now.history.entries)) }
+    requires { IsTrue (list_all has_thread_number (events_of outcome.now.history.entries)) }
     ensures { IsRecordOf is_asked (events_of outcome.now.history.entries) (run_file source.now limits workers.count outcome.now.machine.printed) result }
 {
     if !is_asked {
@@ -91,7 +91,7 @@ impl Record {
     }
 }
 
-/// Leaves files in the place of those that are kept. None leave those as they are.
+/// Leaves files in place of those that are kept. None leave those as they are.
 pub(crate) fn leave(files: Option<RecordFiles>, kept: &mut Option<RecordFiles>)
     ensures { texts_of kept.new ≡ texts_over (texts_of files) (texts_of kept.old) }
 {
@@ -115,7 +115,7 @@ pub(crate) fn report_record<E: Out>(
     match record {
         Record::TooLong => {
             let refusal = Failure::from(ScheduleError::TooLong);
-            tell(refusal, err)?;
+            write_report(refusal, err)?;
             show_stop(stopped, status_of_failure(refusal), err)
         }
         Record::NoMemory => show_stop(true, status, err),

@@ -10,7 +10,7 @@ use crate::recording::{leave, record_of};
 use crate::statistics::{most_words_of, show_last_of_workers};
 use cil_model::limits::Limits;
 use cil_model::stops::StopAt;
-use orders::{Run, Workers};
+use commands::{Run, Workers};
 use outputs::Out;
 use source_runs::{Failure, OpenGate, run_threads};
 use std::alloc::Global;

@@ -13,10 +13,10 @@ use crate::command_outputs::Outputs;
 use arrayvec::ArrayVec;
 use cil_model::reports::End;
 use event_trace::explain_threads;
-use flip_trial::Outcome as FlipOutcome;
+use flip_stress::Outcome as FlipOutcome;
 use itoa::Buffer;
 use outputs::{Device, Out};
-use source_runs::{Failure, Machine, Outcome, status_of_failure, tell};
+use source_runs::{Failure, Machine, Outcome, status_of_failure, write_report};
 use std::alloc::Global;
 
 /// How each thread stands that was started, in the order of their numbers: none where it is live.
@@ -58,7 +58,7 @@ pub fn emit<W: Out, E: Out>(outcome: &Outcome, out: &mut W, err: &mut E) -> Resu
     write_ends(ends_of(&outcome.machine).as_slice(), err)
 }
 
-/// Prints what a run leaves, and what explains how its threads stand where that is asked for, and returns its status.
+/// Prints what a run leaves, and what explains the states of its threads where that is asked for, and returns its status.
 pub(crate) fn show<W: Out, E: Out>(
     alloc: Global,
     explain: bool,
@@ -99,7 +99,7 @@ pub(crate) fn show_stop<E: Out>(stopped: bool, status: u8, err: &mut E) -> Resul
     if !stopped {
         return Ok(status);
     }
-    tell(Failure::Memory, err)?;
+    write_report(Failure::Memory, err)?;
     Ok(status_of_failure(Failure::Memory))
 }
 
@@ -153,7 +153,7 @@ fn write_end<E: Out>(thread: usize, end: Option<End>, err: &mut E) -> Result<(),
     err.write_texts(&["thread ", number.format(thread), ": ", end_text(end), "\n"])
 }
 
-/// The word for how a thread stands.
+/// The word for the status of a thread.
 fn end_text(end: Option<End>) -> &'static str
     ensures { result.now ≡ end_text end }
 {

@@ -14,13 +14,13 @@ abbrev pub callers_of : List (List Position) → ℕ → List Position
 callers_of all t = unwrap_or (slice_get all t) []
 
 -- those of all threads after a step of one from a position to another
-abbrev pub followed : List (List Position) → ℕ → Option Position → Option Position → List (List Position)
-followed all t None after = all
-followed all t (Some before) None = all
-followed all t (Some before) (Some after) = slice_set all t (callers_after (callers_of all t) before after)
+abbrev pub follow_calls : List (List Position) → ℕ → Option Position → Option Position → List (List Position)
+follow_calls all t None after = all
+follow_calls all t (Some before) None = all
+follow_calls all t (Some before) (Some after) = slice_set all t (callers_after (callers_of all t) before after)
 
 -- those after an event, whose thread was at a position and is at another; only a step changes them
 abbrev pub callers_with : List (List Position) → Event → Option Position → Option Position → List (List Position)
-callers_with all (Step t) before after = followed all t before after
+callers_with all (Step t) before after = follow_calls all t before after
 callers_with all (Ack t) before after = all
 callers_with all Gc before after = all

@@ -9,7 +9,7 @@ use Rattle.cil_model.specs.declared.reports.Report.{Report}
 use Rattle.cil_model.specs.declared.reports.Report.TheVariants.{Ended}
 use Rattle.cil_model.specs.declared.trees.Method.{Method}
 use Rattle.cil_model.specs.declared.types.ClassName.{ClassName}
-use Rattle.event_trace.specs.interleaving_core.simulation.MachineContents.{Content}
+use Rattle.event_trace.specs.interleaving_core.simulation.MachineStates.{MachineState}
 use Rattle.event_trace.specs.interleaving_core.Positions.{position_at}
 use Rattle.event_trace.specs.interleaving_core.Waits.{wait_at}
 use Rattle.event_trace.specs.interleaving_core.declared.positions.Position.{Position}
@@ -48,17 +48,17 @@ end_lines t why at line (Some awaited) =
     codes "thread " ++ decimal t ++ codes ": " ++ cause_text why ++ 10 ∷ codes "  at " ++ located_text at line ++ codes ", waits for " ++ awaited ++ 10 ∷ []
 
 -- the same, of the machine state before the thread's last step, for a program with this source
-abbrev pub end_text : List ℕ → Content → EarlyEnd → List ℕ
+abbrev pub end_text : List ℕ → MachineState → EarlyEnd → List ℕ
 end_text source c e =
     let at = position_at c.threads e.thread in
     end_lines e.thread e.cause (option_and_then (found_at c.tree) at) (option_and_then (line_of source) at) (option_map (wait_text c) (wait_at c e.thread))
 
 -- the line of a caller
-abbrev pub caller_text : List ℕ → Content → Position → List ℕ
+abbrev pub caller_text : List ℕ → MachineState → Position → List ℕ
 caller_text source c p = codes "  called from " ++ located_text (found_at c.tree p) (line_of source p) ++ 10 ∷ []
 
 -- the lines of the n innermost callers, of which the innermost is the first
-abbrev pub caller_lines : List ℕ → Content → List Position → ℕ → List ℕ
+abbrev pub caller_lines : List ℕ → MachineState → List Position → ℕ → List ℕ
 caller_lines source c callers zero = []
 caller_lines source c callers (suc n) = caller_lines source c callers n ++ option_map_or (caller_text source c) (slice_get callers (length callers - 1 - n)) []
 
@@ -67,5 +67,5 @@ abbrev pub more_text : ℕ → List ℕ
 more_text n = if nat_lt 0 n then codes "  and " ++ decimal n ++ codes " more callers" ++ 10 ∷ [] else []
 
 -- the innermost callers, and how many more there are
-abbrev pub callers_text : List ℕ → Content → List Position → List ℕ
+abbrev pub callers_text : List ℕ → MachineState → List Position → List ℕ
 callers_text source c callers = caller_lines source c callers (min (length callers) MOST_CALLERS) ++ more_text (length callers - MOST_CALLERS)

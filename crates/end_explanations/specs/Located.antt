@@ -16,7 +16,7 @@ method_after (e ∷ es) n = if nat_lt n (length e.1.methods) then None else meth
 
 -- the line of the instruction at a position, in the source of the program; a method of a built-in class has none
 abbrev pub line_of : List ℕ → Position → Option ℕ
-line_of source p = option_and_then (λ method. instruction_line source method p.place) (method_after built_ins p.method)
+line_of source p = option_and_then (λ method. instruction_line source method p.pc) (method_after built_ins p.method)
 
 abbrev pub line_note : Option ℕ → List ℕ
 line_note None = []

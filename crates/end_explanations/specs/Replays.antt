@@ -3,8 +3,8 @@ use Rattle.std.specs.Prelude.{◌≡◌, ◌++◌, ◌&&◌, [], ◌∷◌, ℕ,
 use Rattle.cil_model.specs.declared.events.Event.{Event}
 use Rattle.cil_model.specs.declared.limits.TheConstants.{MOST_THREADS}
 use Rattle.cil_model.specs.declared.reports.Report.{Report}
-use Rattle.event_trace.specs.interleaving_core.simulation.MachineContents.{Content}
-use Rattle.event_trace.specs.interleaving_core.simulation.Turns.{IsTurn}
+use Rattle.event_trace.specs.interleaving_core.simulation.MachineStates.{MachineState}
+use Rattle.event_trace.specs.interleaving_core.simulation.Transitions.{IsTransition}
 use Rattle.event_trace.specs.interleaving_core.declared.positions.Position.{Position}
 use Rattle.event_trace.specs.Columns.{position_for}
 use Rattle.event_trace.specs.Deadlocks.{IsDeadlockOf}
@@ -30,7 +30,7 @@ abbrev pub is_new : List Bool → List Bool → ℕ → Bool
 is_new printed deadlocked t = is_in deadlocked t && not (is_in printed t)
 
 -- the line of the deadlocked threads, where it is new that a thread is one of them
-abbrev pub new_deadlock : Content → List Bool → List Bool → ℕ → List ℕ
+abbrev pub new_deadlock : MachineState → List Bool → List Bool → ℕ → List ℕ
 new_deadlock c printed deadlocked t = if is_new printed deadlocked t then deadlock_line c deadlocked else []
 
 -- the deadlocked threads that were printed last, then
@@ -39,31 +39,31 @@ printed_after printed deadlocked t = if is_new printed deadlocked t then deadloc
 
 -- the text gets the lines on a thread that ends from a machine state, in a program with this source, and the line on the threads that are deadlocked
 -- then, where it is new that this thread is
-pub record IsEndExplained (source : List ℕ) (c : Content) (before : Known) (end : EarlyEnd) (after : Known) : Type 0 where
+pub record IsEndExplained (source : List ℕ) (c : MachineState) (before : Known) (end : EarlyEnd) (after : Known) : Type 0 where
   pub deadlocked : List Bool
   pub is_deadlock : IsDeadlockOf c deadlocked
   pub text : after.text ≡ before.text ++ end_text source c end ++ callers_text source c (callers_of before.callers end.thread) ++ new_deadlock c before.printed deadlocked end.thread
   pub printed : after.printed ≡ printed_after before.printed deadlocked end.thread
 
 -- only an event that ends a thread like that gets a text
-abbrev pub IsEventExplained : List ℕ → Content → Known → Option EarlyEnd → Known → Type 0
+abbrev pub IsEventExplained : List ℕ → MachineState → Known → Option EarlyEnd → Known → Type 0
 IsEventExplained source c before None after = (after.text ≡ before.text) × (after.printed ≡ before.printed)
 IsEventExplained source c before (Some end) after = IsEndExplained source c before end after
 
 -- an event with its report is performed, from one machine state and what is known to the next ones
-pub record IsReplayed (source : List ℕ) (c : Content) (before : Known) (e : Event × Report) (next : Content) (after : Known) : Type 0 where
-  pub turn : IsTurn c e.0 (next, e.1)
+pub record IsReplayed (source : List ℕ) (c : MachineState) (before : Known) (e : Event × Report) (next : MachineState) (after : Known) : Type 0 where
+  pub transition : IsTransition c e.0 (next, e.1)
   pub explained : IsEventExplained source c before (early_end c.limits.budget e.0 e.1) after
   pub callers : after.callers ≡ callers_with before.callers e.0 (position_for c e.0) (position_for next e.0)
 
 -- one event after another
-abbrev pub AreReplayed : List ℕ → Content → Known → List (Event × Report) → Content → Known → Type 0
+abbrev pub AreReplayed : List ℕ → MachineState → Known → List (Event × Report) → MachineState → Known → Type 0
 AreReplayed source c before [] last after = (last ≡ c) × (after ≡ before)
-AreReplayed source c before (e ∷ es) last after = (next : Content) × (known : Known) × IsReplayed source c before e next known × AreReplayed source next known es last after
+AreReplayed source c before (e ∷ es) last after = (next : MachineState) × (known : Known) × IsReplayed source c before e next known × AreReplayed source next known es last after
 
 -- the text on the threads that end early in these events with their reports, from this machine state on, in a program with this source
-abbrev pub AreEndsExplained : List ℕ → Content → List (Event × Report) → List ℕ → Type 0
-AreEndsExplained source c events text = (last : Content) × (after : Known) × AreReplayed source c beginning events last after × (text ≡ after.text)
+abbrev pub AreEndsExplained : List ℕ → MachineState → List (Event × Report) → List ℕ → Type 0
+AreEndsExplained source c events text = (last : MachineState) × (after : Known) × AreReplayed source c beginning events last after × (text ≡ after.text)
 
 -- the event of an entry with its report
 abbrev pub pair_of : Entry → Event × Report

@@ -1,7 +1,7 @@
 //! The calls of a thread that have not returned.
 
 ghost use Rattle.std.specs.Prelude.{◌≡◌, [], List, OnOk};
-ghost use Rattle.end_explanations.specs.Callers.{callers_after, followed};
+ghost use Rattle.end_explanations.specs.Callers.{callers_after, follow_calls};
 
 use event_trace::Position;
 use std::alloc::{AllocError, Global};
@@ -60,7 +60,7 @@ pub(crate) fn follow(
     before: Option<Position>,
     after: Option<Position>,
 ) -> Result<(), AllocError>
-    ensures { OnOk result (callers.new.items ≡ followed callers.old.items thread before after) }
+    ensures { OnOk result (callers.new.items ≡ follow_calls callers.old.items thread before after) }
 {
     let (Some(before), Some(after)) = (before, after) else {
         return Ok(());

@@ -4,15 +4,15 @@ ghost use Rattle.std.specs.Prelude.{◌≡◌, IfOk, map, option_and_then, optio
 ghost use Rattle.cil_model.specs.Bodies.{lines_of};
 ghost use Rattle.cil_model.specs.Declarations.{built_ins};
 ghost use Rattle.event_trace.specs.Columns.{found_at};
-ghost use Rattle.event_trace.specs.Lines.{place_of};
-ghost use Rattle.event_trace.specs.Places.{ArePlacesOf};
+ghost use Rattle.event_trace.specs.Lines.{method_and_pc};
+ghost use Rattle.event_trace.specs.MethodPositions.{ArePositionsOf};
 ghost use Rattle.name_tables.specs.BuiltInTable.{built_in_entry};
 ghost use Rattle.end_explanations.specs.Located.{method_after, line_of};
 
 use crate::names::Names;
 use cil_model::memory::NoMemory;
 use cil_model::trees::{Line, Method};
-use event_trace::{InstructionPlace, Machine, Position, instruction_at};
+use event_trace::{InstructionPosition, Machine, Position, instruction_at};
 use instruction_text::{InstructionText, MethodNameText};
 use name_tables::bodies::lines_of;
 use name_tables::built_in::BuiltInClass;
@@ -21,7 +21,7 @@ use std::fmt;
 /// An instruction by its position, and its line of the source, where that is known.
 #[derive(Clone, Copy)]
 pub(crate) struct Located<'a> {
-    pub(crate) at: Option<InstructionPlace<'a>>,
+    pub(crate) at: Option<InstructionPosition<'a>>,
     /// The line, from 1.
     pub(crate) line: Option<usize>,
 }
@@ -29,20 +29,20 @@ pub(crate) struct Located<'a> {
 /// `Class::Method+N (line L)  instruction`, or a hyphen.
 impl<'a> fmt::Display for Located<'a> {
     ghost use Rattle.std.specs.Prelude.{Some, option_map};
-    ghost use Rattle.event_trace.specs.Lines.{place_of};
+    ghost use Rattle.event_trace.specs.Lines.{method_and_pc};
     ghost use Rattle.end_explanations.specs.Located.{located_text};
 
-    ghost output = { λ l. Some (located_text (option_map place_of l.at) l.line) };
+    ghost output = { λ l. Some (located_text (option_map method_and_pc l.at) l.line) };
 
     fn fmt<W: fmt::Write>(&self, f: &mut fmt::Formatter<W>) -> fmt::Result {
-        let Some(InstructionPlace { found, place }) = self.at else {
+        let Some(InstructionPosition { found, pc }) = self.at else {
             return f.write_str("-");
         };
         let owner = found.owner;
         let name = MethodNameText(&found.method.name);
         let line = LineNote(self.line);
-        let instruction = OfLine(line_at(found.method, place as usize));
-        write!(f, "{owner}::{name}+{place}{line}{instruction}")
+        let instruction = OfLine(line_at(found.method, pc as usize));
+        write!(f, "{owner}::{name}+{pc}{line}{instruction}")
     }
 }
 
@@ -95,9 +95,9 @@ pub(crate) fn locate<'a>(
     names: &'a Names<'_>,
     position: Option<Position>,
 ) -> Result<Located<'a>, NoMemory>
-    requires places { ArePlacesOf machine.now.tree names.now.methods }
+    requires positions { ArePositionsOf machine.now.tree names.now.methods }
     requires classes { map built_in_entry names.now.classes ≡ built_ins }
-    ensures at { IfOk result (λ l. option_map place_of l.at ≡ option_and_then (found_at machine.now.tree) position) }
+    ensures at { IfOk result (λ l. option_map method_and_pc l.at ≡ option_and_then (found_at machine.now.tree) position) }
     ensures line { IfOk result (λ l. l.line ≡ option_and_then (line_of names.now.lines) position) }
 {
     Ok(Located {
@@ -116,7 +116,7 @@ fn line_of(names: &Names<'_>, position: Option<Position>) -> Result<Option<usize
     };
     match method_after(names.classes.as_slice(), position.method as usize) {
         None => Ok(None),
-        Some(method) => names.lines.line(method, position.place as usize),
+        Some(method) => names.lines.line(method, position.pc as usize),
     }
 }
 

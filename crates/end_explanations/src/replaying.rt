@@ -3,11 +3,11 @@
 ghost use Rattle.std.specs.Prelude.{◌≡◌, IfOk, OnOk, map, replicate, string_bytes, true};
 ghost use Rattle.std.specs.List.{zip};
 ghost use Rattle.cil_model.specs.Declarations.{built_ins};
-ghost use Rattle.event_trace.specs.Places.{ArePlacesOf};
+ghost use Rattle.event_trace.specs.MethodPositions.{ArePositionsOf};
 ghost use Rattle.name_tables.specs.BuiltInTable.{built_in_entry};
 ghost use Rattle.shared_machine.specs.Histories.{events_of, plain, reports_of};
 ghost use Rattle.end_explanations.specs.Replays.{AreEndsExplained, AreReplayed, IsReplayed, pair_of};
-ghost use Rattle.end_explanations.specs.declared.replaying.ReplayError.TheVariants.{Memory as WantsMemory};
+ghost use Rattle.end_explanations.specs.declared.replaying.ReplayError.TheVariants.{Memory as MemoryRanOut};
 
 use crate::ends::early_end;
 use crate::names::Names;
@@ -31,7 +31,7 @@ pub enum ReplayError {
 }
 
 impl From<NoMemory> for ReplayError {
-    ghost from_gives = { λ _ error. error ≡ WantsMemory };
+    ghost from_gives = { λ _ error. error ≡ MemoryRanOut };
 
     fn from(_error: NoMemory) -> ReplayError {
         ReplayError::Memory
@@ -39,7 +39,7 @@ impl From<NoMemory> for ReplayError {
 }
 
 impl From<AllocError> for ReplayError {
-    ghost from_gives = { λ _ error. error ≡ WantsMemory };
+    ghost from_gives = { λ _ error. error ≡ MemoryRanOut };
 
     fn from(_error: AllocError) -> ReplayError {
         ReplayError::Memory
@@ -93,7 +93,7 @@ fn replay_run(
     run: &Run,
     progress: &mut Progress,
 ) -> Result<(), ReplayError>
-    requires places { ArePlacesOf machine.old.tree names.now.methods }
+    requires positions { ArePositionsOf machine.old.tree names.now.methods }
     requires classes { map built_in_entry names.now.classes ≡ built_ins }
     requires budget { machine.old.limits.budget ≡ budget }
     ensures replayed { OnOk result (AreReplayed names.now.lines machine.old progress.old (map pair_of (replicate run.now.times run.now.entry)) machine.new progress.new) }
@@ -114,7 +114,7 @@ fn replay_event(
     entry: &Entry,
     progress: &mut Progress,
 ) -> Result<(), ReplayError>
-    requires places { ArePlacesOf machine.old.tree names.now.methods }
+    requires positions { ArePositionsOf machine.old.tree names.now.methods }
     requires classes { map built_in_entry names.now.classes ≡ built_ins }
     requires budget { machine.old.limits.budget ≡ budget }
     ensures replayed { OnOk result (IsReplayed names.now.lines machine.old progress.old (pair_of entry.now) machine.new progress.new) }

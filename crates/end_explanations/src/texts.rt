@@ -3,7 +3,7 @@
 ghost use Rattle.std.specs.Prelude.{◌≡◌, ◌++◌, ◌-◌, ◌<◌, [], OnOk, length, map, slice_get, string_bytes};
 ghost use Rattle.std.specs.Option.{option_map_or};
 ghost use Rattle.cil_model.specs.Declarations.{built_ins};
-ghost use Rattle.event_trace.specs.Places.{ArePlacesOf};
+ghost use Rattle.event_trace.specs.MethodPositions.{ArePositionsOf};
 ghost use Rattle.name_tables.specs.BuiltInTable.{built_in_entry};
 ghost use Rattle.end_explanations.specs.Ends.{caller_text, callers_text, end_text, more_text};
 
@@ -28,11 +28,11 @@ struct EndText<'a> {
 
 impl<'a> fmt::Display for EndText<'a> {
     ghost use Rattle.std.specs.Prelude.{Some, option_map};
-    ghost use Rattle.event_trace.specs.Lines.{place_of};
+    ghost use Rattle.event_trace.specs.Lines.{method_and_pc};
     ghost use Rattle.event_trace.specs.Texts.{awaited_text};
     ghost use Rattle.end_explanations.specs.Ends.{end_lines};
 
-    ghost output = { λ text. Some (end_lines text.thread text.cause (option_map place_of text.at.at) text.at.line (option_map awaited_text text.awaited)) };
+    ghost output = { λ text. Some (end_lines text.thread text.cause (option_map method_and_pc text.at.at) text.at.line (option_map awaited_text text.awaited)) };
 
     fn fmt<W: fmt::Write>(&self, f: &mut fmt::Formatter<W>) -> fmt::Result {
         let EndText {
@@ -60,7 +60,7 @@ pub(crate) fn add_end(
     names: &Names<'_>,
     end: EarlyEnd,
 ) -> Result<(), NoMemory>
-    requires places { ArePlacesOf machine.now.tree names.now.methods }
+    requires positions { ArePositionsOf machine.now.tree names.now.methods }
     requires classes { map built_in_entry names.now.classes ≡ built_ins }
     ensures { OnOk result (string_bytes text.new ≡ string_bytes text.old ++ end_text names.now.lines machine.now end) }
 {
@@ -82,7 +82,7 @@ pub(crate) fn add_callers(
     names: &Names<'_>,
     callers: &[Position],
 ) -> Result<(), NoMemory>
-    requires places { ArePlacesOf machine.now.tree names.now.methods }
+    requires positions { ArePositionsOf machine.now.tree names.now.methods }
     requires classes { map built_in_entry names.now.classes ≡ built_ins }
     ensures { OnOk result (string_bytes text.new ≡ string_bytes text.old ++ callers_text names.now.lines machine.now callers.now) }
 {
@@ -101,7 +101,7 @@ fn add_caller_at(
     callers: &[Position],
     inner: usize,
 ) -> Result<(), NoMemory>
-    requires places { ArePlacesOf machine.now.tree names.now.methods }
+    requires positions { ArePositionsOf machine.now.tree names.now.methods }
     requires classes { map built_in_entry names.now.classes ≡ built_ins }
     requires within { inner < length callers.now }
     ensures { OnOk result (string_bytes text.new ≡ string_bytes text.old ++ option_map_or (caller_text names.now.lines machine.now) (slice_get callers.now (length callers.now - 1 - inner)) []) }
@@ -129,7 +129,7 @@ fn add_caller(
     names: &Names<'_>,
     caller: Position,
 ) -> Result<(), NoMemory>
-    requires places { ArePlacesOf machine.now.tree names.now.methods }
+    requires positions { ArePositionsOf machine.now.tree names.now.methods }
     requires classes { map built_in_entry names.now.classes ≡ built_ins }
     ensures { OnOk result (string_bytes text.new ≡ string_bytes text.old ++ caller_text names.now.lines machine.now caller) }
 {

@@ -19,7 +19,7 @@ Table = State (Unit {0}) View
 
 -- what every other view knows continues to hold, while the words become `after`
 abbrev KeepsOthers : ℕ → ℕ → List ℕ → List ℕ → ℕ → Type 0
-KeepsOthers workers places before after mover = (j : ℕ) (v : View) → j ≢ mover → Knows before workers places j v → Knows after workers places j v
+KeepsOthers workers positions before after mover = (j : ℕ) (v : View) → j ≢ mover → Knows before workers positions j v → Knows after workers positions j v
 
 -- a step of the view at `mover`, which becomes w, while the words become `after`
 stepped_keeps : (workers : ℕ) (s : Table) → KeepsEpochs workers s → (after : List ℕ) (homes : List (Option (Unit {0}))) (mover : ℕ) (w : View) → length after ≡ length s.words → IsPaced workers after
@@ -43,7 +43,7 @@ loads_posted_at workers slots id seat s rule _ at _ = let k : IsSeatView s.words
       keeps,
       tt,
       loaded_keeps workers s rule workers s.homes id after record {
-        place_is = k.place_is;
+        position_is = k.position_is;
         in_range = k.in_range;
         seen_is = k.seen_is;
         seen_polled = omega (arith, near.0, k.seen_is);
@@ -73,24 +73,24 @@ module _ (workers : ℕ) (ws : List ℕ) (i x : ℕ) (in_range : i < workers) wh
       (λ e. subst (λ (n : ℕ). IsPostedOrOneLess n (get_or ws workers 0)) (sym (ap (λ (k : ℕ). get_or (set ws i x) k 0) e ∙ here words_are)) mine)
       (λ ne. subst (λ (n : ℕ). IsPostedOrOneLess n (get_or ws workers 0)) (sym (there j ne)) (paced j l)))
 
-  seen_others : (places : ℕ) → length ws ≡ workers + 1 → i + 1 < places → get_or ws i 0 ≤ x → KeepsOthers workers places ws (set ws i x) (i + 1)
-  seen_others places words_are last grows j (OfSeat seat) ne k = record {
-    place_is = k.place_is;
+  seen_others : (positions : ℕ) → length ws ≡ workers + 1 → i + 1 < positions → get_or ws i 0 ≤ x → KeepsOthers workers positions ws (set ws i x) (i + 1)
+  seen_others positions words_are last grows j (OfSeat seat) ne k = record {
+    position_is = k.position_is;
     in_range = k.in_range;
-    seen_is = there seat.index (λ e. ne (omega (arith, k.place_is))) ∙ k.seen_is;
+    seen_is = there seat.index (λ e. ne (omega (arith, k.position_is))) ∙ k.seen_is;
     seen_polled = k.seen_polled;
     polled_posted = subst (λ (n : ℕ). seat.polled ≤ n) (sym posted_stays) k.polled_posted;
   }
-  seen_others places words_are last grows j (OfHerald herald) ne k = record {
-    place_is = k.place_is;
-    places_are = k.places_are;
+  seen_others positions words_are last grows j (OfHerald herald) ne k = record {
+    position_is = k.position_is;
+    positions_are = k.positions_are;
     found_each = k.found_each;
     posted_is = posted_stays ∙ k.posted_is;
     found_since = λ m l. dite (ℕ_discrete m i)
         (λ e. let h = k.found_since m l in let g : get_or (set ws i x) m 0 ≡ x = ap (λ (n : ℕ). get_or (set ws i x) n 0) e ∙ here words_are in
         let o : get_or ws m 0 ≡ get_or ws i 0 = ap (λ (n : ℕ). get_or ws n 0) e in omega arith)
         (λ other. subst (λ (n : ℕ). get_or herald.found m 0 ≤ n) (sym (there m other)) (k.found_since m l));
-    undealt_is = λ m l h. there m (λ e. omega (arith, k.places_are)) ∙ k.undealt_is m l h;
+    undealt_is = λ m l h. there m (λ e. omega (arith, k.positions_are)) ∙ k.undealt_is m l h;
   }
 
 stores_seen_at : (workers slots id : ℕ) (seat : SeatView)
@@ -103,13 +103,13 @@ stores_seen_at workers slots id seat s rule _ at _ = let k : IsSeatView s.words 
       stepped_keeps workers s rule after s.homes id acked (length-set s.words seat.index seat.polled)
           (seen_paced workers s.words seat.index seat.polled k.in_range rule.words_are rule.paced (k.polled_posted, omega (arith, near.1, k.seen_is, k.seen_polled)))
           record {
-            place_is = k.place_is;
+            position_is = k.position_is;
             in_range = k.in_range;
             seen_is = here workers s.words seat.index seat.polled k.in_range rule.words_are;
             seen_polled = omega arith;
             polled_posted = subst (λ (n : ℕ). seat.polled ≤ n) (sym posted_same) k.polled_posted;
           }
-          (λ j v ne o. seen_others workers s.words seat.index seat.polled k.in_range (length s.views) rule.words_are (omega (arith, last, k.place_is)) (omega (arith, k.seen_is, k.seen_polled)) j v (λ e. ne (e ∙ sym k.place_is)) o),
+          (λ j v ne o. seen_others workers s.words seat.index seat.polled k.in_range (length s.views) rule.words_are (omega (arith, last, k.position_is)) (omega (arith, k.seen_is, k.seen_polled)) j v (λ e. ne (e ∙ sym k.position_is)) o),
       refl,
     )
 
@@ -127,8 +127,8 @@ loads_seen_at workers slots id i herald l s rule _ at _ = let k : IsHeraldView s
       keeps,
       tt,
       loaded_keeps workers s rule i s.homes id (OfHerald after) record {
-        place_is = k.place_is;
-        places_are = k.places_are;
+        position_is = k.position_is;
+        positions_are = k.positions_are;
         found_each = length-set herald.found i n ∙ k.found_each;
         posted_is = k.posted_is;
         found_since = λ j h. dite (ℕ_discrete j i)
@@ -145,16 +145,16 @@ loads_seen key slots id i me herald me_is l = subst (λ (z : Holder). Allows (Ke
     (loads_seen_at key slots id i herald l)
 
 -- a store of a greater number as posted
-raised_others : (workers : ℕ) (ws : List ℕ) (places n : ℕ) → get_or (set ws workers n) workers 0 ≡ n → ((j : ℕ) → j < workers → get_or (set ws workers n) j 0 ≡ get_or ws j 0) → get_or ws workers 0 ≤ n
-    → KeepsOthers workers places ws (set ws workers n) 0
-raised_others workers ws places n raised there grows j (OfSeat seat) ne k = record {
-  place_is = k.place_is;
+raised_others : (workers : ℕ) (ws : List ℕ) (positions n : ℕ) → get_or (set ws workers n) workers 0 ≡ n → ((j : ℕ) → j < workers → get_or (set ws workers n) j 0 ≡ get_or ws j 0) → get_or ws workers 0 ≤ n
+    → KeepsOthers workers positions ws (set ws workers n) 0
+raised_others workers ws positions n raised there grows j (OfSeat seat) ne k = record {
+  position_is = k.position_is;
   in_range = k.in_range;
   seen_is = there seat.index k.in_range ∙ k.seen_is;
   seen_polled = k.seen_polled;
   polled_posted = subst (λ (m : ℕ). seat.polled ≤ m) (sym raised) (omega (arith, k.polled_posted));
 }
-raised_others workers ws places n raised there grows j (OfHerald herald) ne k = absurd (ne k.place_is)
+raised_others workers ws positions n raised there grows j (OfHerald herald) ne k = absurd (ne k.position_is)
 
 stores_posted_at : (workers slots id : ℕ) (herald : HeraldView) → FoundAll workers herald.posted herald.found
     → Allows (KeepsEpochs workers) slots id (OfHerald herald, []) workers (λ _. herald.posted + 1) (λ _. StoresPosted (step slots workers (herald.posted + 1) 0 none) (OfHerald herald, []) (herald.posted + 1))
@@ -169,14 +169,14 @@ stores_posted_at workers slots id herald all s rule _ at _ = let k : IsHeraldVie
           (λ j l. let old : IsPostedOrOneLess (get_or s.words j 0) (get_or s.words workers 0) = rule.paced j l in let since = k.found_since j l in
           let now : get_or herald.found j 0 ≡ herald.posted = all j l in (omega (arith, there j l, raised, old.0, k.posted_is), omega (arith, there j l, raised, since, now)))
           record {
-            place_is = k.place_is;
-            places_are = k.places_are;
+            position_is = k.position_is;
+            positions_are = k.positions_are;
             found_each = k.found_each;
             posted_is = raised;
             found_since = λ j l. subst (λ (m : ℕ). get_or herald.found j 0 ≤ m) (sym (there j l)) (k.found_since j l);
             undealt_is = λ j l h. there j h ∙ k.undealt_is j l h;
           }
-          (λ j v ne o. raised_others workers s.words (length s.views) n raised there (omega (arith, k.posted_is)) j v (λ e. ne (e ∙ sym k.place_is)) o),
+          (λ j v ne o. raised_others workers s.words (length s.views) n raised there (omega (arith, k.posted_is)) j v (λ e. ne (e ∙ sym k.position_is)) o),
       refl,
     )
 
@@ -186,35 +186,35 @@ stores_posted key workers slots id next me herald key_is next_is me_is all =
     subst (λ (z : ℕ × ℕ × Holder). Allows (KeepsEpochs z.0) slots id z.2 workers (λ _. z.1) (λ _. StoresPosted (step slots workers z.1 0 none) z.2 z.1)) (λ i. (sym key_is i, sym next_is i, sym me_is i))
     (stores_posted_at workers slots id herald all)
 
--- what others know, once there is one place more
-joined_others : (workers : ℕ) (ws : List ℕ) (places more j : ℕ) (v : View) → j ≢ 0 → Knows ws workers places j v → Knows ws workers more j v
-joined_others workers ws places more j (OfSeat seat) ne k = k
-joined_others workers ws places more j (OfHerald herald) ne k = absurd (ne k.place_is)
+-- what others know, once there is one position more
+joined_others : (workers : ℕ) (ws : List ℕ) (positions more j : ℕ) (v : View) → j ≢ 0 → Knows ws workers positions j v → Knows ws workers more j v
+joined_others workers ws positions more j (OfSeat seat) ne k = k
+joined_others workers ws positions more j (OfHerald herald) ne k = absurd (ne k.position_is)
 
 deals_at : (workers id : ℕ) (herald : HeraldView) → herald.dealt < length herald.found → Splits (KeepsEpochs workers) id (OfHerald herald) (dealing_herald (OfHerald herald)) (dealt_seat (OfHerald herald))
 deals_at workers id herald room s rule at = let k : IsHeraldView s.words workers (length s.views) id herald = rule.known id (OfHerald herald) at in let left : View = dealing_herald (OfHerald herald) in
-    let right : View = dealt_seat (OfHerald herald) in let places : ℕ = length s.views + 1 in let len : length (set s.views id left) ≡ length s.views = length-set s.views id left in
-    let more : length (set s.views id left ++ right ∷ []) ≡ places = length-append (set s.views id left) (right ∷ []) ∙ ap (λ (x : ℕ). x + 1) len in record {
+    let right : View = dealt_seat (OfHerald herald) in let positions : ℕ = length s.views + 1 in let len : length (set s.views id left) ≡ length s.views = length-set s.views id left in
+    let more : length (set s.views id left ++ right ∷ []) ≡ positions = length-append (set s.views id left) (right ∷ []) ∙ ap (λ (x : ℕ). x + 1) len in record {
       words_are = rule.words_are;
       paced = rule.paced;
-      known = λ j v e. subst (λ (x : ℕ). Knows s.words workers x j v) (sym more) (longer (Knows s.words workers places) (set s.views id left) right
+      known = λ j v e. subst (λ (x : ℕ). Knows s.words workers x j v) (sym more) (longer (Knows s.words workers positions) (set s.views id left) right
           record {
-            place_is = len ∙ k.places_are;
+            position_is = len ∙ k.positions_are;
             in_range = omega (arith, k.found_each);
             seen_is = k.undealt_is herald.dealt (omega arith) (omega (arith, k.found_each));
             seen_polled = omega arith;
             polled_posted = omega arith;
           }
-          (changed (Knows s.words workers places) s.views id left
+          (changed (Knows s.words workers positions) s.views id left
           record {
-            place_is = k.place_is;
-            places_are = ap (λ (x : ℕ). x + 1) k.places_are;
+            position_is = k.position_is;
+            positions_are = ap (λ (x : ℕ). x + 1) k.positions_are;
             found_each = k.found_each;
             posted_is = k.posted_is;
             found_since = k.found_since;
             undealt_is = λ i l h. k.undealt_is i (omega arith) h;
           }
-          (λ a b ne h. joined_others workers s.words (length s.views) places a b (λ e. ne (e ∙ sym k.place_is)) (rule.known a b h))) j v e);
+          (λ a b ne h. joined_others workers s.words (length s.views) positions a b (λ e. ne (e ∙ sym k.position_is)) (rule.known a b h))) j v e);
     }
 
 pub deals : (key id : ℕ) (me : Holder) (herald : HeraldView) → me ≡ (OfHerald herald, []) → herald.dealt < length herald.found → Splits (KeepsEpochs key) id me.0 (dealing_herald me.0) (dealt_seat me.0)

@@ -16,7 +16,7 @@ module _ {A : Type 0} where
   at_end (x ∷ xs) a b zero e = inl e
   at_end (x ∷ xs) a b (suc j) e = ⊎_elim (λ t. inl t) (λ t. inr (ap suc t.0, t.1)) (at_end xs a b j e)
 
-  -- the views after a step at the place `mover`: its own, or another's
+  -- the views after a step at the position `mover`: its own, or another's
   pub changed : (P : ℕ → A → Type 0) (l : List A) (mover : ℕ) (w : A) → P mover w → ((j : ℕ) (v : A) → j ≢ mover → get_elem? l j ≡ some v → P j v) → (j : ℕ) (v : A) → get_elem? (set l mover w) j ≡ some v → P j v
   changed P l mover w mine others j v e = ⊎_elim (λ (t : (j ≡ mover) × (w ≡ v)). subst (λ (z : ℕ × A). P z.0 z.1) (λ i. (sym t.0 i, t.1 i)) mine)
       (λ (t : (j ≢ mover) × (get_elem? l j ≡ some v)). others j v t.0 t.1) (at_set l mover j w v e)

@@ -28,16 +28,16 @@ pub record HeraldValue : Type 0 where
 abbrev pub IsPostedOrOneLess : ℕ → ℕ → Type 0
 IsPostedOrOneLess seen posted = (seen ≤ posted) × (posted ≤ seen + 1)
 
-abbrev pub opening_seat : TableId → ℕ → SeatValue
-opening_seat table index = record { table = table; index = index; seen = 0; polled = 0; polls = 0 }
+abbrev pub initial_seat : TableId → ℕ → SeatValue
+initial_seat table index = record { table = table; index = index; seen = 0; polled = 0; polls = 0 }
 
 -- the seats 0, 1, .. before any step
-abbrev pub opening_seats : TableId → ℕ → List SeatValue
-opening_seats table workers = map (opening_seat table) (range_with_len 0 workers)
+abbrev pub initial_seats : TableId → ℕ → List SeatValue
+initial_seats table workers = map (initial_seat table) (range_with_len 0 workers)
 
 -- the herald before any step
-abbrev pub opening_herald : TableId → ℕ → HeraldValue
-opening_herald table workers = record { table = table; posted = 0; found = replicate workers 0; looks = 0; looked_at = 0 }
+abbrev pub initial_herald : TableId → ℕ → HeraldValue
+initial_herald table workers = record { table = table; posted = 0; found = replicate workers 0; looks = 0; looked_at = 0 }
 
 -- Each of this number of seats was found to have seen the posted number.
 abbrev pub FoundAll : ℕ → ℕ → List ℕ → Type 0

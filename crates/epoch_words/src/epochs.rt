@@ -1,8 +1,8 @@
 //! What the herald and the seats do.
 
 ghost use Rattle.std.specs.Prelude.{◌≡◌, ℕ, ◌+◌, ◌-◌, ◌^◌, ◌<◌, ◌≤◌, ◌↔◌, length, slice_index, slice_set, replicate, [], IfOk};
-ghost use Rattle.epoch_words.specs.Tokens.{opening_herald, opening_seat, opening_seats, FoundAll, FoundLate, FindsNoLess, IsPostedOrOneLess};
-ghost use Rattle.epoch_words.specs.Rule.{dealt_herald, opening_view};
+ghost use Rattle.epoch_words.specs.Tokens.{initial_herald, initial_seat, initial_seats, FoundAll, FoundLate, FindsNoLess, IsPostedOrOneLess};
+ghost use Rattle.epoch_words.specs.Rule.{dealt_herald, initial_view};
 ghost use Rattle.epoch_words.specs.declared.word_table.View.TheVariants.{OfHerald};
 
 use crate::word_table::{DealSeat, LoadPosted, LoadSeen, StorePosted, StoreSeen, Token, WordTable};
@@ -104,7 +104,7 @@ impl Model for Herald {
 /// The words of this number of seats, all 0, and the herald's token.
 fn lay_words(alloc: Global, workers: usize) -> Result<(WordTable, Token), AllocError>
     ensures words { IfOk result (λ laid. (laid.0.shared.table_id.words ≡ workers + 1) × (laid.0.shared.key ≡ workers)) }
-    ensures token { IfOk result (λ laid. (laid.1.table_id ≡ laid.0.shared.table_id) × (laid.1.me ≡ (opening_view workers, []))) }
+    ensures token { IfOk result (λ laid. (laid.1.table_id ≡ laid.0.shared.table_id) × (laid.1.me ≡ (initial_view workers, []))) }
 {
     let count = workers.checked_add(1).ok_or(AllocError)?;
     let zeros = Vec::from_elem(alloc, 0, count)?;
@@ -116,7 +116,7 @@ fn deal_seat(words: &WordTable, token: &mut Token, index: usize, workers: usize)
     requires words { (token.old.table_id ≡ words.now.shared.table_id) × (words.now.shared.table_id.words ≡ workers + 1) × (words.now.shared.key ≡ workers) }
     requires next { (token.old.me ≡ (OfHerald (dealt_herald workers index), [])) × (index < workers) }
     ensures token { (token.new.table_id ≡ token.old.table_id) × (token.new.me ≡ (OfHerald (dealt_herald workers (index + 1)), [])) }
-    ensures seat { result ≡ opening_seat token.old.table_id index }
+    ensures seat { result ≡ initial_seat token.old.table_id index }
 {
     Seat {
         token: words.shared.split_seat::<DealSeat>(token),
@@ -128,7 +128,7 @@ fn deal_seat(words: &WordTable, token: &mut Token, index: usize, workers: usize)
 /// The herald, once each seat was given out.
 fn herald_of(token: Token, workers: usize) -> Herald
     requires { (token.me ≡ (OfHerald (dealt_herald workers workers), [])) × (token.table_id.words ≡ workers + 1) }
-    ensures { result ≡ opening_herald token.table_id workers }
+    ensures { result ≡ initial_herald token.table_id workers }
 {
     Herald { token, posted: 0 }
 }
@@ -139,8 +139,8 @@ impl Epochs {
     /// The only error is out of memory. No other call takes memory.
     pub fn new(alloc: Global, workers: usize) -> Result<(Epochs, Herald, Vec<Seat>), AllocError>
         ensures epochs { IfOk result (λ made. made.0.workers ≡ workers) }
-        ensures herald { IfOk result (λ made. made.1 ≡ opening_herald made.0.table workers) }
-        ensures seats { IfOk result (λ made. made.2.items ≡ opening_seats made.0.table workers) }
+        ensures herald { IfOk result (λ made. made.1 ≡ initial_herald made.0.table workers) }
+        ensures seats { IfOk result (λ made. made.2.items ≡ initial_seats made.0.table workers) }
     {
         let mut seats = Vec::with_capacity(alloc, workers)?;
         let (words, mut token) = lay_words(alloc, workers)?;

@@ -39,11 +39,11 @@ pub enum View {
 pub struct EpochRule;
 
 impl TableRule<(), View, usize> for EpochRule {
-    ghost use Rattle.epoch_words.specs.Rule.{KeepsEpochs, opening_view};
+    ghost use Rattle.epoch_words.specs.Rule.{KeepsEpochs, initial_view};
 
     ghost holds = { KeepsEpochs };
 
-    ghost first = { opening_view };
+    ghost first = { initial_view };
 }
 
 /// The shared words.

@@ -17,8 +17,8 @@ drawn_by_last None = []
 drawn_by_last (Some s) = drawn_by s
 
 -- the events that spans draw, in order
-abbrev pub drawn : List Span → List ℕ
-drawn spans = flat_map drawn_by spans
+abbrev pub rows_of : List Span → List ℕ
+rows_of spans = flat_map drawn_by spans
 
 -- the text of a span at this height: M, where it begins, h, and how long it is
 abbrev pub span_text : ℕ → Span → List ℕ

@@ -3,7 +3,7 @@
 #![tactic(auto)]
 
 ghost use Rattle.std.specs.Prelude.{◌≡◌, ◌++◌, ◌∷◌, [], IfSome, List, OnErr, OnOk, string_bytes};
-ghost use Rattle.event_rows.specs.Rows.{drawn, drawn_by, path_text};
+ghost use Rattle.event_rows.specs.Rows.{rows_of, drawn_by, path_text};
 ghost use Rattle.event_rows.specs.declared.Span.{Span as AnySpan};
 
 use std::alloc::{AllocError, Global};
@@ -76,11 +76,11 @@ pub struct Row {
 
 impl Model for Row {
     ghost use Rattle.std.specs.Prelude.{◌++◌, List, ℕ};
-    ghost use Rattle.event_rows.specs.Rows.{drawn, drawn_by_last};
+    ghost use Rattle.event_rows.specs.Rows.{rows_of, drawn_by_last};
 
     ghost Value = { List ℕ };
 
-    ghost view = { λ r. drawn r.whole.items ++ drawn_by_last r.last };
+    ghost view = { λ r. rows_of r.whole.items ++ drawn_by_last r.last };
 }
 
 impl Row {
@@ -94,7 +94,7 @@ impl Row {
         }
     }
 
-    /// Draws the event of this number too. Where it follows the last one, no span is added. Only want of memory is an error; it changes
+    /// Draws the event of this number too. Where it follows the last one, no span is added. The only error is out of memory; it changes
     /// nothing.
     pub fn draw(&mut self, event: usize) -> Result<(), AllocError>
         ensures drawn { OnOk result (self.new ≡ self.old ++ event ∷ []) }
@@ -114,9 +114,9 @@ impl Row {
     }
 
     /// Appends the path of the row at this height: a piece for each span, which together draw exactly the row's events. Nothing where it
-    /// draws none. Only want of memory is an error; a part of the path may have been appended then.
+    /// draws none. The only error is out of memory; a part of the path may have been appended then.
     pub fn add_path(&self, y: usize, text: &mut String) -> Result<(), AllocError>
-        ensures { OnOk result ((spans : List AnySpan) × (drawn spans ≡ self.now) × (string_bytes text.new ≡ string_bytes text.old ++ path_text y spans)) }
+        ensures { OnOk result ((spans : List AnySpan) × (rows_of spans ≡ self.now) × (string_bytes text.new ≡ string_bytes text.old ++ path_text y spans)) }
     {
         add_spans(self.whole.as_slice(), y, text)?;
         if let Some(last) = self.last {

@@ -25,15 +25,15 @@ use Rattle.interleaving_core.specs.simulation.object_memory.Cells.{null}
 use Rattle.interleaving_core.specs.simulation.object_memory.Objects.{monitor_at}
 use Rattle.interleaving_core.specs.simulation.threads_monitors.Frames.{Frames}
 use Rattle.interleaving_core.specs.simulation.threads_monitors.Threads.{thread_on}
-use Rattle.interleaving_core.specs.simulation.threads_monitors.declared.threads.Standing.{Standing}
-use Rattle.interleaving_core.specs.simulation.threads_monitors.declared.threads.Standing.TheVariants.{Live, Ended}
+use Rattle.interleaving_core.specs.simulation.threads_monitors.declared.threads.ThreadStatus.{ThreadStatus}
+use Rattle.interleaving_core.specs.simulation.threads_monitors.declared.threads.ThreadStatus.TheVariants.{Live, Ended}
 use Rattle.interleaving_core.specs.simulation.threads_monitors.declared.threads.Thread.{Thread}
 use Rattle.interleaving_core.specs.simulation.interpreter.Calls.{top_reference}
 use Rattle.interleaving_core.specs.simulation.interpreter.Instructions.{line_at}
-use Rattle.interleaving_core.specs.simulation.MachineContents.{Content}
+use Rattle.interleaving_core.specs.simulation.MachineStates.{MachineState}
 use Rattle.interleaving_core.specs.simulation.Agreement.{Agree}
-use Rattle.interleaving_core.specs.simulation.StandsFor.{Names, AreFrames, IsFrame, IsMonitor, IsThread, IsValue, Represents, StandsAlike, int32, int64, native, null_reference, reference}
-use Rattle.interleaving_core.specs.Waits.{class_of_object, end_awaited, held_by_another, join_wait, monitor_wait, standing_wait, wait_at, wait_by, wait_in}
+use Rattle.interleaving_core.specs.simulation.Refines.{Names, AreFrames, IsFrame, IsMonitor, IsThread, IsValue, Represents, StandsAlike, int32, int64, native, null_reference, reference}
+use Rattle.interleaving_core.specs.Waits.{class_of_object, end_awaited, held_by_another, join_wait, monitor_wait, status_wait, wait_at, wait_by, wait_in}
 use Rattle.interleaving_core.specs.declared.waits.Wait.{Wait}
 use Rattle.interleaving_core.specs.declared.waits.Wait.TheVariants.{Monitor, Join}
 use Rattle.interleaving_core.proofs.simulation.ListLaws.AgreeingLists.{agree_beyond, agree_get}
@@ -57,7 +57,7 @@ AreWaitsAlike (Some w) (Some v) = IsWaitAlike w v
 AreWaitsAlike None (Some v) = ⊥
 AreWaitsAlike (Some w) None = ⊥
 
-module _ (c : Content) (s : State) (r : Represents c s) (t : ℕ) where
+module _ (c : MachineState) (s : State) (r : Represents c s) (t : ℕ) where
   abbrev name : Names
   name = r.stands.name
 
@@ -176,41 +176,41 @@ module _ (c : Content) (s : State) (r : Represents c s) (t : ℕ) where
   frame_alike : (m : Frames) (f : StateFrame) (below : List StateFrame) → AreTypedFrames c.tree s (f ∷ below) → IsFrame c.tree name m.running f → AreWaitsAlike (wait_in c t m) (state_wait_in c.tree s t f)
   frame_alike m f below typed frame =
       subst (λ l. AreWaitsAlike (option_and_then (λ a. wait_by c t a m.running.stack) (option_and_then (λ (x : Line). called_action c.tree x.instruction) l)) (state_wait_in c.tree s t f)) (sym same_line)
-      (by_line (slice_get (lines_of f.method) f.place) refl)
+      (by_line (slice_get (lines_of f.method) f.pc) refl)
     where
-      same_line : line_at c.tree m ≡ slice_get (lines_of f.method) f.place
-      same_line = ap (option_and_then (λ (x : ClassName × Method). slice_get (lines_of x.1) m.running.place)) frame.method ∙ ap (slice_get (lines_of f.method)) frame.place
+      same_line : line_at c.tree m ≡ slice_get (lines_of f.method) f.pc
+      same_line = ap (option_and_then (λ (x : ClassName × Method). slice_get (lines_of x.1) m.running.pc)) frame.method ∙ ap (slice_get (lines_of f.method)) frame.pc
 
-      by_action : (l : Line) → slice_get (lines_of f.method) f.place ≡ Some l → (a : Option Action) → called_action c.tree l.instruction ≡ a →
+      by_action : (l : Line) → slice_get (lines_of f.method) f.pc ≡ Some l → (a : Option Action) → called_action c.tree l.instruction ≡ a →
           AreWaitsAlike (option_and_then (λ b. wait_by c t b m.running.stack) a) (option_and_then (λ b. state_wait_by s t b f.stack) a)
       by_action l is None acts = tt
       by_action l is (Some a) acts = stack_alike f below typed l.instruction (ap (option_map (λ (x : Line). x.instruction)) is) a acts m.running.stack f.stack frame.stack refl
 
-      by_line : (l : Option Line) → slice_get (lines_of f.method) f.place ≡ l →
+      by_line : (l : Option Line) → slice_get (lines_of f.method) f.pc ≡ l →
           AreWaitsAlike (option_and_then (λ a. wait_by c t a m.running.stack) (option_and_then (λ (x : Line). called_action c.tree x.instruction) l)) (state_wait_in c.tree s t f)
       by_line l is =
           subst (λ k. AreWaitsAlike (option_and_then (λ a. wait_by c t a m.running.stack) (option_and_then (λ (x : Line). called_action c.tree x.instruction) l))
           (option_and_then (λ i. option_and_then (λ a. state_wait_by s t a f.stack) (called_action c.tree i)) (option_map (λ (x : Line). x.instruction) k))) (sym is) (by_entry l is)
         where
-          by_entry : (k : Option Line) → slice_get (lines_of f.method) f.place ≡ k →
+          by_entry : (k : Option Line) → slice_get (lines_of f.method) f.pc ≡ k →
               AreWaitsAlike (option_and_then (λ a. wait_by c t a m.running.stack) (option_and_then (λ (x : Line). called_action c.tree x.instruction) k))
               (option_and_then (λ i. option_and_then (λ a. state_wait_by s t a f.stack) (called_action c.tree i)) (option_map (λ (x : Line). x.instruction) k))
           by_entry None e = tt
           by_entry (Some k) e = by_action k e (called_action c.tree k.instruction) refl
 
-  thread_alike : (x : Thread) (u : StateThread) → slice_get s.threads t ≡ Some u → IsThread c.tree c.limits name x u → AreWaitsAlike (standing_wait c t x.standing) (wait_of_thread c.tree s t u)
-  thread_alike x u there alike = by_standing x.standing u.ended refl alike.standing
+  thread_alike : (x : Thread) (u : StateThread) → slice_get s.threads t ≡ Some u → IsThread c.tree c.limits name x u → AreWaitsAlike (status_wait c t x.thread_status) (wait_of_thread c.tree s t u)
+  thread_alike x u there alike = by_thread_status x.thread_status u.ended refl alike.thread_status
     where
       by_frames : (m : Frames) → u.ended ≡ None → (fs : List StateFrame) → u.frames ≡ fs → AreFrames c.tree c.limits name m fs → AreWaitsAlike (wait_in c t m) (option_and_then (state_wait_in c.tree s t) (slice_get fs 0))
       by_frames m is [] are h = elim h.frames [ ]
       by_frames m is (f ∷ below) are h = frame_alike m f below (subst (AreTypedFrames c.tree s) are (r.typed.threads t u there is)) h.frames.0
 
-      by_standing : (standing : Standing) (ended : Option End) → u.ended ≡ ended → StandsAlike c.tree c.limits name standing u.frames ended →
-          AreWaitsAlike (standing_wait c t standing) (if is_none ended then option_and_then (state_wait_in c.tree s t) (slice_get u.frames 0) else None)
-      by_standing (Live m) None is h = by_frames m is u.frames refl h
-      by_standing (Ended e) (Some e') is h = tt
-      by_standing (Live m) (Some e') is h = elim h [ ]
-      by_standing (Ended e) None is h = elim h [ ]
+      by_thread_status : (thread_status : ThreadStatus) (ended : Option End) → u.ended ≡ ended → StandsAlike c.tree c.limits name thread_status u.frames ended →
+          AreWaitsAlike (status_wait c t thread_status) (if is_none ended then option_and_then (state_wait_in c.tree s t) (slice_get u.frames 0) else None)
+      by_thread_status (Live m) None is h = by_frames m is u.frames refl h
+      by_thread_status (Ended e) (Some e') is h = tt
+      by_thread_status (Live m) (Some e') is h = elim h [ ]
+      by_thread_status (Ended e) None is h = elim h [ ]
 
   -- what the thread of a number waits for
   pub waits_alike : AreWaitsAlike (wait_at c t) (wait_of c.tree s t)
@@ -218,7 +218,7 @@ module _ (c : Content) (s : State) (r : Represents c s) (t : ℕ) where
     where
       by_thread : (u : Option StateThread) → slice_get s.threads t ≡ u → AreWaitsAlike (wait_at c t) (option_and_then (wait_of_thread c.tree s t) u)
       by_thread None is =
-          subst (λ x. AreWaitsAlike (option_and_then (λ (y : Thread). standing_wait c t y.standing) x) None) (sym (agree_beyond (IsThread c.tree c.limits name) c.threads s.threads r.stands.by.threads t is)) tt
+          subst (λ x. AreWaitsAlike (option_and_then (λ (y : Thread). status_wait c t y.thread_status) x) None) (sym (agree_beyond (IsThread c.tree c.limits name) c.threads s.threads r.stands.by.threads t is)) tt
       by_thread (Some u) is =
           let x = agree_get (IsThread c.tree c.limits name) c.threads s.threads r.stands.by.threads t u is in
-          subst (λ y. AreWaitsAlike (option_and_then (λ (z : Thread). standing_wait c t z.standing) y) (wait_of_thread c.tree s t u)) (sym x.1) (thread_alike x.0 u is x.2)
+          subst (λ y. AreWaitsAlike (option_and_then (λ (z : Thread). status_wait c t z.thread_status) y) (wait_of_thread c.tree s t u)) (sym x.1) (thread_alike x.0 u is x.2)

@@ -5,7 +5,7 @@ use Rattle.std.proofs.lemmas.List.{append-nil}
 use Rattle.std.specs.List.{count_by}
 use Rattle.std.specs.Prelude.{decimal}
 use Rattle.interleaving_core.specs.simulation.threads_monitors.Threads.{is_live}
-use Rattle.interleaving_core.specs.simulation.MachineContents.{Content}
+use Rattle.interleaving_core.specs.simulation.MachineStates.{MachineState}
 use Rattle.event_trace.specs.Rounds.{is_in}
 use Rattle.event_trace.specs.Texts.{count_below, deadlock_line, deadlock_word, numbers_below, separator}
 
@@ -51,7 +51,7 @@ module _ (set : List Bool) (n count : ℕ) (old text text' : List ℕ) (counted 
 
 -- ---- the line of the deadlocked threads
 
-module _ (c : Content) (set : List Bool) (count : ℕ) (counted : count ≡ count_below set (length set)) where
+module _ (c : MachineState) (set : List Bool) (count : ℕ) (counted : count ≡ count_below set (length set)) where
   abbrev pub word : List ℕ
   word = deadlock_word (count == count_by is_live c.threads)
 

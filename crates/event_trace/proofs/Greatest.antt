@@ -12,8 +12,8 @@ use Rattle.interleaving_core.specs.simulation.reference_machine.Blocking.{HasEnd
 use Rattle.interleaving_core.proofs.simulation.reference_machine.Deadlocks.ReadyThreads.{IsTrueWait, waits_truly}
 use Rattle.interleaving_core.proofs.simulation.reference_machine.Deadlocks.LastingDeadlocks.{waiting_lives}
 use Rattle.interleaving_core.specs.simulation.threads_monitors.Threads.{is_live_at}
-use Rattle.interleaving_core.specs.simulation.MachineContents.{Content}
-use Rattle.interleaving_core.specs.simulation.StandsFor.{IsThread, Represents}
+use Rattle.interleaving_core.specs.simulation.MachineStates.{MachineState}
+use Rattle.interleaving_core.specs.simulation.Refines.{IsThread, Represents}
 use Rattle.interleaving_core.specs.Waits.{wait_at}
 use Rattle.interleaving_core.specs.declared.waits.Wait.{Wait}
 use Rattle.interleaving_core.specs.declared.waits.Wait.TheVariants.{Monitor, Join}
@@ -34,7 +34,7 @@ all_true zero t below = absurd (omega (arith, below))
 all_true (suc n) zero below = refl
 all_true (suc n) (suc t) below = all_true n t (omega (arith, below))
 
-module _ (c : Content) (s : State) (r : Represents c s) where
+module _ (c : MachineState) (s : State) (r : Represents c s) where
   -- who holds a monitor was started
   pub holders_started : HoldersWereStarted s
   holders_started (Literal characters) owner count held = let h = r.counted.literals characters (Held owner count) held in (h.0, h.1)
@@ -132,19 +132,19 @@ module _ (c : Content) (s : State) (r : Represents c s) where
 -- ---- rounds
 
 -- after some rounds: the deadlocked threads are in the set, which no round changes any more, or at least one thread for each round is out of it
-pub record RoundsSoFar (c : Content) (rounds : ℕ) (set : List Bool) : Type 0 where
+pub record RoundsSoFar (c : MachineState) (rounds : ℕ) (set : List Bool) : Type 0 where
   pub each : length set ≡ length c.threads
   pub above : (s : State) → (r : Represents c s) → IsAbove c s r set
   pub less : (after_round c set ≡ set) ⊎ (count set + rounds ≤ length c.threads)
 
-pub rounds_begun : (c : Content) (set : List Bool) → set ≡ replicate (length c.threads) true → RoundsSoFar c 0 set
+pub rounds_begun : (c : MachineState) (set : List Bool) → set ≡ replicate (length c.threads) true → RoundsSoFar c 0 set
 rounds_begun c set is = record {
   each = ap length is ∙ length-replicate (length c.threads) true;
   above = λ s r. subst (IsAbove c s r) (sym is) (all_is_above c s r);
   less = inr (let few = count_within set in let many : length set ≡ length c.threads = ap length is ∙ length-replicate (length c.threads) true in omega (arith, few, many));
 }
 
-pub one_round_more : (c : Content) (rounds : ℕ) (set : List Bool) → RoundsSoFar c rounds set → RoundsSoFar c (rounds + 1) (after_round c set)
+pub one_round_more : (c : MachineState) (rounds : ℕ) (set : List Bool) → RoundsSoFar c rounds set → RoundsSoFar c (rounds + 1) (after_round c set)
 one_round_more c rounds set h = record {
   each = passing_length (stays c set) 0 set ∙ h.each;
   above = λ s r. round_is_above c s r set (h.above s r);
@@ -157,7 +157,7 @@ one_round_more c rounds set h = record {
     by_less (inr few) (inl same) = inl (ap (after_round c) same)
     by_less (inr few) (inr less) = inr (omega (arith, few, less))
 
-pub rounds_done : (c : Content) (rounds : ℕ) (set : List Bool) → length c.threads < rounds → RoundsSoFar c rounds set → IsDeadlockOf c set
+pub rounds_done : (c : MachineState) (rounds : ℕ) (set : List Bool) → length c.threads < rounds → RoundsSoFar c rounds set → IsDeadlockOf c set
 rounds_done c rounds set many h = record { each = h.each; deadlocked = λ s r. record { blocked = unchanged_is_blocked c s r set unchanged; greatest = h.above s r } }
   where
     by_less : (after_round c set ≡ set) ⊎ (count set + rounds ≤ length c.threads) → after_round c set ≡ set

@@ -1,5 +1,5 @@
 pub use Rattle.interleaving_core.proofs as interleaving_core
-pub mod PlaceLaws
+pub mod PositionLaws
 pub mod TraceLaws
 pub mod ColumnLaws
 pub mod EndLaws

@@ -21,7 +21,7 @@ module _ (test : ℕ → Bool) where
   no_more : (n : ℕ) → n + 0 ≡ n
   no_more n = omega arith
 
-  -- the item at a place
+  -- the item at an index
   pub passing_at : (n t : ℕ) (xs : List Bool) → slice_get (passing test n xs) t ≡ option_map (λ x. x && test (n + t)) (slice_get xs t)
   passing_at n t [] = refl
   passing_at n zero (x ∷ xs) = ap (λ k. Some (x && test k)) (sym (no_more n))
@@ -72,7 +72,7 @@ count_within (true ∷ xs) =
     let all : count (true ∷ xs) ≡ suc (count xs) = refl in
     omega (arith, h, all)
 
--- ---- truths at places
+-- ---- truths at indices
 
 pub in_is : (set : List Bool) (t : ℕ) → slice_get set t ≡ Some true → is_in set t ≡ true
 in_is set t h = ap (λ o. unwrap_or o false) h

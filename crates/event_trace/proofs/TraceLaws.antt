@@ -9,10 +9,10 @@ use Rattle.cil_model.specs.declared.reports.Report.{Report}
 use Rattle.schedule_text.specs.Items.{events_of}
 use Rattle.schedule_text.specs.declared.items.Item.{Item}
 use Rattle.schedule_text.proofs.SoFar.{so_far, so_far_all, so_far_before, so_far_more, so_far_none}
-use Rattle.interleaving_core.specs.simulation.MachineContents.{Content}
-use Rattle.interleaving_core.specs.simulation.Runs.{AreTurns}
-use Rattle.interleaving_core.specs.simulation.Turns.{IsTurn}
-use Rattle.interleaving_core.proofs.Runs.FollowedRuns.{SameProgram, turns_follow, turns_length, turns_program}
+use Rattle.interleaving_core.specs.simulation.MachineStates.{MachineState}
+use Rattle.interleaving_core.specs.simulation.Runs.{AreTransitions}
+use Rattle.interleaving_core.specs.simulation.Transitions.{IsTransition}
+use Rattle.interleaving_core.proofs.Runs.FollowedRuns.{SameProgram, transitions_follow, transitions_length, transitions_program}
 use Rattle.event_trace.specs.Columns.{line_of}
 use Rattle.event_trace.specs.Pieces.{TakesAllBut}
 use Rattle.event_trace.specs.Traces.{AreTraced, IsEventCut, IsTraced, IsTracedInPart}
@@ -67,13 +67,13 @@ nothing_more n = omega arith
 next_number : (n k : ℕ) → n + 1 + k ≡ n + suc k
 next_number n k = omega arith
 
-traced_more : (n : ℕ) (c d after : Content) (es : List Event) (rs : List Report) (text : List ℕ) (e : Event) (r : Report) → AreTraced n c es d rs text → IsTurn d e (after, r) →
+traced_more : (n : ℕ) (c d after : MachineState) (es : List Event) (rs : List Report) (text : List ℕ) (e : Event) (r : Report) → AreTraced n c es d rs text → IsTransition d e (after, r) →
     AreTraced n c (es ++ e ∷ []) after (rs ++ r ∷ []) (text ++ line_of (n + length es) e r d after)
 traced_more n c d after [] rs text e r h k =
     subst (λ reports. AreTraced n c (e ∷ []) after (reports ++ r ∷ []) (text ++ line_of (n + 0) e r d after)) (sym h.1) (
       after,
       [],
-      subst (λ x. IsTurn x e (after, r)) h.0 k,
+      subst (λ x. IsTransition x e (after, r)) h.0 k,
       ap (λ t. t ++ line_of (n + 0) e r d after) h.2
           ∙ (ap (λ m. line_of m e r d after) (nothing_more n) ∙ (ap (λ x. line_of n e r x after) h.0 ∙ sym (append-nil (line_of n e r c after)))),
       (refl, refl, refl),
@@ -88,82 +88,82 @@ traced_more n c d after (x ∷ es) (y ∷ ys) text e r h k =
     )
 traced_more n c d after (x ∷ es) [] text e r h k = absurd h
 
-traced_turns : (n : ℕ) (c d : Content) (es : List Event) (rs : List Report) (text : List ℕ) → AreTraced n c es d rs text → AreTurns c es d rs
-traced_turns n c d [] rs text h = (h.0, h.1)
-traced_turns n c d (e ∷ es) (r ∷ rs) text h = (h.0, h.2, traced_turns (n + 1) h.0 d es rs h.1 h.4)
-traced_turns n c d (e ∷ es) [] text h = absurd h
+traced_transitions : (n : ℕ) (c d : MachineState) (es : List Event) (rs : List Report) (text : List ℕ) → AreTraced n c es d rs text → AreTransitions c es d rs
+traced_transitions n c d [] rs text h = (h.0, h.1)
+traced_transitions n c d (e ∷ es) (r ∷ rs) text h = (h.0, h.2, traced_transitions (n + 1) h.0 d es rs h.1 h.4)
+traced_transitions n c d (e ∷ es) [] text h = absurd h
 
 -- ---- the events so far
 
 -- the events are done, and their lines are written but for what is pending
-pub record TracedSoFar (c : Content) (es : List Event) (d : Content) (pending : List ℕ) (out out' : Option (List ℕ)) : Type 0 where
+pub record TracedSoFar (c : MachineState) (es : List Event) (d : MachineState) (pending : List ℕ) (out out' : Option (List ℕ)) : Type 0 where
   pub reports : List Report
   pub text : List ℕ
   pub traced : AreTraced 1 c es d reports text
   pub held : TakesAllBut pending out out' text
 
-pub trace_begun : (c : Content) (pending : List ℕ) (out : Option (List ℕ)) → pending ≡ [] → TracedSoFar c [] c pending out out
+pub trace_begun : (c : MachineState) (pending : List ℕ) (out : Option (List ℕ)) → pending ≡ [] → TracedSoFar c [] c pending out out
 trace_begun c pending out empty = record { reports = []; text = []; traced = (refl, refl, refl); held = ([], sym empty, Appends-nil out) }
 
 -- the lines with one more
-line_more : (c d after : Content) (es : List Event) (n : ℕ) (e : Event) (r : Report) (reports : List Report) (text : List ℕ) → n ≡ length es + 1 → AreTraced 1 c es d reports text → IsTurn d e (after, r) →
+line_more : (c d after : MachineState) (es : List Event) (n : ℕ) (e : Event) (r : Report) (reports : List Report) (text : List ℕ) → n ≡ length es + 1 → AreTraced 1 c es d reports text → IsTransition d e (after, r) →
     AreTraced 1 c (es ++ e ∷ []) after (reports ++ r ∷ []) (text ++ line_of n e r d after)
-line_more c d after es n e r reports text is traced turn =
+line_more c d after es n e r reports text is traced transition =
     let number : 1 + length es ≡ n = omega (arith, is) in
-    subst (λ m. AreTraced 1 c (es ++ e ∷ []) after (reports ++ r ∷ []) (text ++ line_of m e r d after)) number (traced_more 1 c d after es reports text e r traced turn)
+    subst (λ m. AreTraced 1 c (es ++ e ∷ []) after (reports ++ r ∷ []) (text ++ line_of m e r d after)) number (traced_more 1 c d after es reports text e r traced transition)
 
-pub trace_step : (c d after : Content) (es : List Event) (n : ℕ) (e : Event) (r : Report) (pending more : List ℕ) (out so_far new : Option (List ℕ)) → n ≡ length es + 1 → TracedSoFar c es d pending out so_far →
-    IsTurn d e (after, r) → TakesAllBut more so_far new (pending ++ line_of n e r d after) → TracedSoFar c (es ++ e ∷ []) after more out new
-trace_step c d after es n e r pending more out so_far new is h turn wrote =
+pub trace_step : (c d after : MachineState) (es : List Event) (n : ℕ) (e : Event) (r : Report) (pending more : List ℕ) (out so_far new : Option (List ℕ)) → n ≡ length es + 1 → TracedSoFar c es d pending out so_far →
+    IsTransition d e (after, r) → TakesAllBut more so_far new (pending ++ line_of n e r d after) → TracedSoFar c (es ++ e ∷ []) after more out new
+trace_step c d after es n e r pending more out so_far new is h transition wrote =
     let line = line_of n e r d after in
     record {
       reports = h.reports ++ r ∷ [];
       text = h.text ++ line;
-      traced = line_more c d after es n e r h.reports h.text is h.traced turn;
+      traced = line_more c d after es n e r h.reports h.text is h.traced transition;
       held = takes_more out so_far new h.text line pending more h.held wrote;
     }
 
 -- ---- all events are done
 
-pub all_traced : (c d : Content) (es : List Event) (pending : List ℕ) (out so_far new : Option (List ℕ)) → TracedSoFar c es d pending out so_far → Appends so_far new (pending ++ 10 ∷ []) →
+pub all_traced : (c d : MachineState) (es : List Event) (pending : List ℕ) (out so_far new : Option (List ℕ)) → TracedSoFar c es d pending out so_far → Appends so_far new (pending ++ 10 ∷ []) →
     (reports : List Report) × IsTraced c es d reports out new
 all_traced c d es pending out so_far new h ended =
-    let turns = traced_turns 1 c d es h.reports h.text h.traced in (
+    let transitions = traced_transitions 1 c d es h.reports h.text h.traced in (
       h.reports,
       record {
         text = h.text;
         lines = h.traced;
         appended = takes_rest out so_far new h.text pending (10 ∷ []) h.held ended;
-        turns = turns;
-        each = turns_length c d es h.reports turns;
-        follows = turns_follow c d es h.reports turns;
+        transitions = transitions;
+        each = transitions_length c d es h.reports transitions;
+        follows = transitions_follow c d es h.reports transitions;
       },
     )
 
 -- a beginning of what was pending, and of the empty line after it, is written
-pub end_cut : (c d : Content) (es : List Event) (pending : List ℕ) (out so_far new : Option (List ℕ)) → TracedSoFar c es d pending out so_far → AppendsBeginning so_far new (pending ++ 10 ∷ []) → IsTracedInPart c es d out new
+pub end_cut : (c d : MachineState) (es : List Event) (pending : List ℕ) (out so_far new : Option (List ℕ)) → TracedSoFar c es d pending out so_far → AppendsBeginning so_far new (pending ++ 10 ∷ []) → IsTracedInPart c es d out new
 end_cut c d es pending out so_far new h begun =
     let lines : AreTraced 1 c (take (length es) es) d h.reports h.text = subst (λ l. AreTraced 1 c l d h.reports h.text) (sym (take_all (length es) es (omega arith))) h.traced in
     record {
       count = length es;
       within = omega arith;
       reports = h.reports;
-      turns = traced_turns 1 c d (take (length es) es) h.reports h.text lines;
+      transitions = traced_transitions 1 c d (take (length es) es) h.reports h.text lines;
       text = h.text;
       lines = lines;
       begun = inr (refl, begins_rest out so_far new h.text pending (10 ∷ []) h.held begun);
     }
 
-pub same_so_far : (c d : Content) (es : List Event) (pending : List ℕ) (out new : Option (List ℕ)) → TracedSoFar c es d pending out new → SameProgram c d
-same_so_far c d es pending out new h = turns_program c d es h.reports (traced_turns 1 c d es h.reports h.text h.traced)
+pub same_so_far : (c d : MachineState) (es : List Event) (pending : List ℕ) (out new : Option (List ℕ)) → TracedSoFar c es d pending out new → SameProgram c d
+same_so_far c d es pending out new h = transitions_program c d es h.reports (traced_transitions 1 c d es h.reports h.text h.traced)
 
 -- ---- not all events are done
 
-pub nothing_traced : (c : Content) (es : List Event) (out : Option (List ℕ)) → IsTracedInPart c es c out out
-nothing_traced c es out = record { count = 0; within = omega arith; reports = []; turns = (refl, refl); text = []; lines = (refl, refl, refl); begun = inl (begins_nothing out []) }
+pub nothing_traced : (c : MachineState) (es : List Event) (out : Option (List ℕ)) → IsTracedInPart c es c out out
+nothing_traced c es out = record { count = 0; within = omega arith; reports = []; transitions = (refl, refl); text = []; lines = (refl, refl, refl); begun = inl (begins_nothing out []) }
 
 -- no more events are done, and a beginning of what was pending is written
-pub stopped_before : (c d after : Content) (all es rest : List Event) (pending : List ℕ) (out so_far new : Option (List ℕ)) → all ≡ es ++ rest → TracedSoFar c es d pending out so_far → after ≡ d →
+pub stopped_before : (c d after : MachineState) (all es rest : List Event) (pending : List ℕ) (out so_far new : Option (List ℕ)) → all ≡ es ++ rest → TracedSoFar c es d pending out so_far → after ≡ d →
     AppendsBeginning so_far new pending → IsTracedInPart c all after out new
 stopped_before c d after all es rest pending out so_far new split h same begun =
     let front : es ≡ take (length es) all = sym (ap (take (length es)) split ∙ take-append_seam es rest) in
@@ -172,14 +172,14 @@ stopped_before c d after all es rest pending out so_far new split h same begun =
       count = length es;
       within = omega (arith, ap length split, length-append es rest);
       reports = h.reports;
-      turns = traced_turns 1 c after (take (length es) all) h.reports h.text lines;
+      transitions = traced_transitions 1 c after (take (length es) all) h.reports h.text lines;
       text = h.text;
       lines = lines;
       begun = inl (begins_pending out so_far new h.text pending h.held begun);
     }
 
 -- the next event isn't done, or its line is not wholly written
-pub stopped_at : (c d after : Content) (all es : List Event) (n : ℕ) (e : Event) (rest : List Event) (pending : List ℕ) (out so_far new : Option (List ℕ)) → all ≡ es ++ e ∷ rest → n ≡ length es + 1 →
+pub stopped_at : (c d after : MachineState) (all es : List Event) (n : ℕ) (e : Event) (rest : List Event) (pending : List ℕ) (out so_far new : Option (List ℕ)) → all ≡ es ++ e ∷ rest → n ≡ length es + 1 →
     TracedSoFar c es d pending out so_far → IsEventCut n e d after pending so_far new → IsTracedInPart c all after out new
 stopped_at c d after all es n e rest pending out so_far new split is h (inl kept) =
     stopped_before c d after all es (e ∷ rest) pending out so_far new split h kept.0 kept.1
@@ -193,29 +193,29 @@ stopped_at c d after all es n e rest pending out so_far new split is h (inr done
       count = length (es ++ e ∷ []);
       within = omega (arith, ap length whole, length-append (es ++ e ∷ []) rest);
       reports = h.reports ++ r ∷ [];
-      turns = traced_turns 1 c after (take (length (es ++ e ∷ [])) all) (h.reports ++ r ∷ []) (h.text ++ line) lines;
+      transitions = traced_transitions 1 c after (take (length (es ++ e ∷ [])) all) (h.reports ++ r ∷ []) (h.text ++ line) lines;
       text = h.text ++ line;
       lines = lines;
       begun = inl (begins_rest out so_far new h.text pending line h.held done.2);
     }
 
 -- memory runs out for an event, or for its line, and a beginning of what was pending is written
-pub event_cut : (n : ℕ) (e : Event) (c after : Content) (pending : List ℕ) (out new : Option (List ℕ)) → (after ≡ c) ⊎ ((r : Report) × IsTurn c e (after, r)) → AppendsBeginning out new pending → IsEventCut n e c after pending out new
+pub event_cut : (n : ℕ) (e : Event) (c after : MachineState) (pending : List ℕ) (out new : Option (List ℕ)) → (after ≡ c) ⊎ ((r : Report) × IsTransition c e (after, r)) → AppendsBeginning out new pending → IsEventCut n e c after pending out new
 event_cut n e c after pending out new (inl same) k = inl (same, k)
 event_cut n e c after pending out new (inr done) k = inr (done.0, done.1, begins_first out new pending (line_of n e done.0 c after) k)
 
 -- ---- item by item
 
-module _ (c d : Content) (items : List Item) (i : ℕ) (pending : List ℕ) (out out' : Option (List ℕ)) where
+module _ (c d : MachineState) (items : List Item) (i : ℕ) (pending : List ℕ) (out out' : Option (List ℕ)) where
   -- none of an item's yet
   pub traced_none : (e : Event) → TracedSoFar c (events_of (take i items)) d pending out out' → TracedSoFar c (so_far items i e 0) d pending out out'
   traced_none e h = subst (λ es. TracedSoFar c es d pending out out') (sym (so_far_none items i e)) h
 
   -- one more of them
-  pub traced_time : (e : Event) (k n : ℕ) (r : Report) (after : Content) (more : List ℕ) (new : Option (List ℕ)) → n ≡ length (so_far items i e k) + 1 → TracedSoFar c (so_far items i e k) d pending out out' →
-      IsTurn d e (after, r) → TakesAllBut more out' new (pending ++ line_of n e r d after) → TracedSoFar c (so_far items i e (k + 1)) after more out new
-  traced_time e k n r after more new is h turn wrote =
-      subst (λ es. TracedSoFar c es after more out new) (so_far_more items i e k) (trace_step c d after (so_far items i e k) n e r pending more out out' new is h turn wrote)
+  pub traced_time : (e : Event) (k n : ℕ) (r : Report) (after : MachineState) (more : List ℕ) (new : Option (List ℕ)) → n ≡ length (so_far items i e k) + 1 → TracedSoFar c (so_far items i e k) d pending out out' →
+      IsTransition d e (after, r) → TakesAllBut more out' new (pending ++ line_of n e r d after) → TracedSoFar c (so_far items i e (k + 1)) after more out new
+  traced_time e k n r after more new is h transition wrote =
+      subst (λ es. TracedSoFar c es after more out new) (so_far_more items i e k) (trace_step c d after (so_far items i e k) n e r pending more out out' new is h transition wrote)
 
   -- all of them
   pub traced_item : (x : Item) (k : ℕ) → i < length items → (get_or items i x).count ≤ k → k ≤ (get_or items i x).count → TracedSoFar c (so_far items i (get_or items i x).event k) d pending out out' →
@@ -225,7 +225,7 @@ module _ (c d : Content) (items : List Item) (i : ℕ) (pending : List ℕ) (out
       subst (λ es. TracedSoFar c es d pending out out') (ap (λ m. so_far items i (get_or items i x).event m) all ∙ so_far_all items i x below) h
 
   -- the item's next event isn't done, or its line is not wholly written
-  pub item_cut : (x : Item) (k n : ℕ) (after : Content) (new : Option (List ℕ)) → i < length items → k < (get_or items i x).count → n ≡ length (so_far items i (get_or items i x).event k) + 1 →
+  pub item_cut : (x : Item) (k n : ℕ) (after : MachineState) (new : Option (List ℕ)) → i < length items → k < (get_or items i x).count → n ≡ length (so_far items i (get_or items i x).event k) + 1 →
       TracedSoFar c (so_far items i (get_or items i x).event k) d pending out out' → IsEventCut n (get_or items i x).event d after pending out' new → IsTracedInPart c (events_of items) after out new
   item_cut x k n after new below few is h cut =
       let e = (get_or items i x).event in

@@ -16,7 +16,7 @@ use Rattle.cil_model.specs.ExceptionNames.{name_of as fault_text}
 use Rattle.object_memory.specs.Cells.{used_words}
 use Rattle.object_memory.specs.Objects.{used_space}
 use Rattle.interleaving_core.specs.simulation.loaded_program.AllMethods.{all_methods}
-use Rattle.interleaving_core.specs.simulation.MachineContents.{Content}
+use Rattle.interleaving_core.specs.simulation.MachineStates.{MachineState}
 use Rattle.interleaving_core.specs.Positions.{position_at}
 use Rattle.interleaving_core.specs.declared.positions.Position.{Position}
 use Rattle.interleaving_core.specs.Views.{phase_at}
@@ -59,9 +59,9 @@ abbrev pub line_text : Option Line → List ℕ
 line_text None = []
 line_text (Some line) = codes "  " ++ instruction_text line.instruction
 
--- a place of a method that is known with its class
-abbrev pub place_text : ClassName × Method → ℕ → List ℕ
-place_text found n = class_text found.0 ++ codes "::" ++ method_name_text found.1.name ++ codes "+" ++ decimal n ++ line_text (slice_get (lines_of found.1) n)
+-- a pc in a method that is known with its class
+abbrev pub position_text : ClassName × Method → ℕ → List ℕ
+position_text found n = class_text found.0 ++ codes "::" ++ method_name_text found.1.name ++ codes "+" ++ decimal n ++ line_text (slice_get (lines_of found.1) n)
 
 -- the thread of an event; none of one of the collector
 abbrev pub thread_of : Event → Option ℕ
@@ -70,19 +70,19 @@ thread_of (Ack t) = Some t
 thread_of Gc = None
 
 -- where the thread of an event is
-abbrev pub position_for : Content → Event → Option Position
+abbrev pub position_for : MachineState → Event → Option Position
 position_for c e = option_and_then (position_at c.threads) (thread_of e)
 
--- the method and the place there
+-- the method and the pc of a position
 abbrev pub found_at : Tree → Position → Option ((ClassName × Method) × ℕ)
-found_at tree p = option_map (λ (found : ClassName × Method). (found, p.place)) (slice_get (all_methods tree) p.method)
+found_at tree p = option_map (λ (found : ClassName × Method). (found, p.pc)) (slice_get (all_methods tree) p.method)
 
 -- ---- columns
 
--- the instruction at a place, or a hyphen
+-- the instruction at a pc, or a hyphen
 abbrev pub instruction_column : Option ((ClassName × Method) × ℕ) → List ℕ
 instruction_column None = codes "-"
-instruction_column (Some at) = place_text at.0 at.1
+instruction_column (Some at) = position_text at.0 at.1
 
 -- how many frames a thread has, and how high the stack of the one that runs is, or hyphens
 abbrev pub size_columns : Option Position → List ℕ
@@ -99,7 +99,7 @@ abbrev pub heap_columns : HeapColumns → List ℕ
 heap_columns h = decimal h.old_words ++ 9 ∷ decimal h.new_words ++ 9 ∷ phase_text h.posted ++ 9 ∷ own_column h.own
 
 -- their values for a machine state and the thread of an event
-abbrev pub heap_for : Content → Event → HeapColumns
+abbrev pub heap_for : MachineState → Event → HeapColumns
 heap_for c e = record {
   old_words = used_space c.objects;
   new_words = used_words c.objects.spaces.new.cells;
@@ -117,6 +117,6 @@ abbrev pub columns_text : EventColumns → Option ((ClassName × Method) × ℕ)
 columns_text event before after heap = event_columns event ++ 9 ∷ instruction_column before ++ 9 ∷ size_columns after ++ 9 ∷ heap_columns heap ++ 10 ∷ []
 
 -- the line of an event from one machine state to the next
-abbrev pub line_of : ℕ → Event → Report → Content → Content → List ℕ
+abbrev pub line_of : ℕ → Event → Report → MachineState → MachineState → List ℕ
 line_of n e r before after =
     columns_text (record { number = n; event = e; report = r }) (option_and_then (found_at before.tree) (position_for before e)) (position_for after e) (heap_for after e)

@@ -3,7 +3,7 @@ use Rattle.std.specs.Prelude.{◌≡◌, ◌==◌, ◌++◌, ℕ, Bool, true, fa
 use Rattle.std.specs.List.{join_with_byte}
 use Rattle.cil_model.specs.declared.events.Event.{Event}
 use Rattle.cil_model.specs.declared.reports.Report.{Report}
-use Rattle.interleaving_core.specs.simulation.MachineContents.{Content}
+use Rattle.interleaving_core.specs.simulation.MachineStates.{MachineState}
 use Rattle.instruction_text.specs.Characters.{IsPrintable}
 use Rattle.event_trace.specs.Columns.{line_of}
 use Rattle.event_trace.specs.Traces.{AreTraced}
@@ -15,7 +15,7 @@ pub record IsLineOf (columns : List (List ℕ)) (line : List ℕ) : Type 0 where
 
 -- each line has ten columns of printable ASCII
 abbrev pub LinesHaveColumns : Type 0
-LinesHaveColumns = (n : ℕ) (e : Event) (r : Report) (before after : Content) → (columns : List (List ℕ)) × (length columns ≡ 10) × IsLineOf columns (line_of n e r before after)
+LinesHaveColumns = (n : ℕ) (e : Event) (r : Report) (before after : MachineState) → (columns : List (List ℕ)) × (length columns ≡ 10) × IsLineOf columns (line_of n e r before after)
 
 -- the bytes before the first empty line, where the list begins a line, or continues one that has bytes already
 abbrev pub before_empty_line : Bool → List ℕ → List ℕ
@@ -26,5 +26,5 @@ before_empty_line begins (x ∷ bytes) =
 
 -- the lines of events stand before the first empty line, whatever follows it
 abbrev pub LinesStandBefore : Type 0
-LinesStandBefore = (n : ℕ) (old new : Content) (events : List Event) (reports : List Report) (text printed : List ℕ) → AreTraced n old events new reports text →
+LinesStandBefore = (n : ℕ) (old new : MachineState) (events : List Event) (reports : List Report) (text printed : List ℕ) → AreTraced n old events new reports text →
     before_empty_line true (text ++ 10 ∷ printed) ≡ text

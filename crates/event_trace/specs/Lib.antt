@@ -1,5 +1,5 @@
 pub use Rattle.interleaving_core.specs as interleaving_core
-pub mod Places
+pub mod MethodPositions
 pub mod Columns
 pub mod Lines
 pub mod Pieces

@@ -6,7 +6,7 @@ use Rattle.cil_model.specs.declared.trees.Method.{Method}
 use Rattle.cil_model.specs.declared.types.ClassName.{ClassName}
 use Rattle.interleaving_core.specs.simulation.resolved_code.Numbered.{class_name}
 use Rattle.interleaving_core.specs.simulation.threads_monitors.Threads.{is_live, is_live_at}
-use Rattle.interleaving_core.specs.simulation.MachineContents.{Content}
+use Rattle.interleaving_core.specs.simulation.MachineStates.{MachineState}
 use Rattle.interleaving_core.specs.Positions.{position_at}
 use Rattle.interleaving_core.specs.Waits.{wait_at}
 use Rattle.interleaving_core.specs.declared.positions.Position.{Position}
@@ -14,7 +14,7 @@ use Rattle.interleaving_core.specs.declared.waits.Wait.{Wait}
 use Rattle.interleaving_core.specs.declared.waits.Wait.TheVariants.{Monitor, Join}
 use Rattle.instruction_text.specs.Texts.{class_text}
 use Rattle.event_trace.specs.Columns.{found_at, instruction_column}
-use Rattle.event_trace.specs.Places.{owner_name}
+use Rattle.event_trace.specs.MethodPositions.{owner_name}
 use Rattle.event_trace.specs.Rounds.{is_in}
 use Rattle.event_trace.specs.declared.texts.AwaitedText.{AwaitedText}
 use Rattle.event_trace.specs.declared.texts.AwaitedText.TheVariants.{Monitor as MonitorText, End as EndText}
@@ -43,7 +43,7 @@ awaited_text (MonitorText object owner) = monitor_text (option_map owner_name ob
 awaited_text (EndText thread) = end_text thread
 
 -- the same, of a wait
-abbrev pub wait_text : Content → Wait → List ℕ
+abbrev pub wait_text : MachineState → Wait → List ℕ
 wait_text c (Monitor class owner) = monitor_text (option_and_then (class_name c.tree) class) owner (is_live_at c.threads owner)
 wait_text c (Join thread) = end_text thread
 
@@ -53,11 +53,11 @@ thread_line t at None = codes "thread " ++ decimal t ++ codes " is at " ++ instr
 thread_line t at (Some awaited) = codes "thread " ++ decimal t ++ codes " is at " ++ instruction_column at ++ codes ", and waits for " ++ awaited ++ 10 ∷ []
 
 -- the line of a live thread; none of another
-abbrev pub thread_lines : Content → ℕ → List ℕ
+abbrev pub thread_lines : MachineState → ℕ → List ℕ
 thread_lines c t = option_map_or (λ (p : Position). thread_line t (found_at c.tree p) (option_map (wait_text c) (wait_at c t))) (position_at c.threads t) []
 
 -- those of the threads below a number
-abbrev pub lines_below : Content → ℕ → List ℕ
+abbrev pub lines_below : MachineState → ℕ → List ℕ
 lines_below c zero = []
 lines_below c (suc n) = lines_below c n ++ thread_lines c n
 
@@ -84,12 +84,12 @@ deadlock_word true = codes "deadlock: threads "
 deadlock_word false = codes "partial deadlock: threads "
 
 -- the line of the deadlocked threads; none where no thread is
-abbrev pub deadlock_line : Content → List Bool → List ℕ
+abbrev pub deadlock_line : MachineState → List Bool → List ℕ
 deadlock_line c set =
     if count_below set (length set) == 0
     then []
     else deadlock_word (count_below set (length set) == count_by is_live c.threads) ++ numbers_below set (length set) ++ 10 ∷ []
 
--- each live thread's place and what it waits for, and then the deadlocked threads
-abbrev pub threads_text : Content → List Bool → List ℕ
+-- each live thread's position and what it waits for, and then the deadlocked threads
+abbrev pub threads_text : MachineState → List Bool → List ℕ
 threads_text c set = lines_below c (length c.threads) ++ deadlock_line c set

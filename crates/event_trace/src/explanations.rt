@@ -4,12 +4,12 @@ ghost use Rattle.std.specs.Prelude.{◌≡◌, ◌++◌, Bool, IfOk, List, OnOk,
 ghost use Rattle.interleaving_core.specs.simulation.resolved_code.Numbered.{class_name};
 ghost use Rattle.name_tables.specs.BuiltInTable.{built_in_entry};
 ghost use Rattle.cil_model.specs.Declarations.{built_ins};
-ghost use Rattle.event_trace.specs.Places.{ArePlacesOf, owner_name};
+ghost use Rattle.event_trace.specs.MethodPositions.{ArePositionsOf, owner_name};
 ghost use Rattle.interleaving_core.specs.Waits.{wait_at};
 ghost use Rattle.event_trace.specs.Deadlocks.{IsDeadlockOf};
 ghost use Rattle.event_trace.specs.Texts.{awaited_text, count_below, deadlock_line, lines_below, numbers_below, separator, thread_lines, threads_text, wait_text};
 
-use crate::method_places::MethodPlaces;
+use crate::method_positions::MethodPositions;
 use crate::owned_methods::Owner;
 use crate::texts::{AwaitedText, ObjectText, OwnerText, ThreadLine};
 use crate::tracing::instruction_at;
@@ -48,7 +48,11 @@ fn object_of<'a>(
 }
 
 /// What a thread of a machine waits for, in words.
-fn awaited<'a>(machine: &'a Machine, classes: &'a [BuiltInClass], wait: Wait) -> AwaitedText<'a>
+fn wait_text_of<'a>(
+    machine: &'a Machine,
+    classes: &'a [BuiltInClass],
+    wait: Wait,
+) -> AwaitedText<'a>
     requires { map built_in_entry classes.now ≡ built_ins }
     ensures { awaited_text result ≡ wait_text machine.now wait }
 {
@@ -75,7 +79,7 @@ pub fn awaited_by<'a>(
 {
     match machine.wait_of(thread) {
         None => None,
-        Some(wait) => Some(awaited(machine, classes, wait)),
+        Some(wait) => Some(wait_text_of(machine, classes, wait)),
     }
 }
 
@@ -83,11 +87,11 @@ pub fn awaited_by<'a>(
 fn add_thread(
     text: &mut String,
     machine: &Machine,
-    methods: &MethodPlaces,
+    methods: &MethodPositions,
     classes: &[BuiltInClass],
     thread: u8,
 ) -> Result<(), NoMemory>
-    requires places { ArePlacesOf machine.now.tree methods.now }
+    requires positions { ArePositionsOf machine.now.tree methods.now }
     requires classes { map built_in_entry classes.now ≡ built_ins }
     ensures { OnOk result (string_bytes text.new ≡ string_bytes text.old ++ thread_lines machine.now thread) }
 {
@@ -107,7 +111,7 @@ fn add_thread(
 fn add_threads(alloc: Global, text: &mut String, machine: &Machine) -> Result<(), NoMemory>
     ensures { OnOk result (string_bytes text.new ≡ string_bytes text.old ++ lines_below machine.now (length machine.now.threads)) }
 {
-    let methods = MethodPlaces::new(alloc, machine.tree())?;
+    let methods = MethodPositions::new(alloc, machine.tree())?;
     let classes = BuiltInClass::all(alloc)?;
     for thread in 0..machine.started() {
         add_thread(text, machine, &methods, classes.as_slice(), thread as u8)?;
@@ -166,7 +170,7 @@ pub fn add_deadlock(
     Ok(())
 }
 
-/// Reports each live thread's place, by its method and its instruction as a trace has them, and what it waits for where its next step is
+/// Reports each live thread's position, by its method and its instruction as a trace has them, and what it waits for where its next step is
 /// blocked; and then the threads that are deadlocked, if any are. The machine does nothing. The text has whole lines of printable ASCII,
 /// and is empty where no thread is live:
 ///

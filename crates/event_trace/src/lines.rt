@@ -1,7 +1,7 @@
 //! The line of an event.
 
 use crate::columns::{EventColumns, HeapColumns, SizeColumns};
-use crate::owned_methods::InstructionPlace;
+use crate::owned_methods::InstructionPosition;
 use interleaving_core::Position;
 use std::fmt;
 use std::fmt::Display;
@@ -11,7 +11,7 @@ use std::fmt::Display;
 pub(crate) struct TraceLine<'a> {
     pub(crate) event: EventColumns,
     /// Where the event's thread was before it.
-    pub(crate) before: Option<InstructionPlace<'a>>,
+    pub(crate) before: Option<InstructionPosition<'a>>,
     /// Where it is after it.
     pub(crate) after: Option<Position>,
     /// The heap and the phases after it.
@@ -34,16 +34,16 @@ impl<'a> fmt::Display for TraceLine<'a> {
     }
 }
 
-/// An instruction with its place, or a hyphen where there is none.
+/// An instruction with its pc, or a hyphen where there is none.
 #[derive(Clone, Copy)]
-pub struct InstructionColumn<'a>(pub Option<InstructionPlace<'a>>);
+pub struct InstructionColumn<'a>(pub Option<InstructionPosition<'a>>);
 
 impl<'a> fmt::Display for InstructionColumn<'a> {
     ghost use Rattle.std.specs.Prelude.{Some, option_map};
     ghost use Rattle.event_trace.specs.Columns.{instruction_column};
-    ghost use Rattle.event_trace.specs.Lines.{place_of};
+    ghost use Rattle.event_trace.specs.Lines.{method_and_pc};
 
-    ghost output = { λ column. Some (instruction_column (option_map place_of column.0)) };
+    ghost output = { λ column. Some (instruction_column (option_map method_and_pc column.0)) };
 
     fn fmt<W: fmt::Write>(&self, f: &mut fmt::Formatter<W>) -> fmt::Result {
         match &self.0 {

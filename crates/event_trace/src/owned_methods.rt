@@ -22,7 +22,7 @@ pub enum Owner<'a> {
 impl<'a> fmt::Display for Owner<'a> {
     ghost use Rattle.std.specs.Prelude.{Some};
     ghost use Rattle.instruction_text.specs.Texts.{class_text};
-    ghost use Rattle.event_trace.specs.Places.{owner_name};
+    ghost use Rattle.event_trace.specs.MethodPositions.{owner_name};
 
     ghost output = { λ owner. Some (class_text (owner_name owner)) };
 
@@ -41,26 +41,26 @@ pub struct OwnedMethod<'a> {
     pub method: &'a Method,
 }
 
-/// An instruction of a method, by its place in the method's code.
+/// An instruction of a method, by its pc in the method's code.
 #[derive(Clone, Copy)]
-pub struct InstructionPlace<'a> {
+pub struct InstructionPosition<'a> {
     pub found: OwnedMethod<'a>,
-    pub place: u32,
+    pub pc: u32,
 }
 
 /// `Class::Method+N  instruction`.
-impl<'a> fmt::Display for InstructionPlace<'a> {
+impl<'a> fmt::Display for InstructionPosition<'a> {
     ghost use Rattle.std.specs.Prelude.{Some};
-    ghost use Rattle.event_trace.specs.Places.{owned};
-    ghost use Rattle.event_trace.specs.Columns.{place_text};
+    ghost use Rattle.event_trace.specs.MethodPositions.{class_and_method};
+    ghost use Rattle.event_trace.specs.Columns.{position_text};
 
-    ghost output = { λ at. Some (place_text (owned at.found) at.place) };
+    ghost output = { λ at. Some (position_text (class_and_method at.found) at.pc) };
 
     fn fmt<W: fmt::Write>(&self, f: &mut fmt::Formatter<W>) -> fmt::Result {
         let OwnedMethod { owner, method } = self.found;
         let name = MethodNameText(&method.name);
-        let line = LineText(line_at(method, self.place as usize));
-        write!(f, "{owner}::{name}+{}{line}", self.place)
+        let line = LineText(line_at(method, self.pc as usize));
+        write!(f, "{owner}::{name}+{}{line}", self.pc)
     }
 }
 
@@ -82,9 +82,9 @@ impl<'a> fmt::Display for LineText<'a> {
     }
 }
 
-/// The line at a place of a method's code. None where there is none.
-fn line_at(method: &Method, place: usize) -> Option<&Line>
-    ensures { option_map (λ l. l.now) result ≡ slice_get (lines_of method.now) place }
+/// The line at a pc of a method's code. None where there is none.
+fn line_at(method: &Method, pc: usize) -> Option<&Line>
+    ensures { option_map (λ l. l.now) result ≡ slice_get (lines_of method.now) pc }
 {
-    lines_of(method).get(place)
+    lines_of(method).get(pc)
 }

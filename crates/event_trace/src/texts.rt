@@ -1,7 +1,7 @@
 //! The texts of one thread's report.
 
 use crate::lines::InstructionColumn;
-use crate::owned_methods::{InstructionPlace, Owner};
+use crate::owned_methods::{InstructionPosition, Owner};
 use std::fmt;
 
 /// An object, by its class. None of an array.
@@ -10,7 +10,7 @@ pub struct ObjectText<'a>(pub Option<Owner<'a>>);
 
 impl<'a> fmt::Display for ObjectText<'a> {
     ghost use Rattle.std.specs.Prelude.{Some, option_map};
-    ghost use Rattle.event_trace.specs.Places.{owner_name};
+    ghost use Rattle.event_trace.specs.MethodPositions.{owner_name};
     ghost use Rattle.event_trace.specs.Texts.{object_text};
 
     ghost output = { λ text. Some (object_text (option_map owner_name text.0)) };
@@ -84,16 +84,16 @@ impl<'a> fmt::Display for AwaitedText<'a> {
 #[derive(Clone, Copy)]
 pub(crate) struct ThreadLine<'a> {
     pub(crate) thread: u8,
-    pub(crate) at: Option<InstructionPlace<'a>>,
+    pub(crate) at: Option<InstructionPosition<'a>>,
     pub(crate) awaited: Option<AwaitedText<'a>>,
 }
 
 impl<'a> fmt::Display for ThreadLine<'a> {
     ghost use Rattle.std.specs.Prelude.{Some, option_map};
-    ghost use Rattle.event_trace.specs.Lines.{place_of};
+    ghost use Rattle.event_trace.specs.Lines.{method_and_pc};
     ghost use Rattle.event_trace.specs.Texts.{awaited_text, thread_line};
 
-    ghost output = { λ line. Some (thread_line line.thread (option_map place_of line.at) (option_map awaited_text line.awaited)) };
+    ghost output = { λ line. Some (thread_line line.thread (option_map method_and_pc line.at) (option_map awaited_text line.awaited)) };
 
     fn fmt<W: fmt::Write>(&self, f: &mut fmt::Formatter<W>) -> fmt::Result {
         let at = InstructionColumn(self.at);

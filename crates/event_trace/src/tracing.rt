@@ -3,21 +3,21 @@
 ghost use Rattle.std.specs.Prelude.{◌≡◌, ◌⊎◌, ◌+◌, ◌++◌, IfErr, IfOk, OnErr, OnOk, List, option_and_then, option_map};
 ghost use Rattle.cil_model.specs.declared.reports.Report.{Report as AnyReport};
 ghost use Rattle.interleaving_core.specs.Views.{phase_at};
-ghost use Rattle.interleaving_core.specs.simulation.Turns.{IsTurn};
+ghost use Rattle.interleaving_core.specs.simulation.Transitions.{IsTransition};
 ghost use Rattle.outputs.specs.Taken.{HasGrown};
 ghost use Rattle.schedule_text.specs.Items.{events_of};
 ghost use Rattle.event_trace.specs.Columns.{found_at, heap_for, line_of, position_for, thread_of};
-ghost use Rattle.event_trace.specs.Lines.{place_of};
+ghost use Rattle.event_trace.specs.Lines.{method_and_pc};
 ghost use Rattle.event_trace.specs.Pieces.{TakesAllBut};
-ghost use Rattle.event_trace.specs.Places.{ArePlacesOf};
+ghost use Rattle.event_trace.specs.MethodPositions.{ArePositionsOf};
 ghost use Rattle.event_trace.specs.Traces.{IsEventCut, IsTraced, IsTracedInPart};
-ghost use Rattle.event_trace.specs.declared.errors.TraceError.TheVariants.{Device as CantWrite, Memory as WantsMemory};
+ghost use Rattle.event_trace.specs.declared.errors.TraceError.TheVariants.{Device as CantWrite, Memory as MemoryRanOut};
 
 use crate::columns::{EventColumns, HeapColumns};
 use crate::errors::TraceError;
 use crate::lines::TraceLine;
-use crate::method_places::MethodPlaces;
-use crate::owned_methods::InstructionPlace;
+use crate::method_positions::MethodPositions;
+use crate::owned_methods::InstructionPosition;
 use crate::pieces::{write_end, write_piece};
 use cil_model::events::Event;
 use cil_model::memory::NoMemory;
@@ -52,7 +52,7 @@ pub fn trace<W: Out>(
     ensures kept { OnOk result ((W.taken out.new).failures ≡ (W.taken out.old).failures) }
     ensures device { IfErr result (λ error. error ≡ CantWrite → HasGrown (W.taken out.old).failures (W.taken out.new).failures) }
 {
-    let methods = MethodPlaces::new(alloc, machine.tree())?;
+    let methods = MethodPositions::new(alloc, machine.tree())?;
     let mut pending = Vec::new(alloc);
     let mut number = 0;
     for item in items {
@@ -69,7 +69,7 @@ pub fn trace<W: Out>(
 /// The number of the next event. `Memory` where no `usize` holds it.
 fn next_number(number: usize) -> Result<usize, TraceError>
     ensures next { IfOk result (λ next. next ≡ number + 1) }
-    ensures memory { IfErr result (λ error. error ≡ WantsMemory) }
+    ensures memory { IfErr result (λ error. error ≡ MemoryRanOut) }
 {
     match number.checked_add(1) {
         Some(next) => Ok(next),
@@ -82,14 +82,14 @@ fn next_number(number: usize) -> Result<usize, TraceError>
 fn trace_event<W: Out>(
     alloc: Global,
     machine: &mut Machine,
-    methods: &MethodPlaces,
+    methods: &MethodPositions,
     number: usize,
     event: Event,
     pending: &mut Vec<u8>,
     out: &mut W,
 ) -> Result<(), TraceError>
-    requires { ArePlacesOf machine.old.tree methods.now }
-    ensures traced { OnOk result ((report : AnyReport) × IsTurn machine.old event (machine.new, report)
+    requires { ArePositionsOf machine.old.tree methods.now }
+    ensures traced { OnOk result ((report : AnyReport) × IsTransition machine.old event (machine.new, report)
         × TakesAllBut pending.new.items (W.taken out.old).contents (W.taken out.new).contents (pending.old.items ++ line_of number event report machine.old machine.new)) }
     ensures same { (machine.new.tree ≡ machine.old.tree) × (machine.new.limits ≡ machine.old.limits) }
     ensures stopped { OnErr result (IsEventCut number event machine.old machine.new pending.old.items (W.taken out.old).contents (W.taken out.new).contents) }
@@ -112,16 +112,16 @@ fn trace_event<W: Out>(
 fn add_event(
     alloc: Global,
     machine: &mut Machine,
-    methods: &MethodPlaces,
+    methods: &MethodPositions,
     number: usize,
     event: Event,
     pending: &mut Vec<u8>,
 ) -> Result<(), NoMemory>
-    requires { ArePlacesOf machine.old.tree methods.now }
-    ensures traced { OnOk result ((report : AnyReport) × IsTurn machine.old event (machine.new, report)
+    requires { ArePositionsOf machine.old.tree methods.now }
+    ensures traced { OnOk result ((report : AnyReport) × IsTransition machine.old event (machine.new, report)
         × (pending.new.items ≡ pending.old.items ++ line_of number event report machine.old machine.new)) }
     ensures same { (machine.new.tree ≡ machine.old.tree) × (machine.new.limits ≡ machine.old.limits) }
-    ensures stopped { OnErr result ((machine.new ≡ machine.old) ⊎ ((report : AnyReport) × IsTurn machine.old event (machine.new, report))) }
+    ensures stopped { OnErr result ((machine.new ≡ machine.old) ⊎ ((report : AnyReport) × IsTransition machine.old event (machine.new, report))) }
     ensures kept { OnErr result (pending.new.items ≡ pending.old.items) }
 {
     let before = position_for(machine, event);
@@ -144,17 +144,17 @@ fn add_event(
 /// The instruction at a position of the program that a machine runs. None where no method has the number, and of no position.
 pub fn instruction_at<'a>(
     machine: &'a Machine,
-    methods: &'a MethodPlaces,
+    methods: &'a MethodPositions,
     position: Option<Position>,
-) -> Option<InstructionPlace<'a>>
-    requires { ArePlacesOf machine.now.tree methods.now }
-    ensures { option_map place_of result ≡ option_and_then (found_at machine.now.tree) position }
+) -> Option<InstructionPosition<'a>>
+    requires { ArePositionsOf machine.now.tree methods.now }
+    ensures { option_map method_and_pc result ≡ option_and_then (found_at machine.now.tree) position }
 {
     let position = position?;
     let found = methods.method(machine.tree(), position.method)?;
-    Some(InstructionPlace {
+    Some(InstructionPosition {
         found,
-        place: position.place,
+        pc: position.pc,
     })
 }
 

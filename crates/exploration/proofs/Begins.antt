@@ -5,35 +5,35 @@ use Rattle.std.proofs.lemmas.Option.{same_Some}
 use Rattle.interleaving_core.specs.simulation.cil_model.declared.limits.Limits.{Limits}
 use Rattle.interleaving_core.specs.simulation.cil_model.declared.memory.NoMemory.{NoMemory}
 use Rattle.interleaving_core.specs.simulation.cil_model.declared.trees.Tree.{Tree}
-use Rattle.interleaving_core.specs.simulation.MachineContents.{Content}
-use Rattle.interleaving_core.specs.simulation.Turns.{opening_content}
+use Rattle.interleaving_core.specs.simulation.MachineStates.{MachineState}
+use Rattle.interleaving_core.specs.simulation.Transitions.{initial_machine_state}
 use Rattle.exploration.specs.Begins.{Begins}
 use Rattle.exploration.proofs.Running.{opened_of}
 
 -- the same program and limits
-pub begins_program : (c first : Content) → Begins c first → (c.tree ≡ first.tree) × (c.limits ≡ first.limits)
+pub begins_program : (c first : MachineState) → Begins c first → (c.tree ≡ first.tree) × (c.limits ≡ first.limits)
 begins_program c first h = let of = opened_of c.tree c.limits first h in (sym of.0, sym of.1)
 
-pub begins_still : (c d first : Content) → (d.tree ≡ c.tree) × (d.limits ≡ c.limits) → Begins c first → Begins d first
-begins_still c d first same h = ap (λ (t : Tree). opening_content t d.limits) same.0 ∙ (ap (λ (l : Limits). opening_content c.tree l) same.1 ∙ h)
+pub begins_still : (c d first : MachineState) → (d.tree ≡ c.tree) × (d.limits ≡ c.limits) → Begins c first → Begins d first
+begins_still c d first same h = ap (λ (t : Tree). initial_machine_state t d.limits) same.0 ∙ (ap (λ (l : Limits). initial_machine_state c.tree l) same.1 ∙ h)
 
 -- what a machine was taken back to
-pub begins_first : (c d first : Content) → opening_content c.tree c.limits ≡ Some d → Begins c first → d ≡ first
+pub begins_first : (c d first : MachineState) → initial_machine_state c.tree c.limits ≡ Some d → Begins c first → d ≡ first
 begins_first c d first opens h = same_Some d first (sym opens ∙ h)
 
-pub first_begins : (c first : Content) → Begins c first → Begins first first
+pub first_begins : (c first : MachineState) → Begins c first → Begins first first
 first_begins c first h = let of = opened_of c.tree c.limits first h in begins_still c first first of h
 
 -- ---- a machine that was brought back to its beginning, or not
 
-module _ (c d first : Content) (h : Begins c first) where
-  pub reopened_is : (r : Result (Unit {0}) NoMemory) → OnOk r (opening_content c.tree c.limits ≡ Some d) → OnOk r (d ≡ first)
+module _ (c d first : MachineState) (h : Begins c first) where
+  pub reopened_is : (r : Result (Unit {0}) NoMemory) → OnOk r (initial_machine_state c.tree c.limits ≡ Some d) → OnOk r (d ≡ first)
   reopened_is (Ok x) opens = begins_first c d first opens h
   reopened_is (Err x) opens = tt
 
-  pub reopened_begins : (r : Result (Unit {0}) NoMemory) → OnOk r (opening_content c.tree c.limits ≡ Some d) → OnErr r (d ≡ c) → Begins d first
-  reopened_begins (Ok x) opens refused = subst (λ (x : Content). Begins x first) (sym (begins_first c d first opens h)) (first_begins c first h)
-  reopened_begins (Err x) opens refused = subst (λ (x : Content). Begins x first) (sym refused) h
+  pub reopened_begins : (r : Result (Unit {0}) NoMemory) → OnOk r (initial_machine_state c.tree c.limits ≡ Some d) → OnErr r (d ≡ c) → Begins d first
+  reopened_begins (Ok x) opens refused = subst (λ (x : MachineState). Begins x first) (sym (begins_first c d first opens h)) (first_begins c first h)
+  reopened_begins (Err x) opens refused = subst (λ (x : MachineState). Begins x first) (sym refused) h
 
 pub on_ok : {T E P Q : Type 0} (r : Result T E) → OnOk r P → (P → Q) → OnOk r Q
 on_ok (Ok x) p f = f p

@@ -9,41 +9,41 @@ use Rattle.interleaving_core.specs.simulation.threads_monitors.Frames.{Frame}
 use Rattle.interleaving_core.specs.simulation.threads_monitors.declared.threads.Thread.{Thread}
 use Rattle.interleaving_core.specs.simulation.Agreement.{Agree}
 use Rattle.interleaving_core.specs.simulation.Lending.{RunsFrame, with_live}
-use Rattle.interleaving_core.specs.simulation.MachineContents.{Content, frame_room}
-use Rattle.interleaving_core.specs.simulation.Runs.{AreTurns}
-use Rattle.interleaving_core.specs.simulation.Turns.{live_thread}
-use Rattle.interleaving_core.proofs.simulation.Threads.LocalInstructions.{local_turns}
+use Rattle.interleaving_core.specs.simulation.MachineStates.{MachineState, frame_room}
+use Rattle.interleaving_core.specs.simulation.Runs.{AreTransitions}
+use Rattle.interleaving_core.specs.simulation.Transitions.{live_thread}
+use Rattle.interleaving_core.proofs.simulation.Threads.LocalInstructions.{local_transitions}
 use Rattle.interleaving_core.specs.Loans.{Begins, IsAtOrigin, IsLent, Lent, RanLocally}
-use Rattle.exploration.specs.Behind.{IsBehind, IsThreadBehind}
+use Rattle.exploration.specs.Lagging.{IsLagging, IsThreadLagging}
 use Rattle.exploration.proofs.Covering.{threads_itself}
 use Rattle.exploration.proofs.Local.{steps_further}
 use Rattle.exploration.proofs.Paths.{IsOneOperation, led_once}
 use Rattle.exploration.proofs.Settling.{thread_itself}
 
 -- one thread of a list is further
-further_at : (tree : Tree) (xs : List Thread) (t : ℕ) (x y : Thread) → slice_get xs t ≡ Some x → IsThreadBehind tree x y → Agree (IsThreadBehind tree) xs (slice_set xs t y)
+further_at : (tree : Tree) (xs : List Thread) (t : ℕ) (x y : Thread) → slice_get xs t ≡ Some x → IsThreadLagging tree x y → Agree (IsThreadLagging tree) xs (slice_set xs t y)
 further_at tree [] t x y is h = tt
-further_at tree (z ∷ zs) zero x y is h = (subst (λ (w : Thread). IsThreadBehind tree w y) (sym (same_Some z x is)) h, threads_itself tree zs)
+further_at tree (z ∷ zs) zero x y is h = (subst (λ (w : Thread). IsThreadLagging tree w y) (sym (same_Some z x is)) h, threads_itself tree zs)
 further_at tree (z ∷ zs) (suc t) x y is h = (thread_itself tree z, further_at tree zs t x y is h)
 
-module _ (c : Content) (t left n : ℕ) (f g : Frame) (at : RunsFrame c t left f) (steps : AreLocalSteps c.tree frame_room n f g) where
-  abbrev after : Content
+module _ (c : MachineState) (t left n : ℕ) (f g : Frame) (at : RunsFrame c t left f) (steps : AreLocalSteps c.tree frame_room n f g) where
+  abbrev after : MachineState
   after = with_live c t (left - n) (frames_over g at.below at.depth frame_room)
 
-  lent_behind : IsBehind c after
-  lent_behind = record {
+  lent_lagging : IsLagging c after
+  lent_lagging = record {
     rest = refl;
     threads = further_at c.tree c.threads t (live_thread left (frames_over f at.below at.depth frame_room)) (live_thread (left - n) (frames_over g at.below at.depth frame_room)) at.there
         (steps_further c.tree frame_room at.below at.depth n f g steps);
   }
 
-  -- what these steps lead to, however it was come to
-  pub ran_locally : IsOneOperation c.tree → n < left → (next : Content) → AreTurns c (replicate n (Step t)) next (replicate n Ran) → IsBehind c next
-  ran_locally one less next turns =
-      subst (IsBehind c) (led_once c one (replicate n (Step t)) after next (replicate n Ran) (replicate n Ran) (local_turns c t left f at n g less steps) turns) lent_behind
+  -- what these steps lead to, by whatever transitions
+  pub ran_locally : IsOneOperation c.tree → n < left → (next : MachineState) → AreTransitions c (replicate n (Step t)) next (replicate n Ran) → IsLagging c next
+  ran_locally one less next transitions =
+      subst (IsLagging c) (led_once c one (replicate n (Step t)) after next (replicate n Ran) (replicate n Ran) (local_transitions c t left f at n g less steps) transitions) lent_lagging
 
 -- a loan that has gone on is at its origin still
-pub still_at_origin : (c : Content) (t : ℕ) {most : ℕ} (l l' : Lent) → Begins c t l → RanLocally l most l' → (l'.tree ≡ c.tree) × IsAtOrigin c l'
+pub still_at_origin : (c : MachineState) (t : ℕ) {most : ℕ} (l l' : Lent) → Begins c t l → RanLocally l most l' → (l'.tree ≡ c.tree) × IsAtOrigin c l'
 still_at_origin c t {most} l l' begins ran =
     let is : l' ≡ record l { frame = l'.frame; done = l.done + ran.count } = ran.ran.is in (
       ap (λ (x : Lent). x.tree) is ∙ begins.tree,
@@ -51,6 +51,6 @@ still_at_origin c t {most} l l' begins ran =
     )
 
 -- and a machine that takes it back is further
-pub taken_back : (c next : Content) (l : Lent) → IsOneOperation c.tree → l.tree ≡ c.tree → IsAtOrigin c l → IsLent l → AreTurns c (replicate l.done (Step l.thread)) next (replicate l.done Ran) → IsBehind c next
-taken_back c next l one tree at lent turns =
-    ran_locally c l.thread l.left l.done l.origin l.frame at (subst (λ (x : Tree). AreLocalSteps x frame_room l.done l.origin l.frame) tree lent.steps) one lent.less next turns
+pub taken_back : (c next : MachineState) (l : Lent) → IsOneOperation c.tree → l.tree ≡ c.tree → IsAtOrigin c l → IsLent l → AreTransitions c (replicate l.done (Step l.thread)) next (replicate l.done Ran) → IsLagging c next
+taken_back c next l one tree at lent transitions =
+    ran_locally c l.thread l.left l.done l.origin l.frame at (subst (λ (x : Tree). AreLocalSteps x frame_room l.done l.origin l.frame) tree lent.steps) one lent.less next transitions

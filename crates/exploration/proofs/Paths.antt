@@ -12,11 +12,11 @@ use Rattle.interleaving_core.specs.simulation.cil_model.declared.trees.Line.{Lin
 use Rattle.interleaving_core.specs.simulation.cil_model.declared.trees.Tree.{Tree}
 use Rattle.interleaving_core.specs.simulation.resolved_code.Resolved.{IsOperation}
 use Rattle.interleaving_core.specs.simulation.resolved_code.declared.operations.Operation.{Operation}
-use Rattle.interleaving_core.specs.simulation.MachineContents.{Content}
-use Rattle.interleaving_core.specs.simulation.Runs.{AreTurns}
-use Rattle.interleaving_core.specs.simulation.Turns.{IsTurn}
+use Rattle.interleaving_core.specs.simulation.MachineStates.{MachineState}
+use Rattle.interleaving_core.specs.simulation.Runs.{AreTransitions}
+use Rattle.interleaving_core.specs.simulation.Transitions.{IsTransition}
 use Rattle.interleaving_core.specs.simulation.threads_monitors.declared.threads.Thread.{Thread}
-use Rattle.interleaving_core.proofs.simulation.Runs.UniqueTurns.{one_turn}
+use Rattle.interleaving_core.proofs.simulation.Runs.UniqueTransitions.{one_transition}
 use Rattle.interleaving_core.proofs.simulation.Threads.StepEffects.{same_program}
 use Rattle.interleaving_core.specs.simulation.threads_monitors.Threads.{end_of, is_live_at}
 use Rattle.interleaving_core.proofs.simulation.cil_model.Lists.{none_is_some}
@@ -26,7 +26,7 @@ use Rattle.exploration.specs.Searches.{IsClosed, IsLedTo, LeadsInto}
 use Rattle.exploration.specs.Shown.{CannotStep, IsTerminal, Outcome, ShowOnly, outcome_shown}
 use Rattle.exploration.specs.declared.findings.Path.{Path}
 
--- the events of a path at a place
+-- the events of a path at an index
 pub events_there : (paths : List Path) (n : ℕ) (p : Path) → slice_get paths n ≡ Some p → slice_get (map events_of paths) n ≡ Some p.events.items
 events_there paths n p is = slice_get-map events_of paths n ∙ ap (option_map events_of) is
 
@@ -35,14 +35,14 @@ abbrev pub IsOneOperation : Tree → Type 0
 IsOneOperation tree = (lines : List Line) (i : Instruction) (o p : Operation) → IsOperation tree lines i o → IsOperation tree lines i p → o ≡ p
 
 -- so a list of events leads to one content
-pub led_once : (c : Content) → IsOneOperation c.tree → (events : List Event) (x y : Content) (rs qs : List Report) → AreTurns c events x rs → AreTurns c events y qs → x ≡ y
+pub led_once : (c : MachineState) → IsOneOperation c.tree → (events : List Event) (x y : MachineState) (rs qs : List Report) → AreTransitions c events x rs → AreTransitions c events y qs → x ≡ y
 led_once c one [] x y rs qs h k = h.0 ∙ sym k.0
 led_once c one (e ∷ es) x y [] qs h k = elim h [ ]
 led_once c one (e ∷ es) x y (r ∷ rs) [] h k = elim k [ ]
 led_once c one (e ∷ es) x y (r ∷ rs) (q ∷ qs) h k =
-    let same : h.0 ≡ k.0 = ap (λ (z : Content × Report). z.0) (one_turn c one e (h.0, r) (k.0, q) h.1 k.1) in
+    let same : h.0 ≡ k.0 = ap (λ (z : MachineState × Report). z.0) (one_transition c one e (h.0, r) (k.0, q) h.1 k.1) in
     let kept = same_program c (h.0, r) e h.1 in
-    led_once h.0 (subst IsOneOperation (sym kept.0) one) es x y rs qs h.2 (subst (λ (d : Content). AreTurns d es y qs) (sym same) k.2)
+    led_once h.0 (subst IsOneOperation (sym kept.0) one) es x y rs qs h.2 (subst (λ (d : MachineState). AreTransitions d es y qs) (sym same) k.2)
 
 -- a number is below another or not
 pub nat_cases : (m n : ℕ) → (m < n) ⊎ (n ≤ m)
@@ -61,40 +61,40 @@ beyond_dead (x ∷ xs) zero beyond = absurd (omega (arith, beyond))
 beyond_dead (x ∷ xs) (suc t) beyond = beyond_dead xs t (omega (arith, beyond))
 
 -- events keep the program
-pub turns_program : (c : Content) (events : List Event) (x : Content) (rs : List Report) → AreTurns c events x rs → x.tree ≡ c.tree
-turns_program c [] x rs h = ap (λ (y : Content). y.tree) h.0
-turns_program c (e ∷ es) x [] h = elim h [ ]
-turns_program c (e ∷ es) x (r ∷ rs) h = turns_program h.0 es x rs h.2 ∙ (same_program c (h.0, r) e h.1).0
+pub transitions_program : (c : MachineState) (events : List Event) (x : MachineState) (rs : List Report) → AreTransitions c events x rs → x.tree ≡ c.tree
+transitions_program c [] x rs h = ap (λ (y : MachineState). y.tree) h.0
+transitions_program c (e ∷ es) x [] h = elim h [ ]
+transitions_program c (e ∷ es) x (r ∷ rs) h = transitions_program h.0 es x rs h.2 ∙ (same_program c (h.0, r) e h.1).0
 
--- ---- what has come to an end
+-- ---- what a list of events leads to
 
-module _ (first : Content) (one : IsOneOperation first.tree) where
-  pub led_together : (events : List Event) (c d : Content) → LeadsTo first events c → LeadsTo first events d → c ≡ d
-  led_together events c d h k = led_once first one events c d h.reports k.reports h.turns k.turns
+module _ (first : MachineState) (one : IsOneOperation first.tree) where
+  pub led_together : (events : List Event) (c d : MachineState) → LeadsTo first events c → LeadsTo first events d → c ≡ d
+  led_together events c d h k = led_once first one events c d h.reports k.reports h.transitions k.transitions
 
   -- a live thread whose step was not blocked
-  pub moves_on : (events : List Event) (c : Content) → LeadsTo first events c → (t : ℕ) → is_live_at c.threads t ≡ true → (next : Content) (r : Report) → IsTurn c (Step t) (next, r) → r ≢ Blocked → CannotStep c t → ⊥
-  moves_on events c led t live next r turn moves = refuted
+  pub moves_on : (events : List Event) (c : MachineState) → LeadsTo first events c → (t : ℕ) → is_live_at c.threads t ≡ true → (next : MachineState) (r : Report) → IsTransition c (Step t) (next, r) → r ≢ Blocked → CannotStep c t → ⊥
+  moves_on events c led t live next r transition moves = refuted
     where
       one_here : IsOneOperation c.tree
-      one_here = subst IsOneOperation (sym (turns_program first events c led.reports led.turns)) one
+      one_here = subst IsOneOperation (sym (transitions_program first events c led.reports led.transitions)) one
 
       refuted : CannotStep c t → ⊥
       refuted (inl dead) = let no : true ≡ false = sym live ∙ dead in absurd (cc no)
-      refuted (inr (after, blocked)) = moves (ap (λ (x : Content × Report). x.1) (one_turn c one_here (Step t) (next, r) (after, Blocked) turn blocked))
+      refuted (inr (after, blocked)) = moves (ap (λ (x : MachineState × Report). x.1) (one_transition c one_here (Step t) (next, r) (after, Blocked) transition blocked))
 
-  pub goes_on_at : (events : List Event) (c : Content) → LeadsTo first events c → (t : ℕ) → is_live_at c.threads t ≡ true → (next : Content) (r : Report) → IsTurn c (Step t) (next, r) → r ≢ Blocked → CanStepAt first events t
-  goes_on_at events c led t live next r turn moves = (c, led, moves_on events c led t live next r turn moves)
+  pub continues_at : (events : List Event) (c : MachineState) → LeadsTo first events c → (t : ℕ) → is_live_at c.threads t ≡ true → (next : MachineState) (r : Report) → IsTransition c (Step t) (next, r) → r ≢ Blocked → CanStepAt first events t
+  continues_at events c led t live next r transition moves = (c, led, moves_on events c led t live next r transition moves)
 
   -- each thread by itself
-  pub ends_at : (events : List Event) (c : Content) → LeadsTo first events c → ((t : ℕ) → t < length c.threads → CannotStepAt first events t) → IsTerminalAt first events
+  pub ends_at : (events : List Event) (c : MachineState) → LeadsTo first events c → ((t : ℕ) → t < length c.threads → CannotStepAt first events t) → IsTerminalAt first events
   ends_at events c led each = (c, led, stuck)
     where
       stuck : IsTerminal c
       stuck t = by_order (nat_cases t (length c.threads))
         where
           by_order : (t < length c.threads) ⊎ (length c.threads ≤ t) → CannotStep c t
-          by_order (inl below) = let h = each t below in subst (λ (x : Content). CannotStep x t) (led_together events h.0 c h.1 led) h.2
+          by_order (inl below) = let h = each t below in subst (λ (x : MachineState). CannotStep x t) (led_together events h.0 c h.1 led) h.2
           by_order (inr beyond) = inl (beyond_dead c.threads t beyond)
 
   pub does_not_end_at : (events : List Event) (t : ℕ) → CanStepAt first events t → IsNotTerminalAt first events
@@ -103,13 +103,13 @@ module _ (first : Content) (one : IsOneOperation first.tree) where
 -- ---- the outcomes
 
 -- where some thread can make a step, nothing has to be shown
-pub not_terminal_shown : (first : Content) (outcomes : List Outcome) (events : List Event) → IsNotTerminalAt first events → ShowsOneOf first outcomes events
+pub not_terminal_shown : (first : MachineState) (outcomes : List Outcome) (events : List Event) → IsNotTerminalAt first events → ShowsOneOf first outcomes events
 not_terminal_shown first outcomes events h = (h.0, h.1, λ terminal. absurd (h.2 terminal))
 
 -- the outcome of a content in which no thread can make a step
-pub is_real : (first : Content) (found : Found) (c : Content) → LeadsTo first found.events.items c → IsOneOperation first.tree → IsTerminalAt first found.events.items → outcome_shown c ≡ outcome_found found → IsReal first found
+pub is_real : (first : MachineState) (found : Found) (c : MachineState) → LeadsTo first found.events.items c → IsOneOperation first.tree → IsTerminalAt first found.events.items → outcome_shown c ≡ outcome_found found → IsReal first found
 is_real first found c led one h shows = record {
-  content = c;
+  machine_state = c;
   leads = led;
   ends = subst IsTerminal (led_together first one found.events.items h.0 c h.1 led) h.2;
   shows = shows;
@@ -131,15 +131,15 @@ both_ok (Err e) p q f = tt
 
 -- ---- a closed set
 
-module _ (first : Content) (one : IsOneOperation first.tree) (paths : List (List Event)) where
+module _ (first : MachineState) (one : IsOneOperation first.tree) (paths : List (List Event)) where
   pub all_closed : ((n : ℕ) (events : List Event) → slice_get paths n ≡ Some events → AreStepsChecked first paths events) → IsClosed (IsLedTo first paths)
   all_closed each c led t live =
-      let on : AreStepsChecked first paths led.path = each led.place led.path led.there in
-      let same : on.0 ≡ c = led_once first one led.path on.0 c on.1.reports led.reports on.1.turns led.turns in
-      subst (λ (x : Content). LeadsInto (IsLedTo first paths) x t) same (on.2 t (ap (λ (x : Content). is_live_at x.threads t) same ∙ live))
+      let on : AreStepsChecked first paths led.path = each led.path_index led.path led.there in
+      let same : on.0 ≡ c = led_once first one led.path on.0 c on.1.reports led.reports on.1.transitions led.transitions in
+      subst (λ (x : MachineState). LeadsInto (IsLedTo first paths) x t) same (on.2 t (ap (λ (x : MachineState). is_live_at x.threads t) same ∙ live))
 
   pub shows_only : (outcomes : List Outcome) → ((n : ℕ) (events : List Event) → slice_get paths n ≡ Some events → ShowsOneOf first outcomes events) → ShowOnly (IsLedTo first paths) outcomes
   shows_only outcomes each c led ends =
-      let at : ShowsOneOf first outcomes led.path = each led.place led.path led.there in
-      let same : at.0 ≡ c = led_once first one led.path at.0 c at.1.reports led.reports at.1.turns led.turns in
-      subst (λ (x : Content). Contains outcomes (outcome_shown x)) same (at.2 (subst IsTerminal (sym same) ends))
+      let at : ShowsOneOf first outcomes led.path = each led.path_index led.path led.there in
+      let same : at.0 ≡ c = led_once first one led.path at.0 c at.1.reports led.reports at.1.transitions led.transitions in
+      subst (λ (x : MachineState). Contains outcomes (outcome_shown x)) same (at.2 (subst IsTerminal (sym same) ends))

@@ -10,47 +10,47 @@ use Rattle.interleaving_core.specs.simulation.reference_machine.Runs.{is_refusal
 use Rattle.interleaving_core.specs.simulation.reference_machine.States.{State, is_live as is_live_state}
 use Rattle.interleaving_core.specs.simulation.reference_machine.Steps.{Answers, step}
 use Rattle.interleaving_core.specs.simulation.threads_monitors.Threads.{end_of, is_live_at}
-use Rattle.interleaving_core.specs.simulation.threads_monitors.declared.threads.Standing.{Standing}
-use Rattle.interleaving_core.specs.simulation.threads_monitors.declared.threads.Standing.TheVariants.{Live, Ended}
+use Rattle.interleaving_core.specs.simulation.threads_monitors.declared.threads.ThreadStatus.{ThreadStatus}
+use Rattle.interleaving_core.specs.simulation.threads_monitors.declared.threads.ThreadStatus.TheVariants.{Live, Ended}
 use Rattle.interleaving_core.specs.simulation.threads_monitors.declared.threads.Thread.{Thread}
 use Rattle.interleaving_core.specs.simulation.Agreement.{Agree}
-use Rattle.interleaving_core.specs.simulation.MachineContents.{Content}
-use Rattle.interleaving_core.specs.simulation.Turns.{IsTurn}
+use Rattle.interleaving_core.specs.simulation.MachineStates.{MachineState}
+use Rattle.interleaving_core.specs.simulation.Transitions.{IsTransition}
 use Rattle.interleaving_core.proofs.simulation.Threads.Joins.{lives_alike}
 use Rattle.interleaving_core.proofs.simulation.Representation.VisibleState.{ends_stand, printed_stands}
 use Rattle.interleaving_core.proofs.simulation.Runs.EventCorrespondence.{step_is_followed}
-use Rattle.exploration.specs.Behind.{IsBehind, IsStandingBehind, IsThreadBehind}
+use Rattle.exploration.specs.Lagging.{IsLagging, IsStatusLagging, IsThreadLagging}
 use Rattle.exploration.specs.Searches.{IsClosed, IsSeen, LeadsInto}
 use Rattle.exploration.specs.Shown.{CannotStep, IsTerminal, IsOver, Outcome, ShowOnly, outcome_of, outcome_shown}
 use Rattle.exploration.proofs.Running.{same_answer}
 use Rattle.exploration.proofs.Settling.{live_alike}
-use Rattle.exploration.proofs.Stepping.{stays_behind}
+use Rattle.exploration.proofs.Stepping.{stays_lagging}
 
 -- ---- how threads ended
 
-standing_ends : (tree : Tree) (left left' : ℕ) (s u : Standing) → IsStandingBehind tree s u → end_of (record { standing = u; steps_left = left' }) ≡ end_of (record { standing = s; steps_left = left })
-standing_ends tree left left' (Live m) (Live n) h = refl
-standing_ends tree left left' (Ended e) (Ended f) h = ap Some (sym h)
-standing_ends tree left left' (Live m) (Ended f) h = elim h [ ]
-standing_ends tree left left' (Ended e) (Live n) h = elim h [ ]
+status_ends : (tree : Tree) (left left' : ℕ) (s u : ThreadStatus) → IsStatusLagging tree s u → end_of (record { thread_status = u; steps_left = left' }) ≡ end_of (record { thread_status = s; steps_left = left })
+status_ends tree left left' (Live m) (Live n) h = refl
+status_ends tree left left' (Ended e) (Ended f) h = ap Some (sym h)
+status_ends tree left left' (Live m) (Ended f) h = elim h [ ]
+status_ends tree left left' (Ended e) (Live n) h = elim h [ ]
 
-behind_ends : (tree : Tree) (xs ys : List Thread) → Agree (IsThreadBehind tree) xs ys → map end_of ys ≡ map end_of xs
-behind_ends tree [] [] h = refl
-behind_ends tree (x ∷ xs) (y ∷ ys) h = let rest = behind_ends tree xs ys h.1 in λ i. standing_ends tree x.steps_left y.steps_left x.standing y.standing h.0 i ∷ rest i
-behind_ends tree [] (y ∷ ys) h = elim h [ ]
-behind_ends tree (x ∷ xs) [] h = elim h [ ]
+lagging_ends : (tree : Tree) (xs ys : List Thread) → Agree (IsThreadLagging tree) xs ys → map end_of ys ≡ map end_of xs
+lagging_ends tree [] [] h = refl
+lagging_ends tree (x ∷ xs) (y ∷ ys) h = let rest = lagging_ends tree xs ys h.1 in λ i. status_ends tree x.steps_left y.steps_left x.thread_status y.thread_status h.0 i ∷ rest i
+lagging_ends tree [] (y ∷ ys) h = elim h [ ]
+lagging_ends tree (x ∷ xs) [] h = elim h [ ]
 
--- ---- no thread can go on
+-- ---- no thread can continue
 
-module _ (tree : Tree) (limits : Limits) (known : Content → Type 0) (closed : IsClosed known) (s : State) (seen : IsSeen tree limits known s) where
-  abbrev c : Content
-  c = seen.content
+module _ (tree : Tree) (limits : Limits) (known : MachineState → Type 0) (closed : IsClosed known) (s : State) (seen : IsSeen tree limits known s) where
+  abbrev c : MachineState
+  c = seen.machine_state
 
-  abbrev d : Content
-  d = seen.covered.content
+  abbrev d : MachineState
+  d = seen.covered.machine_state
 
   lives_in_both : (t : ℕ) → is_live_at c.threads t ≡ is_live_at d.threads t
-  lives_in_both = live_alike c.tree c.threads d.threads seen.covered.behind.threads
+  lives_in_both = live_alike c.tree c.threads d.threads seen.covered.lagging.threads
 
   lives_in_state : (t : ℕ) → is_live_at c.threads t ≡ is_live_state s t
   lives_in_state = lives_alike c s seen.represents
@@ -58,20 +58,20 @@ module _ (tree : Tree) (limits : Limits) (known : Content → Type 0) (closed : 
   blocked_is : (q : Report) (after next : State) (refused : Bool) → is_refusal q ≡ refused → refused ≡ false → (t : ℕ) → step c.tree c.limits s t (is_refusal q) ≡ Answers q after → step c.tree c.limits s t false ≡ Answers Blocked next → q ≡ Blocked
   blocked_is q after next refused is not t h k = (same_answer q Blocked after next (sym h ∙ (ap (step c.tree c.limits s t) (is ∙ not) ∙ k))).0
 
-  turn_is : (next : Content) (r q : Report) (t : ℕ) → IsTurn d (Step t) (next, r) → q ≡ r → q ≡ Blocked → IsTurn d (Step t) (next, Blocked)
-  turn_is next r q t turn same is = subst (λ (x : Report). IsTurn d (Step t) (next, x)) (sym same ∙ is) turn
+  transition_is : (next : MachineState) (r q : Report) (t : ℕ) → IsTransition d (Step t) (next, r) → q ≡ r → q ≡ Blocked → IsTransition d (Step t) (next, Blocked)
+  transition_is next r q t transition same is = subst (λ (x : Report). IsTransition d (Step t) (next, x)) (sym same ∙ is) transition
 
   -- a thread that is blocked in the state is blocked in the content that covers it
-  blocked_there : (t : ℕ) → is_live_at d.threads t ≡ true → (next : State) → step c.tree c.limits s t false ≡ Answers Blocked next → (after : Content) × IsTurn d (Step t) (after, Blocked)
+  blocked_there : (t : ℕ) → is_live_at d.threads t ≡ true → (next : State) → step c.tree c.limits s t false ≡ Answers Blocked next → (after : MachineState) × IsTransition d (Step t) (after, Blocked)
   blocked_there t live next blocked =
       let live_c : is_live_at c.threads t ≡ true = lives_in_both t ∙ live in
       let leads : LeadsInto known d t = closed d seen.covered.among t live in
-      let one = stays_behind c d seen.covered.behind t live_c leads.next leads.report leads.turn leads.lasts in
+      let one = stays_lagging c d seen.covered.lagging t live_c leads.next leads.report leads.transition leads.lasts in
       let follows = step_is_followed c s seen.represents t (one.0, one.1) one.2 in
       by_step leads one.0 one.1 follows.0 next follows.1 blocked one.3
     where
-      by_step : (leads : LeadsInto known d t) (after : Content) (q : Report) (u next : State) → step c.tree c.limits s t (is_refusal q) ≡ Answers q u → step c.tree c.limits s t false ≡ Answers Blocked next →
-          (q ≡ HasEnded Budget) ⊎ (((q ≡ Ran) × IsBehind after d) ⊎ ((q ≡ leads.report) × IsBehind after leads.next)) → (next : Content) × IsTurn d (Step t) (next, Blocked)
+      by_step : (leads : LeadsInto known d t) (after : MachineState) (q : Report) (u next : State) → step c.tree c.limits s t (is_refusal q) ≡ Answers q u → step c.tree c.limits s t false ≡ Answers Blocked next →
+          (q ≡ HasEnded Budget) ⊎ (((q ≡ Ran) × IsLagging after d) ⊎ ((q ≡ leads.report) × IsLagging after leads.next)) → (next : MachineState) × IsTransition d (Step t) (next, Blocked)
       by_step leads after q u next does blocked (inl over) =
           let is : q ≡ Blocked = blocked_is q u next false (ap is_refusal over) refl t does blocked in
           let no : HasEnded Budget ≡ Blocked = sym over ∙ is in
@@ -82,7 +82,7 @@ module _ (tree : Tree) (limits : Limits) (known : Content → Type 0) (closed : 
           absurd (cc no)
       by_step leads after q u next does blocked (inr (inr both)) =
           let is : q ≡ Blocked = blocked_is q u next (is_refusal leads.report) (ap is_refusal both.0) leads.granted t does blocked in
-          (leads.next, turn_is leads.next leads.report q t leads.turn both.0 is)
+          (leads.next, transition_is leads.next leads.report q t leads.transition both.0 is)
 
   over : IsOver tree limits s → IsTerminal d
   over h t = by_life (is_live_at d.threads t) refl
@@ -99,11 +99,11 @@ module _ (tree : Tree) (limits : Limits) (known : Content → Type 0) (closed : 
 
   same_outcome : outcome_shown d ≡ outcome_of s
   same_outcome =
-      let printed : d.printed ≡ s.printed = ap (λ (x : Content). x.printed) seen.covered.behind.rest ∙ printed_stands c s seen.represents in
-      let ends = behind_ends c.tree c.threads d.threads seen.covered.behind.threads ∙ ends_stand c s seen.represents in
+      let printed : d.printed ≡ s.printed = ap (λ (x : MachineState). x.printed) seen.covered.lagging.rest ∙ printed_stands c s seen.represents in
+      let ends = lagging_ends c.tree c.threads d.threads seen.covered.lagging.threads ∙ ends_stand c s seen.represents in
       λ i. record { printed = printed i; ends = ends i }
 
-  pub shown : (b : Content) × known b × (outcome_shown b ≡ outcome_of s) × (IsOver tree limits s → IsTerminal b)
+  pub shown : (b : MachineState) × known b × (outcome_shown b ≡ outcome_of s) × (IsOver tree limits s → IsTerminal b)
   shown = (d, seen.covered.among, same_outcome, over)
 
   pub outcome_listed : (outcomes : List Outcome) → ShowOnly known outcomes → IsOver tree limits s → Contains outcomes (outcome_of s)

@@ -1,6 +1,6 @@
 pub use Rattle.interleaving_core.specs as interleaving_core
 pub use Rattle.interleaving_core.specs.simulation as simulation
-pub mod Behind
+pub mod Lagging
 pub mod Searches
 pub mod Shown
 pub mod Paths

@@ -10,30 +10,30 @@ use Rattle.interleaving_core.specs.simulation.cil_model.declared.reports.Report.
 use Rattle.interleaving_core.specs.simulation.reference_machine.Runs.{is_refusal}
 use Rattle.interleaving_core.specs.simulation.reference_machine.States.{State}
 use Rattle.interleaving_core.specs.simulation.threads_monitors.Threads.{is_live_at}
-use Rattle.interleaving_core.specs.simulation.MachineContents.{Content}
-use Rattle.interleaving_core.specs.simulation.StandsFor.{Represents}
-use Rattle.interleaving_core.specs.simulation.Runs.{AreTurns}
-use Rattle.interleaving_core.specs.simulation.Turns.{IsTurn}
-use Rattle.exploration.specs.Behind.{IsBehind}
+use Rattle.interleaving_core.specs.simulation.MachineStates.{MachineState}
+use Rattle.interleaving_core.specs.simulation.Refines.{Represents}
+use Rattle.interleaving_core.specs.simulation.Runs.{AreTransitions}
+use Rattle.interleaving_core.specs.simulation.Transitions.{IsTransition}
+use Rattle.exploration.specs.Lagging.{IsLagging}
 
--- a content is behind one of a set
-pub record IsCovered (known : Content → Type 0) (c : Content) : Type 0 where
-  pub content : Content
-  pub among : known content
-  pub behind : IsBehind c content
+-- a content lags behind one of a set
+pub record IsCovered (known : MachineState → Type 0) (c : MachineState) : Type 0 where
+  pub machine_state : MachineState
+  pub among : known machine_state
+  pub lagging : IsLagging c machine_state
 
--- a step of the thread leads from this content to one that is behind one of the set; it is refused no memory, and the thread has steps left
-pub record LeadsInto (known : Content → Type 0) (c : Content) (t : ℕ) : Type 0 where
-  pub next : Content
+-- a step of the thread leads from this content to one that lags behind one of the set; it is refused no memory, and the thread has steps left
+pub record LeadsInto (known : MachineState → Type 0) (c : MachineState) (t : ℕ) : Type 0 where
+  pub next : MachineState
   pub report : Report
-  pub turn : IsTurn c (Step t) (next, report)
+  pub transition : IsTransition c (Step t) (next, report)
   pub lasts : report ≢ Ended Budget
   pub granted : is_refusal report ≡ false
   pub covered : IsCovered known next
 
 -- so does each step of a live thread, from each content of the set
-abbrev pub IsClosed : (Content → Type 0) → Type 0
-IsClosed known = (c : Content) → known c → (t : ℕ) → is_live_at c.threads t ≡ true → LeadsInto known c t
+abbrev pub IsClosed : (MachineState → Type 0) → Type 0
+IsClosed known = (c : MachineState) → known c → (t : ℕ) → is_live_at c.threads t ≡ true → LeadsInto known c t
 
 -- none of these reports says that a thread used up its budget or was refused memory
 abbrev pub AreOrdinary : List Report → Type 0
@@ -46,17 +46,17 @@ KeepBudgets [] = Unit {0}
 KeepBudgets (r ∷ rs) = (r ≢ Ended Budget) × KeepBudgets rs
 
 -- a machine of this program within these limits, at a content behind one of the set, represents the state
-pub record IsSeen (tree : Tree) (limits : Limits) (known : Content → Type 0) (s : State) : Type 0 where
-  pub content : Content
-  pub program : content.tree ≡ tree
-  pub within : content.limits ≡ limits
-  pub represents : Represents content s
-  pub covered : IsCovered known content
+pub record IsSeen (tree : Tree) (limits : Limits) (known : MachineState → Type 0) (s : State) : Type 0 where
+  pub machine_state : MachineState
+  pub program : machine_state.tree ≡ tree
+  pub within : machine_state.limits ≡ limits
+  pub represents : Represents machine_state s
+  pub covered : IsCovered known machine_state
 
 -- one of these lists of events leads to the content
-pub record IsLedTo (first : Content) (paths : List (List Event)) (c : Content) : Type 0 where
-  pub place : ℕ
+pub record IsLedTo (first : MachineState) (paths : List (List Event)) (c : MachineState) : Type 0 where
+  pub path_index : ℕ
   pub path : List Event
-  pub there : slice_get paths place ≡ Some path
+  pub there : slice_get paths path_index ≡ Some path
   pub reports : List Report
-  pub turns : AreTurns first path c reports
+  pub transitions : AreTransitions first path c reports

@@ -8,17 +8,17 @@ use Rattle.interleaving_core.specs.simulation.cil_model.declared.trees.Tree.{Tre
 use Rattle.interleaving_core.specs.simulation.reference_machine.States.{State, Thread as StateThread, is_live}
 use Rattle.interleaving_core.specs.simulation.reference_machine.Steps.{Answers, step}
 use Rattle.interleaving_core.specs.simulation.threads_monitors.Threads.{end_of, is_live_at}
-use Rattle.interleaving_core.specs.simulation.MachineContents.{Content}
-use Rattle.interleaving_core.specs.simulation.Turns.{IsTurn}
+use Rattle.interleaving_core.specs.simulation.MachineStates.{MachineState}
+use Rattle.interleaving_core.specs.simulation.Transitions.{IsTransition}
 
 -- ---- which threads can make a step
 
 -- the thread is not live, or its next step is blocked
-abbrev pub CannotStep : Content → ℕ → Type 0
-CannotStep c t = (is_live_at c.threads t ≡ false) ⊎ ((next : Content) × IsTurn c (Step t) (next, Blocked))
+abbrev pub CannotStep : MachineState → ℕ → Type 0
+CannotStep c t = (is_live_at c.threads t ≡ false) ⊎ ((next : MachineState) × IsTransition c (Step t) (next, Blocked))
 
 -- no thread can make a step: each has ended or is blocked
-abbrev pub IsTerminal : Content → Type 0
+abbrev pub IsTerminal : MachineState → Type 0
 IsTerminal c = (t : ℕ) → CannotStep c t
 
 -- the same of a state of the reference machine
@@ -37,9 +37,9 @@ abbrev pub outcome_of : State → Outcome
 outcome_of s = record { printed = s.printed; ends = map (λ (t : StateThread). t.ended) s.threads }
 
 -- the outcome of a machine
-abbrev pub outcome_shown : Content → Outcome
+abbrev pub outcome_shown : MachineState → Outcome
 outcome_shown c = record { printed = c.printed; ends = map end_of c.threads }
 
 -- each content of the set in which no thread can make a step shows one of these outcomes
-abbrev pub ShowOnly : (Content → Type 0) → List Outcome → Type 0
-ShowOnly known outcomes = (c : Content) → known c → IsTerminal c → Contains outcomes (outcome_shown c)
+abbrev pub ShowOnly : (MachineState → Type 0) → List Outcome → Type 0
+ShowOnly known outcomes = (c : MachineState) → known c → IsTerminal c → Contains outcomes (outcome_shown c)

@@ -84,18 +84,18 @@ fn note(entries: &mut Vec<Option<bool>>, step: PathStep, can_step: bool)
     }
 }
 
-/// Checks a step, and notes it if it leads to the state of the other machine. That is the state after the events of the path of index `place`.
+/// Checks a step, and notes it if it leads to the state of the other machine. That is the state after the events of the path at `path_index`.
 fn note_step<M: First>(
     replayer: &mut Replayer<M>,
     other: &Replayer<M>,
     alloc: Global,
     paths: &[Path],
-    place: u32,
+    path_index: u32,
     step: PathStep,
     entries: &mut Vec<Option<bool>>,
 ) -> Result<(), NoMemory>
     requires legal { IsLegal M.first.tree }
-    requires there { IsLedToBy M.first (map events_of paths.now) place other.now }
+    requires there { IsLedToBy M.first (map events_of paths.now) path_index other.now }
     requires entries { AreEntries M.first (map events_of paths.now) entries.old.items }
     ensures { OnOk result (AreEntries M.first (map events_of paths.now) entries.new.items) }
 {
@@ -113,14 +113,14 @@ fn note_step<M: First>(
     Ok(())
 }
 
-/// Notes that each thread that is not live can't make a step. The state of the machine is that after the events of the path of index `place`.
+/// Notes that each thread that is not live can't make a step. The state of the machine is that after the events of the path at `path_index`.
 fn note_ended<M: First>(
     other: &Replayer<M>,
     paths: &[Path],
-    place: u32,
+    path_index: u32,
     entries: &mut Vec<Option<bool>>,
 )
-    requires there { IsLedToBy M.first (map events_of paths.now) place other.now }
+    requires there { IsLedToBy M.first (map events_of paths.now) path_index other.now }
     requires entries { AreEntries M.first (map events_of paths.now) entries.old.items }
     ensures { AreEntries M.first (map events_of paths.now) entries.new.items }
 {
@@ -132,7 +132,7 @@ fn note_ended<M: First>(
         note(
             entries,
             PathStep {
-                path: place,
+                path: path_index,
                 thread,
             },
             false,
@@ -146,20 +146,20 @@ fn note_path<M: First>(
     other: &mut Replayer<M>,
     alloc: Global,
     paths: &[Path],
-    place: u32,
+    path_index: u32,
     entries: &mut Vec<Option<bool>>,
 ) -> Result<(), NoMemory>
     requires legal { IsLegal M.first.tree }
     requires entries { AreEntries M.first (map events_of paths.now) entries.old.items }
     ensures { OnOk result (AreEntries M.first (map events_of paths.now) entries.new.items) }
 {
-    let Some(path) = paths.get(place as usize) else {
+    let Some(path) = paths.get(path_index as usize) else {
         return Ok(());
     };
     other.replay(alloc, path.events.as_slice())?;
-    note_ended(other, paths, place, entries);
+    note_ended(other, paths, path_index, entries);
     for step in &path.incoming {
-        note_step(replayer, other, alloc, paths, place, *step, entries)?;
+        note_step(replayer, other, alloc, paths, path_index, *step, entries)?;
     }
     Ok(())
 }
@@ -177,18 +177,18 @@ fn check_steps<M: First>(
     ensures { IfOk result (λ entries. AreEntries M.first (map events_of paths.now) entries.items) }
 {
     let mut entries = vec![in alloc; None; count as usize * MOST_THREADS]?;
-    for place in 0..count {
-        note_path(replayer, other, alloc, paths, place, &mut entries)?;
+    for path_index in 0..count {
+        note_path(replayer, other, alloc, paths, path_index, &mut entries)?;
     }
     Ok(entries)
 }
 
-/// Whether some thread can make a step after the events of the path of index `place`. None unless the step of each thread is checked.
-fn can_any_step(entries: &[Option<bool>], place: u32) -> Option<bool>
-    ensures all { IsSome result → AreAllChecked entries.now place }
-    ensures some { result ≡ Some true → (t : ℕ) × (t < MOST_THREADS) × (slice_get entries.now (place * MOST_THREADS + t) ≡ Some (Some true)) }
+/// Whether some thread can make a step after the events of the path at `path_index`. None unless the step of each thread is checked.
+fn can_any_step(entries: &[Option<bool>], path_index: u32) -> Option<bool>
+    ensures all { IsSome result → AreAllChecked entries.now path_index }
+    ensures some { result ≡ Some true → (t : ℕ) × (t < MOST_THREADS) × (slice_get entries.now (path_index * MOST_THREADS + t) ≡ Some (Some true)) }
 {
-    let first = place as usize * MOST_THREADS;
+    let first = path_index as usize * MOST_THREADS;
     let mut can_any = false;
     for thread in 0..MOST_THREADS {
         let Some(Some(can_step)) = entries.get(first + thread) else {
@@ -222,18 +222,18 @@ fn check_path<M: First>(
     alloc: Global,
     paths: &[Path],
     found: &[Found],
-    place: u32,
+    path_index: u32,
     entries: &[Option<bool>],
 ) -> Result<bool, NoMemory>
     requires legal { IsLegal M.first.tree }
     requires entries { AreEntries M.first (map events_of paths.now) entries.now }
-    ensures closed { IfOk result (λ known. known ≡ true → (events : List AnyEvent) → slice_get (map events_of paths.now) place ≡ Some events → AreStepsChecked M.first (map events_of paths.now) events) }
-    ensures shown { IfOk result (λ known. known ≡ true → (events : List AnyEvent) → slice_get (map events_of paths.now) place ≡ Some events → ShowsOneOf M.first (map outcome_found found.now) events) }
+    ensures closed { IfOk result (λ known. known ≡ true → (events : List AnyEvent) → slice_get (map events_of paths.now) path_index ≡ Some events → AreStepsChecked M.first (map events_of paths.now) events) }
+    ensures shown { IfOk result (λ known. known ≡ true → (events : List AnyEvent) → slice_get (map events_of paths.now) path_index ≡ Some events → ShowsOneOf M.first (map outcome_found found.now) events) }
 {
-    let Some(path) = paths.get(place as usize) else {
+    let Some(path) = paths.get(path_index as usize) else {
         return Ok(false);
     };
-    let Some(can_step) = can_any_step(entries, place) else {
+    let Some(can_step) = can_any_step(entries, path_index) else {
         return Ok(false);
     };
     if can_step {
@@ -270,8 +270,8 @@ fn check_paths<M: First>(
         return Ok(false);
     };
     let entries = check_steps(replayer, other, alloc, paths, count)?;
-    for place in 0..count {
-        let is_checked = check_path(replayer, alloc, paths, found, place, &entries)?;
+    for path_index in 0..count {
+        let is_checked = check_path(replayer, alloc, paths, found, path_index, &entries)?;
         if !is_checked {
             return Ok(false);
         }

@@ -9,41 +9,41 @@ ghost use Rattle.interleaving_core.specs.simulation.cil_model.declared.reports.E
 ghost use Rattle.interleaving_core.specs.simulation.cil_model.declared.reports.Report.{Report};
 ghost use Rattle.interleaving_core.specs.simulation.cil_model.declared.reports.Report.TheVariants.{Ran, Ended};
 ghost use Rattle.interleaving_core.specs.simulation.cil_model.declared.trees.Tree.{Tree};
-ghost use Rattle.interleaving_core.specs.simulation.reference_machine.Runs.{opening};
+ghost use Rattle.interleaving_core.specs.simulation.reference_machine.Runs.{initial_state};
 ghost use Rattle.interleaving_core.specs.simulation.reference_machine.States.{State};
 ghost use Rattle.interleaving_core.specs.simulation.threads_monitors.Threads.{is_live_at};
-ghost use Rattle.interleaving_core.specs.simulation.MachineContents.{Content};
-ghost use Rattle.interleaving_core.specs.simulation.Runs.{AreSteps, AreTurns, IsRunOf};
-ghost use Rattle.interleaving_core.specs.simulation.StandsFor.{Represents};
-ghost use Rattle.interleaving_core.specs.simulation.Turns.{IsTurn, opening_content};
+ghost use Rattle.interleaving_core.specs.simulation.MachineStates.{MachineState};
+ghost use Rattle.interleaving_core.specs.simulation.Runs.{AreSteps, AreTransitions, IsRunOf};
+ghost use Rattle.interleaving_core.specs.simulation.Refines.{Represents};
+ghost use Rattle.interleaving_core.specs.simulation.Transitions.{IsTransition, initial_machine_state};
 ghost use Rattle.interleaving_core.specs.simulation.interpreter.Local.{IsLocalStep, frames_over};
 ghost use Rattle.interleaving_core.specs.simulation.threads_monitors.Frames.{Frame};
-ghost use Rattle.exploration.specs.Behind.{IsBehind, IsLocalMove};
+ghost use Rattle.exploration.specs.Lagging.{IsLagging, IsLocalMove};
 ghost use Rattle.exploration.specs.Shown.{IsTerminal, IsOver, Outcome, ShowOnly, outcome_of, outcome_shown};
 ghost use Rattle.exploration.specs.Searches.{AreOrdinary, IsClosed, IsCovered, IsLedTo, IsSeen, KeepBudgets};
 
-/// One machine is behind another, and a thread makes a step in both. Then the step of the first is a local instruction, and it is still behind the other machine as that was;
-/// or both steps have the same report, and the first is behind the second again; or it uses up its budget.
-pub fn a_machine_behind_stays_behind()
-    ensures { (c d : Content) → IsBehind c d → (t : ℕ) → is_live_at c.threads t ≡ true → (next : Content) (r : Report) → IsTurn d (Step t) (next, r) → r ≢ Ended Budget →
-        (after : Content) × (q : Report) × IsTurn c (Step t) (after, q) × ((q ≡ Ended Budget) ⊎ (((q ≡ Ran) × IsBehind after d) ⊎ ((q ≡ r) × IsBehind after next))) }
+/// One machine lags behind another, and a thread makes a step in both. Then the step of the first is a local instruction, and it still lags behind the other
+/// machine as that was; or both steps have the same report, and the first lags behind the second again; or it uses up its budget.
+pub fn a_lagging_machine_stays_lagging()
+    ensures { (c d : MachineState) → IsLagging c d → (t : ℕ) → is_live_at c.threads t ≡ true → (next : MachineState) (r : Report) → IsTransition d (Step t) (next, r) → r ≢ Ended Budget →
+        (after : MachineState) × (q : Report) × IsTransition c (Step t) (after, q) × ((q ≡ Ended Budget) ⊎ (((q ≡ Ran) × IsLagging after d) ⊎ ((q ≡ r) × IsLagging after next))) }
 {}
 
-/// If a closed set covers the initial content, it covers the final state of each run, with any events of a collector: a machine that is behind a content of the set represents
-/// that state, and no step was refused memory. This holds up to the first step that uses up a budget.
+/// If a closed set covers the initial content, it covers the final state of each run, with any events of a collector: a machine that lags behind a content of
+/// the set represents that state, and no step was refused memory. This holds up to the first step that uses up a budget.
 pub fn a_closed_set_covers_all_runs()
-    ensures { (tree : Tree) (limits : Limits) (first : Content) (paths : List (List Event)) → IsClosed (IsLedTo first paths) → (s : State) → opening_content tree limits ≡ Some first → opening tree limits ≡ Some s → Represents first s → IsCovered (IsLedTo first paths) first →
+    ensures { (tree : Tree) (limits : Limits) (first : MachineState) (paths : List (List Event)) → IsClosed (IsLedTo first paths) → (s : State) → initial_machine_state tree limits ≡ Some first → initial_state tree limits ≡ Some s → Represents first s → IsCovered (IsLedTo first paths) first →
         (events : List Event) (reports : List Report) (last : State) → IsRunOf tree limits events reports last → KeepBudgets reports → IsSeen tree limits (IsLedTo first paths) last × AreOrdinary reports }
 {}
 
 /// A state that a closed set covers has the outcome of a content of the set: the same printed bytes, and the same end of each thread. If no thread can make a step in that
 /// state, none can in the content.
 pub fn a_covered_state_is_shown()
-    ensures { (tree : Tree) (limits : Limits) (first : Content) (paths : List (List Event)) → IsClosed (IsLedTo first paths) → (s : State) → IsSeen tree limits (IsLedTo first paths) s →
-        (c : Content) × IsLedTo first paths c × (outcome_shown c ≡ outcome_of s) × (IsOver tree limits s → IsTerminal c) }
+    ensures { (tree : Tree) (limits : Limits) (first : MachineState) (paths : List (List Event)) → IsClosed (IsLedTo first paths) → (s : State) → IsSeen tree limits (IsLedTo first paths) s →
+        (c : MachineState) × IsLedTo first paths c × (outcome_shown c ≡ outcome_of s) × (IsOver tree limits s → IsTerminal c) }
 {}
 
-/// A local instruction of the running frame, after which its thread goes on, does the same for everything but the thread's frames.
+/// A local instruction of the running frame, after which its thread continues, does the same for everything but the thread's frames.
 pub fn a_local_instruction_moves_alone()
     ensures { (tree : Tree) (room : ℕ) (f g : Frame) → IsLocalStep tree room f g → (below : List Frame) (depth : ℕ) →
         IsLocalMove tree (frames_over f below depth room) (frames_over g below depth room) }
@@ -52,14 +52,14 @@ pub fn a_local_instruction_moves_alone()
 /// In runs of steps alone, without events of a collector, a closed set that covers the initial content covers each later one, and no memory is refused: up to the first step
 /// that uses up a budget.
 pub fn steps_alone_stay_covered()
-    ensures { (first : Content) (paths : List (List Event)) → IsLegal first.tree → IsClosed (IsLedTo first paths) → IsCovered (IsLedTo first paths) first →
-        (events : List Event) → AreSteps events → (after : Content) (reports : List Report) → AreTurns first events after reports → KeepBudgets reports → IsCovered (IsLedTo first paths) after × AreOrdinary reports }
+    ensures { (first : MachineState) (paths : List (List Event)) → IsLegal first.tree → IsClosed (IsLedTo first paths) → IsCovered (IsLedTo first paths) first →
+        (events : List Event) → AreSteps events → (after : MachineState) (reports : List Report) → AreTransitions first events after reports → KeepBudgets reports → IsCovered (IsLedTo first paths) after × AreOrdinary reports }
 {}
 
 /// If each content of a closed set in which no thread can make a step shows one of these outcomes, each run that is over has one of them, with any events of a collector, if no
 /// thread used up its budget.
 pub fn no_outcome_is_missing()
-    ensures { (tree : Tree) (limits : Limits) (first : Content) (paths : List (List Event)) → IsClosed (IsLedTo first paths) → (s : State) → opening_content tree limits ≡ Some first → opening tree limits ≡ Some s → Represents first s → IsCovered (IsLedTo first paths) first →
+    ensures { (tree : Tree) (limits : Limits) (first : MachineState) (paths : List (List Event)) → IsClosed (IsLedTo first paths) → (s : State) → initial_machine_state tree limits ≡ Some first → initial_state tree limits ≡ Some s → Represents first s → IsCovered (IsLedTo first paths) first →
         (outcomes : List Outcome) → ShowOnly (IsLedTo first paths) outcomes →
         (events : List Event) (reports : List Report) (last : State) → IsRunOf tree limits events reports last → KeepBudgets reports → IsOver tree limits last → Contains outcomes (outcome_of last) }
 {}

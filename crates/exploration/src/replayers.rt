@@ -5,11 +5,11 @@ ghost use Rattle.interleaving_core.specs.simulation.cil_model.Legality.{IsLegal}
 ghost use Rattle.interleaving_core.specs.simulation.cil_model.declared.events.Event.TheVariants.{Step as StepOf};
 ghost use Rattle.interleaving_core.specs.simulation.cil_model.declared.limits.TheConstants.{MOST_THREADS};
 ghost use Rattle.interleaving_core.specs.simulation.threads_monitors.Threads.{is_live_at};
-ghost use Rattle.interleaving_core.specs.simulation.Turns.{IsTurn};
+ghost use Rattle.interleaving_core.specs.simulation.Transitions.{IsTransition};
 ghost use Rattle.interleaving_core.specs.Alike.{AreAlike};
 ghost use Rattle.interleaving_core.specs.Waits.{wait_at};
 ghost use Rattle.exploration.specs.Begins.{Begins};
-ghost use Rattle.exploration.specs.Behind.{IsBehind};
+ghost use Rattle.exploration.specs.Lagging.{IsLagging};
 ghost use Rattle.exploration.specs.Paths.{LeadsTo, outcome_found};
 ghost use Rattle.exploration.specs.Shown.{outcome_shown};
 
@@ -27,15 +27,15 @@ const TEXT_FACTOR: u64 = 1_099_511_628_211;
 
 /// Names the initial content of machines of one program within the same limits. The caller that makes the machines picks it, at `Brand`.
 pub trait First {
-    ghost use Rattle.interleaving_core.specs.simulation.MachineContents.{Content};
+    ghost use Rattle.interleaving_core.specs.simulation.MachineStates.{MachineState};
 
-    ghost first: { Content };
+    ghost first: { MachineState };
 }
 
 impl First for Brand {
-    ghost use Rattle.exploration.specs.Begins.{no_content};
+    ghost use Rattle.exploration.specs.Begins.{no_machine_state};
 
-    ghost first = { no_content };
+    ghost first = { no_machine_state };
 }
 
 /// A machine of the program and the limits whose initial content `M` names. Contracts see its content.
@@ -48,10 +48,10 @@ pub struct Replayer<M: First> {
 }
 
 impl<M: First> Model for Replayer<M> {
-    ghost use Rattle.interleaving_core.specs.simulation.MachineContents.{Content};
+    ghost use Rattle.interleaving_core.specs.simulation.MachineStates.{MachineState};
     ghost use Rattle.exploration.specs.Begins.{Begins};
 
-    ghost Value = { Content };
+    ghost Value = { MachineState };
 
     ghost view = { λ s. s.machine };
 
@@ -89,7 +89,7 @@ impl<M: First> Replayer<M> {
 
     /// Makes a step of a thread, and returns its report. It fails only if memory runs out.
     pub fn step(&mut self, alloc: Global, thread: u8) -> Result<Report, NoMemory>
-        ensures { IfOk result (λ report. IsTurn self.old (StepOf thread) (self.new, report)) }
+        ensures { IfOk result (λ report. IsTransition self.old (StepOf thread) (self.new, report)) }
     {
         self.machine.step(alloc, Event::Step(thread))
     }
@@ -98,7 +98,7 @@ impl<M: First> Replayer<M> {
     /// Nothing changes if the thread is not live. It fails only if memory runs out.
     pub fn run_local(&mut self, alloc: Global, thread: u8) -> Result<u32, NoMemory>
         requires { IsLegal M.first.tree }
-        ensures { OnOk result (IsBehind self.old self.new) }
+        ensures { OnOk result (IsLagging self.old self.new) }
     {
         if !self.machine.is_live(thread) || !self.machine.is_next_local(thread) {
             return Ok(0);

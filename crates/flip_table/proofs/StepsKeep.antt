@@ -64,17 +64,17 @@ module _ (plan : PlanView) where
 
   -- what every other view knows continues to hold
   abbrev KeepsOthers : ℕ → List ℕ → List ℕ → ℕ → Type 0
-  KeepsOthers places before after mover = (j : ℕ) (v : View) → j ≢ mover → Knows before plan places j v → Knows after plan places j v
+  KeepsOthers positions before after mover = (j : ℕ) (v : View) → j ≢ mover → Knows before plan positions j v → Knows after plan positions j v
 
   writer_steps : (s : Table) (r : KeepsFlip plan s) (ws : List ℕ) (hs : Homes) (me : ℕ) (q q' : WriterView) → get_elem? s.views me ≡ some (OfWriter q) → length ws ≡ length s.words → Paced ws → IsWriterView ws plan me q'
       → KeepsOthers (length s.views) s.words ws me → ((k : ℕ) → k < m → Slot s.words k r.copier → Slot ws k r.copier)
       → ((k : ℕ) → k < m → owner k ≡ q.index → Twin s.words k q r.copier → Twin ws k q' r.copier) → ((k : ℕ) (o : WriterView) → k < m → owner k ≢ q.index → Twin s.words k o r.copier → Twin ws k o r.copier)
       → KeepsFlip plan record { words = ws; homes = hs; views = set s.views me (OfWriter q') }
-  writer_steps s r ws hs me q q' at same_length paced placed others slots mine other = let place : me ≡ q.index + 1 = (r.known me (OfWriter q) at).place_is in record {
+  writer_steps s r ws hs me q q' at same_length paced placed others slots mine other = let position : me ≡ q.index + 1 = (r.known me (OfWriter q) at).position_is in record {
     words_are = same_length ∙ r.words_are;
     owned = r.owned;
     paced = paced;
-    known = λ j v e. subst (λ (places : ℕ). Knows ws plan places j v) (sym (length-set s.views me (OfWriter q'))) (changed (Knows ws plan (length s.views)) s.views me (OfWriter q') placed (λ a b ne h. others a b ne (r.known a b h)) j v e);
+    known = λ j v e. subst (λ (positions : ℕ). Knows ws plan positions j v) (sym (length-set s.views me (OfWriter q'))) (changed (Knows ws plan (length s.views)) s.views me (OfWriter q') placed (λ a b ne h. others a b ne (r.known a b h)) j v e);
     copier = r.copier;
     copier_is = set_else s.views me 0 (OfWriter q') (λ e. omega (arith, e)) ∙ r.copier_is;
     slots = λ k l. slots k l (r.slots k l);
@@ -86,18 +86,18 @@ module _ (plan : PlanView) where
   }
 
   pub copier_of : (s : Table) (r : KeepsFlip plan s) (me : ℕ) (p : CopierView) → get_elem? s.views me ≡ some (OfCopier p) → r.copier ≡ p
-  copier_of s r me p at = ap copier_part (some-injective (OfCopier r.copier) (OfCopier p) (sym r.copier_is ∙ (ap (λ (x : ℕ). get_elem? s.views x) (sym (r.known me (OfCopier p) at).place_is) ∙ at)))
+  copier_of s r me p at = ap copier_part (some-injective (OfCopier r.copier) (OfCopier p) (sym r.copier_is ∙ (ap (λ (x : ℕ). get_elem? s.views x) (sym (r.known me (OfCopier p) at).position_is) ∙ at)))
 
   copier_steps : (s : Table) (r : KeepsFlip plan s) (ws : List ℕ) (hs : Homes) (me : ℕ) (p p' : CopierView) → get_elem? s.views me ≡ some (OfCopier p) → length ws ≡ length s.words → Paced ws
       → IsCopierView ws plan (length s.views) me p' → KeepsOthers (length s.views) s.words ws me → ((k : ℕ) → k < m → Slot s.words k p → Slot ws k p')
       → ((k : ℕ) (q : WriterView) → k < m → IsWriterView s.words plan (owner k + 1) q → Twin s.words k q p → Twin ws k q p') → KeepsFlip plan record { words = ws; homes = hs; views = set s.views me (OfCopier p') }
-  copier_steps s r ws hs me p p' at same_length paced placed others slots step_of = let place : me ≡ 0 = (r.known me (OfCopier p) at).place_is in let is = copier_of s r me p at in record {
+  copier_steps s r ws hs me p p' at same_length paced placed others slots step_of = let position : me ≡ 0 = (r.known me (OfCopier p) at).position_is in let is = copier_of s r me p at in record {
     words_are = same_length ∙ r.words_are;
     owned = r.owned;
     paced = paced;
-    known = λ j v e. subst (λ (places : ℕ). Knows ws plan places j v) (sym (length-set s.views me (OfCopier p'))) (changed (Knows ws plan (length s.views)) s.views me (OfCopier p') placed (λ a b ne h. others a b ne (r.known a b h)) j v e);
+    known = λ j v e. subst (λ (positions : ℕ). Knows ws plan positions j v) (sym (length-set s.views me (OfCopier p'))) (changed (Knows ws plan (length s.views)) s.views me (OfCopier p') placed (λ a b ne h. others a b ne (r.known a b h)) j v e);
     copier = p';
-    copier_is = ap (λ (x : ℕ). get_elem? (set s.views me (OfCopier p')) x) (sym place) ∙ set_here s.views me (OfCopier p') (at_inside s.views me (OfCopier p) at);
+    copier_is = ap (λ (x : ℕ). get_elem? (set s.views me (OfCopier p')) x) (sym position) ∙ set_here s.views me (OfCopier p') (at_inside s.views me (OfCopier p) at);
     slots = λ k l. slots k l (subst (λ (x : CopierView). Slot s.words k x) is (r.slots k l));
     twins = λ k q l eq. ⊎_elim
         (λ (t : (owner k + 1 ≡ me) × (OfCopier p' ≡ OfWriter q)). absurd (omega (arith, t.0)))
@@ -113,10 +113,10 @@ module _ (plan : PlanView) where
   paced_apart : (ws : List ℕ) (i x : ℕ) → i < m + m → Paced ws → Paced (set ws i x)
   paced_apart ws i x l paced j lj = subst (λ (z : ℕ × ℕ). IsPostedOrOneLess z.0 z.1) (λ c. (sym (get_or-set_other ws i (m + m + j) x 0 (λ e. omega arith)) c, sym (get_or-set_other ws i (m + m + n) x 0 (λ e. omega arith)) c)) (paced j lj)
 
-  knows_apart : (places : ℕ) (ws : List ℕ) (i x : ℕ) → i < m + m → (j : ℕ) (v : View) → Knows ws plan places j v → Knows (set ws i x) plan places j v
-  knows_apart places ws i x l j (OfWriter q) k = record {
+  knows_apart : (positions : ℕ) (ws : List ℕ) (i x : ℕ) → i < m + m → (j : ℕ) (v : View) → Knows ws plan positions j v → Knows (set ws i x) plan positions j v
+  knows_apart positions ws i x l j (OfWriter q) k = record {
     plan_is = k.plan_is;
-    place_is = k.place_is;
+    position_is = k.position_is;
     in_range = k.in_range;
     taken_up_is = get_or-set_other ws i (m + m + q.index) x 0 (λ e. omega arith) ∙ k.taken_up_is;
     taken_up_polled = k.taken_up_polled;
@@ -125,10 +125,10 @@ module _ (plan : PlanView) where
     wrote_written = k.wrote_written;
     settled = k.settled;
   }
-  knows_apart places ws i x l j (OfCopier p) k = record {
+  knows_apart positions ws i x l j (OfCopier p) k = record {
     plan_is = k.plan_is;
-    place_is = k.place_is;
-    places_are = k.places_are;
+    position_is = k.position_is;
+    positions_are = k.positions_are;
     stage_is = get_or-set_other ws i (m + m + n) x 0 (λ e. omega arith) ∙ k.stage_is;
     last = k.last;
     found_each = k.found_each;
@@ -141,8 +141,8 @@ module _ (plan : PlanView) where
   }
 
   -- no slot is retired while a seat has not taken up stage 2
-  unretired : (ws : List ℕ) (places j c : ℕ) (q : WriterView) (p : CopierView) → IsWriterView ws plan j q → IsCopierView ws plan places c p → q.taken_up ≤ 1 → (k : ℕ) → get_or p.retired k false ≢ true
-  unretired ws places j c q p w o low k gone = let two : get_or p.found q.index 0 ≡ 2 = o.all_found k gone q.index w.in_range in let least = o.found_since q.index w.in_range in omega (arith, w.taken_up_is)
+  unretired : (ws : List ℕ) (positions j c : ℕ) (q : WriterView) (p : CopierView) → IsWriterView ws plan j q → IsCopierView ws plan positions c p → q.taken_up ≤ 1 → (k : ℕ) → get_or p.retired k false ≢ true
+  unretired ws positions j c q p w o low k gone = let two : get_or p.found q.index 0 ≡ 2 = o.all_found k gone q.index w.in_range in let least = o.found_since q.index w.in_range in omega (arith, w.taken_up_is)
 
   -- a load, after which the writer knows what it did before, and what it polled or loaded besides
   writer_loads : (s : Table) (r : KeepsFlip plan s) (i id : ℕ) (q q' : WriterView) → get_elem? s.views id ≡ some (OfWriter q) → IsWriterView s.words plan id q' → ((k : ℕ) → Twin s.words k q r.copier → Twin s.words k q' r.copier)
@@ -155,7 +155,7 @@ module _ (plan : PlanView) where
   slot_loads s r i id x q at = let w : IsWriterView s.words plan id q = r.known id (OfWriter q) at in writer_loads s r i id q (loading_writer q i x) at
       record {
         plan_is = w.plan_is;
-        place_is = w.place_is;
+        position_is = w.position_is;
         in_range = w.in_range;
         taken_up_is = w.taken_up_is;
         taken_up_polled = w.taken_up_polled;
@@ -166,13 +166,13 @@ module _ (plan : PlanView) where
       }
       (λ k t. record { first_is = t.first_is; same = t.same; checked = t.checked; wrote_first = t.wrote_first; wrote_second = t.wrote_second; wrote_value = t.wrote_value })
 
-  own_place : (s : Table) (r : KeepsFlip plan s) (id i : ℕ) (q : WriterView) → get_elem? s.views id ≡ some (OfWriter q) → owner i ≡ q.index → get_elem? s.views (owner i + 1) ≡ some (OfWriter q)
-  own_place s r id i q at own = ap (λ (x : ℕ). get_elem? s.views x) (ap (λ (x : ℕ). x + 1) own ∙ sym (r.known id (OfWriter q) at).place_is) ∙ at
+  own_index : (s : Table) (r : KeepsFlip plan s) (id i : ℕ) (q : WriterView) → get_elem? s.views id ≡ some (OfWriter q) → owner i ≡ q.index → get_elem? s.views (owner i + 1) ≡ some (OfWriter q)
+  own_index s r id i q at own = ap (λ (x : ℕ). get_elem? s.views x) (ap (λ (x : ℕ). x + 1) own ∙ sym (r.known id (OfWriter q) at).position_is) ∙ at
 
   -- a writer was given out
   dealt_before : (s : Table) (r : KeepsFlip plan s) (id : ℕ) (q : WriterView) → get_elem? s.views id ≡ some (OfWriter q) → q.index < r.copier.dealt
   dealt_before s r id q at = let w : IsWriterView s.words plan id q = r.known id (OfWriter q) at in let o : IsCopierView s.words plan (length s.views) 0 r.copier = r.known 0 (OfCopier r.copier) r.copier_is in
-      let inside = at_inside s.views id (OfWriter q) at in omega (arith, inside, w.place_is, o.places_are)
+      let inside = at_inside s.views id (OfWriter q) at in omega (arith, inside, w.position_is, o.positions_are)
 
   -- at stage 0 a load of any slot gives no mark, and of an own slot what was written
   pub loads_first : (slots id i : ℕ) (q : WriterView) → i < m → q.taken_up ≡ 0
@@ -182,7 +182,7 @@ module _ (plan : PlanView) where
     keeps,
     tt,
     slot_loads s r i id x q at,
-    (refl, (r.slots i l).live (unretired s.words (length s.views) id 0 q r.copier w o (omega (arith, low)) i), λ own. (r.twins i q l (own_place s r id i q at own)).first_is (omega (arith, low))),
+    (refl, (r.slots i l).live (unretired s.words (length s.views) id 0 q r.copier w o (omega (arith, low)) i), λ own. (r.twins i q l (own_index s r id i q at own)).first_is (omega (arith, low))),
   )
 
   -- from stage 1 on a load of any slot gives a forward, and of an own slot that of what was written
@@ -196,7 +196,7 @@ module _ (plan : PlanView) where
         keeps,
         tt,
         slot_loads s r (m + i) id x q at,
-        ((x, refl, small.1, small.2), λ own. ⊎_elim (λ b. absurd (cc)) (λ e. e) ((r.twins i q l (own_place s r id i q at own)).same done)),
+        ((x, refl, small.1, small.2), λ own. ⊎_elim (λ b. absurd (cc)) (λ e. e) ((r.twins i q l (own_index s r id i q at own)).same done)),
       )
 
   -- at stages 0 and 1: the first copy of an own slot
@@ -216,7 +216,7 @@ module _ (plan : PlanView) where
         writer_steps s r ws s.homes id q q' at (length-set s.words i x) (paced_apart s.words i x (omega arith) r.paced)
             record {
               plan_is = u.plan_is;
-              place_is = u.place_is;
+              position_is = u.position_is;
               in_range = u.in_range;
               taken_up_is = u.taken_up_is;
               taken_up_polled = u.taken_up_polled;
@@ -279,7 +279,7 @@ module _ (plan : PlanView) where
             (λ j lj. let c = r.paced j lj in (omega (arith, below j lj, top), omega (arith, grows j, c.1, top)))
             record {
               plan_is = w.plan_is;
-              place_is = w.place_is;
+              position_is = w.position_is;
               in_range = w.in_range;
               taken_up_is = here;
               taken_up_polled = omega arith;
@@ -288,7 +288,7 @@ module _ (plan : PlanView) where
               wrote_written = w.wrote_written;
               settled = λ _. idle;
             }
-            (λ j v ne k. others ws i x top there grows (λ a d. there a (λ e. omega (arith, e, d, dealt))) j v ne w.place_is k)
+            (λ j v ne k. others ws i x top there grows (λ a d. there a (λ e. omega (arith, e, d, dealt))) j v ne w.position_is k)
             (λ k lk t. apart (λ a b. IsSlot plan.limit a b k (owner k) r.copier) s.words i k x (λ e. omega arith) (λ e. omega arith) t)
             (λ k lk mine t. let u : Twin ws k q r.copier = apart (λ a b. IsTwin a b k q r.copier) s.words i k x (λ e. omega arith) (λ e. omega arith) t in
             record { first_is = λ h. u.first_is (omega (arith, h, w.taken_up_polled)); same = u.same; checked = u.checked; wrote_first = u.wrote_first; wrote_second = u.wrote_second; wrote_value = u.wrote_value })
@@ -298,26 +298,26 @@ module _ (plan : PlanView) where
     where
       others : (ws : List ℕ) (i x : ℕ) → stage ws ≡ stage s.words → ((j : ℕ) → j ≢ q.index → taken ws j ≡ taken s.words j) → ((j : ℕ) → taken s.words j ≤ taken ws j) → ((j : ℕ) → r.copier.dealt ≤ j → taken ws j ≡ taken s.words j)
           → (j : ℕ) (v : View) → j ≢ id → id ≡ q.index + 1 → Knows s.words plan (length s.views) j v → Knows ws plan (length s.views) j v
-      others ws i x top there grows still j (OfWriter a) ne place k = record {
+      others ws i x top there grows still j (OfWriter a) ne position k = record {
         plan_is = k.plan_is;
-        place_is = k.place_is;
+        position_is = k.position_is;
         in_range = k.in_range;
-        taken_up_is = there a.index (λ e. ne (k.place_is ∙ (ap (λ (z : ℕ). z + 1) e ∙ sym place))) ∙ k.taken_up_is;
+        taken_up_is = there a.index (λ e. ne (k.position_is ∙ (ap (λ (z : ℕ). z + 1) e ∙ sym position))) ∙ k.taken_up_is;
         taken_up_polled = k.taken_up_polled;
         polled_stage = subst (λ (z : ℕ). a.polled ≤ z) (sym top) k.polled_stage;
         written_each = k.written_each;
         wrote_written = k.wrote_written;
         settled = k.settled;
       }
-      others ws i x top there grows still j (OfCopier p) ne place k = record {
+      others ws i x top there grows still j (OfCopier p) ne position k = record {
         plan_is = k.plan_is;
-        place_is = k.place_is;
-        places_are = k.places_are;
+        position_is = k.position_is;
+        positions_are = k.positions_are;
         stage_is = top ∙ k.stage_is;
         last = k.last;
         found_each = k.found_each;
         found_since = λ a la. let h = k.found_since a la in let g = grows a in omega arith;
-        undealt_is = λ a d la. let c : IsCopierView s.words plan (length s.views) 0 r.copier = r.known 0 (OfCopier r.copier) r.copier_is in still a (omega (arith, d, k.places_are, c.places_are)) ∙ k.undealt_is a d la;
+        undealt_is = λ a d la. let c : IsCopierView s.words plan (length s.views) 0 r.copier = r.known 0 (OfCopier r.copier) r.copier_is in still a (omega (arith, d, k.positions_are, c.positions_are)) ∙ k.undealt_is a d la;
         copied_each = k.copied_each;
         retired_each = k.retired_each;
         all_copied = k.all_copied;
@@ -334,7 +334,7 @@ module _ (plan : PlanView) where
     writer_loads s r (m + m + n) id q q' at
         record {
           plan_is = w.plan_is;
-          place_is = w.place_is;
+          position_is = w.position_is;
           in_range = w.in_range;
           taken_up_is = w.taken_up_is;
           taken_up_polled = omega (arith, c.0, w.taken_up_is);
@@ -360,7 +360,7 @@ module _ (plan : PlanView) where
       writer_steps s r ws s.homes id q q' at (length-set s.words j x) (paced_apart s.words j x (omega arith) r.paced)
       record {
         plan_is = u.plan_is;
-        place_is = u.place_is;
+        position_is = u.position_is;
         in_range = u.in_range;
         taken_up_is = u.taken_up_is;
         taken_up_polled = u.taken_up_polled;
@@ -448,8 +448,8 @@ module _ (plan : PlanView) where
         copier_loads s r i id p p' at
             record {
               plan_is = o.plan_is;
-              place_is = o.place_is;
-              places_are = o.places_are;
+              position_is = o.position_is;
+              positions_are = o.positions_are;
               stage_is = o.stage_is;
               last = o.last;
               found_each = o.found_each;
@@ -485,8 +485,8 @@ module _ (plan : PlanView) where
         copier_steps s r ws s.homes id p p' at (length-set s.words j x) (paced_apart s.words j x (omega arith) r.paced)
             record {
               plan_is = u.plan_is;
-              place_is = u.place_is;
-              places_are = u.places_are;
+              position_is = u.position_is;
+              positions_are = u.positions_are;
               stage_is = u.stage_is;
               last = u.last;
               found_each = u.found_each;
@@ -539,8 +539,8 @@ module _ (plan : PlanView) where
         copier_loads s r i id p p' at
             record {
               plan_is = o.plan_is;
-              place_is = o.place_is;
-              places_are = o.places_are;
+              position_is = o.position_is;
+              positions_are = o.positions_are;
               stage_is = o.stage_is;
               last = o.last;
               found_each = o.found_each;
@@ -571,8 +571,8 @@ module _ (plan : PlanView) where
         copier_loads s r i id p p' at
             record {
               plan_is = o.plan_is;
-              place_is = o.place_is;
-              places_are = o.places_are;
+              position_is = o.position_is;
+              positions_are = o.positions_are;
               stage_is = o.stage_is;
               last = o.last;
               found_each = o.found_each;
@@ -602,8 +602,8 @@ module _ (plan : PlanView) where
         copier_loads s r (m + m + j) id p p' at
             record {
               plan_is = o.plan_is;
-              place_is = o.place_is;
-              places_are = o.places_are;
+              position_is = o.position_is;
+              positions_are = o.positions_are;
               stage_is = o.stage_is;
               last = o.last;
               found_each = length-set p.found j x ∙ o.found_each;
@@ -635,8 +635,8 @@ module _ (plan : PlanView) where
             (λ j lj. let c = r.paced j lj in let f = o.found_since j lj in let a = all j lj in (omega (arith, c.0, there j lj, here, o.stage_is), omega (arith, f, a, there j lj, here)))
             record {
               plan_is = o.plan_is;
-              place_is = o.place_is;
-              places_are = o.places_are;
+              position_is = o.position_is;
+              positions_are = o.positions_are;
               stage_is = here;
               last = omega arith;
               found_each = o.found_each;
@@ -647,7 +647,7 @@ module _ (plan : PlanView) where
               all_copied = λ _. dite (ℕ_discrete p.stage 0) (λ e. copied e) (λ ne. o.all_copied (omega arith));
               all_found = o.all_found;
             }
-            (λ j v ne k. others ws x here there (omega (arith, o.stage_is)) j v (λ e. ne (e ∙ sym o.place_is)) k)
+            (λ j v ne k. others ws x here there (omega (arith, o.stage_is)) j v (λ e. ne (e ∙ sym o.position_is)) k)
             (λ k lk t. let u : Slot ws k p = apart (λ a b. IsSlot plan.limit a b k (owner k) p) s.words i k x (λ e. omega arith) (λ e. omega arith) t in record { live = u.live; dead = u.dead; small = u.small; unwritten = u.unwritten })
             (λ k q lk w t. let u : Twin ws k q p = apart (λ a b. IsTwin a b k q p) s.words i k x (λ e. omega arith) (λ e. omega arith) t in
             record { first_is = u.first_is; same = u.same; checked = u.checked; wrote_first = u.wrote_first; wrote_second = u.wrote_second; wrote_value = u.wrote_value }),
@@ -657,7 +657,7 @@ module _ (plan : PlanView) where
       others : (ws : List ℕ) (x : ℕ) → stage ws ≡ x → ((j : ℕ) → j < n → taken ws j ≡ taken s.words j) → stage s.words ≤ x → (j : ℕ) (v : View) → j ≢ 0 → Knows s.words plan (length s.views) j v → Knows ws plan (length s.views) j v
       others ws x here there up j (OfWriter a) ne k = record {
         plan_is = k.plan_is;
-        place_is = k.place_is;
+        position_is = k.position_is;
         in_range = k.in_range;
         taken_up_is = there a.index k.in_range ∙ k.taken_up_is;
         taken_up_polled = k.taken_up_polled;
@@ -666,7 +666,7 @@ module _ (plan : PlanView) where
         wrote_written = k.wrote_written;
         settled = k.settled;
       }
-      others ws x here there up j (OfCopier c) ne k = absurd (ne k.place_is)
+      others ws x here there up j (OfCopier c) ne k = absurd (ne k.position_is)
 
   -- the mark over the first copy, once every seat was found at stage 2
   pub retires : (slots id i : ℕ) (p : CopierView) → i < m → FoundAll n 2 p.found
@@ -683,8 +683,8 @@ module _ (plan : PlanView) where
         copier_steps s r ws s.homes id p p' at (length-set s.words i retired_mark) (paced_apart s.words i retired_mark (omega arith) r.paced)
             record {
               plan_is = u.plan_is;
-              place_is = u.place_is;
-              places_are = u.places_are;
+              position_is = u.position_is;
+              positions_are = u.positions_are;
               stage_is = u.stage_is;
               last = u.last;
               found_each = u.found_each;

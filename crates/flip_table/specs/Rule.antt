@@ -50,10 +50,10 @@ pub record IsTwin (first second k : ℕ) (q : WriterView) (p : CopierView) : Typ
   pub wrote_second : (x : ℕ) → second ≡ forward x → IsAmong q.wrote k x
   pub wrote_value : p.copying ≡ Some k → IsAmong q.wrote k p.value
 
--- What the writer of seat j knows, whose view has the place j + 1.
-pub record IsWriterView (words : List ℕ) (plan : PlanView) (place : ℕ) (q : WriterView) : Type 0 where
+-- What the writer of seat j knows, whose view has the position j + 1.
+pub record IsWriterView (words : List ℕ) (plan : PlanView) (position : ℕ) (q : WriterView) : Type 0 where
   pub plan_is : q.plan ≡ plan
-  pub place_is : place ≡ q.index + 1
+  pub position_is : position ≡ q.index + 1
   pub in_range : q.index < plan.seats
   pub taken_up_is : slice_index words (length plan.owners + length plan.owners + q.index) ≡ q.taken_up
   pub taken_up_polled : q.taken_up ≤ q.polled
@@ -62,11 +62,11 @@ pub record IsWriterView (words : List ℕ) (plan : PlanView) (place : ℕ) (q : 
   pub wrote_written : (k : ℕ) → k < length plan.owners → IsAmong q.wrote k (slice_index q.written k)
   pub settled : 1 < q.taken_up → q.pending ≡ None
 
--- What the copier knows, whose view has the place 0 of all places.
-pub record IsCopierView (words : List ℕ) (plan : PlanView) (places place : ℕ) (p : CopierView) : Type 0 where
+-- What the copier knows, whose view has the position 0 of all positions.
+pub record IsCopierView (words : List ℕ) (plan : PlanView) (positions position : ℕ) (p : CopierView) : Type 0 where
   pub plan_is : p.plan ≡ plan
-  pub place_is : place ≡ 0
-  pub places_are : places ≡ p.dealt + 1
+  pub position_is : position ≡ 0
+  pub positions_are : positions ≡ p.dealt + 1
   pub stage_is : slice_index words (length plan.owners + length plan.owners + plan.seats) ≡ p.stage
   pub last : p.stage ≤ 2
   pub found_each : length p.found ≡ plan.seats
@@ -78,8 +78,8 @@ pub record IsCopierView (words : List ℕ) (plan : PlanView) (places place : ℕ
   pub all_found : (k : ℕ) → IsMarked p.retired k → FoundAll plan.seats 2 p.found
 
 abbrev pub Knows : List ℕ → PlanView → ℕ → ℕ → View → Type 0
-Knows words plan places place (OfWriter q) = IsWriterView words plan place q
-Knows words plan places place (OfCopier p) = IsCopierView words plan places place p
+Knows words plan positions position (OfWriter q) = IsWriterView words plan position q
+Knows words plan positions position (OfCopier p) = IsCopierView words plan positions position p
 
 -- Every step keeps this.
 pub record KeepsFlip (plan : PlanView) (table : State (Unit {0}) View) : Type 0 where
@@ -87,7 +87,7 @@ pub record KeepsFlip (plan : PlanView) (table : State (Unit {0}) View) : Type 0 
   pub owned : (k : ℕ) → k < length plan.owners → slice_index plan.owners k < plan.seats
   pub paced : (j : ℕ) → j < plan.seats
       → IsPostedOrOneLess (slice_index table.words (length plan.owners + length plan.owners + j)) (slice_index table.words (length plan.owners + length plan.owners + plan.seats))
-  pub known : (place : ℕ) (view : View) → get_elem? table.views place ≡ some view → Knows table.words plan (length table.views) place view
+  pub known : (position : ℕ) (view : View) → get_elem? table.views position ≡ some view → Knows table.words plan (length table.views) position view
   pub copier : CopierView
   pub copier_is : get_elem? table.views 0 ≡ some (OfCopier copier)
   pub slots : (k : ℕ) → k < length plan.owners
@@ -116,8 +116,8 @@ dealt_copier plan dealt = record {
 }
 
 -- the writer of a seat before any step
-abbrev pub opening_writer : PlanView → ℕ → WriterView
-opening_writer plan index = record {
+abbrev pub initial_writer : PlanView → ℕ → WriterView
+initial_writer plan index = record {
   plan = plan;
   index = index;
   taken_up = 0;
@@ -132,5 +132,5 @@ opening_writer plan index = record {
 }
 
 -- the copier before any writer is given out
-abbrev pub opening_view : PlanView → View
-opening_view plan = OfCopier (dealt_copier plan 0)
+abbrev pub initial_view : PlanView → View
+initial_view plan = OfCopier (dealt_copier plan 0)

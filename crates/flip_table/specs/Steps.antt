@@ -1,7 +1,7 @@
 -- The kinds of step: what each reports to its holder, and what the holder knows after it (this profile).
 use Rattle.std.specs.Prelude.{true, false, Some, None, ◌≡◌, ◌≢◌, ℕ, ◌+◌, ◌<◌, ◌≤◌, [], ◌∷◌, ◌++◌, length, slice_index, slice_set}
 use Rattle.atomic_table.specs.Table.{Me, Step}
-use Rattle.flip_table.specs.Rule.{forward, opening_writer}
+use Rattle.flip_table.specs.Rule.{forward, initial_writer}
 use Rattle.epoch_words.specs.Tokens.{IsPostedOrOneLess}
 use Rattle.flip_table.specs.declared.slot_table.CopierView.{CopierView}
 use Rattle.flip_table.specs.declared.slot_table.PlanView.{PlanView}
@@ -51,7 +51,7 @@ dealing_copier (OfCopier p) = OfCopier (record p { dealt = p.dealt + 1 })
 
 abbrev pub dealt_writer : View → View
 dealt_writer (OfWriter q) = OfWriter q
-dealt_writer (OfCopier p) = OfWriter (opening_writer p.plan p.dealt)
+dealt_writer (OfCopier p) = OfWriter (initial_writer p.plan p.dealt)
 
 -- the writer once a load of this word of a slot gave it the value x
 abbrev pub loading_writer : WriterView → ℕ → ℕ → WriterView

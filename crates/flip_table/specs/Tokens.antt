@@ -2,7 +2,7 @@
 use Rattle.std.specs.Prelude.{◌≡◌, ℕ, List, map}
 use Rattle.std.specs.List.{range_with_len}
 use Rattle.atomic_table.specs.Seated.{TableId}
-use Rattle.flip_table.specs.Rule.{opening_writer}
+use Rattle.flip_table.specs.Rule.{initial_writer}
 use Rattle.flip_table.specs.declared.slot_table.CopierView.{CopierView}
 use Rattle.flip_table.specs.declared.slot_table.PlanView.{PlanView}
 use Rattle.flip_table.specs.declared.slot_table.WriterView.{WriterView}
@@ -26,9 +26,9 @@ IsWriterOf t w = (w.table ≡ t.table) × (w.knows.plan ≡ t.plan)
 abbrev pub IsCopierOf : FlipTableValue → CopierValue → Type 0
 IsCopierOf t c = (c.table ≡ t.table) × (c.knows.plan ≡ t.plan)
 
-abbrev pub opening_seat : TableId → PlanView → ℕ → WriterValue
-opening_seat table plan index = record { table = table; knows = opening_writer plan index }
+abbrev pub initial_seat : TableId → PlanView → ℕ → WriterValue
+initial_seat table plan index = record { table = table; knows = initial_writer plan index }
 
 -- the writers of the seats 0, 1, .. before any step
-abbrev pub opening_writers : TableId → PlanView → List WriterValue
-opening_writers table plan = map (opening_seat table plan) (range_with_len 0 plan.seats)
+abbrev pub initial_writers : TableId → PlanView → List WriterValue
+initial_writers table plan = map (initial_seat table plan) (range_with_len 0 plan.seats)

@@ -4,9 +4,9 @@ ghost use Rattle.std.specs.Prelude.{◌≡◌, ◌≢◌, ◌+◌, ◌^◌, ◌<
 ghost use Rattle.std.specs.Prelude.{All, IfOk, vec_len, true, false};
 ghost use Rattle.flip_table.specs.Plans.{plan_of};
 ghost use Rattle.epoch_words.specs.Tokens.{FoundAll, IsPostedOrOneLess};
-ghost use Rattle.flip_table.specs.Rule.{dealt_copier, forward, opening_view, AllMarked};
+ghost use Rattle.flip_table.specs.Rule.{dealt_copier, forward, initial_view, AllMarked};
 ghost use Rattle.flip_table.specs.Steps.{checking_copier, loading_writer, looking_copier};
-ghost use Rattle.flip_table.specs.Tokens.{opening_seat, opening_writers, IsCopierOf, IsWriterOf};
+ghost use Rattle.flip_table.specs.Tokens.{initial_seat, initial_writers, IsCopierOf, IsWriterOf};
 ghost use Rattle.flip_table.specs.declared.slot_table.View.TheVariants.{OfCopier};
 
 use crate::slot_table::{
@@ -128,7 +128,7 @@ fn lay_words(alloc: Global, plan: &Plan) -> Result<(WordTable, Token), AllocErro
     requires owned { All (λ j. j < plan.now.seats) plan.now.writer_of.items }
     requires limit { 0 < plan.now.limit }
     ensures words { IfOk result (λ laid. (laid.0.shared.table_id.words ≡ vec_len plan.now.writer_of + vec_len plan.now.writer_of + plan.now.seats + 1) × (laid.0.shared.key ≡ plan.now)) }
-    ensures token { IfOk result (λ laid. (laid.1.table_id ≡ laid.0.shared.table_id) × (laid.1.me ≡ (opening_view (plan_of plan.now), []))) }
+    ensures token { IfOk result (λ laid. (laid.1.table_id ≡ laid.0.shared.table_id) × (laid.1.me ≡ (initial_view (plan_of plan.now), []))) }
 {
     let slots = plan.writer_of.len();
     let zeros = Vec::from_elem(alloc, 0, slots + slots + plan.seats + 1)?;
@@ -140,7 +140,7 @@ fn deal_writer(words: &WordTable, token: &mut Token, index: usize) -> Writer
     requires words { (token.old.table_id ≡ words.now.shared.table_id) × (0 < words.now.shared.table_id.words) }
     requires next { (token.old.me ≡ (OfCopier (dealt_copier (plan_of words.now.shared.key) index), [])) × (index < words.now.shared.key.seats) }
     ensures token { (token.new.table_id ≡ token.old.table_id) × (token.new.me ≡ (OfCopier (dealt_copier (plan_of words.now.shared.key) (index + 1)), [])) }
-    ensures writer { result ≡ opening_seat token.old.table_id (plan_of words.now.shared.key) index }
+    ensures writer { result ≡ initial_seat token.old.table_id (plan_of words.now.shared.key) index }
 {
     Writer {
         token: words.shared.split_seat::<DealWriter>(token),
@@ -175,7 +175,7 @@ impl FlipTable {
         requires limit { (0 < plan.limit) × (plan.limit ≤ 65536) }
         ensures table { IfOk result (λ made. made.0.plan ≡ plan_of plan) }
         ensures copier { IfOk result (λ made. made.1 ≡ record { table = made.0.table; knows = dealt_copier (plan_of plan) plan.seats }) }
-        ensures writers { IfOk result (λ made. made.2.items ≡ opening_writers made.0.table (plan_of plan)) }
+        ensures writers { IfOk result (λ made. made.2.items ≡ initial_writers made.0.table (plan_of plan)) }
     {
         let (slots, seats) = (plan.writer_of.len(), plan.seats);
         let mut writers = Vec::with_capacity(alloc, seats)?;

@@ -93,11 +93,11 @@ pub struct FlipRule;
 
 impl TableRule<(), View, Plan> for FlipRule {
     ghost use Rattle.flip_table.specs.Plans.{plan_of};
-    ghost use Rattle.flip_table.specs.Rule.{KeepsFlip, opening_view};
+    ghost use Rattle.flip_table.specs.Rule.{KeepsFlip, initial_view};
 
     ghost holds = { λ plan. KeepsFlip (plan_of plan) };
 
-    ghost first = { λ plan. opening_view (plan_of plan) };
+    ghost first = { λ plan. initial_view (plan_of plan) };
 }
 
 /// The shared words.

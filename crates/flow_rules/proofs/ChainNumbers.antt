@@ -13,7 +13,7 @@ use Rattle.cil_model.specs.Legality.{IsLegal}
 use Rattle.cil_model.proofs.Lists.{none_is_some}
 use Rattle.cil_model.proofs.SameLaws.{same_class_equal, same_class_itself, class_equivalence}
 use Rattle.resolved_code.specs.Numbered.{class_name}
-use Rattle.resolved_code.specs.declared.types.NumberedElement.TheVariants.{Class}
+use Rattle.resolved_code.specs.declared.types.ResolvedElement.TheVariants.{Class}
 use Rattle.resolved_code.specs.declared.classes.ResolvedClass.{ResolvedClass}
 use Rattle.flow_rules.specs.Named.{class_named}
 use Rattle.flow_rules.specs.Merging.{IsClassAt}
@@ -21,12 +21,12 @@ use Rattle.flow_rules.proofs.Classes.{one_element, own_declaration, element_at_n
 
 module _ (tree : Tree) where
   -- the class is the one, or lists it
-  abbrev pub stands_for : ClassName → ClassName → Bool
-  stands_for d k = same_class k d || list_any (same_class d) (interfaces_declared tree k)
+  abbrev pub refines : ClassName → ClassName → Bool
+  refines d k = same_class k d || list_any (same_class d) (interfaces_declared tree k)
 
   -- some class of the rest of a chain is the one, or lists it
   abbrev pub stands_along : ClassName → ℕ → Option ClassName → Bool
-  stands_along d n c = list_any (stands_for d) (chain_within tree n c)
+  stands_along d n c = list_any (refines d) (chain_within tree n c)
 
   module _ (legal : IsLegal tree) where
     same_number : (m n : ℕ) → is_some (class_name tree m) ≡ true → is_some (class_name tree n) ≡ true → same_class (class_named tree m) (class_named tree n) ≡ (m == n)
@@ -54,7 +54,7 @@ module _ (tree : Tree) where
     listed_number to l (k ∷ ks) [] h = absurd (cc h)
 
     -- the test of one class, by numbers
-    tested : (n to : ℕ) (k : ResolvedClass) → IsClassAt tree n k → is_some (class_name tree to) ≡ true → stands_for (class_named tree to) (class_named tree n) ≡ (n == to) || list_any (λ i. i == to) k.interfaces
+    tested : (n to : ℕ) (k : ResolvedClass) → IsClassAt tree n k → is_some (class_name tree to) ≡ true → refines (class_named tree to) (class_named tree n) ≡ (n == to) || list_any (λ i. i == to) k.interfaces
     tested n to k (name, d, at, alike) l =
         let named : class_name tree n ≡ Some name = ap (option_map (λ (x : ClassName × Declaration). x.0)) at in
         let interfaces : interfaces_declared tree (class_named tree n) ≡ d.interfaces = ap (interfaces_declared tree) (element_at_number tree n name named) ∙ ap (listed_by (λ x. x.interfaces)) (own_declaration tree legal n name d at) in
@@ -67,7 +67,7 @@ module _ (tree : Tree) where
     along : (total i n to : ℕ) (k : ResolvedClass) (b : Bool) → i < total → IsClassAt tree n k → is_some (class_name tree to) ≡ true → (n == to) || list_any (λ j. j == to) k.interfaces ≡ b →
         stands_along (class_named tree to) (total - i) (Some (class_named tree n)) ≡ b || stands_along (class_named tree to) (total - (i + 1)) (base_of tree (class_named tree n))
     along total i n to k b h at l is =
-        ap (list_any (stands_for (class_named tree to))) (chain_next total i (class_named tree n) h) ∙ ap (λ x. x || stands_along (class_named tree to) (total - (i + 1)) (base_of tree (class_named tree n))) (tested n to k at l ∙ is)
+        ap (list_any (refines (class_named tree to))) (chain_next total i (class_named tree n) h) ∙ ap (λ x. x || stands_along (class_named tree to) (total - (i + 1)) (base_of tree (class_named tree n))) (tested n to k at l ∙ is)
 
     pub found_here : (total i n to : ℕ) (k : ResolvedClass) (all : Bool) → i < total → IsClassAt tree n k → is_some (class_name tree to) ≡ true → (n == to) || list_any (λ j. j == to) k.interfaces ≡ true →
         stands_along (class_named tree to) (total - i) (Some (class_named tree n)) ≡ all → true ≡ all

@@ -17,15 +17,15 @@ use Rattle.cil_model.specs.TypeTree.{parent_element}
 use Rattle.cil_model.specs.Legality.{IsLegal}
 use Rattle.cil_model.proofs.Lists.{none_is_some}
 use Rattle.name_tables.specs.Numbers.{declarations, class_number, source_entry}
-use Rattle.name_tables.proofs.NumberLaws.{IsNumbered, numbered}
-use Rattle.resolved_code.proofs.Numbers.Classes.{number_of_place}
+use Rattle.name_tables.proofs.NumberLaws.{HasId, numbered}
+use Rattle.resolved_code.proofs.Numbers.Classes.{number_of_index}
 use Rattle.resolved_code.specs.Numbered.{class_name}
 use Rattle.resolved_code.specs.Resolved.{AreResolved, IsResolvedClass}
 use Rattle.resolved_code.proofs.ListLaws.RelatedLists.{AlikeTo, alike_to, alike_beyond, alike_length}
 use Rattle.resolved_code.specs.declared.classes.ResolvedClass.{ResolvedClass}
-use Rattle.resolved_code.specs.declared.types.NumberedElement.{NumberedElement}
-use Rattle.resolved_code.specs.declared.types.NumberedElement.TheVariants.{Int32, Int64, Object, String, Class}
-use Rattle.resolved_code.specs.declared.types.NumberedType.{NumberedType}
+use Rattle.resolved_code.specs.declared.types.ResolvedElement.{ResolvedElement}
+use Rattle.resolved_code.specs.declared.types.ResolvedElement.TheVariants.{Int32, Int64, Object, String, Class}
+use Rattle.resolved_code.specs.declared.types.ResolvedType.{ResolvedType}
 use Rattle.flow_rules.specs.Named.{class_named, element_named, type_named, is_known}
 use Rattle.flow_rules.specs.Merging.{IsClassAt}
 
@@ -47,7 +47,7 @@ module _ (tree : Tree) where
         by_entry None at h = none_is_some c h
         by_entry (Some x) at h =
             let named : x.0 ≡ c = cc in
-            subst (λ (d : ClassName). class_number tree d ≡ Some n) named (number_of_place tree legal n x at)
+            subst (λ (d : ClassName). class_number tree d ≡ Some n) named (number_of_index tree legal n x at)
 
     -- two numbers with one name are one
     pub one_number : (n m : ℕ) (c : ClassName) → class_name tree n ≡ Some c → class_name tree m ≡ Some c → n ≡ m
@@ -57,7 +57,7 @@ module _ (tree : Tree) where
     pub own_declaration : (n : ℕ) (c : ClassName) (d : Declaration) → slice_get (declarations tree) n ≡ Some (c, d) → declaration_of tree c ≡ Some d
     own_declaration n c d e =
         let number : class_number tree c ≡ Some n = own_number n c (ap (option_map (λ (x : ClassName × Declaration). x.0)) e) in
-        let found : (d' : Declaration) × (declaration_of tree c ≡ Some d') × (slice_get (declarations tree) n ≡ Some (c, d')) = subst (IsNumbered tree c) number (numbered tree c) in
+        let found : (d' : Declaration) × (declaration_of tree c ≡ Some d') × (slice_get (declarations tree) n ≡ Some (c, d')) = subst (HasId tree c) number (numbered tree c) in
         let pairs : (c, found.0) ≡ (c, d) = same_Some (c, found.0) (c, d) (sym found.2 ∙ e) in
         found.1 ∙ ap (λ (x : ClassName × Declaration). Some x.1) pairs
 
@@ -68,7 +68,7 @@ module _ (tree : Tree) where
         let found : AlikeTo (λ (x : ClassName × Declaration) (r : ResolvedClass). IsResolvedClass tree x.1 r) (declarations tree) n k = alike_to (λ (x : ClassName × Declaration) (r : ResolvedClass). IsResolvedClass tree x.1 r) (declarations tree) classes n k alike e in
         (found.item.0, found.item.1, found.there, found.alike)
 
-  -- there are as many declarations as classes
+  -- the number of resolved classes is that of the declarations
   pub class_count : (classes : List ResolvedClass) → AreResolved tree classes → length classes ≡ length tree.classes + 5
   class_count classes alike =
       let all : length (declarations tree) ≡ length classes = alike_length (λ (x : ClassName × Declaration) r. IsResolvedClass tree x.1 r) (declarations tree) classes alike in
@@ -160,7 +160,7 @@ module _ (tree : Tree) where
 
   -- ---- a type has one number
 
-  pub one_element : IsLegal tree → (a b : NumberedElement) → is_known tree a ≡ true → is_known tree b ≡ true → element_named tree a ≡ element_named tree b → a ≡ b
+  pub one_element : IsLegal tree → (a b : ResolvedElement) → is_known tree a ≡ true → is_known tree b ≡ true → element_named tree a ≡ element_named tree b → a ≡ b
   unfolding class_in
   one_element legal Int32 Int32 k l e = refl
   one_element legal Int64 Int64 k l e = refl
@@ -196,7 +196,7 @@ module _ (tree : Tree) where
   one_element legal (Class n) Object k l e = absurd (cc e)
   one_element legal (Class n) String k l e = absurd (cc e)
 
-  pub one_type : IsLegal tree → (a b : NumberedType) → is_known tree a.element ≡ true → is_known tree b.element ≡ true → type_named tree a ≡ type_named tree b → a ≡ b
+  pub one_type : IsLegal tree → (a b : ResolvedType) → is_known tree a.element ≡ true → is_known tree b.element ≡ true → type_named tree a ≡ type_named tree b → a ≡ b
   one_type legal a b k l e = λ i. record {
     element = one_element legal a.element b.element k l (ap (λ (t : DeclaredType). t.element) e) i;
     brackets = ap (λ (t : DeclaredType). t.brackets) e i;

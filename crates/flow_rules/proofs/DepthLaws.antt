@@ -1,4 +1,4 @@
--- How many parents types have above them, and merges of types that have as many.
+-- How many parents types have above them, and merges of types that have the same number of them.
 use Rattle.std.proofs.Common.{◌≡◌, ◌≤◌, ◌<◌, ◌+◌, ◌-◌, ◌⊎◌, ℕ, zero, suc, Option, Some, None, option_map, option_and_then, inl, inr, sym, ap, ◌∙◌, subst, arith}
 use Rattle.std.proofs.lemmas.Bool.{cases_lt}
 use Rattle.std.proofs.lemmas.Option.{same_Some}
@@ -10,7 +10,7 @@ use Rattle.cil_model.proofs.Lists.{none_is_some}
 use Rattle.cil_model.proofs.BelowLaws.{declared_is_null, declared_is_native, climb, transitive}
 use Rattle.flow_rules.specs.Merging.{IsDepth, AreLevel, IsMerged}
 use Rattle.flow_rules.specs.Named.{type_named}
-use Rattle.resolved_code.specs.declared.types.NumberedType.{NumberedType}
+use Rattle.resolved_code.specs.declared.types.ResolvedType.{ResolvedType}
 use Rattle.flow_rules.specs.declared.entries.StackEntry.TheVariants as Entry
 use Rattle.flow_rules.proofs.Climbing.{beyond, closest, apart}
 
@@ -24,7 +24,7 @@ module _ (tree : Tree) where
       by_order (inr l) (inl k) = absurd (beyond tree n m a u t g h k e)
       by_order (inr l) (inr k) = omega (arith, l, k)
 
-  -- an ancestor has as many parents less as it is up
+  -- an ancestor that is i parents above a type with n parents has n - i parents
   depth_above : (i n : ℕ) (a v : DeclaredType) → ancestor tree i a ≡ Some v → IsDepth tree a n → (r : ℕ) × (r + i ≡ n) × IsDepth tree v r
   depth_above i n a v e (t, f, g) = by_order (cases_lt n i)
     where
@@ -43,7 +43,7 @@ module _ (tree : Tree) where
       let same : one.0 ≡ other.0 = one_depth v one.0 other.0 one.2 other.2 in
       omega (arith, one.1, other.1, same)
 
-  -- of types with as many parents it is as far up from both
+  -- a common ancestor of types with the same number of parents is the same number of parents above both
   together : (i j : ℕ) (a b v : DeclaredType) → AreLevel tree a b → ancestor tree i a ≡ Some v → ancestor tree j b ≡ Some v → ancestor tree i b ≡ Some v
   together i j a b v (n, d, e) f g =
       let same : j ≡ i = omega (arith, common_height n n i j a b v d e f g) in
@@ -122,7 +122,7 @@ module _ (tree : Tree) where
   above_brought m n a b c d e f g h NativeInt one other = declared_is_native a one
 
   -- their merge is the merge
-  pub merged_brought : (m n : ℕ) (first second one other : NumberedType) (merged : Option NumberedType) → IsDepth tree (type_named tree first) m → IsDepth tree (type_named tree second) n →
+  pub merged_brought : (m n : ℕ) (first second one other : ResolvedType) (merged : Option ResolvedType) → IsDepth tree (type_named tree first) m → IsDepth tree (type_named tree second) n →
       ancestor tree (m - n) (type_named tree first) ≡ Some (type_named tree one) → ancestor tree (n - m) (type_named tree second) ≡ Some (type_named tree other) →
       IsMerged tree (Entry.Declared one) (Entry.Declared other) (option_map Entry.Declared merged) → IsMerged tree (Entry.Declared first) (Entry.Declared second) (option_map Entry.Declared merged)
   merged_brought m n first second one other None d e f g h = λ above under over.

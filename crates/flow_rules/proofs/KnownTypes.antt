@@ -10,15 +10,15 @@ use Rattle.cil_model.specs.Declarations.{object_name}
 use Rattle.cil_model.specs.Assignable.{is_class_assignable}
 use Rattle.resolved_code.specs.Numbered.{class_name, element_at, type_at}
 use Rattle.resolved_code.specs.TypeTests.{ComesTo}
-use Rattle.resolved_code.specs.declared.types.NumberedElement.{NumberedElement}
-use Rattle.resolved_code.specs.declared.types.NumberedElement.TheVariants.{Int32, Int64, Object, String, Class}
-use Rattle.resolved_code.specs.declared.types.NumberedType.{NumberedType}
+use Rattle.resolved_code.specs.declared.types.ResolvedElement.{ResolvedElement}
+use Rattle.resolved_code.specs.declared.types.ResolvedElement.TheVariants.{Int32, Int64, Object, String, Class}
+use Rattle.resolved_code.specs.declared.types.ResolvedType.{ResolvedType}
 use Rattle.resolved_code.specs.declared.type_tests.TypeTest.TheVariants.{OfClasses}
 use Rattle.flow_rules.specs.Named.{class_named, element_named, type_named, is_known}
 use Rattle.flow_rules.proofs.Classes.{element_at_number}
 
 module _ (tree : Tree) where
-  element_stands : (n : NumberedElement) → is_known tree n ≡ true → element_at tree n ≡ Some (element_named tree n)
+  element_stands : (n : ResolvedElement) → is_known tree n ≡ true → element_at tree n ≡ Some (element_named tree n)
   element_stands Int32 k = refl
   element_stands Int64 k = refl
   element_stands Object k = refl
@@ -30,7 +30,7 @@ module _ (tree : Tree) where
       by_name (Some c) h = refl
 
   -- a known type represents the one that it has the name of
-  pub type_stands : (n m : NumberedType) → is_known tree n.element ≡ true → type_named tree n ≡ type_named tree m → type_at tree n ≡ Some (type_named tree m)
+  pub type_stands : (n m : ResolvedType) → is_known tree n.element ≡ true → type_named tree n ≡ type_named tree m → type_at tree n ≡ Some (type_named tree m)
   type_stands n m k e =
       ap (option_map (λ (x : Element). let t : DeclaredType = record { element = x; brackets = n.brackets } in t)) (element_stands n.element k) ∙ ap Some e
 

@@ -9,9 +9,9 @@ use Rattle.cil_model.specs.Legality.{IsLegal}
 use Rattle.cil_model.specs.TypeTree.{Declared, parent, parent_at, ancestor, IsBelow, IsMerge}
 use Rattle.cil_model.proofs.BelowLaws.{typed, climb}
 use Rattle.cil_model.proofs.Lists.{none_is_some}
-use Rattle.resolved_code.specs.declared.types.NumberedElement.{NumberedElement}
-use Rattle.resolved_code.specs.declared.types.NumberedElement.TheVariants.{Object, Class}
-use Rattle.resolved_code.specs.declared.types.NumberedType.{NumberedType}
+use Rattle.resolved_code.specs.declared.types.ResolvedElement.{ResolvedElement}
+use Rattle.resolved_code.specs.declared.types.ResolvedElement.TheVariants.{Object, Class}
+use Rattle.resolved_code.specs.declared.types.ResolvedType.{ResolvedType}
 use Rattle.flow_rules.specs.Named.{element_named, type_named}
 use Rattle.flow_rules.specs.Merging.{IsDepth, IsUp, IsLine, AreLines}
 use Rattle.flow_rules.proofs.Climbing.{next, closest, type_ends}
@@ -35,17 +35,17 @@ module _ (tree : Tree) where
   pub no_line : (class : ℕ) → IsLine tree class []
   no_line class n above e = absurd (none-some above e)
 
-  pub line_more : (class : ℕ) (line : List NumberedElement) (above : NumberedElement) → IsLine tree class line → IsUp tree (Class class) (length line) above → IsLine tree class (line ++ above ∷ [])
+  pub line_more : (class : ℕ) (line : List ResolvedElement) (above : ResolvedElement) → IsLine tree class line → IsUp tree (Class class) (length line) above → IsLine tree class (line ++ above ∷ [])
   line_more class line above h here = item_more (λ n x. IsUp tree (Class class) n x) line above h here
 
-  pub lines_more : (rows : List (List NumberedElement)) (row : List NumberedElement) → AreLines tree rows → IsLine tree (length rows) row → AreLines tree (rows ++ row ∷ [])
+  pub lines_more : (rows : List (List ResolvedElement)) (row : List ResolvedElement) → AreLines tree rows → IsLine tree (length rows) row → AreLines tree (rows ++ row ∷ [])
   lines_more rows row h here = row_more (λ class line. IsLine tree class line) rows row h here no_line
 
   pub no_lines : AreLines tree []
   no_lines class = no_line class
 
   -- one parent more
-  pub up_more : (class n : ℕ) (here above : NumberedElement) → IsUp tree (Class class) n here → ((brackets : ℕ) → parent_at tree (element_named tree here) brackets ≡ Some (typed (element_named tree above) brackets)) → IsUp tree (Class class) (n + 1) above
+  pub up_more : (class n : ℕ) (here above : ResolvedElement) → IsUp tree (Class class) n here → ((brackets : ℕ) → parent_at tree (element_named tree here) brackets ≡ Some (typed (element_named tree above) brackets)) → IsUp tree (Class class) (n + 1) above
   up_more class n here above h parent = λ brackets. next tree n (typed (element_named tree (Class class)) brackets) (typed (element_named tree here) brackets) (typed (element_named tree above) brackets) (h brackets) (parent brackets)
 
   -- ---- types above others
@@ -55,13 +55,13 @@ module _ (tree : Tree) where
   object_up (suc n) zero m e = absurd (omega (arith, e))
   object_up (suc n) (suc k) m e = object_up n k m (omega (arith, e))
 
-  up_from : (class n : ℕ) (above : NumberedElement) (below : NumberedType) → below.element ≡ Class class → IsUp tree (Class class) n above → ancestor tree n (type_named tree below) ≡ Some (typed (element_named tree above) below.brackets)
+  up_from : (class n : ℕ) (above : ResolvedElement) (below : ResolvedType) → below.element ≡ Class class → IsUp tree (Class class) n above → ancestor tree n (type_named tree below) ≡ Some (typed (element_named tree above) below.brackets)
   up_from class n above below e h = ap (λ x. ancestor tree n (typed (element_named tree x) below.brackets)) e ∙ h below.brackets
 
-  pub above_by_class : (class : ℕ) (above below : NumberedType) → below.element ≡ Class class → (place : ℕ) × IsUp tree (Class class) place above.element → above.brackets ≡ below.brackets → IsBelow tree (Declared (type_named tree below)) (Declared (type_named tree above))
+  pub above_by_class : (class : ℕ) (above below : ResolvedType) → below.element ≡ Class class → (index : ℕ) × IsUp tree (Class class) index above.element → above.brackets ≡ below.brackets → IsBelow tree (Declared (type_named tree below)) (Declared (type_named tree above))
   above_by_class class above below e h same = (h.0, up_from class h.0 above.element below e h.1 ∙ ap (λ k. Some (typed (element_named tree above.element) k)) (sym same))
 
-  pub above_by_brackets : (class : ℕ) (above below : NumberedType) → below.element ≡ Class class → (place : ℕ) × IsUp tree (Class class) place above.element → above.brackets < below.brackets → above.element ≡ Object → IsBelow tree (Declared (type_named tree below)) (Declared (type_named tree above))
+  pub above_by_brackets : (class : ℕ) (above below : ResolvedType) → below.element ≡ Class class → (index : ℕ) × IsUp tree (Class class) index above.element → above.brackets < below.brackets → above.element ≡ Object → IsBelow tree (Declared (type_named tree below)) (Declared (type_named tree above))
   above_by_brackets class above below e h fewer object =
       let reached : ancestor tree h.0 (type_named tree below) ≡ Some (typed Named.Object below.brackets) = up_from class h.0 above.element below e h.1 ∙ ap (λ x. Some (typed (element_named tree x) below.brackets)) object in
       let further : ancestor tree (below.brackets - above.brackets) (typed Named.Object below.brackets) ≡ Some (typed Named.Object above.brackets) = object_up (below.brackets - above.brackets) below.brackets above.brackets (omega (arith, fewer)) in
@@ -70,17 +70,17 @@ module _ (tree : Tree) where
       (both.0, both.2 ∙ further ∙ ap (λ x. Some (typed (element_named tree x) above.brackets)) (sym object))
 
   -- the one that is above the other is their merge
-  pub merged_first : (a b : NumberedType) → IsBelow tree (Declared (type_named tree b)) (Declared (type_named tree a)) → IsMerge tree (Declared (type_named tree a)) (Declared (type_named tree b)) (Declared (type_named tree a))
+  pub merged_first : (a b : ResolvedType) → IsBelow tree (Declared (type_named tree b)) (Declared (type_named tree a)) → IsMerge tree (Declared (type_named tree a)) (Declared (type_named tree b)) (Declared (type_named tree a))
   merged_first a b h = record { above_first = (0, refl); above_second = h; least = λ other k l. k }
 
-  pub merged_second : (a b : NumberedType) → IsBelow tree (Declared (type_named tree a)) (Declared (type_named tree b)) → IsMerge tree (Declared (type_named tree a)) (Declared (type_named tree b)) (Declared (type_named tree b))
+  pub merged_second : (a b : ResolvedType) → IsBelow tree (Declared (type_named tree a)) (Declared (type_named tree b)) → IsMerge tree (Declared (type_named tree a)) (Declared (type_named tree b)) (Declared (type_named tree b))
   merged_second a b h = record { above_first = h; above_second = (0, refl); least = λ other k l. l }
 
   -- ---- the types above one, by its line and beyond it
 
-  pub object_behind : (last steps fewer k m : ℕ) (t top : NumberedType) → ancestor tree last (type_named tree t) ≡ Some (typed (element_named tree top.element) k) →
+  pub object_after : (last steps fewer k m : ℕ) (t top : ResolvedType) → ancestor tree last (type_named tree t) ≡ Some (typed (element_named tree top.element) k) →
       ((brackets : ℕ) → parent tree (typed (element_named tree top.element) (brackets + 1)) ≡ Some (typed Named.Object brackets)) → steps ≡ last + fewer → 0 < fewer → m + fewer ≡ k → ancestor tree steps (type_named tree t) ≡ Some (typed Named.Object m)
-  object_behind last steps fewer k m t top reached none e more less =
+  object_after last steps fewer k m t top reached none e more less =
       let one : ancestor tree (last + 1) (type_named tree t) ≡ Some (typed Named.Object (k - 1)) =
       next tree last (type_named tree t) (typed (element_named tree top.element) k) (typed Named.Object (k - 1)) reached (let same : k ≡ k - 1 + 1 = omega (arith, more, less) in ap (λ b. parent tree (typed (element_named tree top.element) b)) same ∙ none (k - 1)) in
       let both : (n : ℕ) × (n ≡ last + 1 + (fewer - 1)) × (ancestor tree n (type_named tree t) ≡ ancestor tree (fewer - 1) (typed Named.Object (k - 1))) = climb tree (last + 1) (fewer - 1) (type_named tree t) (typed Named.Object (k - 1)) one in

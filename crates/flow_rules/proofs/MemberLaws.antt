@@ -19,9 +19,9 @@ use Rattle.cil_model.proofs.Lists.{none_is_some, find_passes}
 use Rattle.cil_model.proofs.SameLaws.{both_first, both_second, same_type_equal, same_signature_equal}
 use Rattle.name_tables.specs.Numbers.{declarations, member_at, method_at}
 use Rattle.resolved_code.specs.Numbered.{class_name, element_at, type_at, AreTypes}
-use Rattle.resolved_code.specs.declared.types.NumberedElement.{NumberedElement}
-use Rattle.resolved_code.specs.declared.types.NumberedElement.TheVariants.{Int32, Int64, Object, String, Class}
-use Rattle.resolved_code.specs.declared.types.NumberedType.{NumberedType}
+use Rattle.resolved_code.specs.declared.types.ResolvedElement.{ResolvedElement}
+use Rattle.resolved_code.specs.declared.types.ResolvedElement.TheVariants.{Int32, Int64, Object, String, Class}
+use Rattle.resolved_code.specs.declared.types.ResolvedType.{ResolvedType}
 use Rattle.flow_rules.specs.Named.{element_named, type_named, types_named}
 use Rattle.flow_rules.specs.Merging.{IsClassAt}
 use Rattle.cil_model.specs.declared.types.Signature.{Signature}
@@ -66,7 +66,7 @@ module _ (tree : Tree) where
 
   -- ---- types that numbers represent
 
-  pub element_is_named : (e : NumberedElement) (d : Element) → element_at tree e ≡ Some d → element_named tree e ≡ d
+  pub element_is_named : (e : ResolvedElement) (d : Element) → element_at tree e ≡ Some d → element_named tree e ≡ d
   element_is_named Int32 d h = same_Some _ d h
   element_is_named Int64 d h = same_Some _ d h
   element_is_named Object d h = same_Some _ d h
@@ -77,7 +77,7 @@ module _ (tree : Tree) where
       by_name None e f = none_is_some d f
       by_name (Some c) e f = ap ClassElement (element_at_number tree n c e) ∙ same_Some (ClassElement c) d f
 
-  pub type_is_named : (t : NumberedType) (d : DeclaredType) → type_at tree t ≡ Some d → type_named tree t ≡ d
+  pub type_is_named : (t : ResolvedType) (d : DeclaredType) → type_at tree t ≡ Some d → type_named tree t ≡ d
   type_is_named t d h = by_element (element_at tree t.element) refl h
     where
       with_brackets : Element → DeclaredType
@@ -89,7 +89,7 @@ module _ (tree : Tree) where
           let s : DeclaredType = record { element = x; brackets = t.brackets } in
           ap (λ (y : Element). let s : DeclaredType = record { element = y; brackets = t.brackets } in s) (element_is_named t.element x e) ∙ same_Some s d f
 
-  pub types_are_named : (ts : List NumberedType) (ds : List DeclaredType) → AreTypes tree ts ds → types_named tree ts ≡ ds
+  pub types_are_named : (ts : List ResolvedType) (ds : List DeclaredType) → AreTypes tree ts ds → types_named tree ts ≡ ds
   types_are_named [] [] h = refl
   types_are_named (t ∷ ts) (d ∷ ds) h =
       let first : type_at tree t ≡ Some d = cc in
@@ -98,7 +98,7 @@ module _ (tree : Tree) where
   types_are_named [] (d ∷ ds) h = absurd (cc h)
   types_are_named (t ∷ ts) [] h = absurd (cc h)
 
-  pub return_is_named : (o : Option NumberedType) (d : Option DeclaredType) → option_map (type_at tree) o ≡ option_map Some d → option_map (type_named tree) o ≡ d
+  pub return_is_named : (o : Option ResolvedType) (d : Option DeclaredType) → option_map (type_at tree) o ≡ option_map Some d → option_map (type_named tree) o ≡ d
   return_is_named None None h = refl
   return_is_named (Some t) (Some d) h = ap Some (type_is_named t d (same_Some (type_at tree t) (Some d) h))
   return_is_named None (Some d) h = none_is_some (Some d) h
@@ -123,20 +123,20 @@ module _ (tree : Tree) where
 
   -- ---- fields and methods that references find
 
-  pub field_there : (b : Bool) (r : FieldReference) (f : MemberNumber) (k : ResolvedClass) (x : ResolvedField) → IsField tree b r f → IsClassAt tree f.class k → slice_get k.fields f.place ≡ Some x → type_named tree x.field_type ≡ r.field_type
+  pub field_there : (b : Bool) (r : FieldReference) (f : MemberNumber) (k : ResolvedClass) (x : ResolvedField) → IsField tree b r f → IsClassAt tree f.class k → slice_get k.fields f.index ≡ Some x → type_named tree x.field_type ≡ r.field_type
   field_there b r f k x is (name, d, at, alike) e =
-      let member : (slice_get d.fields f.place ≡ Some is.found) × (name ≡ is.declared_in) = member_of_class (λ y. y.fields) f.class f.place is.declared_in name d is.found at is.numbered in
-      let field : AlikeTo (IsResolvedField tree) d.fields f.place x = alike_to (IsResolvedField tree) d.fields k.fields f.place x alike.fields e in
+      let member : (slice_get d.fields f.index ≡ Some is.found) × (name ≡ is.declared_in) = member_of_class (λ y. y.fields) f.class f.index is.declared_in name d is.found at is.numbered in
+      let field : AlikeTo (IsResolvedField tree) d.fields f.index x = alike_to (IsResolvedField tree) d.fields k.fields f.index x alike.fields e in
       let same : field.item ≡ is.found = same_Some field.item is.found (sym field.there ∙ member.0) in
       type_is_named x.field_type field.item.field_type field.alike.field_type ∙ ap (λ (y : Field). y.field_type) same ∙ field_has_type b r is.declared_in is.found is.finds
 
-  pub field_lacks : (b : Bool) (r : FieldReference) (f : MemberNumber) (k : ResolvedClass) → IsField tree b r f → IsClassAt tree f.class k → slice_get k.fields f.place ≡ None → ⊥
+  pub field_lacks : (b : Bool) (r : FieldReference) (f : MemberNumber) (k : ResolvedClass) → IsField tree b r f → IsClassAt tree f.class k → slice_get k.fields f.index ≡ None → ⊥
   field_lacks b r f k is (name, d, at, alike) e =
-      let member : (slice_get d.fields f.place ≡ Some is.found) × (name ≡ is.declared_in) = member_of_class (λ y. y.fields) f.class f.place is.declared_in name d is.found at is.numbered in
-      none_is_some is.found (sym (alike_beyond (IsResolvedField tree) d.fields k.fields alike.fields f.place e) ∙ member.0)
+      let member : (slice_get d.fields f.index ≡ Some is.found) × (name ≡ is.declared_in) = member_of_class (λ y. y.fields) f.class f.index is.declared_in name d is.found at is.numbered in
+      none_is_some is.found (sym (alike_beyond (IsResolvedField tree) d.fields k.fields alike.fields f.index e) ∙ member.0)
 
   pub field_nowhere : (b : Bool) (r : FieldReference) (f : MemberNumber) → IsField tree b r f → class_name tree f.class ≡ None → ⊥
-  field_nowhere b r f is none = member_nowhere (λ y. y.fields) f.class f.place is.declared_in is.found none is.numbered
+  field_nowhere b r f is none = member_nowhere (λ y. y.fields) f.class f.index is.declared_in is.found none is.numbered
 
   is_abstract_too : (named : MethodKind) (resolved : ResolvedKind) → IsResolvedKind tree named resolved → is_abstract_kind resolved ≡ is_abstract_method named
   is_abstract_too (NamedKind.Static code) (KindOf.Static body) h = refl
@@ -156,10 +156,10 @@ module _ (tree : Tree) where
   is_abstract_too (NamedKind.Abstract s) (KindOf.Instance body) h = absurd h
   is_abstract_too (NamedKind.Abstract s) (KindOf.Virtual t body) h = absurd h
 
-  pub method_there : (b : Bool) (r : MethodReference) (f : MemberNumber) (k : ResolvedClass) (x : ResolvedMethod) (is : IsMethod tree b r f) → IsClassAt tree f.class k → slice_get k.methods f.place ≡ Some x → IsCallable tree r.signature is.found x
+  pub method_there : (b : Bool) (r : MethodReference) (f : MemberNumber) (k : ResolvedClass) (x : ResolvedMethod) (is : IsMethod tree b r f) → IsClassAt tree f.class k → slice_get k.methods f.index ≡ Some x → IsCallable tree r.signature is.found x
   method_there b r f k x is (name, d, at, alike) e =
-      let member : (slice_get d.methods f.place ≡ Some is.found) × (name ≡ is.declared_in) = member_of_class (λ y. y.methods) f.class f.place is.declared_in name d is.found at is.numbered in
-      let method : AlikeTo (IsResolvedMethod tree) d.methods f.place x = alike_to (IsResolvedMethod tree) d.methods k.methods f.place x alike.methods e in
+      let member : (slice_get d.methods f.index ≡ Some is.found) × (name ≡ is.declared_in) = member_of_class (λ y. y.methods) f.class f.index is.declared_in name d is.found at is.numbered in
+      let method : AlikeTo (IsResolvedMethod tree) d.methods f.index x = alike_to (IsResolvedMethod tree) d.methods k.methods f.index x alike.methods e in
       let same : method.item ≡ is.found = same_Some method.item is.found (sym method.there ∙ member.0) in
       let signature : method.item.signature ≡ r.signature = ap (λ (y : Method). y.signature) same ∙ method_has_signature b r is.declared_in is.found is.finds in
       record {
@@ -168,13 +168,13 @@ module _ (tree : Tree) where
         is_abstract = is_abstract_too method.item.kind x.kind method.alike.kind ∙ ap (λ (y : Method). is_abstract_method y.kind) same;
       }
 
-  pub method_lacks : (b : Bool) (r : MethodReference) (f : MemberNumber) (k : ResolvedClass) → IsMethod tree b r f → IsClassAt tree f.class k → slice_get k.methods f.place ≡ None → ⊥
+  pub method_lacks : (b : Bool) (r : MethodReference) (f : MemberNumber) (k : ResolvedClass) → IsMethod tree b r f → IsClassAt tree f.class k → slice_get k.methods f.index ≡ None → ⊥
   method_lacks b r f k is (name, d, at, alike) e =
-      let member : (slice_get d.methods f.place ≡ Some is.found) × (name ≡ is.declared_in) = member_of_class (λ y. y.methods) f.class f.place is.declared_in name d is.found at is.numbered in
-      none_is_some is.found (sym (alike_beyond (IsResolvedMethod tree) d.methods k.methods alike.methods f.place e) ∙ member.0)
+      let member : (slice_get d.methods f.index ≡ Some is.found) × (name ≡ is.declared_in) = member_of_class (λ y. y.methods) f.class f.index is.declared_in name d is.found at is.numbered in
+      none_is_some is.found (sym (alike_beyond (IsResolvedMethod tree) d.methods k.methods alike.methods f.index e) ∙ member.0)
 
   pub method_nowhere : (b : Bool) (r : MethodReference) (f : MemberNumber) → IsMethod tree b r f → class_name tree f.class ≡ None → ⊥
-  method_nowhere b r f is none = member_nowhere (λ y. y.methods) f.class f.place is.declared_in is.found none is.numbered
+  method_nowhere b r f is none = member_nowhere (λ y. y.methods) f.class f.index is.declared_in is.found none is.numbered
 
   -- a constructor is of the class that it is looked for in
   pub constructor_owner : (c : ClassName) (ps : List DeclaredType) (f : MemberNumber) → IsMethod tree true (constructor_reference c ps) f → class_name tree f.class ≡ Some c
@@ -189,10 +189,10 @@ module _ (tree : Tree) where
       alone None h = none_is_some (is.declared_in, is.found) h
       alone (Some y) h = let s : (c, y) ≡ (is.declared_in, is.found) = same_Some {A = ClassName × Method} (c, y) (is.declared_in, is.found) h in sym (ap (λ (z : ClassName × Method). z.0) s)
 
-      by_entry : (o : Option (ClassName × Declaration)) → slice_get (declarations tree) f.class ≡ o → method_at tree (f.class, f.place) ≡ Some (is.declared_in, is.found) → is.declared_in ≡ c → class_name tree f.class ≡ Some c
+      by_entry : (o : Option (ClassName × Declaration)) → slice_get (declarations tree) f.class ≡ o → method_at tree (f.class, f.index) ≡ Some (is.declared_in, is.found) → is.declared_in ≡ c → class_name tree f.class ≡ Some c
       by_entry None at h owner = absurd (method_nowhere true (constructor_reference c ps) f is (ap (option_map (λ (y : ClassName × Declaration). y.0)) at))
       by_entry (Some y) at h owner =
-          let member : (slice_get y.1.methods f.place ≡ Some is.found) × (y.0 ≡ is.declared_in) = member_of_class (λ z. z.methods) f.class f.place is.declared_in y.0 y.1 is.found at h in
+          let member : (slice_get y.1.methods f.index ≡ Some is.found) × (y.0 ≡ is.declared_in) = member_of_class (λ z. z.methods) f.class f.index is.declared_in y.0 y.1 is.found at h in
           ap (option_map (λ (z : ClassName × Declaration). z.0)) at ∙ ap Some (member.1 ∙ owner)
 
   -- whether newobj makes objects of a class

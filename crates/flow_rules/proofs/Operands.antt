@@ -5,7 +5,7 @@ use Rattle.std.proofs.lemmas.Option.{slice_get-map}
 use Rattle.std.proofs.lemmas.List.{reverse-append}
 use Rattle.cil_model.specs.declared.types.DeclaredType.{DeclaredType}
 use Rattle.cil_model.specs.declared.trees.Tree.{Tree}
-use Rattle.cil_model.specs.Bodies.{at_place}
+use Rattle.cil_model.specs.Bodies.{at_index}
 use Rattle.cil_model.specs.TypeTree.{StackType, fits}
 use Rattle.cil_model.specs.FlowRules.{StackAfter, take_fitting, take_operands}
 use Rattle.flow_rules.specs.Flow.{IsAfter}
@@ -18,9 +18,9 @@ pub carried : (T U : Type 0) (tree : Tree) (e : FlowError) (new other : List Sta
 carried T U tree (Mismatch reason) new other part all f h = f h
 carried T U tree OutOfMemory new other part all f h = tt
 
-pub at_place_named : {X Y : Type 0} (f : X → Y) (xs : List X) (z : ℤ) → at_place (map f xs) z ≡ option_map f (at_place xs z)
-at_place_named f xs (pos n) = slice_get-map f xs n
-at_place_named f xs (negsuc n) = refl
+pub at_index_named : {X Y : Type 0} (f : X → Y) (xs : List X) (z : ℤ) → at_index (map f xs) z ≡ option_map f (at_index xs z)
+at_index_named f xs (pos n) = slice_get-map f xs n
+at_index_named f xs (negsuc n) = refl
 
 module _ (tree : Tree) where
   pub first_taken : (t : DeclaredType) (ts : List DeclaredType) (st rest : List StackType) → take_fitting tree (t ∷ []) st ≡ Some rest → take_fitting tree (t ∷ ts) st ≡ take_fitting tree ts rest

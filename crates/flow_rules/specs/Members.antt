@@ -5,7 +5,7 @@ use Rattle.cil_model.specs.declared.types.Signature.{Signature}
 use Rattle.cil_model.specs.declared.trees.Tree.{Tree}
 use Rattle.cil_model.specs.declared.trees.Method.{Method}
 use Rattle.cil_model.specs.Chains.{is_abstract_method}
-use Rattle.resolved_code.specs.declared.types.NumberedType.{NumberedType}
+use Rattle.resolved_code.specs.declared.types.ResolvedType.{ResolvedType}
 use Rattle.resolved_code.specs.declared.classes.ResolvedMethod.{ResolvedMethod}
 use Rattle.resolved_code.specs.declared.classes.ResolvedKind.{ResolvedKind}
 use Rattle.resolved_code.specs.declared.classes.ResolvedKind.TheVariants.{Static, Instance, Virtual, Abstract}
@@ -13,7 +13,7 @@ use Rattle.flow_rules.specs.Named.{type_named, types_named}
 use Rattle.flow_rules.specs.declared.mismatches.FlowError.{FlowError}
 
 -- the result is a number of the type
-abbrev pub GivesType : Tree → Result NumberedType FlowError → DeclaredType → Type 0
+abbrev pub GivesType : Tree → Result ResolvedType FlowError → DeclaredType → Type 0
 GivesType tree (Ok n) t = type_named tree n ≡ t
 GivesType tree (Err e) t = ⊥
 
@@ -31,6 +31,6 @@ pub record IsCallable (tree : Tree) (signature : Signature) (named : Method) (fo
   pub is_abstract : is_abstract_kind found.kind ≡ is_abstract_method named.kind
 
 -- the operands of a call: the owner's type first, where it is an instance's (II.15.3)
-abbrev pub operands_named : Tree → Option NumberedType → List NumberedType → List DeclaredType
+abbrev pub operands_named : Tree → Option ResolvedType → List ResolvedType → List DeclaredType
 operands_named tree None parameters = types_named tree parameters
 operands_named tree (Some owner) parameters = type_named tree owner ∷ types_named tree parameters

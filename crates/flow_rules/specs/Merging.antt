@@ -9,8 +9,8 @@ use Rattle.cil_model.specs.TypeTree.{StackType, IsBelow, IsMerge, parent, ancest
 use Rattle.resolved_code.specs.Resolved.{AreResolved, IsResolvedClass}
 use Rattle.resolved_code.specs.declared.classes.ResolvedClass.{ResolvedClass}
 use Rattle.cil_model.specs.Legality.{IsLegal}
-use Rattle.resolved_code.specs.declared.types.NumberedElement.{NumberedElement}
-use Rattle.resolved_code.specs.declared.types.NumberedElement.TheVariants.{Class}
+use Rattle.resolved_code.specs.declared.types.ResolvedElement.{ResolvedElement}
+use Rattle.resolved_code.specs.declared.types.ResolvedElement.TheVariants.{Class}
 use Rattle.flow_rules.specs.Named.{element_named, stack_type}
 use Rattle.flow_rules.specs.declared.entries.StackEntry.{StackEntry}
 
@@ -36,18 +36,18 @@ IsDepth tree t n = (top : DeclaredType) × (ancestor tree n t ≡ Some top) × (
 abbrev pub IsFork : Tree → DeclaredType → DeclaredType → DeclaredType → Type 0
 IsFork tree t below above = (n : ℕ) × (ancestor tree n t ≡ Some below) × (ancestor tree (n + 1) t ≡ Some above)
 
--- two types have as many parents above them
+-- two types have the same number of parents above them
 abbrev pub AreLevel : Tree → DeclaredType → DeclaredType → Type 0
 AreLevel tree a b = (n : ℕ) × IsDepth tree a n × IsDepth tree b n
 
 -- an element is n parents above another, with any brackets after both
-abbrev pub IsUp : Tree → NumberedElement → ℕ → NumberedElement → Type 0
+abbrev pub IsUp : Tree → ResolvedElement → ℕ → ResolvedElement → Type 0
 IsUp tree below n above = (brackets : ℕ) → ancestor tree n (record { element = element_named tree below; brackets = brackets }) ≡ Some (record { element = element_named tree above; brackets = brackets })
 
--- each element is as many parents above the one of a class as its place says
-abbrev pub IsLine : Tree → ℕ → List NumberedElement → Type 0
-IsLine tree class line = (n : ℕ) (above : NumberedElement) → slice_get line n ≡ Some above → IsUp tree (Class class) n above
+-- the element at index n is n parents above that of a class
+abbrev pub IsLine : Tree → ℕ → List ResolvedElement → Type 0
+IsLine tree class line = (n : ℕ) (above : ResolvedElement) → slice_get line n ≡ Some above → IsUp tree (Class class) n above
 
 -- the same of each class
-abbrev pub AreLines : Tree → List (List NumberedElement) → Type 0
+abbrev pub AreLines : Tree → List (List ResolvedElement) → Type 0
 AreLines tree rows = (class : ℕ) → IsLine tree class (slice_index_or rows class [])

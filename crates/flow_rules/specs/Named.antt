@@ -1,4 +1,4 @@
--- The types that numbered ones represent. A number that is no class's, which no resolved code has, represents System.Object's.
+-- The types that resolved ones represent. A number that is no class's, which no resolved code has, represents System.Object's.
 use Rattle.std.specs.Prelude.{ℕ, Bool, true, List, is_some, map}
 use Rattle.std.specs.Option.{option_map_or}
 use Rattle.cil_model.specs.declared.types.ClassName.{ClassName}
@@ -10,9 +10,9 @@ use Rattle.cil_model.specs.Declarations.{object_name}
 use Rattle.cil_model.specs.TypeTree.{StackType}
 use Rattle.cil_model.specs.TypeTree as OnStack
 use Rattle.resolved_code.specs.Numbered.{class_name}
-use Rattle.resolved_code.specs.declared.types.NumberedElement.{NumberedElement}
-use Rattle.resolved_code.specs.declared.types.NumberedElement.TheVariants.{Int32, Int64, Object, String, Class}
-use Rattle.resolved_code.specs.declared.types.NumberedType.{NumberedType}
+use Rattle.resolved_code.specs.declared.types.ResolvedElement.{ResolvedElement}
+use Rattle.resolved_code.specs.declared.types.ResolvedElement.TheVariants.{Int32, Int64, Object, String, Class}
+use Rattle.resolved_code.specs.declared.types.ResolvedType.{ResolvedType}
 use Rattle.flow_rules.specs.declared.entries.StackEntry.{StackEntry}
 use Rattle.flow_rules.specs.declared.entries.StackEntry.TheVariants.{Declared, NativeInt, Null}
 
@@ -21,7 +21,7 @@ abbrev pub class_named : Tree → ℕ → ClassName
 class_named tree n = option_map_or (λ (c : ClassName). c) (class_name tree n) object_name
 
 -- the type without brackets (II.7.1)
-abbrev pub element_named : Tree → NumberedElement → Element
+abbrev pub element_named : Tree → ResolvedElement → Element
 element_named tree Int32 = Named.Int32
 element_named tree Int64 = Named.Int64
 element_named tree Object = Named.Object
@@ -29,15 +29,15 @@ element_named tree String = Named.String
 element_named tree (Class n) = Named.Class (class_named tree n)
 
 -- the type (II.7.1)
-abbrev pub type_named : Tree → NumberedType → DeclaredType
+abbrev pub type_named : Tree → ResolvedType → DeclaredType
 type_named tree t = record { element = element_named tree t.element; brackets = t.brackets }
 
 -- the types of a list
-abbrev pub types_named : Tree → List NumberedType → List DeclaredType
+abbrev pub types_named : Tree → List ResolvedType → List DeclaredType
 types_named tree types = map (type_named tree) types
 
 -- the number is a class's
-abbrev pub is_known : Tree → NumberedElement → Bool
+abbrev pub is_known : Tree → ResolvedElement → Bool
 is_known tree (Class n) = is_some (class_name tree n)
 is_known tree _ = true
 

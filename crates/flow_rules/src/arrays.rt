@@ -14,16 +14,16 @@ use crate::entries::{StackEntry, is_int32_type, is_int64_type, is_reference};
 use crate::mismatches::{FlowError, Mismatch};
 use crate::operators::{INT32, INT64, keep_where, put_where};
 use crate::type_stack::TypeStack;
-use resolved_code::types::NumberedType;
+use resolved_code::types::ResolvedType;
 
 /// What an array holds; none where the type is no array's.
-fn element_of(t: NumberedType) -> Option<NumberedType>
+fn element_of(t: ResolvedType) -> Option<ResolvedType>
     ensures { (tree : Tree) → option_map (type_named tree) result ≡ element_of (type_named tree t) }
 {
     if t.brackets == 0 {
         return None;
     }
-    Some(NumberedType {
+    Some(ResolvedType {
         element: t.element,
         brackets: t.brackets - 1,
     })
@@ -166,14 +166,14 @@ pub fn store_element_reference(stack: &mut TypeStack) -> Result<(), FlowError>
 
 /// `newarr`, of this element type. An array of 2^32 brackets, which no source is long enough for, has no number and is reported as
 /// out of memory.
-pub fn new_array(element: NumberedType, stack: &mut TypeStack) -> Result<(), FlowError>
+pub fn new_array(element: ResolvedType, stack: &mut TypeStack) -> Result<(), FlowError>
     ensures { (m : MethodTypes) (t : DeclaredType) → type_named m.types.now element ≡ t → IsAfter m.types.now result stack.new (flow_of m (Named.NewArray t) stack.old) }
 {
     if element.brackets == u32::MAX {
         return Err(FlowError::OutOfMemory);
     }
     let length = stack.take_one()?;
-    let array = NumberedType {
+    let array = ResolvedType {
         element: element.element,
         brackets: element.brackets + 1,
     };
@@ -187,7 +187,7 @@ pub fn new_array(element: NumberedType, stack: &mut TypeStack) -> Result<(), Flo
 }
 
 /// What `castclass` and `isinst` take and give.
-fn cast_where(t: NumberedType, stack: &mut TypeStack) -> Result<(), FlowError>
+fn cast_where(t: ResolvedType, stack: &mut TypeStack) -> Result<(), FlowError>
     ensures { (m : MethodTypes) → IsAfter m.types.now result stack.new (flow_of m (Named.CastClass (type_named m.types.now t)) stack.old) }
 {
     let operand = stack.take_one()?;
@@ -197,7 +197,7 @@ fn cast_where(t: NumberedType, stack: &mut TypeStack) -> Result<(), FlowError>
 }
 
 /// `castclass` and `isinst`, to this type (ECMA-335 III.4.3, III.4.6).
-pub fn cast(t: NumberedType, stack: &mut TypeStack) -> Result<(), FlowError>
+pub fn cast(t: ResolvedType, stack: &mut TypeStack) -> Result<(), FlowError>
     ensures cast { (m : MethodTypes) (d : DeclaredType) → type_named m.types.now t ≡ d → IsAfter m.types.now result stack.new (flow_of m (Named.CastClass d) stack.old) }
     ensures tested { (m : MethodTypes) (d : DeclaredType) → type_named m.types.now t ≡ d → IsAfter m.types.now result stack.new (flow_of m (Named.IsInstance d) stack.old) }
 {

@@ -6,43 +6,43 @@ ghost use Rattle.cil_model.specs.Assignable.{is_reference};
 ghost use Rattle.cil_model.specs.FlowRules.{is_int32_type, is_int64_type, is_int32, is_int64, is_integer, is_any_reference, is_index, are_integers, are_comparable};
 ghost use Rattle.flow_rules.specs.Named.{type_named, stack_type};
 
-use resolved_code::types::{NumberedElement, NumberedType};
+use resolved_code::types::{ResolvedElement, ResolvedType};
 
 /// What a verifier knows of a value on the stack (ECMA-335 III.1.8.1.2.1): the type that it was declared with, that it is a native
 /// integer, or that it is null.
 #[derive(Clone, Copy, PartialEq, Eq)]
 pub enum StackEntry {
-    Declared(NumberedType),
+    Declared(ResolvedType),
     NativeInt,
     Null,
 }
 
 /// A 32-bit integer (ECMA-335 I.12.1).
-pub fn is_int32_type(t: NumberedType) -> bool
+pub fn is_int32_type(t: ResolvedType) -> bool
     ensures { (tree : Tree) → result ≡ is_int32_type (type_named tree t) }
 {
     match t.element {
-        NumberedElement::Int32 => t.brackets == 0,
+        ResolvedElement::Int32 => t.brackets == 0,
         _ => false,
     }
 }
 
 /// A 64-bit integer (ECMA-335 I.12.1).
-pub fn is_int64_type(t: NumberedType) -> bool
+pub fn is_int64_type(t: ResolvedType) -> bool
     ensures { (tree : Tree) → result ≡ is_int64_type (type_named tree t) }
 {
     match t.element {
-        NumberedElement::Int64 => t.brackets == 0,
+        ResolvedElement::Int64 => t.brackets == 0,
         _ => false,
     }
 }
 
 /// Every type but the two integers (ECMA-335 I.8.2.1).
-pub fn is_reference(t: NumberedType) -> bool
+pub fn is_reference(t: ResolvedType) -> bool
     ensures { (tree : Tree) → result ≡ is_reference (type_named tree t) }
 {
     match t.element {
-        NumberedElement::Int32 | NumberedElement::Int64 => t.brackets != 0,
+        ResolvedElement::Int32 | ResolvedElement::Int64 => t.brackets != 0,
         _ => true,
     }
 }

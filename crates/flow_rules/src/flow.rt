@@ -24,11 +24,11 @@ use crate::operators::{
 use crate::type_stack::TypeStack;
 use crate::variables::{load_argument, load_local, return_value, store_argument, store_local};
 use resolved_code::operations::Operation;
-use resolved_code::types::{NumberedElement, NumberedType};
+use resolved_code::types::{ResolvedElement, ResolvedType};
 
 /// `string` on the stack.
-const STRING: StackEntry = StackEntry::Declared(NumberedType {
-    element: NumberedElement::String,
+const STRING: StackEntry = StackEntry::Declared(ResolvedType {
+    element: ResolvedElement::String,
     brackets: 0,
 });
 
@@ -41,10 +41,10 @@ fn step(method: &MethodTypes, operation: &Operation, stack: &mut TypeStack) -> R
         Operation::LoadInt64(_) => put(INT64, stack),
         Operation::LoadNull => put(StackEntry::Null, stack),
         Operation::LoadString(_) => put(STRING, stack),
-        Operation::LoadArgument(place) => load_argument(method, *place, stack),
-        Operation::StoreArgument(place) => store_argument(method, *place, stack),
-        Operation::LoadLocal(place) => load_local(method, *place, stack),
-        Operation::StoreLocal(place) => store_local(method, *place, stack),
+        Operation::LoadArgument(index) => load_argument(method, *index, stack),
+        Operation::StoreArgument(index) => store_argument(method, *index, stack),
+        Operation::LoadLocal(index) => load_local(method, *index, stack),
+        Operation::StoreLocal(index) => store_local(method, *index, stack),
         Operation::Duplicate => duplicate(stack),
         Operation::Pop => pop(stack),
         Operation::Binary(_) => binary(stack),
@@ -85,7 +85,7 @@ fn step(method: &MethodTypes, operation: &Operation, stack: &mut TypeStack) -> R
 }
 
 /// Does to a stack of types what the flow rule says of the instruction that an operation represents. At a mismatch the rule has no
-/// result: the instruction has no place on such a stack. After an error the stack holds some of what it held, and is of no use.
+/// result: the instruction is not allowed on such a stack. After an error the stack holds some of what it held, and is of no use.
 /// Whether the stack is higher than `.maxstack` is not checked here.
 pub fn flow(
     method: &MethodTypes,

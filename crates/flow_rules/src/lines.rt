@@ -4,35 +4,35 @@ ghost use Rattle.std.specs.Prelude.{◌≡◌, ℕ, true, [], map, Some, IfSome,
 ghost use Rattle.cil_model.specs.declared.trees.Tree.{Tree};
 ghost use Rattle.cil_model.specs.TypeTree.{IsBelow};
 ghost use Rattle.cil_model.specs.TypeTree as OnStack;
-ghost use Rattle.resolved_code.specs.declared.types.NumberedElement.TheVariants.{Class, String};
+ghost use Rattle.resolved_code.specs.declared.types.ResolvedElement.TheVariants.{Class, String};
 ghost use Rattle.flow_rules.specs.Named.{type_named};
 ghost use Rattle.flow_rules.specs.Merging.{IsUp, AreLines};
 
 use cil_model::trees::Tree;
-use resolved_code::types::{NumberedElement, NumberedType};
+use resolved_code::types::{ResolvedElement, ResolvedType};
 use std::alloc::Global;
 
 /// Of some classes of a program the elements from the class's on, each above the one before it.
 #[derive(Drop)]
 pub(crate) struct Lines<'a> {
     pub tree: &'a Tree,
-    rows: Vec<Vec<NumberedElement>>,
+    rows: Vec<Vec<ResolvedElement>>,
     ghost rows_are: { AreLines tree.now (map (λ row. row.items) rows.items) },
 }
 
-fn is_same_element(one: NumberedElement, other: NumberedElement) -> bool
+fn is_same_element(one: ResolvedElement, other: ResolvedElement) -> bool
     ensures { result ≡ true → one ≡ other }
 {
     one == other
 }
 
-/// The element at a place of the line of `string`, which has `object` above it.
-fn up_from_string(place: usize) -> Option<NumberedElement>
-    ensures { (tree : Tree) → IfSome result (λ above. IsUp tree String place above) }
+/// The element at an index of the line of `string`, which has `object` above it.
+fn up_from_string(index: usize) -> Option<ResolvedElement>
+    ensures { (tree : Tree) → IfSome result (λ above. IsUp tree String index above) }
 {
-    match place {
-        0 => Some(NumberedElement::String),
-        1 => Some(NumberedElement::Object),
+    match index {
+        0 => Some(ResolvedElement::String),
+        1 => Some(ResolvedElement::Object),
         _ => None,
     }
 }
@@ -49,7 +49,7 @@ impl<'a> Lines<'a> {
     }
 
     /// These lines.
-    pub fn of(tree: &'a Tree, rows: Vec<Vec<NumberedElement>>) -> Self
+    pub fn of(tree: &'a Tree, rows: Vec<Vec<ResolvedElement>>) -> Self
         requires { AreLines tree.now (map (λ row. row.items) rows.items) }
         ensures { result.tree.now ≡ tree.now }
     {
@@ -57,7 +57,7 @@ impl<'a> Lines<'a> {
     }
 
     /// The elements from a class's on; none where they are not known.
-    fn line(&self, class: usize) -> &[NumberedElement]
+    fn line(&self, class: usize) -> &[ResolvedElement]
         ensures { result.now ≡ slice_index_or (map (λ row. row.items) self.now.rows.items) class [] }
     {
         match self.rows.get(class) {
@@ -66,66 +66,66 @@ impl<'a> Lines<'a> {
         }
     }
 
-    /// How long the line of an element is, with the element itself. Its contract says nothing: the place that it leads to is tested.
-    pub fn length_from(&self, element: NumberedElement) -> usize {
+    /// How long the line of an element is, with the element itself. Its contract says nothing: the element at the index that it leads to is tested.
+    pub fn length_from(&self, element: ResolvedElement) -> usize {
         match element {
-            NumberedElement::Class(class) => self.line(class).len(),
-            NumberedElement::String => 2,
-            NumberedElement::Object | NumberedElement::Int32 | NumberedElement::Int64 => 1,
+            ResolvedElement::Class(class) => self.line(class).len(),
+            ResolvedElement::String => 2,
+            ResolvedElement::Object | ResolvedElement::Int32 | ResolvedElement::Int64 => 1,
         }
     }
 
     /// How many types there are from one on to its top. Its contract says nothing: the type that it leads to is tested.
-    pub fn height(&self, t: NumberedType) -> usize {
+    pub fn height(&self, t: ResolvedType) -> usize {
         (t.brackets as usize).saturating_add(self.length_from(t.element))
     }
 
-    /// The element at a place of the line of a class.
-    fn up_from_class(&self, class: usize, place: usize) -> Option<NumberedElement>
-        ensures { IfSome result (λ above. IsUp self.now.tree.now (Class class) place above) }
+    /// The element at an index of the line of a class.
+    fn up_from_class(&self, class: usize, index: usize) -> Option<ResolvedElement>
+        ensures { IfSome result (λ above. IsUp self.now.tree.now (Class class) index above) }
     {
-        match self.line(class).get(place) {
+        match self.line(class).get(index) {
             None => None,
             Some(above) => Some(*above),
         }
     }
 
-    /// The element at a place of the line of another.
-    pub fn up(&self, element: NumberedElement, place: usize) -> Option<NumberedElement>
-        ensures { IfSome result (λ above. IsUp self.now.tree.now element place above) }
+    /// The element at an index of the line of another.
+    pub fn up(&self, element: ResolvedElement, index: usize) -> Option<ResolvedElement>
+        ensures { IfSome result (λ above. IsUp self.now.tree.now element index above) }
     {
         match element {
-            NumberedElement::Class(class) => self.up_from_class(class, place),
-            NumberedElement::String => up_from_string(place),
-            NumberedElement::Object | NumberedElement::Int32 | NumberedElement::Int64 => {
-                if place == 0 { Some(element) } else { None }
+            ResolvedElement::Class(class) => self.up_from_class(class, index),
+            ResolvedElement::String => up_from_string(index),
+            ResolvedElement::Object | ResolvedElement::Int32 | ResolvedElement::Int64 => {
+                if index == 0 { Some(element) } else { None }
             }
         }
     }
 
-    /// Whether an element is at a place of the line of a class.
-    fn is_up(&self, class: usize, place: usize, wanted: NumberedElement) -> bool
-        ensures { result ≡ true → IsUp self.now.tree.now (Class class) place wanted }
+    /// Whether an element is at an index of the line of a class.
+    fn is_up(&self, class: usize, index: usize, required: ResolvedElement) -> bool
+        ensures { result ≡ true → IsUp self.now.tree.now (Class class) index required }
     {
-        match self.up_from_class(class, place) {
+        match self.up_from_class(class, index) {
             None => false,
-            Some(above) => is_same_element(above, wanted),
+            Some(above) => is_same_element(above, required),
         }
     }
 
     /// Whether an element is in the line of a class.
-    fn is_element_above(&self, above: NumberedElement, class: usize) -> bool
-        ensures { result ≡ true → (place : ℕ) × IsUp self.now.tree.now (Class class) place above }
+    fn is_element_above(&self, above: ResolvedElement, class: usize) -> bool
+        ensures { result ≡ true → (index : ℕ) × IsUp self.now.tree.now (Class class) index above }
     {
         let own = self.line(class).len();
         self.is_up(class, own.saturating_sub(self.length_from(above)), above)
     }
 
-    /// Whether a type is seen to be above another: with as many brackets in the line of a class, or `object` with fewer brackets.
-    pub fn is_above(&self, above: NumberedType, below: NumberedType) -> bool
+    /// Whether a type is seen to be above another: with the same number of brackets in the line of a class, or `object` with fewer brackets.
+    pub fn is_above(&self, above: ResolvedType, below: ResolvedType) -> bool
         ensures { result ≡ true → IsBelow self.now.tree.now (OnStack.Declared (type_named self.now.tree.now below)) (OnStack.Declared (type_named self.now.tree.now above)) }
     {
-        let NumberedElement::Class(class) = below.element else {
+        let ResolvedElement::Class(class) = below.element else {
             return false;
         };
         if !self.is_element_above(above.element, class) {
@@ -137,6 +137,6 @@ impl<'a> Lines<'a> {
         if above.brackets > below.brackets {
             return false;
         }
-        is_same_element(above.element, NumberedElement::Object)
+        is_same_element(above.element, ResolvedElement::Object)
     }
 }

@@ -27,20 +27,20 @@ use crate::type_tree::{TypeTree, item_at, type_of_class};
 use crate::variables::{give, take_fitting, take_operands};
 use name_tables::lookups::MemberNumber;
 use resolved_code::classes::{ResolvedKind, ResolvedMethod};
-use resolved_code::types::NumberedType;
+use resolved_code::types::ResolvedType;
 
 fn no_such_member(number: MemberNumber) -> FlowError {
     FlowError::Mismatch(Mismatch::NoSuchMember(number))
 }
 
 /// The type of the field that a reference finds (ECMA-335 II.16).
-fn field_type(types: &TypeTree, number: MemberNumber) -> Result<NumberedType, FlowError>
+fn field_type(types: &TypeTree, number: MemberNumber) -> Result<ResolvedType, FlowError>
     ensures { (is_static : Bool) (r : FieldReference) → IsField types.now is_static r number → GivesType types.now result r.field_type }
 {
     let Some(class) = types.class(number.class) else {
         return Err(no_such_member(number));
     };
-    match item_at(class.fields.as_slice(), number.place) {
+    match item_at(class.fields.as_slice(), number.index) {
         None => Err(no_such_member(number)),
         Some(field) => Ok(field.field_type),
     }
@@ -54,7 +54,7 @@ fn method_at<'a>(types: &'a TypeTree, number: MemberNumber) -> Result<&'a Resolv
     let Some(class) = types.class(number.class) else {
         return Err(no_such_member(number));
     };
-    match item_at(class.methods.as_slice(), number.place) {
+    match item_at(class.methods.as_slice(), number.index) {
         None => Err(no_such_member(number)),
         Some(method) => Ok(method),
     }
@@ -127,8 +127,8 @@ fn is_abstract(kind: &ResolvedKind) -> bool
 #[tactic(auto, using(crate::proofs::Operands::owner_next, crate::proofs::Operands::owner_late))]
 fn take_arguments(
     types: &TypeTree,
-    owner: Option<NumberedType>,
-    parameters: &[NumberedType],
+    owner: Option<ResolvedType>,
+    parameters: &[ResolvedType],
     stack: &mut TypeStack,
 ) -> Result<(), FlowError>
     ensures { IsAfter types.now result stack.new (take_operands types.now (operands_named types.now owner parameters.now) (stack_types types.now stack.old)) }
@@ -143,7 +143,7 @@ fn take_arguments(
 /// Takes the arguments and puts the result, if any.
 fn call_found(
     types: &TypeTree,
-    owner: Option<NumberedType>,
+    owner: Option<ResolvedType>,
     called: &ResolvedMethod,
     stack: &mut TypeStack,
 ) -> Result<(), FlowError>
@@ -154,7 +154,7 @@ fn call_found(
 }
 
 /// The type of the object that a call is made on, where it is an instance's.
-fn owner_type(is_instance: bool, owner: usize) -> Option<NumberedType>
+fn owner_type(is_instance: bool, owner: usize) -> Option<ResolvedType>
     ensures { (tree : Tree) (c : ClassName) → class_name tree owner ≡ Some c → option_map (type_named tree) result ≡ if is_instance then Some (type_of_class c) else None }
 {
     if is_instance {
@@ -208,7 +208,7 @@ fn is_concrete(types: &TypeTree, number: usize) -> bool
 /// Takes the arguments of a constructor and puts the object.
 fn construct(
     types: &TypeTree,
-    object: NumberedType,
+    object: ResolvedType,
     constructor: &ResolvedMethod,
     stack: &mut TypeStack,
 ) -> Result<(), FlowError>

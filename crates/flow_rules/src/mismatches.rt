@@ -3,9 +3,9 @@
 use crate::entries::StackEntry;
 use cil_model::memory::NoMemory;
 use name_tables::lookups::MemberNumber;
-use resolved_code::types::NumberedType;
+use resolved_code::types::ResolvedType;
 
-/// Why an instruction has no place on a stack (ECMA-335 III.1.8 and the verifiability parts of III.3 and III.4).
+/// Why an instruction is not allowed on a stack (ECMA-335 III.1.8 and the verifiability parts of III.3 and III.4).
 #[derive(Clone, Copy)]
 pub enum Mismatch {
     /// The stack holds fewer operands than the instruction takes.
@@ -15,11 +15,11 @@ pub enum Mismatch {
     /// The instruction takes no two operands of these types together.
     OperandTypes(StackEntry, StackEntry),
     /// The first can't be given where the second is expected.
-    NotAssignable(StackEntry, NumberedType),
+    NotAssignable(StackEntry, ResolvedType),
     /// The method has no argument or no local of this number.
-    NoSuchPlace(i64),
+    NoSuchVariable(i64),
     /// `castclass` and `isinst` take no such type.
-    NoReference(NumberedType),
+    NoReference(ResolvedType),
     /// The code names no member by this number.
     NoSuchMember(MemberNumber),
     /// `call` of a method without code.

@@ -17,17 +17,17 @@ use crate::entries::{StackEntry, are_comparable, are_integers};
 use crate::mismatches::{FlowError, Mismatch};
 use crate::type_stack::TypeStack;
 use cil_model::instructions::{BranchComparison, Comparison};
-use resolved_code::types::{NumberedElement, NumberedType};
+use resolved_code::types::{ResolvedElement, ResolvedType};
 
 /// `int32` on the stack.
-pub const INT32: StackEntry = StackEntry::Declared(NumberedType {
-    element: NumberedElement::Int32,
+pub const INT32: StackEntry = StackEntry::Declared(ResolvedType {
+    element: ResolvedElement::Int32,
     brackets: 0,
 });
 
 /// `int64` on the stack.
-pub const INT64: StackEntry = StackEntry::Declared(NumberedType {
-    element: NumberedElement::Int64,
+pub const INT64: StackEntry = StackEntry::Declared(ResolvedType {
+    element: ResolvedElement::Int64,
     brackets: 0,
 });
 

@@ -11,7 +11,7 @@ ghost use Rattle.cil_model.specs.TypeTree.{ancestor, parent, parent_at, parent_e
 ghost use Rattle.cil_model.specs.TypeTree as OnStack;
 ghost use Rattle.cil_model.specs.Legality.{IsLegal};
 ghost use Rattle.resolved_code.specs.Numbered.{class_name};
-ghost use Rattle.resolved_code.specs.declared.types.NumberedElement.TheVariants.{Object, Class};
+ghost use Rattle.resolved_code.specs.declared.types.ResolvedElement.TheVariants.{Object, Class};
 ghost use Rattle.flow_rules.specs.declared.entries.StackEntry.TheVariants.{Declared, Null};
 ghost use Rattle.flow_rules.specs.Named.{type_named, element_named, class_named, is_known};
 ghost use Rattle.flow_rules.specs.Merging.{AreClasses, AreLevel, IsClassAt, IsDepth, IsFork, IsMerged, IsLine, AreLines};
@@ -22,15 +22,15 @@ use cil_model::memory::NoMemory;
 use cil_model::trees::Tree;
 use resolved_code::classes::ResolvedClass;
 use resolved_code::type_tests::TypeTest;
-use resolved_code::types::{NumberedElement, NumberedType};
+use resolved_code::types::{ResolvedElement, ResolvedType};
 use std::alloc::Global;
 use std::marker::Model;
 
 /// Two types on the way up from another, the second above the first.
 #[derive(Clone, Copy)]
 struct Fork {
-    below: NumberedType,
-    above: NumberedType,
+    below: ResolvedType,
+    above: ResolvedType,
 }
 
 /// The types of a legal program, each below its parent. Contracts see it as the program's tree.
@@ -73,13 +73,13 @@ impl<'a> TypeTree<'a> {
     }
 
     /// The element above another, with any brackets after both; none above an element that has one only with brackets after it.
-    fn element_above(&self, element: NumberedElement) -> Option<NumberedElement>
+    fn element_above(&self, element: ResolvedElement) -> Option<ResolvedElement>
         ensures { IfSome result (λ above. (brackets : ℕ) → parent_at self.now (element_named self.now element) brackets ≡ Some (record { element = element_named self.now above; brackets = brackets })) }
     {
         match element {
-            NumberedElement::Class(number) => Some(self.base_element(number)),
-            NumberedElement::String => Some(NumberedElement::Object),
-            NumberedElement::Object | NumberedElement::Int32 | NumberedElement::Int64 => None,
+            ResolvedElement::Class(number) => Some(self.base_element(number)),
+            ResolvedElement::String => Some(ResolvedElement::Object),
+            ResolvedElement::Object | ResolvedElement::Int32 | ResolvedElement::Int64 => None,
         }
     }
 
@@ -88,11 +88,11 @@ impl<'a> TypeTree<'a> {
     }
 
     /// The elements from a class's on, each above the one before it. The only error is out of memory.
-    fn line_from(&self, class: usize, alloc: Global) -> Result<Vec<NumberedElement>, NoMemory>
+    fn line_from(&self, class: usize, alloc: Global) -> Result<Vec<ResolvedElement>, NoMemory>
         ensures { IfOk result (λ line. IsLine self.now class line.items) }
     {
         let mut line = Vec::new(alloc);
-        let mut here = NumberedElement::Class(class);
+        let mut here = ResolvedElement::Class(class);
         for step in 0..self.count_classes() {
             line.push(here)?;
             match self.element_above(here) {
@@ -104,7 +104,7 @@ impl<'a> TypeTree<'a> {
     }
 
     /// The same of each class. The only error is out of memory.
-    fn rows(&self, alloc: Global) -> Result<Vec<Vec<NumberedElement>>, NoMemory>
+    fn rows(&self, alloc: Global) -> Result<Vec<Vec<ResolvedElement>>, NoMemory>
         ensures { IfOk result (λ rows. AreLines self.now (map (λ row. row.items) rows.items)) }
     {
         let mut rows = Vec::new(alloc);
@@ -115,25 +115,25 @@ impl<'a> TypeTree<'a> {
     }
 
     /// Whether a type is seen at once to be above another.
-    fn is_above(&self, above: NumberedType, below: NumberedType) -> bool
+    fn is_above(&self, above: ResolvedType, below: ResolvedType) -> bool
         ensures { result ≡ true → IsBelow self.now (OnStack.Declared (type_named self.now below)) (OnStack.Declared (type_named self.now above)) }
     {
         self.lines.is_above(above, below)
     }
 
     /// The type itself; in place of a number that is no class's, System.Object's.
-    fn known(&self, t: NumberedType) -> NumberedType
+    fn without_null(&self, t: ResolvedType) -> ResolvedType
         ensures known { is_known self.now result.element ≡ true }
         ensures same { type_named self.now result ≡ type_named self.now t }
     {
-        let NumberedElement::Class(number) = t.element else {
+        let ResolvedElement::Class(number) = t.element else {
             return t;
         };
         if number < self.classes.len() {
             return t;
         }
-        NumberedType {
-            element: NumberedElement::Class(0),
+        ResolvedType {
+            element: ResolvedElement::Class(0),
             brackets: t.brackets,
         }
     }
@@ -148,38 +148,38 @@ impl<'a> TypeTree<'a> {
     }
 
     /// The element of a class's parent: its base, or `object`.
-    fn base_element(&self, number: usize) -> NumberedElement
+    fn base_element(&self, number: usize) -> ResolvedElement
         ensures named { element_named self.now result ≡ parent_element (base_of self.now (class_named self.now number)) }
         ensures known { is_known self.now result ≡ true }
     {
         match self.class(number) {
-            None => NumberedElement::Object,
+            None => ResolvedElement::Object,
             Some(class) => match class.base {
-                None => NumberedElement::Object,
+                None => ResolvedElement::Object,
                 Some(base) => element_of_class(base),
             },
         }
     }
 
     /// The parent of a type (this profile). `object`, `int32` and `int64` have none.
-    pub fn parent(&self, t: NumberedType) -> Option<NumberedType>
+    pub fn parent(&self, t: ResolvedType) -> Option<ResolvedType>
         ensures named { option_map (type_named self.now) result ≡ parent self.now (type_named self.now t) }
         ensures known { IfSome result (λ p. is_known self.now p.element ≡ true) }
     {
         match t.element {
-            NumberedElement::Class(number) => Some(NumberedType {
+            ResolvedElement::Class(number) => Some(ResolvedType {
                 element: self.base_element(number),
                 brackets: t.brackets,
             }),
-            NumberedElement::String => Some(objects(t.brackets)),
-            NumberedElement::Object | NumberedElement::Int32 | NumberedElement::Int64 => {
+            ResolvedElement::String => Some(objects(t.brackets)),
+            ResolvedElement::Object | ResolvedElement::Int32 | ResolvedElement::Int64 => {
                 parent_of_array(t)
             }
         }
     }
 
     /// More parents than a type has above it.
-    fn most_steps(&self, t: NumberedType) -> usize
+    fn most_steps(&self, t: ResolvedType) -> usize
         ensures enough { longest_chain self.now + t.brackets + 2 ≤ result }
         ensures legal { IsLegal self.now }
     {
@@ -187,7 +187,7 @@ impl<'a> TypeTree<'a> {
     }
 
     /// How many parents a type has above it.
-    fn depth(&self, t: NumberedType) -> usize
+    fn depth(&self, t: ResolvedType) -> usize
         ensures { IsDepth self.now (type_named self.now t) result }
     {
         let most = self.most_steps(t);
@@ -202,7 +202,7 @@ impl<'a> TypeTree<'a> {
     }
 
     /// The type that is `steps` parents up.
-    fn ancestor(&self, t: NumberedType, steps: usize) -> Option<NumberedType>
+    fn ancestor(&self, t: ResolvedType, steps: usize) -> Option<ResolvedType>
         requires { is_known self.now t.element ≡ true }
         ensures named { option_map (type_named self.now) result ≡ ancestor self.now steps (type_named self.now t) }
         ensures known { IfSome result (λ a. is_known self.now a.element ≡ true) }
@@ -214,8 +214,8 @@ impl<'a> TypeTree<'a> {
         Some(here)
     }
 
-    /// The closest type above two others that have as many parents above them. Both chains are climbed together.
-    fn merged_at_one_depth(&self, first: NumberedType, second: NumberedType) -> Option<NumberedType>
+    /// The closest type above two others that have the same number of parents above them. Both chains are climbed together.
+    fn merged_at_one_depth(&self, first: ResolvedType, second: ResolvedType) -> Option<ResolvedType>
         requires first { is_known self.now first.element ≡ true }
         requires second { is_known self.now second.element ≡ true }
         requires level { AreLevel self.now (type_named self.now first) (type_named self.now second) }
@@ -237,11 +237,11 @@ impl<'a> TypeTree<'a> {
 
     /// The type that is `steps` parents up, where it is seen at once: in the line of its element, or beyond it `object` with fewer
     /// brackets.
-    fn up(&self, t: NumberedType, steps: usize) -> Option<NumberedType>
+    fn up(&self, t: ResolvedType, steps: usize) -> Option<ResolvedType>
         ensures { IfSome result (λ above. ancestor self.now steps (type_named self.now t) ≡ Some (type_named self.now above)) }
     {
         match self.lines.up(t.element, steps) {
-            Some(element) => Some(NumberedType {
+            Some(element) => Some(ResolvedType {
                 element,
                 brackets: t.brackets,
             }),
@@ -250,7 +250,7 @@ impl<'a> TypeTree<'a> {
     }
 
     /// The `object` that is `steps` parents up, beyond the line of a type's element.
-    fn object_up(&self, t: NumberedType, steps: usize) -> Option<NumberedType>
+    fn object_up(&self, t: ResolvedType, steps: usize) -> Option<ResolvedType>
         ensures { IfSome result (λ above. ancestor self.now steps (type_named self.now t) ≡ Some (type_named self.now above)) }
     {
         let last = self.lines.length_from(t.element).saturating_sub(1);
@@ -263,14 +263,14 @@ impl<'a> TypeTree<'a> {
     }
 
     /// Whether two types have the same type above them at a height, counted from their tops. Its contract says nothing.
-    fn is_shared(&self, first: NumberedType, second: NumberedType, height: usize) -> bool {
+    fn is_shared(&self, first: ResolvedType, second: ResolvedType, height: usize) -> bool {
         let one = self.up(first, self.lines.height(first).saturating_sub(height));
         let other = self.up(second, self.lines.height(second).saturating_sub(height));
         one == other
     }
 
     /// How many types two others share, counted from their tops, by halves. Its contract says nothing: the types that it leads to are tested.
-    fn shared(&self, first: NumberedType, second: NumberedType) -> usize {
+    fn shared_depth(&self, first: ResolvedType, second: ResolvedType) -> usize {
         let mut least = 0;
         let mut most = self.lines.height(first).min(self.lines.height(second));
         while least < most {
@@ -285,7 +285,7 @@ impl<'a> TypeTree<'a> {
     }
 
     /// The last type on the way up from another that is not among the `shared` types at its top, and the first that is, where they are seen.
-    fn fork(&self, t: NumberedType, shared: usize) -> Option<Fork>
+    fn fork(&self, t: ResolvedType, shared: usize) -> Option<Fork>
         ensures legal { IfSome result (λ _. IsLegal self.now) }
         ensures known { IfSome result (λ fork. is_known self.now fork.below.element ≡ true) }
         ensures steps { IfSome result (λ fork. IsFork self.now (type_named self.now t) (type_named self.now fork.below) (type_named self.now fork.above)) }
@@ -295,17 +295,17 @@ impl<'a> TypeTree<'a> {
         let below = self.up(t, steps)?;
         let above = self.up(t, steps + 1)?;
         Some(Fork {
-            below: self.known(below),
+            below: self.without_null(below),
             above,
         })
     }
 
     /// The type in which the ways up from two others meet, where it is seen: it is above both, and the types below it on the two ways
     /// differ.
-    fn met(&self, first: NumberedType, second: NumberedType) -> Option<NumberedType>
+    fn meet(&self, first: ResolvedType, second: ResolvedType) -> Option<ResolvedType>
         ensures { IfSome result (λ above. IsMerged self.now (Declared first) (Declared second) (Some (Declared above))) }
     {
-        let shared = self.shared(first, second);
+        let shared = self.shared_depth(first, second);
         let one = self.fork(first, shared)?;
         let other = self.fork(second, shared)?;
         if !is_same(one.above, other.above) || is_same(one.below, other.below) {
@@ -316,7 +316,7 @@ impl<'a> TypeTree<'a> {
 
     /// The closest type above two others. Mostly they are one, or one of them is above the other, or it is seen where they meet. Otherwise
     /// the deeper one is brought to the depth of the other, and both chains are climbed.
-    fn merged_types(&self, first: NumberedType, second: NumberedType) -> Option<NumberedType>
+    fn merged_types(&self, first: ResolvedType, second: ResolvedType) -> Option<ResolvedType>
         requires first { is_known self.now first.element ≡ true }
         requires second { is_known self.now second.element ≡ true }
         ensures { IsMerged self.now (Declared first) (Declared second) (option_map Declared result) }
@@ -330,7 +330,7 @@ impl<'a> TypeTree<'a> {
         if self.is_above(second, first) {
             return Some(second);
         }
-        if let Some(met) = self.met(first, second) {
+        if let Some(met) = self.meet(first, second) {
             return Some(met);
         }
         let one_depth = self.depth(first);
@@ -370,11 +370,11 @@ impl<'a> TypeTree<'a> {
     }
 
     /// Whether a value of the first type may be given where the second is expected (ECMA-335 I.8.7).
-    pub fn is_assignable(&self, from: NumberedType, to: NumberedType) -> bool
+    pub fn is_assignable(&self, from: ResolvedType, to: ResolvedType) -> bool
         ensures { result ≡ is_assignable self.now (type_named self.now from) (type_named self.now to) }
     {
-        let one = self.known(from);
-        let other = self.known(to);
+        let one = self.without_null(from);
+        let other = self.without_null(to);
         match one.test_for(other) {
             TypeTest::Answered(answer) => answer,
             TypeTest::OfClasses { from, to } => self.is_class_assignable(from, to),
@@ -388,7 +388,7 @@ impl<'a> TypeTree<'a> {
     {
         match (first, second) {
             (StackEntry::Declared(one), StackEntry::Declared(other)) => {
-                let merged = self.merged_types(self.known(one), self.known(other))?;
+                let merged = self.merged_types(self.without_null(one), self.without_null(other))?;
                 Some(StackEntry::Declared(merged))
             }
             (StackEntry::Null, StackEntry::Declared(t)) => merged_with_null(t),
@@ -400,23 +400,23 @@ impl<'a> TypeTree<'a> {
     }
 }
 
-/// The item at a place.
-pub(crate) fn item_at<T>(items: &[T], place: usize) -> Option<&T>
-    ensures found { IfSome result (λ item. slice_get items.now place ≡ Some item.now) }
-    ensures beyond { result ≡ None → slice_get items.now place ≡ None }
+/// The item at an index.
+pub(crate) fn item_at<T>(items: &[T], index: usize) -> Option<&T>
+    ensures found { IfSome result (λ item. slice_get items.now index ≡ Some item.now) }
+    ensures beyond { result ≡ None → slice_get items.now index ≡ None }
 {
-    items.get(place)
+    items.get(index)
 }
 
 /// Whether a class is another, or lists it.
-fn is_or_lists(number: usize, class: &ResolvedClass, wanted: usize) -> bool
-    ensures { result ≡ (number == wanted) || list_any (λ i. i == wanted) class.now.interfaces }
+fn is_or_lists(number: usize, class: &ResolvedClass, required: usize) -> bool
+    ensures { result ≡ (number == required) || list_any (λ i. i == required) class.now.interfaces }
 {
-    number == wanted || class.interfaces.as_slice().contains(&wanted)
+    number == required || class.interfaces.as_slice().contains(&required)
 }
 
 /// Null lies below every reference, and below no other type.
-fn merged_with_null(t: NumberedType) -> Option<StackEntry>
+fn merged_with_null(t: ResolvedType) -> Option<StackEntry>
     ensures first { (tree : Tree) → IsMerged tree Null (Declared t) result }
     ensures second { (tree : Tree) → IsMerged tree (Declared t) Null result }
 {
@@ -428,7 +428,7 @@ fn merged_with_null(t: NumberedType) -> Option<StackEntry>
 }
 
 /// Whether two types are one.
-fn is_same(one: NumberedType, other: NumberedType) -> bool
+fn is_same(one: ResolvedType, other: ResolvedType) -> bool
     ensures same { result ≡ true → one ≡ other }
     ensures apart { result ≡ false → one ≡ other → ⊥ }
 {
@@ -436,17 +436,17 @@ fn is_same(one: NumberedType, other: NumberedType) -> bool
 }
 
 /// Whether an element has another above it, with any brackets after both.
-fn has_element_above(element: NumberedElement) -> bool
+fn has_element_above(element: ResolvedElement) -> bool
     ensures { result ≡ false → (tree : Tree) (brackets : ℕ) → parent tree (record { element = element_named tree element; brackets = brackets + 1 }) ≡ Some (record { element = Named.Object; brackets = brackets }) }
 {
     match element {
-        NumberedElement::Class(_) | NumberedElement::String => true,
-        NumberedElement::Object | NumberedElement::Int32 | NumberedElement::Int64 => false,
+        ResolvedElement::Class(_) | ResolvedElement::String => true,
+        ResolvedElement::Object | ResolvedElement::Int32 | ResolvedElement::Int64 => false,
     }
 }
 
 /// `object` with the given number of brackets less.
-fn fewer_brackets(brackets: u32, fewer: usize) -> Option<NumberedType>
+fn fewer_brackets(brackets: u32, fewer: usize) -> Option<ResolvedType>
     ensures { IfSome result (λ t. (t.element ≡ Object) × (t.brackets + fewer ≡ brackets)) }
 {
     let fewer = u32::try_from(fewer).ok()?;
@@ -454,17 +454,17 @@ fn fewer_brackets(brackets: u32, fewer: usize) -> Option<NumberedType>
 }
 
 /// `object` with these brackets.
-fn objects(brackets: u32) -> NumberedType
+fn objects(brackets: u32) -> ResolvedType
     ensures { result ≡ record { element = Object; brackets = brackets } }
 {
-    NumberedType {
-        element: NumberedElement::Object,
+    ResolvedType {
+        element: ResolvedElement::Object,
         brackets,
     }
 }
 
 /// The parent of `object[]`, `int32[]` or `int64[]` is `object`; what has no brackets has none.
-fn parent_of_array(t: NumberedType) -> Option<NumberedType>
+fn parent_of_array(t: ResolvedType) -> Option<ResolvedType>
     ensures { result ≡ if t.brackets == 0 then None else Some (record { element = Object; brackets = t.brackets - 1 }) }
 {
     if t.brackets == 0 {
@@ -474,24 +474,24 @@ fn parent_of_array(t: NumberedType) -> Option<NumberedType>
 }
 
 /// The element of a class's objects: `object` and `string` have names of their own (ECMA-335 II.7.2).
-pub fn element_of_class(number: usize) -> NumberedElement
+pub fn element_of_class(number: usize) -> ResolvedElement
     ensures named { (tree : Tree) → is_known tree (Class number) ≡ true → element_named tree result ≡ element_of_class (class_named tree number) }
     ensures known { (tree : Tree) → is_known tree (Class number) ≡ true → is_known tree result ≡ true }
 {
     if number == 0 {
-        NumberedElement::Object
+        ResolvedElement::Object
     } else if number == 1 {
-        NumberedElement::String
+        ResolvedElement::String
     } else {
-        NumberedElement::Class(number)
+        ResolvedElement::Class(number)
     }
 }
 
 /// The type of a class's objects (ECMA-335 II.7.2).
-pub fn type_of_class(number: usize) -> NumberedType
+pub fn type_of_class(number: usize) -> ResolvedType
     ensures { (tree : Tree) (c : ClassName) → class_name tree number ≡ Some c → type_named tree result ≡ type_of_class c }
 {
-    NumberedType {
+    ResolvedType {
         element: element_of_class(number),
         brackets: 0,
     }

@@ -25,8 +25,8 @@ Counting whole count ts = whole ≡ (count + (all_brackets_at ts).0, (all_bracke
 pub begins : (ts : List Token) → Counting (all_brackets_at ts) 0 ts
 begins ts = let sums : (all_brackets_at ts).0 ≡ 0 + (all_brackets_at ts).0 = omega arith in ap (λ (n : ℕ). (n, (all_brackets_at ts).1)) sums
 
-pub turns : (whole : ℕ × List Token) (count : ℕ) (ts rest : List Token) → Counting whole count ts → brackets_at ts ≡ Some rest → Counting whole (count + 1) rest
-turns whole count ts rest e h =
+pub transitions : (whole : ℕ × List Token) (count : ℕ) (ts rest : List Token) → Counting whole count ts → brackets_at ts ≡ Some rest → Counting whole (count + 1) rest
+transitions whole count ts rest e h =
     let sums : count + suc (all_brackets_at rest).0 ≡ count + 1 + (all_brackets_at rest).0 = omega arith in
     e ∙ ap (λ (x : ℕ × List Token). (count + x.0, x.1)) (one_more ts rest h) ∙ ap (λ (n : ℕ). (n, (all_brackets_at rest).1)) sums
 

@@ -188,9 +188,9 @@ module _ {A : Type 0} (parses : Parser A) (R : A → Span) (sound : Sound parses
   unfolding commas_at with_front
   commas_complete [] ts rest e s c = absurd c
   commas_complete (x ∷ xs) ts rest e s (mid, p, q) =
-      let behind = ends starts_comma (after_comma parses) (λ y. sign Comma ▸ R y) EndsItem (after_comma_sound parses R sound) after_comma_complete comma_first xs mid rest e q in
+      let following = ends starts_comma (after_comma parses) (λ y. sign Comma ▸ R y) EndsItem (after_comma_sound parses R sound) after_comma_complete comma_first xs mid rest e q in
       let others = many_complete starts_comma (after_comma parses) (λ y. sign Comma ▸ R y) EndsItem (after_comma_sound parses R sound) after_comma_complete comma_first xs mid rest e s q in
-      bind_at _ (complete x ts mid behind p) (rw others refl)
+      bind_at _ (complete x ts mid following p) (rw others refl)
 
   pub closed_commas_complete : (xs : List A) (ts mid rest : List Token) → commas R xs ts mid → sign CloseParenthesis mid rest → closed_commas_at parses ts ≡ Some (xs, rest)
   unfolding closed_commas_at before_sign_at
@@ -380,7 +380,7 @@ pub record Spelled (i : Instruction) (ts rest : List Token) : Type 0 where
   pub has : form_of (use_of word_is) ≡ Some form
   pub mid : List Token
   pub first : word word_is ts mid
-  pub behind : operands form i mid rest
+  pub following : operands form i mid rest
 
 module _ (target : ℤ → Form) where
   short_of : List (List ℕ × ℤ) → Type 0
@@ -450,7 +450,7 @@ branch_form branch.LessOrEqual = refl
 branch_form branch.Less = refl
 
 spelled_bare : (i : Instruction) (w : List ℕ) (which : bare_type.Bare) (ts rest : List Token) → form_of (use_of w) ≡ Some (forms.Bare which) → i ≡ bare which → word w ts rest → Spelled i ts rest
-spelled_bare i w which ts rest h e p = record { word_is = w; form = forms.Bare which; has = h; mid = rest; first = p; behind = (e, refl) }
+spelled_bare i w which ts rest h e p = record { word_is = w; form = forms.Bare which; has = h; mid = rest; first = p; following = (e, refl) }
 
 pub spelled : (i : Instruction) (ts rest : List Token) → instr i ts rest → Spelled i ts rest
 unfolding use_of form_of
@@ -472,38 +472,38 @@ spelled (instructions.Binary op) ts rest p = spelled_bare (instructions.Binary o
 spelled (instructions.Unary op) ts rest p = spelled_bare (instructions.Unary op) (unary_word op) (bares.Unary op) ts rest (unary_form op) refl p
 spelled (instructions.Shift op) ts rest p = spelled_bare (instructions.Shift op) (shift_word op) (bares.Shift op) ts rest (shift_form op) refl p
 spelled (instructions.Compare op) ts rest p = spelled_bare (instructions.Compare op) (comparison_word op) (bares.Compare op) ts rest (comparison_form op) refl p
-spelled (instructions.LoadInt32 z) ts rest (inl (f, (a, p, q))) = record { word_is = codes "ldc.i4"; form = forms.Int32; has = refl; mid = a; first = p; behind = (z, refl, f, q) }
+spelled (instructions.LoadInt32 z) ts rest (inl (f, (a, p, q))) = record { word_is = codes "ldc.i4"; form = forms.Int32; has = refl; mid = a; first = p; following = (z, refl, f, q) }
 spelled (instructions.LoadInt32 z) ts rest (inr (w, c, p)) = spelled_bare (instructions.LoadInt32 z) w (bares.Int32 z) ts rest (short_form (λ y. forms.Bare (bares.Int32 y)) short_constants w z constants c) refl p
-spelled (instructions.LoadArgument z) ts rest (inl (a, p, q)) = record { word_is = codes "ldarg"; form = forms.Integer integers.LoadArgument; has = refl; mid = a; first = p; behind = (z, refl, q) }
+spelled (instructions.LoadArgument z) ts rest (inl (a, p, q)) = record { word_is = codes "ldarg"; form = forms.Integer integers.LoadArgument; has = refl; mid = a; first = p; following = (z, refl, q) }
 spelled (instructions.LoadArgument z) ts rest (inr (w, c, p)) = spelled_bare (instructions.LoadArgument z) w (bares.Argument z) ts rest (short_form (λ y. forms.Bare (bares.Argument y)) short_argument_loads w z argument_loads c) refl p
-spelled (instructions.LoadLocal z) ts rest (inl (a, p, q)) = record { word_is = codes "ldloc"; form = forms.Integer integers.LoadLocal; has = refl; mid = a; first = p; behind = (z, refl, q) }
+spelled (instructions.LoadLocal z) ts rest (inl (a, p, q)) = record { word_is = codes "ldloc"; form = forms.Integer integers.LoadLocal; has = refl; mid = a; first = p; following = (z, refl, q) }
 spelled (instructions.LoadLocal z) ts rest (inr (w, c, p)) = spelled_bare (instructions.LoadLocal z) w (bares.Local z) ts rest (short_form (λ y. forms.Bare (bares.Local y)) short_local_loads w z local_loads c) refl p
-spelled (instructions.StoreLocal z) ts rest (inl (a, p, q)) = record { word_is = codes "stloc"; form = forms.Integer integers.StoreLocal; has = refl; mid = a; first = p; behind = (z, refl, q) }
+spelled (instructions.StoreLocal z) ts rest (inl (a, p, q)) = record { word_is = codes "stloc"; form = forms.Integer integers.StoreLocal; has = refl; mid = a; first = p; following = (z, refl, q) }
 spelled (instructions.StoreLocal z) ts rest (inr (w, c, p)) = spelled_bare (instructions.StoreLocal z) w (bares.SetLocal z) ts rest (short_form (λ y. forms.Bare (bares.SetLocal y)) short_local_stores w z local_stores c) refl p
-spelled (instructions.LoadInt64 z) ts rest (a, p, q) = record { word_is = codes "ldc.i8"; form = forms.Integer integers.LoadInt64; has = refl; mid = a; first = p; behind = (z, refl, q) }
-spelled (instructions.StoreArgument z) ts rest (a, p, q) = record { word_is = codes "starg"; form = forms.Integer integers.StoreArgument; has = refl; mid = a; first = p; behind = (z, refl, q) }
-spelled (instructions.LoadString t) ts rest (a, p, q) = record { word_is = codes "ldstr"; form = forms.Quoted; has = refl; mid = a; first = p; behind = (t, refl, q) }
-spelled (instructions.Branch l) ts rest (a, p, q) = record { word_is = codes "br"; form = forms.Jump jumps.Always; has = refl; mid = a; first = p; behind = (l, refl, q) }
-spelled (instructions.BranchTrue l) ts rest (a, p, q) = record { word_is = codes "brtrue"; form = forms.Jump jumps.IfTrue; has = refl; mid = a; first = p; behind = (l, refl, q) }
-spelled (instructions.BranchFalse l) ts rest (a, p, q) = record { word_is = codes "brfalse"; form = forms.Jump jumps.IfFalse; has = refl; mid = a; first = p; behind = (l, refl, q) }
-spelled (instructions.BranchCompare op l) ts rest (a, p, q) = record { word_is = branch_word op; form = forms.Jump (jumps.Compare op); has = branch_form op; mid = a; first = p; behind = (l, refl, q) }
-spelled (instructions.Switch ls) ts rest (a, p, q) = record { word_is = codes "switch"; form = forms.Switch; has = refl; mid = a; first = p; behind = (ls, refl, q) }
-spelled (instructions.LoadField r) ts rest (a, p, q) = record { word_is = codes "ldfld"; form = forms.Field accesses.Load; has = refl; mid = a; first = p; behind = (r, refl, q) }
-spelled (instructions.StoreField r) ts rest (a, p, q) = record { word_is = codes "stfld"; form = forms.Field accesses.Store; has = refl; mid = a; first = p; behind = (r, refl, q) }
-spelled (instructions.LoadStaticField r) ts rest (a, p, q) = record { word_is = codes "ldsfld"; form = forms.Field accesses.LoadStatic; has = refl; mid = a; first = p; behind = (r, refl, q) }
-spelled (instructions.StoreStaticField r) ts rest (a, p, q) = record { word_is = codes "stsfld"; form = forms.Field accesses.StoreStatic; has = refl; mid = a; first = p; behind = (r, refl, q) }
-spelled (instructions.NewArray t) ts rest (a, p, q) = record { word_is = codes "newarr"; form = forms.Type with_types.NewArray; has = refl; mid = a; first = p; behind = (t, refl, q) }
-spelled (instructions.CastClass t) ts rest (a, p, q) = record { word_is = codes "castclass"; form = forms.Type with_types.Cast; has = refl; mid = a; first = p; behind = (t, refl, q) }
-spelled (instructions.IsInstance t) ts rest (a, p, q) = record { word_is = codes "isinst"; form = forms.Type with_types.IsInstance; has = refl; mid = a; first = p; behind = (t, refl, q) }
-spelled (instructions.Call b r) ts rest (a, p, q) = record { word_is = codes "call"; form = forms.Call; has = refl; mid = a; first = p; behind = (b, r, refl, q) }
-spelled (instructions.CallVirtual c n g) ts rest (a, p, q) = record { word_is = codes "callvirt"; form = forms.CallVirtual; has = refl; mid = a; first = p; behind = (c, n, g, refl, q) }
-spelled (instructions.NewObject c ps) ts rest (a, p, q) = record { word_is = codes "newobj"; form = forms.NewObject; has = refl; mid = a; first = p; behind = (c, ps, refl, q) }
+spelled (instructions.LoadInt64 z) ts rest (a, p, q) = record { word_is = codes "ldc.i8"; form = forms.Integer integers.LoadInt64; has = refl; mid = a; first = p; following = (z, refl, q) }
+spelled (instructions.StoreArgument z) ts rest (a, p, q) = record { word_is = codes "starg"; form = forms.Integer integers.StoreArgument; has = refl; mid = a; first = p; following = (z, refl, q) }
+spelled (instructions.LoadString t) ts rest (a, p, q) = record { word_is = codes "ldstr"; form = forms.Quoted; has = refl; mid = a; first = p; following = (t, refl, q) }
+spelled (instructions.Branch l) ts rest (a, p, q) = record { word_is = codes "br"; form = forms.Jump jumps.Always; has = refl; mid = a; first = p; following = (l, refl, q) }
+spelled (instructions.BranchTrue l) ts rest (a, p, q) = record { word_is = codes "brtrue"; form = forms.Jump jumps.IfTrue; has = refl; mid = a; first = p; following = (l, refl, q) }
+spelled (instructions.BranchFalse l) ts rest (a, p, q) = record { word_is = codes "brfalse"; form = forms.Jump jumps.IfFalse; has = refl; mid = a; first = p; following = (l, refl, q) }
+spelled (instructions.BranchCompare op l) ts rest (a, p, q) = record { word_is = branch_word op; form = forms.Jump (jumps.Compare op); has = branch_form op; mid = a; first = p; following = (l, refl, q) }
+spelled (instructions.Switch ls) ts rest (a, p, q) = record { word_is = codes "switch"; form = forms.Switch; has = refl; mid = a; first = p; following = (ls, refl, q) }
+spelled (instructions.LoadField r) ts rest (a, p, q) = record { word_is = codes "ldfld"; form = forms.Field accesses.Load; has = refl; mid = a; first = p; following = (r, refl, q) }
+spelled (instructions.StoreField r) ts rest (a, p, q) = record { word_is = codes "stfld"; form = forms.Field accesses.Store; has = refl; mid = a; first = p; following = (r, refl, q) }
+spelled (instructions.LoadStaticField r) ts rest (a, p, q) = record { word_is = codes "ldsfld"; form = forms.Field accesses.LoadStatic; has = refl; mid = a; first = p; following = (r, refl, q) }
+spelled (instructions.StoreStaticField r) ts rest (a, p, q) = record { word_is = codes "stsfld"; form = forms.Field accesses.StoreStatic; has = refl; mid = a; first = p; following = (r, refl, q) }
+spelled (instructions.NewArray t) ts rest (a, p, q) = record { word_is = codes "newarr"; form = forms.Type with_types.NewArray; has = refl; mid = a; first = p; following = (t, refl, q) }
+spelled (instructions.CastClass t) ts rest (a, p, q) = record { word_is = codes "castclass"; form = forms.Type with_types.Cast; has = refl; mid = a; first = p; following = (t, refl, q) }
+spelled (instructions.IsInstance t) ts rest (a, p, q) = record { word_is = codes "isinst"; form = forms.Type with_types.IsInstance; has = refl; mid = a; first = p; following = (t, refl, q) }
+spelled (instructions.Call b r) ts rest (a, p, q) = record { word_is = codes "call"; form = forms.Call; has = refl; mid = a; first = p; following = (b, r, refl, q) }
+spelled (instructions.CallVirtual c n g) ts rest (a, p, q) = record { word_is = codes "callvirt"; form = forms.CallVirtual; has = refl; mid = a; first = p; following = (c, n, g, refl, q) }
+spelled (instructions.NewObject c ps) ts rest (a, p, q) = record { word_is = codes "newobj"; form = forms.NewObject; has = refl; mid = a; first = p; following = (c, ps, refl, q) }
 
 pub instruction_complete : CompleteBefore EndsType instruction_at instr
 unfolding instruction_at
 instruction_complete x ts rest e p =
     let s = spelled x ts rest p in
-    bind_at _ (any_word_complete s.word_is s.first) (bind_at _ s.has (operands_complete s.form x s.mid rest e s.behind))
+    bind_at _ (any_word_complete s.word_is s.first) (bind_at _ s.has (operands_complete s.form x s.mid rest e s.following))
 
 some_none : {A : Type 0} (x : A) → Some x ≡ None → ⊥
 some_none x e = cc

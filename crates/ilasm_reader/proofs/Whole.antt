@@ -94,9 +94,9 @@ lines_complete xs ts mid rest p q =
 code_complete : Complete code_at code
 unfolding code_at
 code_complete x ts rest (a, p, (b, q, (c, r, (d, s, (e, t, (f, u, v)))))) =
-    let behind = ends in_block line_at line EndsLine line_sound line_before line_first x.lines e f (brace_ends v) u in
+    let following = ends in_block line_at line EndsLine line_sound line_before line_first x.lines e f (brace_ends v) u in
     bind_at _ (code_start_complete x.is_entry_point x.max_stack ts d (a, p, (b, q, (c, r, s))))
-    (bind_at _ (locals_complete x.locals d e behind.0 t) (bind_at _ (lines_complete x.lines e f rest u v) refl))
+    (bind_at _ (locals_complete x.locals d e following.0 t) (bind_at _ (lines_complete x.lines e f rest u v) refl))
 
 -- ---- methods
 
@@ -254,9 +254,9 @@ plain_class_complete n members is_abstract base interfaces ts rest (a, p, (b, q,
     let words : class_words_at ts ≡ Some (is_abstract, d) =
     bind_at _ (word_complete (codes "public") p) (rw flag (bind_at _ (word_complete (codes "auto") r) (bind_at _ (word_complete (codes "ansi") s) refl))) in
     let extends : base_at e ≡ Some (base, g) = bind_at _ (word_complete (codes "extends") u) (class_name_complete base f g v) in
-    let behind : class_body_at g ≡ Some ((interfaces, members), rest) =
+    let following : class_body_at g ≡ Some ((interfaces, members), rest) =
     bind_at _ (implements_complete interfaces g h z.0 z.1 w) (bind_at _ (block_complete member_at member member_sound member_complete member_first members h rest z) refl) in
-    bind_at _ words (bind_at _ (pair_given _ _ (name_complete n t) (pair_given _ _ extends behind)) refl)
+    bind_at _ words (bind_at _ (pair_given _ _ (name_complete n t) (pair_given _ _ extends following)) refl)
 
 class_by : (n : List ℕ) (members : List Member) (k : ClassKind) (ts rest : List Token) → class_of_kind n members k ts rest
     → choice (word_at (codes "interface") ts) (λ _. interface_at ts) (plain_class_at ts) ≡ Some (record { name = n; kind = k; members = members }, rest)
@@ -306,9 +306,9 @@ no_extern (Some n) ts rest e (a, p, (b, q, r)) = choice_at _ _ (word_complete (c
 tree_complete : (u : Tree) (ts : List Token) → IsUnit ts u → tree_at ts ≡ Some u
 unfolding tree_at
 tree_complete u ts (a, p, (b, q, r)) =
-    let behind = classes_begin u.classes b r in
-    bind_at _ (many_complete starts_extern extern_at extern (λ _. Unit {0}) extern_sound (λ y us vs _ k. extern_complete y us vs k) extern_first u.externs ts a tt (no_extern u.assembly a b behind q) p)
-    (bind_at _ (assembly_complete u.assembly a b behind q)
+    let following = classes_begin u.classes b r in
+    bind_at _ (many_complete starts_extern extern_at extern (λ _. Unit {0}) extern_sound (λ y us vs _ k. extern_complete y us vs k) extern_first u.externs ts a tt (no_extern u.assembly a b following q) p)
+    (bind_at _ (assembly_complete u.assembly a b following q)
     (bind_at _ (many_complete in_block class_at class_of (λ _. Unit {0}) class_sound (λ y us vs _ k. class_complete y us vs k) class_first u.classes b [] tt nothing_left r) refl))
 
 -- ---- what reading says of tokens

@@ -6,12 +6,12 @@ use Rattle.ilasm_reader.specs.declared.reading.ReadError.{ReadError}
 use Rattle.ilasm_reader.specs.declared.reading.ReadError.TheVariants.{TooLong, NotAscii, NoToken, NoTree, OutOfMemory}
 
 -- the number by which a user knows a refusal (this profile)
-abbrev pub numbered : ReadError → ℕ
-numbered (NotAscii offset) = 101
-numbered (NoToken offset) = 102
-numbered (NoTree offset expected) = 103
-numbered TooLong = 104
-numbered OutOfMemory = 105
+abbrev pub error_number : ReadError → ℕ
+error_number (NotAscii offset) = 101
+error_number (NoToken offset) = 102
+error_number (NoTree offset expected) = 103
+error_number TooLong = 104
+error_number OutOfMemory = 105
 
 -- what each result says of the source; memory runs out only where neither the length nor a byte was refused
 abbrev pub IsReadAnswer : List ℕ → Result Tree ReadError → Type 0

@@ -96,8 +96,8 @@ quoted_at (t ∷ rest) = choice (quoted_in t) (λ found. Some (found, rest)) Non
 
 -- what a function returns that takes something where it is present, and nothing where it is not: whether it is present
 abbrev pub Takes : {S : Type 0} → Bool → List S → List S → Option (List S) → Type 0
-Takes true before behind read = read ≡ Some behind
-Takes false before behind read = (read ≡ None) × (behind ≡ before)
+Takes true before following read = read ≡ Some following
+Takes false before following read = (read ≡ None) × (following ≡ before)
 
 -- whether a word is here, and what is after it
 unfoldable pub flag_at : List ℕ → List Token → Bool × List Token
@@ -374,8 +374,8 @@ line_at ts = do
 -- after `.locals`
 unfoldable pub some_locals_at : Parser (List DeclaredType)
 some_locals_at ts = do
-  behind ← word_at (codes "init") ts
-  inside ← sign_at OpenParenthesis behind
+  following ← word_at (codes "init") ts
+  inside ← sign_at OpenParenthesis following
   closed_commas_at parameter_at inside
 
 unfoldable pub locals_at : Parser (List DeclaredType)
@@ -410,8 +410,8 @@ code_at ts = do
 
 unfoldable pub virtual_words_at : Parser Beginning
 virtual_words_at ts = do
-  behind ← word_at (codes "virtual") (flag_at (codes "abstract") (flag_at (codes "newslot") ts).1).1
-  rest ← word_at (codes "instance") behind
+  following ← word_at (codes "virtual") (flag_at (codes "abstract") (flag_at (codes "newslot") ts).1).1
+  rest ← word_at (codes "instance") following
   Some (if (flag_at (codes "abstract") (flag_at (codes "newslot") ts).1).0 then Abstract (flag_at (codes "newslot") ts).0 else Virtual (flag_at (codes "newslot") ts).0, rest)
 
 -- after `specialname`
@@ -435,8 +435,8 @@ named_head_at ts = do
 
 unfoldable pub constructor_head_at : Parser (Option DeclaredType × MethodName)
 constructor_head_at ts = do
-  behind ← word_at (codes "void") ts
-  rest ← word_at (codes ".ctor") behind
+  following ← word_at (codes "void") ts
+  rest ← word_at (codes ".ctor") following
   Some ((None, ConstructorName), rest)
 
 unfoldable pub head_at : Beginning → Parser (Option DeclaredType × MethodName)
@@ -480,8 +480,8 @@ managed_body_at beginning ts = do
 unfoldable pub method_words_at : Parser Beginning
 method_words_at ts = do
   public ← word_at (codes ".method") ts
-  behind ← word_at (codes "public") public
-  first_words_at (flag_at (codes "hidebysig") behind).1
+  following ← word_at (codes "public") public
+  first_words_at (flag_at (codes "hidebysig") following).1
 
 unfoldable pub method_at : Parser Method
 method_at ts = do
@@ -496,8 +496,8 @@ method_at ts = do
 unfoldable pub field_words_at : Parser Bool
 field_words_at ts = do
   public ← word_at (codes ".field") ts
-  behind ← word_at (codes "public") public
-  Some (flag_at (codes "static") behind)
+  following ← word_at (codes "public") public
+  Some (flag_at (codes "static") following)
 
 unfoldable pub field_at : Parser Field
 field_at ts = do
@@ -536,8 +536,8 @@ interface_words_at ts = do
 
 unfoldable pub interface_at : Parser Class
 interface_at ts = do
-  behind ← interface_words_at ts
-  parts ← pair_at name_at (block_at in_block interface_member_at) behind
+  following ← interface_words_at ts
+  parts ← pair_at name_at (block_at in_block interface_member_at) following
   Some (record { name = parts.0.0; kind = Interface; members = parts.0.1 }, parts.1)
 
 -- the words before the name of a class that is no interface, and whether it is abstract
@@ -545,8 +545,8 @@ unfoldable pub class_words_at : Parser Bool
 class_words_at ts = do
   abstract ← word_at (codes "public") ts
   ansi ← word_at (codes "auto") (flag_at (codes "abstract") abstract).1
-  behind ← word_at (codes "ansi") ansi
-  Some ((flag_at (codes "abstract") abstract).0, behind)
+  following ← word_at (codes "ansi") ansi
+  Some ((flag_at (codes "abstract") abstract).0, following)
 
 unfoldable pub base_at : Parser ClassName
 base_at ts = do
@@ -586,12 +586,12 @@ named_assembly_at ts = do
 unfoldable pub extern_at : Parser (List ℕ)
 extern_at ts = do
   start ← word_at (codes ".assembly") ts
-  behind ← word_at (codes "extern") start
-  named_assembly_at behind
+  following ← word_at (codes "extern") start
+  named_assembly_at following
 
 unfoldable pub assembly_at : Parser (Option (List ℕ))
-assembly_at ts = choice (word_at (codes ".assembly") ts) (λ behind. do
-  name ← named_assembly_at behind
+assembly_at ts = choice (word_at (codes ".assembly") ts) (λ following. do
+  name ← named_assembly_at following
   Some (Some name.0, name.1)) (Some (None, ts))
 
 -- all of the tokens

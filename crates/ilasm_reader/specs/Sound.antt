@@ -413,10 +413,10 @@ pub parameters_sound : Sound (parentheses_at parameter_at) (parentheses paramete
 parameters_sound = parentheses_sound parameter_at parameter parameter_sound
 
 -- a name and a signature after a beginning
-abbrev signature_behind : Beginning → MethodName × Signature → Span
-signature_behind b x ts rest = IsHead b (x.1.return_type, x.0) × (ret x.1.return_type ▸ method_name x.0 ▸ parentheses parameter x.1.parameters) ts rest
+abbrev signature_after : Beginning → MethodName × Signature → Span
+signature_after b x ts rest = IsHead b (x.1.return_type, x.0) × (ret x.1.return_type ▸ method_name x.0 ▸ parentheses parameter x.1.parameters) ts rest
 
-signature_sound : (b : Beginning) → Sound (signature_at b) (signature_behind b)
+signature_sound : (b : Beginning) → Sound (signature_at b) (signature_after b)
 unfolding signature_at
 signature_sound b ts =
     yields_bind (head_sound b ts) (λ a p. yields_bind (parameters_sound a.1) (λ c q.

@@ -175,7 +175,7 @@ fn interface(alloc: Global, tokens: &mut Tokens<'_>) -> Result<Class, Failure>
 }
 
 /// What is written before `auto`, after `abstract` or without it.
-fn attributes_behind(is_abstract: bool) -> Expected {
+fn attributes_after(is_abstract: bool) -> Expected {
     if is_abstract {
         Expected::Word(b"auto")
     } else {
@@ -190,7 +190,7 @@ fn class_words(tokens: &mut Tokens<'_>) -> Result<bool, Failure>
 {
     expect_word_of(tokens, b"public", Expected::ClassHead)?;
     let is_abstract = take_word(tokens, b"abstract");
-    expect_word_of(tokens, b"auto", attributes_behind(is_abstract))?;
+    expect_word_of(tokens, b"auto", attributes_after(is_abstract))?;
     expect_word(tokens, b"ansi")?;
     Ok(is_abstract)
 }
@@ -341,7 +341,7 @@ fn assembly(alloc: Global, tokens: &mut Tokens<'_>) -> Result<Option<Text>, Fail
 }
 
 /// What is expected where the first class may begin, after the source's own assembly or without it.
-fn classes_behind(has_assembly: bool) -> Expected {
+fn classes_after(has_assembly: bool) -> Expected {
     if has_assembly {
         Expected::Class
     } else {
@@ -350,7 +350,7 @@ fn classes_behind(has_assembly: bool) -> Expected {
 }
 
 /// What is expected where a class may begin, after this number of classes; `start` after none.
-fn class_behind(classes: usize, start: Expected) -> Expected {
+fn class_after(classes: usize, start: Expected) -> Expected {
     if classes == 0 { start } else { Expected::Class }
 }
 
@@ -380,12 +380,12 @@ pub fn tree(alloc: Global, tokens: Tokens<'_>) -> Result<Tree, Failure>
     let mut rest = tokens;
     let externs = many::<Extern>(alloc, &mut rest, FEW)?;
     let assembly = assembly(alloc, &mut rest)?;
-    let start = classes_behind(assembly.is_some());
+    let start = classes_after(assembly.is_some());
     let classes = classes(alloc, &mut rest, start)?;
     if !rest.is_empty() {
         return Err(Failure::Refused {
             left: rest.len(),
-            expected: class_behind(classes.as_slice().len(), start),
+            expected: class_after(classes.as_slice().len(), start),
         });
     }
     Ok(Tree {

@@ -52,7 +52,7 @@ impl Starts for Label {
 }
 
 /// What is expected where a line continues after this number of labels.
-fn line_behind(labels: usize) -> Expected {
+fn line_after(labels: usize) -> Expected {
     if labels == 0 {
         Expected::Line
     } else {
@@ -73,7 +73,7 @@ impl Parse for CodeLine {
     #[tactic(auto, unfolding(crate::specs::Parsing::line_at, ilasm_tokens::specs::Steps::bind))]
     fn parse(alloc: Global, tokens: &mut Tokens<'_>) -> Result<Line, Failure> {
         let labels = many::<Label>(alloc, tokens, 1)?;
-        let expected = line_behind(labels.as_slice().len());
+        let expected = line_after(labels.as_slice().len());
         let instruction = instruction(alloc, tokens, expected)?;
         Ok(Line {
             labels,

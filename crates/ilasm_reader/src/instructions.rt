@@ -7,7 +7,7 @@ ghost use Rattle.ilasm_reader.specs.Parsing.{bare, creation, virtual_call, with_
 
 use crate::lists::{Parse, parentheses};
 use crate::operands::{Target, field_reference, instance_method, method_reference};
-use crate::single::{any_word, integer, name, quoted, take_word};
+use crate::single::{any_word, integer, name, quoted_text, take_word};
 use crate::types::AnyType;
 use cil_model::instructions::{FieldReference, Instruction, MethodName, MethodReference};
 use cil_model::texts::Text;
@@ -108,7 +108,7 @@ fn load_int32(tokens: &mut Tokens<'_>) -> Result<Instruction, Failure>
 }
 
 /// What follows `call`, with the word `instance` or without it.
-fn called_behind(is_instance: bool) -> Expected {
+fn called_after(is_instance: bool) -> Expected {
     if is_instance {
         Expected::ReturnType
     } else {
@@ -122,7 +122,7 @@ fn call(alloc: Global, tokens: &mut Tokens<'_>) -> Result<Instruction, Failure>
     ensures { Gives (λ x. (x, tokens.new.now)) result (operands_at Call tokens.old.now) }
 {
     let is_instance = take_word(tokens, b"instance");
-    let method = method_reference(alloc, tokens, called_behind(is_instance))?;
+    let method = method_reference(alloc, tokens, called_after(is_instance))?;
     Ok(Instruction::Call {
         is_instance,
         method,
@@ -218,7 +218,7 @@ fn instruction_of(
             Ok(with_integer(which, value))
         }
         Form::Quoted => {
-            let characters = quoted(alloc, tokens)?;
+            let characters = quoted_text(alloc, tokens)?;
             Ok(Instruction::LoadString(characters))
         }
         Form::Jump(which) => {

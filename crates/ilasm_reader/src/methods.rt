@@ -27,7 +27,7 @@ pub enum Beginning {
 }
 
 /// What is written before `virtual`, after these words.
-fn virtual_behind(is_new_slot: bool, is_abstract: bool) -> Expected {
+fn virtual_after(is_new_slot: bool, is_abstract: bool) -> Expected {
     match (is_new_slot, is_abstract) {
         (false, false) => Expected::MethodKind,
         (true, false) => Expected::VirtualWords,
@@ -42,7 +42,7 @@ fn virtual_words(tokens: &mut Tokens<'_>) -> Result<Beginning, Failure>
 {
     let is_new_slot = take_word(tokens, b"newslot");
     let is_abstract = take_word(tokens, b"abstract");
-    expect_word_of(tokens, b"virtual", virtual_behind(is_new_slot, is_abstract))?;
+    expect_word_of(tokens, b"virtual", virtual_after(is_new_slot, is_abstract))?;
     expect_word(tokens, b"instance")?;
     Ok(if is_abstract {
         Beginning::Abstract { is_new_slot }

@@ -2,7 +2,7 @@
 
 ghost use Rattle.std.specs.Prelude.{◌≡◌};
 ghost use Rattle.cil_model.specs.Sources.{has_foreign_byte};
-ghost use Rattle.ilasm_reader.specs.Answers.{numbered, IsReadAnswer};
+ghost use Rattle.ilasm_reader.specs.Answers.{error_number, IsReadAnswer};
 
 use crate::classes::tree;
 use cil_model::limits::MOST_SOURCE_BYTES;
@@ -33,7 +33,7 @@ impl ReadError {
     /// The number by which a user knows the refusal (this profile): 101 for a byte above 127, 102 where no token begins,
     /// 103 for no sentence, 104 for too many bytes, 105 for out of memory.
     pub fn number(&self) -> u16
-        ensures { result ≡ numbered self.now }
+        ensures { result ≡ error_number self.now }
     {
         match self {
             ReadError::NotAscii { .. } => 101,

@@ -95,7 +95,7 @@ pub fn expect_word(tokens: &mut Tokens<'_>, word: &'static [u8]) -> Result<(), F
     expect_word_of(tokens, word, Expected::Word(word))
 }
 
-/// Takes reserved words, one after the other, each of which alone may be in its place.
+/// Takes reserved words, one after the other, each of which is the only one allowed at its position.
 pub fn expect_words(tokens: &mut Tokens<'_>, words: &[&'static [u8]]) -> Result<(), Failure>
     ensures { Gives (λ _. tokens.new.now) result (words_at (map (λ word. word.now) words.now) tokens.old.now) }
 {
@@ -195,7 +195,7 @@ pub fn integer(tokens: &mut Tokens<'_>, expected: Expected) -> Result<i64, Failu
 
 /// The characters of a string literal.
 #[tactic(auto, unfolding(crate::specs::Parsing::quoted_at, ilasm_tokens::specs::Steps::choice))]
-pub fn quoted(alloc: Global, tokens: &mut Tokens<'_>) -> Result<Text, Failure>
+pub fn quoted_text(alloc: Global, tokens: &mut Tokens<'_>) -> Result<Text, Failure>
     ensures { Gives (λ x. (x, tokens.new.now)) result (quoted_at tokens.old.now) }
 {
     let [first, rest @ ..] = *tokens else {
@@ -204,7 +204,7 @@ pub fn quoted(alloc: Global, tokens: &mut Tokens<'_>) -> Result<Text, Failure>
             expected: Expected::StringLiteral,
         });
     };
-    let Some(found) = first.quoted(alloc)? else {
+    let Some(found) = first.quoted_text(alloc)? else {
         return Err(Failure::Refused {
             left: tokens.len(),
             expected: Expected::StringLiteral,

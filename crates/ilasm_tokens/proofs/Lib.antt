@@ -2,5 +2,5 @@ pub mod Many
 mod Text
 pub mod Reserved
 pub mod Reading
-mod Places
+mod GapStates
 mod SpaceLaws

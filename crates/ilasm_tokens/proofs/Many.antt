@@ -28,17 +28,17 @@ module _ {S A : Type 0} (starts : List S → Bool) (parses : ParserOf S A) where
   regroup front x (Some y) = ap (λ (xs : List A). Some (xs, y.1)) (simp append_assoc)
   regroup front x None = refl
 
-  goes_on : (n : ℕ) (ts : List S) (x : A) (rest : List S) → starts ts ≡ true → parses ts ≡ Some (x, rest) → many_up_to starts parses (suc n) ts ≡ bind (many_up_to starts parses n rest) (λ others. Some (x ∷ others.0, others.1))
+  continues : (n : ℕ) (ts : List S) (x : A) (rest : List S) → starts ts ≡ true → parses ts ≡ Some (x, rest) → many_up_to starts parses (suc n) ts ≡ bind (many_up_to starts parses n rest) (λ others. Some (x ∷ others.0, others.1))
   unfolding many_up_to bind
-  goes_on n ts x rest s e = rw (s, e) refl
+  continues n ts x rest s e = rw (s, e) refl
 
-  pub turns : (total : Option (List A × List S)) (front : List A) (ts : List S) (x : A) (rest : List S) → Consumes parses → Reading total front ts → starts ts ≡ true → parses ts ≡ Some (x, rest) → Reading total (front ++ x ∷ []) rest
-  turns total front ts x rest consumes reading s e =
+  pub transitions : (total : Option (List A × List S)) (front : List A) (ts : List S) (x : A) (rest : List S) → Consumes parses → Reading total front ts → starts ts ≡ true → parses ts ≡ Some (x, rest) → Reading total (front ++ x ∷ []) rest
+  transitions total front ts x rest consumes reading s e =
       let less = consumes ts x rest e in
       let go : (n : ℕ) → length ts < n → with_front front (many_up_to starts parses n ts) ≡ total → Reading total (front ++ x ∷ []) rest =
       elim [
         | zero ↦ λ enough whole. absurd (omega arith)
-        | suc n ↦ λ enough whole. record { fuel = n; enough = omega (arith, less); whole = sym (regroup front x (many_up_to starts parses n rest)) ∙ sym (ap (with_front front) (goes_on n ts x rest s e)) ∙ whole }
+        | suc n ↦ λ enough whole. record { fuel = n; enough = omega (arith, less); whole = sym (regroup front x (many_up_to starts parses n rest)) ∙ sym (ap (with_front front) (continues n ts x rest s e)) ∙ whole }
       ] in
       go reading.fuel reading.enough reading.whole
 

@@ -12,7 +12,7 @@ use Rattle.cil_model.specs.declared.tokens.Token.{Token}
 use Rattle.cil_model.specs.declared.tokens.Token.TheVariants.{Reserved, Name, Integer, Quoted, Symbol}
 use Rattle.cil_model.specs.Words.{begins_segment, is_digit, is_word_byte, is_reserved, are_segments, is_name}
 use Rattle.cil_model.specs.Spans.{◌▸◌, item, each}
-use Rattle.cil_model.specs.Lexemes.{is_white, Place, between, slash, in_line, in_block, star, skip_gap, gap, stops, run, value_from, signed, is_plain, escaped, character, lexeme, AreTokens}
+use Rattle.cil_model.specs.Lexemes.{is_white, GapState, between, slash, in_line, in_block, star, skip_gap, gap, stops, run, value_from, with_sign, is_plain, escape, character, lexeme, AreTokens}
 use Rattle.ilasm_tokens.specs.declared.bytes.Kind.{Kind}
 use Rattle.ilasm_tokens.specs.declared.bytes.Kind.TheVariants.{Word, Digit, Minus, Quote, Colon, Single, Nothing}
 use Rattle.ilasm_tokens.specs.declared.failure.Failure.{Failure}
@@ -100,12 +100,12 @@ name_from w n s =
 
 -- ---- integers
 
-fits : (m : Bool) (n : ℕ) → n ≤ limit m → FitsSigned w64 (signed m n)
+fits : (m : Bool) (n : ℕ) → n ≤ limit m → FitsSigned w64 (with_sign m n)
 fits false n le = record { sfits = omega arith }
 fits true zero le = record { sfits = omega arith }
 fits true (suc n) le = record { sfits = omega arith }
 
-within : (m : Bool) (n : ℕ) → FitsSigned w64 (signed m n) → n ≤ limit m
+within : (m : Bool) (n : ℕ) → FitsSigned w64 (with_sign m n) → n ≤ limit m
 within false n f = omega (arith, f.sfits)
 within true zero f = omega arith
 within true (suc n) f = omega (arith, f.sfits)
@@ -126,7 +126,7 @@ record HasValue (m : Bool) (ds : List ℕ) (z : ℤ) : Type 0 where
   some : ds ≢ []
   digits : list_all is_digit ds ≡ true
   fitting : FitsSigned w64 z
-  is : z ≡ signed m (value_from 0 ds)
+  is : z ≡ with_sign m (value_from 0 ds)
 
 value_sound : (m : Bool) (ds : List ℕ) → Yields (integer_of m ds) (HasValue m ds)
 unfolding integer_of
@@ -134,7 +134,7 @@ value_sound m ds =
     yields_unless (is_empty ds) (λ e. yields_if (list_all is_digit ds) (λ d. yields_if (nat_le (value_from 0 ds) (limit m)) (λ v.
     yields_some (record { some = some_digits ds e; digits = d; fitting = fits m (value_from 0 ds) (leb-true _ _ v); is = refl }))))
 
-value_complete : (m : Bool) (ds : List ℕ) (z : ℤ) → ds ≢ [] → list_all is_digit ds ≡ true → z ≡ signed m (value_from 0 ds) → FitsSigned w64 z → integer_of m ds ≡ Some z
+value_complete : (m : Bool) (ds : List ℕ) (z : ℤ) → ds ≢ [] → list_all is_digit ds ≡ true → z ≡ with_sign m (value_from 0 ds) → FitsSigned w64 z → integer_of m ds ≡ Some z
 unfolding integer_of
 value_complete m ds z s d e f =
     let le = within m (value_from 0 ds) (subst (FitsSigned w64) e f) in
@@ -162,7 +162,7 @@ at_quote b bs e = ((b ∷ bs, refl, ap (λ (x : ℕ). x ∷ bs) (eqb-true b 34 e
 at_plain : (b : ℕ) (bs : List ℕ) → is_plain b ≡ true → (y : List ℕ × List ℕ) → QuotedBefore bs y → QuotedBefore (b ∷ bs) (b ∷ y.0, y.1)
 at_plain b bs e y ((mid, q, r), less) = ((mid, (bs, inl (e, refl), q), r), omega (arith, less))
 
-at_escape : (b e c : ℕ) (bs : List ℕ) → (b == 92) ≡ true → escaped e ≡ Some c → (y : List ℕ × List ℕ) → QuotedBefore bs y → QuotedBefore (b ∷ e ∷ bs) (c ∷ y.0, y.1)
+at_escape : (b e c : ℕ) (bs : List ℕ) → (b == 92) ≡ true → escape e ≡ Some c → (y : List ℕ × List ℕ) → QuotedBefore bs y → QuotedBefore (b ∷ e ∷ bs) (c ∷ y.0, y.1)
 at_escape b e c bs s esc y ((mid, q, r), less) = ((mid, (bs, inr (e, esc, ap (λ (x : ℕ). x ∷ e ∷ bs) (eqb-true b 92 s)), q), r), omega (arith, less))
 
 found : {A : Type 0} (r : Option A) → Yields r (λ x. r ≡ Some x)
@@ -176,7 +176,7 @@ quoted_sound (b ∷ []) =
 quoted_sound (b ∷ c ∷ bs) =
     yields_else (b == 34) (λ e. yields_some (at_quote b (c ∷ bs) e)) (λ n.
     yields_else (b == 92)
-    (λ s. yields_bind (found (escaped c)) (λ x esc. yields_push x (quoted_sound bs) (at_escape b c x bs s esc)))
+    (λ s. yields_bind (found (escape c)) (λ x esc. yields_push x (quoted_sound bs) (at_escape b c x bs s esc)))
     (λ m. yields_if (is_plain b) (λ e. yields_push b (quoted_sound (c ∷ bs)) (at_plain b (c ∷ bs) e))))
 
 -- two tests fail, and the third passes
@@ -295,7 +295,7 @@ digits_complete [] bs rest y p some digits g = absurd (some refl)
 digits_complete (b ∷ ds) bs rest y p some digits g =
     token_from Digit b y (digit_kind b (both (is_digit b) (list_all is_digit ds) digits).0) p.0 (rw (← p.0) g)
 
-integer_complete : (m : Bool) (z : ℤ) (ds bs rest : List ℕ) → ds ≢ [] → list_all is_digit ds ≡ true → z ≡ signed m (value_from 0 ds) → FitsSigned w64 z → run ds bs rest → integer_token m bs ≡ Some (Integer z, rest)
+integer_complete : (m : Bool) (z : ℤ) (ds bs rest : List ℕ) → ds ≢ [] → list_all is_digit ds ≡ true → z ≡ with_sign m (value_from 0 ds) → FitsSigned w64 z → run ds bs rest → integer_token m bs ≡ Some (Integer z, rest)
 unfolding integer_token
 integer_complete m z ds bs rest s d e f p = bind_at _ (run_complete ds p) (bind_at _ (value_complete m ds z s d e f) refl)
 
@@ -330,32 +330,32 @@ lexeme_complete (Symbol s) bs rest p = symbol_complete s bs rest p
 -- ---- sources
 
 -- what is after a slash may be given back with it
-unfoldable held : Place → ℕ
+unfoldable held : GapState → ℕ
 held slash = 1
 held _ = 0
 
 weaker : {m : Option (List ℕ)} {n k : ℕ} → n ≤ k → Yields m (λ rest. length rest ≤ n) → Yields m (λ rest. length rest ≤ k)
 weaker {m} {n} {k} le p = record { out = λ y e. omega (arith, p.out y e) }
 
-behind_shorter : (at : Place) (bs : List ℕ) → Yields (skip_gap at bs) (λ rest. length rest ≤ length bs + held at)
+after_shorter : (at : GapState) (bs : List ℕ) → Yields (skip_gap at bs) (λ rest. length rest ≤ length bs + held at)
 unfolding held
-behind_shorter between [] = yields_some (omega arith)
-behind_shorter between (b ∷ bs) =
-    yields_else (is_white b) (λ _. weaker (omega arith) (behind_shorter between bs)) (λ _. yields_else (b == 47) (λ _. weaker (omega arith) (behind_shorter slash bs)) (λ _. yields_some (omega arith)))
-behind_shorter slash [] = yields_some (omega arith)
-behind_shorter slash (b ∷ bs) =
-    yields_else (b == 47) (λ _. weaker (omega arith) (behind_shorter in_line bs)) (λ _. yields_else (b == 42) (λ _. weaker (omega arith) (behind_shorter in_block bs)) (λ _. yields_some (omega arith)))
-behind_shorter in_line [] = yields_some (omega arith)
-behind_shorter in_line (b ∷ bs) = yields_else (b == 10) (λ _. weaker (omega arith) (behind_shorter between bs)) (λ _. weaker (omega arith) (behind_shorter in_line bs))
-behind_shorter in_block [] = yields_none
-behind_shorter in_block (b ∷ bs) = yields_else (b == 42) (λ _. weaker (omega arith) (behind_shorter star bs)) (λ _. weaker (omega arith) (behind_shorter in_block bs))
-behind_shorter star [] = yields_none
-behind_shorter star (b ∷ bs) =
-    yields_else (b == 47) (λ _. weaker (omega arith) (behind_shorter between bs)) (λ _. yields_else (b == 42) (λ _. weaker (omega arith) (behind_shorter star bs)) (λ _. weaker (omega arith) (behind_shorter in_block bs)))
+after_shorter between [] = yields_some (omega arith)
+after_shorter between (b ∷ bs) =
+    yields_else (is_white b) (λ _. weaker (omega arith) (after_shorter between bs)) (λ _. yields_else (b == 47) (λ _. weaker (omega arith) (after_shorter slash bs)) (λ _. yields_some (omega arith)))
+after_shorter slash [] = yields_some (omega arith)
+after_shorter slash (b ∷ bs) =
+    yields_else (b == 47) (λ _. weaker (omega arith) (after_shorter in_line bs)) (λ _. yields_else (b == 42) (λ _. weaker (omega arith) (after_shorter in_block bs)) (λ _. yields_some (omega arith)))
+after_shorter in_line [] = yields_some (omega arith)
+after_shorter in_line (b ∷ bs) = yields_else (b == 10) (λ _. weaker (omega arith) (after_shorter between bs)) (λ _. weaker (omega arith) (after_shorter in_line bs))
+after_shorter in_block [] = yields_none
+after_shorter in_block (b ∷ bs) = yields_else (b == 42) (λ _. weaker (omega arith) (after_shorter star bs)) (λ _. weaker (omega arith) (after_shorter in_block bs))
+after_shorter star [] = yields_none
+after_shorter star (b ∷ bs) =
+    yields_else (b == 47) (λ _. weaker (omega arith) (after_shorter between bs)) (λ _. yields_else (b == 42) (λ _. weaker (omega arith) (after_shorter star bs)) (λ _. weaker (omega arith) (after_shorter in_block bs)))
 
 pub gap_shorter : (bs rest : List ℕ) → skip_gap between bs ≡ Some rest → length rest ≤ length bs
 unfolding held
-gap_shorter bs rest e = omega (arith, (behind_shorter between bs).out rest e)
+gap_shorter bs rest e = omega (arith, (after_shorter between bs).out rest e)
 
 spaced_sound : Sound spaced_lexeme_at (λ t. lexeme t ▸ gap)
 unfolding spaced_lexeme_at

@@ -8,16 +8,16 @@ use Rattle.std.proofs.lemmas.List.Elements.{All-nil, All-cons}
 use Rattle.std.proofs.lemmas.Str.{IsUtf8-from_ascii}
 use Rattle.std.proofs.lemmas.Str.Ascii.{IsAscii-from_all}
 use Rattle.cil_model.specs.Words.{is_word_byte}
-use Rattle.cil_model.specs.Lexemes.{Place, in_block, star, value_from, is_plain, escaped}
+use Rattle.cil_model.specs.Lexemes.{GapState, in_block, star, value_from, is_plain, escape}
 use Rattle.ilasm_tokens.specs.Steps.{with_front, choice, bind}
-use Rattle.ilasm_tokens.specs.Lexing.{quoted_from, escaped_at, character_at, quoted_token, behind_quote}
+use Rattle.ilasm_tokens.specs.Lexing.{quoted_from, escaped_at, character_at, quoted_token, past_quote}
 use Rattle.ilasm_tokens.specs.Parts.{characters_of}
 use Rattle.cil_model.specs.declared.tokens.Token.{Token}
 use Rattle.cil_model.specs.declared.tokens.Token.TheVariants.{Quoted}
 
-abbrev pub block_place : Bool → Place
-block_place true = star
-block_place false = in_block
+abbrev pub gap_state_of : Bool → GapState
+gap_state_of true = star
+gap_state_of false = in_block
 
 pub join_front : {S A : Type 0} (xs ys : List A) (r : Option (List A × List S)) → with_front xs (with_front ys r) ≡ with_front (xs ++ ys) r
 unfolding with_front
@@ -47,10 +47,10 @@ pub ascii_is_utf8 : (bs : List ℕ) → All (λ b. b < 128) bs → IsUtf8 bs
 ascii_is_utf8 bs all = IsUtf8-from_ascii bs (IsAscii-from_all bs all)
 
 -- what is after a literal is what is after the last of its characters
-pub behind_front : (xs : List ℕ) (r : Option (List ℕ × List ℕ)) → behind_quote (with_front xs r) ≡ behind_quote r
-unfolding with_front behind_quote
-behind_front xs (Some x) = refl
-behind_front xs None = refl
+pub after_front : (xs : List ℕ) (r : Option (List ℕ × List ℕ)) → past_quote (with_front xs r) ≡ past_quote r
+unfolding with_front past_quote
+after_front xs (Some x) = refl
+after_front xs None = refl
 
 -- a literal, by its first character
 abbrev follow : Option (Option ℕ × List ℕ) → Option (List ℕ × List ℕ)
@@ -66,7 +66,7 @@ follow_escaped None cs = refl
 escaped_follows : (bs : List ℕ) → quoted_from true bs ≡ follow (escaped_at bs)
 unfolding quoted_from escaped_at
 escaped_follows [] = refl
-escaped_follows (c ∷ cs) = follow_escaped (escaped c) cs
+escaped_follows (c ∷ cs) = follow_escaped (escape c) cs
 
 follow_branches : (is_quote is_backslash plain : Bool) (c : ℕ) (cs : List ℕ) →
     cond is_quote (Some ([], cs)) (cond is_backslash (quoted_from true cs) (cond plain (with_front (c ∷ []) (quoted_from false cs)) None)) ≡
@@ -91,8 +91,8 @@ pub no_character : (bs : List ℕ) → character_at bs ≡ None → quoted_from 
 no_character bs e = rw (by_character bs, e) refl
 
 -- what is after the literal is also after what is left of it
-pub passes : (bs rest : List ℕ) (c : ℕ) (whole : Option (List ℕ)) → Some (Some c, rest) ≡ character_at bs → behind_quote (quoted_from false bs) ≡ whole → behind_quote (quoted_from false rest) ≡ whole
-passes bs rest c whole e so_far = sym (behind_front (c ∷ []) (quoted_from false rest)) ∙ ap behind_quote (sym (at_character bs rest c (sym e))) ∙ so_far
+pub passes : (bs rest : List ℕ) (c : ℕ) (whole : Option (List ℕ)) → Some (Some c, rest) ≡ character_at bs → past_quote (quoted_from false bs) ≡ whole → past_quote (quoted_from false rest) ≡ whole
+passes bs rest c whole e so_far = sym (after_front (c ∷ []) (quoted_from false rest)) ∙ ap past_quote (sym (at_character bs rest c (sym e))) ∙ so_far
 
 -- a character moves from what is left of the literal to what was read of it
 pub takes : (text bs rest : List ℕ) (c : ℕ) (whole : Option (List ℕ × List ℕ)) → Some (Some c, rest) ≡ character_at bs → with_front text (quoted_from false bs) ≡ whole → with_front (text ++ c ∷ []) (quoted_from false rest) ≡ whole
@@ -106,21 +106,21 @@ pub at_fault : (text bs : List ℕ) (whole : Option (List ℕ × List ℕ)) → 
 unfolding with_front
 at_fault text bs whole e so_far = sym so_far ∙ rw (no_character bs (sym e)) refl
 
-literal_of : (r : Option (List ℕ × List ℕ)) (rest : List ℕ) → behind_quote r ≡ Some rest → bind {B = Token × List ℕ} r (λ x. Some (Quoted x.0, x.1)) ≡ Some (Quoted (choice r (λ x. x.0) []), rest)
-unfolding bind choice behind_quote
+literal_of : (r : Option (List ℕ × List ℕ)) (rest : List ℕ) → past_quote r ≡ Some rest → bind {B = Token × List ℕ} r (λ x. Some (Quoted x.0, x.1)) ≡ Some (Quoted (choice r (λ x. x.0) []), rest)
+unfolding bind choice past_quote
 literal_of (Some x) rest e = let same : x.1 ≡ rest = cc in rw same refl
 literal_of None rest e = absurd cc
 
-none_from : (r : Option (List ℕ × List ℕ)) → behind_quote r ≡ None → bind {B = Token × List ℕ} r (λ x. Some (Quoted x.0, x.1)) ≡ None
-unfolding bind behind_quote
+none_from : (r : Option (List ℕ × List ℕ)) → past_quote r ≡ None → bind {B = Token × List ℕ} r (λ x. Some (Quoted x.0, x.1)) ≡ None
+unfolding bind past_quote
 none_from (Some x) e = absurd cc
 none_from None e = refl
 
 -- the token of a literal, by what is after it
-pub literal_before : (bs rest : List ℕ) → behind_quote (quoted_from false bs) ≡ Some rest → quoted_token bs ≡ Some (Quoted (characters_of bs), rest)
+pub literal_before : (bs rest : List ℕ) → past_quote (quoted_from false bs) ≡ Some rest → quoted_token bs ≡ Some (Quoted (characters_of bs), rest)
 unfolding quoted_token characters_of
 literal_before bs rest e = literal_of (quoted_from false bs) rest e
 
-pub no_literal : (bs : List ℕ) → behind_quote (quoted_from false bs) ≡ None → quoted_token bs ≡ None
+pub no_literal : (bs : List ℕ) → past_quote (quoted_from false bs) ≡ None → quoted_token bs ≡ None
 unfolding quoted_token
 no_literal bs e = none_from (quoted_from false bs) e

@@ -5,7 +5,7 @@ use Rattle.cil_model.specs.declared.tokens.Symbol.TheVariants.{OpenBrace, CloseB
 use Rattle.cil_model.specs.declared.tokens.Token.{Token}
 use Rattle.cil_model.specs.declared.tokens.Token.TheVariants.{Reserved, Name, Integer, Quoted, Symbol}
 use Rattle.cil_model.specs.Words.{begins_segment, is_digit, is_word_byte, are_segments}
-use Rattle.cil_model.specs.Lexemes.{skip_gap, between, value_from, signed, is_plain, escaped}
+use Rattle.cil_model.specs.Lexemes.{skip_gap, between, value_from, with_sign, is_plain, escape}
 use Rattle.ilasm_tokens.specs.declared.bytes.Kind.{Kind}
 use Rattle.ilasm_tokens.specs.declared.bytes.Kind.TheVariants.{Word, Digit, Minus, Quote, Colon, Single, Nothing}
 use Rattle.ilasm_tokens.specs.Steps.{◌>>=◌, ParserOf, with_front, many}
@@ -52,7 +52,7 @@ is_empty (x ∷ xs) = false
 unfoldable pub integer_of : Bool → List ℕ → Option ℤ
 integer_of is_negative digits =
     if is_empty digits then None
-    else (if list_all is_digit digits then (if nat_le (value_from 0 digits) (limit is_negative) then Some (signed is_negative (value_from 0 digits)) else None) else None)
+    else (if list_all is_digit digits then (if nat_le (value_from 0 digits) (limit is_negative) then Some (with_sign is_negative (value_from 0 digits)) else None) else None)
 
 unfoldable pub integer_token : Bool → Lexer Token
 integer_token is_negative bs = do
@@ -64,7 +64,7 @@ integer_token is_negative bs = do
 unfoldable pub quoted_from : Bool → Lexer (List ℕ)
 quoted_from is_escaped [] = None
 quoted_from true (c ∷ cs) = do
-  character ← escaped c
+  character ← escape c
   with_front (character ∷ []) (quoted_from false cs)
 quoted_from false (c ∷ cs) =
     if c == 34 then Some ([], cs)
@@ -79,7 +79,7 @@ quoted_token bs = do
 unfoldable pub escaped_at : List ℕ → Option (Option ℕ × List ℕ)
 escaped_at [] = None
 escaped_at (c ∷ cs) = do
-  character ← escaped c
+  character ← escape c
   Some (Some character, cs)
 
 -- a character of a literal, or no character for the quote that ends it, and what is after it
@@ -88,9 +88,9 @@ character_at [] = None
 character_at (c ∷ cs) = if c == 34 then Some (None, cs) else (if c == 92 then escaped_at cs else (if is_plain c then Some (Some c, cs) else None))
 
 -- what is after the quote
-unfoldable pub behind_quote : Option (List ℕ × List ℕ) → Option (List ℕ)
-behind_quote None = None
-behind_quote (Some characters) = Some characters.1
+unfoldable pub past_quote : Option (List ℕ × List ℕ) → Option (List ℕ)
+past_quote None = None
+past_quote (Some characters) = Some characters.1
 
 unfoldable pub colon_token : List ℕ → Option (Token × List ℕ)
 colon_token [] = Some (Symbol OneColon, [])
@@ -117,17 +117,17 @@ spaced_lexeme_at bs = do
   Some (token.0, rest)
 
 -- what is left after n tokens
-unfoldable pub behind_tokens : ℕ → List ℕ → Option (List ℕ)
-behind_tokens zero bs = Some bs
-behind_tokens (suc n) bs = do
+unfoldable pub after_tokens : ℕ → List ℕ → Option (List ℕ)
+after_tokens zero bs = Some bs
+after_tokens (suc n) bs = do
   token ← spaced_lexeme_at bs
-  behind_tokens n token.1
+  after_tokens n token.1
 
 -- where a token begins, counted in bytes, if it has tokens before it
 unfoldable pub offset_of : ℕ → List ℕ → Option ℕ
 offset_of number source = do
   start ← skip_gap between source
-  rest ← behind_tokens number start
+  rest ← after_tokens number start
   Some (length source - length rest)
 
 unfoldable pub not_empty : {A : Type 0} → List A → Bool

@@ -2,7 +2,7 @@
 
 ghost use Rattle.std.specs.Prelude.{◌≡◌};
 ghost use Rattle.cil_model.specs.Words.{begins_segment, is_word_byte};
-ghost use Rattle.cil_model.specs.Lexemes.{is_white, is_plain, escaped};
+ghost use Rattle.cil_model.specs.Lexemes.{is_white, is_plain, escape};
 ghost use Rattle.ilasm_tokens.specs.Lexing.{kind_of};
 
 use cil_model::tokens::Symbol;
@@ -77,8 +77,8 @@ pub fn is_plain(byte: u8) -> bool
 }
 
 /// The byte that a backslash and this byte represent.
-pub fn escaped(byte: u8) -> Option<u8>
-    ensures { result ≡ escaped byte }
+pub fn escape(byte: u8) -> Option<u8>
+    ensures { result ≡ escape byte }
 {
     match byte {
         b'n' => Some(b'\n'),

@@ -1,8 +1,8 @@
-//! What the grammar has at a place.
+//! What the grammar has at a position.
 
 use cil_model::tokens::Symbol;
 
-/// What the grammar has at a place where a source has something else (ECMA-335 II.5; the grammar is this profile's).
+/// What the grammar has at a position where a source has something else (ECMA-335 II.5; the grammar is this profile's).
 #[derive(Clone, Copy, Debug, PartialEq, Eq)]
 pub enum Expected {
     /// A token of any kind.

@@ -3,12 +3,12 @@
 ghost use Rattle.std.specs.Prelude.{◌≡◌, ◌<◌, ◌≤◌, ◌^◌, true, false, Some, None, length, All, IfOk, IfSome, MatchOption, option_map, nat_le, if◌then◌else◌};
 ghost use Rattle.std.specs.List.{prefix_len, list_all};
 ghost use Rattle.cil_model.specs.Words.{is_word_byte, is_digit, are_segments};
-ghost use Rattle.cil_model.specs.Lexemes.{value_from, signed};
+ghost use Rattle.cil_model.specs.Lexemes.{value_from, with_sign};
 ghost use Rattle.ilasm_tokens.specs.Steps.{Gives};
 ghost use Rattle.ilasm_tokens.specs.Parts.{characters_of};
-ghost use Rattle.ilasm_tokens.specs.Lexing.{run_at, word_token, limit, integer_of, integer_token, quoted_from, character_at, behind_quote, quoted_token, colon_token, lexeme_at};
+ghost use Rattle.ilasm_tokens.specs.Lexing.{run_at, word_token, limit, integer_of, integer_token, quoted_from, character_at, past_quote, quoted_token, colon_token, lexeme_at};
 
-use crate::bytes::{Kind, begins_segment, escaped, is_plain, is_word_byte, kind_of};
+use crate::bytes::{Kind, begins_segment, escape, is_plain, is_word_byte, kind_of};
 use crate::failure::Failure;
 use crate::source_tokens::SourceToken;
 use crate::words::use_of;
@@ -102,7 +102,7 @@ fn value_of(digits: &[u8]) -> Option<u64>
 }
 
 fn positive(value: u64) -> Option<i64>
-    ensures { result ≡ (if nat_le value (limit false) then Some (signed false value) else None) }
+    ensures { result ≡ (if nat_le value (limit false) then Some (with_sign false value) else None) }
 {
     if value > 0x7fff_ffff_ffff_ffff {
         return None;
@@ -111,7 +111,7 @@ fn positive(value: u64) -> Option<i64>
 }
 
 fn negative(value: u64) -> Option<i64>
-    ensures { result ≡ (if nat_le value (limit true) then Some (signed true value) else None) }
+    ensures { result ≡ (if nat_le value (limit true) then Some (with_sign true value) else None) }
 {
     if value > 0x8000_0000_0000_0000 {
         return None;
@@ -157,7 +157,7 @@ fn integer(
     Ok((SourceToken::of_integer(value), rest))
 }
 
-/// A character of a literal, or `None` in its place for the quote that ends it, and what is left after it.
+/// A character of a literal, or `None` for the quote that ends it, and what is left after it.
 #[tactic(auto, unfolding(crate::specs::Lexing::character_at, crate::specs::Lexing::escaped_at, crate::specs::Steps::bind))]
 fn character(bytes: &[u8]) -> Option<(Option<u8>, &[u8])>
     ensures shorter { IfSome result (λ x. length x.1.now < length bytes.now) }
@@ -166,7 +166,7 @@ fn character(bytes: &[u8]) -> Option<(Option<u8>, &[u8])>
 {
     match bytes {
         [b'"', rest @ ..] => Some((None, rest)),
-        [b'\\', escape, rest @ ..] => Some((Some(escaped(*escape)?), rest)),
+        [b'\\', byte, rest @ ..] => Some((Some(escape(*byte)?), rest)),
         [first, rest @ ..] if is_plain(*first) => Some((Some(*first), rest)),
         _ => None,
     }
@@ -174,9 +174,9 @@ fn character(bytes: &[u8]) -> Option<(Option<u8>, &[u8])>
 
 /// What is left after the quote that ends a literal; `None` where none does, or where something is before it that is
 /// no character.
-#[tactic(auto, using(crate::proofs::Text::passes, crate::proofs::Text::at_quote, crate::proofs::Text::no_character), unfolding(crate::specs::Lexing::behind_quote))]
+#[tactic(auto, using(crate::proofs::Text::passes, crate::proofs::Text::at_quote, crate::proofs::Text::no_character), unfolding(crate::specs::Lexing::past_quote))]
 fn after_quote(bytes: &[u8]) -> Option<&[u8]>
-    ensures { option_map (λ r. r.now) result ≡ behind_quote (quoted_from false bytes.now) }
+    ensures { option_map (λ r. r.now) result ≡ past_quote (quoted_from false bytes.now) }
 {
     let mut rest = bytes;
     while let Some((found, after)) = character(rest) {
@@ -220,7 +220,7 @@ pub fn text_of_literal(alloc: Global, bytes: &[u8]) -> Result<Text, AllocError>
 
 /// A string literal, after its first quote, where `left` bytes were left.
 #[tactic(auto, using(crate::proofs::Text::literal_before, crate::proofs::Text::no_literal))]
-fn quoted(bytes: &[u8], left: usize) -> Result<(SourceToken<'_>, &[u8]), Failure>
+fn quoted_text(bytes: &[u8], left: usize) -> Result<(SourceToken<'_>, &[u8]), Failure>
     ensures { Gives (λ x. (x.0, x.1.now)) result (quoted_token bytes.now) }
 {
     match after_quote(bytes) {
@@ -252,7 +252,7 @@ pub fn lexeme(bytes: &[u8]) -> Result<(SourceToken<'_>, &[u8]), Failure>
         Kind::Word => word(bytes),
         Kind::Digit => integer(false, bytes, bytes.len()),
         Kind::Minus => integer(true, rest, bytes.len()),
-        Kind::Quote => quoted(rest, bytes.len()),
+        Kind::Quote => quoted_text(rest, bytes.len()),
         Kind::Colon => Ok(colon(rest)),
         Kind::Single(symbol) => Ok((SourceToken::of_symbol(symbol), rest)),
         Kind::Nothing => Err(Failure::no_token(bytes.len())),

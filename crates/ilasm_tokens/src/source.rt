@@ -11,7 +11,7 @@ use crate::spaces::after_spaces;
 use cil_model::sequences::Sequence;
 use std::alloc::Global;
 
-/// A token with the white space after it seldom has fewer bytes, so memory for as many tokens is taken at once.
+/// A token with the white space after it seldom has fewer bytes, so memory for one token per this number of bytes is taken at once.
 const BYTES_A_TOKEN: usize = 4;
 
 /// A token, and what is left after the white space and comments that follow it.
@@ -24,7 +24,7 @@ fn spaced_lexeme(bytes: &[u8]) -> Result<(SourceToken<'_>, &[u8]), Failure>
 }
 
 /// The tokens of a source (ECMA-335 II.5.2). They are refused where no list of tokens is the source's;
-/// `left` is then how many bytes are left at the first place where none begins.
+/// `left` is then how many bytes are left at the first position where none begins.
 pub fn tokens(alloc: Global, source: &[u8]) -> Result<Sequence<SourceToken<'_>>, Failure>
     ensures { IsTokenAnswer source.now result }
 {
@@ -39,7 +39,7 @@ pub fn tokens(alloc: Global, source: &[u8]) -> Result<Sequence<SourceToken<'_>>,
 }
 
 /// Where the token of this number begins, counted in bytes, or the end of the source after its last token. Tokens are
-/// counted from 0. It is refused where the source has no such place, since too few tokens can be read.
+/// counted from 0. It is refused where the source has no such token, since too few tokens can be read.
 pub fn token_offset(source: &[u8], number: usize) -> Result<usize, Failure>
     ensures { Gives (λ offset. offset) result (offset_of number source.now) }
 {

@@ -127,7 +127,7 @@ impl<'s> SourceToken<'s> {
     }
 
     /// The characters of a string literal, in memory of their own; `None` for any other token.
-    pub fn quoted(&self, alloc: Global) -> Result<Option<Text>, AllocError>
+    pub fn quoted_text(&self, alloc: Global) -> Result<Option<Text>, AllocError>
         ensures { IfOk result (λ text. text ≡ quoted_in self.now) }
     {
         match self.part {

@@ -12,23 +12,23 @@ use Rattle.inheritance.specs.declared.changes.Declared.{Declared}
 use Rattle.inheritance.specs.declared.changes.Change.{Change}
 use Rattle.inheritance.specs.declared.changes.Source.{Source}
 use Rattle.inheritance.specs.declared.changes.Source.TheVariants.{Nothing, Class, Time}
-use Rattle.inheritance.specs.Changes.{known, is_ordered, is_past, changes_of, known_of, with_change, found_from, is_earlier, AreUpTo, AddsChange, AddsChanges}
+use Rattle.inheritance.specs.Changes.{latest_known, is_ordered, is_past, changes_of, known_of, with_change, found_from, is_earlier, AreUpTo, AddsChange, AddsChanges}
 
-pub known-append : (t : ℕ) (xs ys : List Change) (before : Option Declared) → known before t (xs ++ ys) ≡ known (known before t xs) t ys
+pub known-append : (t : ℕ) (xs ys : List Change) (before : Option Declared) → latest_known before t (xs ++ ys) ≡ latest_known (latest_known before t xs) t ys
 known-append t [] ys before = refl
 known-append t (c ∷ xs) ys before = known-append t xs ys (if nat_le c.time t then c.found else before)
 
 -- what comes later changes nothing
-pub known_late : (before : Option Declared) (t low : ℕ) (ys : List Change) → t < low → list_all (λ (d : Change). nat_le low d.time) ys ≡ true → known before t ys ≡ before
+pub known_late : (before : Option Declared) (t low : ℕ) (ys : List Change) → t < low → list_all (λ (d : Change). nat_le low d.time) ys ≡ true → latest_known before t ys ≡ before
 known_late before t low [] h e = refl
 known_late before t low (c ∷ ys) h e =
     let from : low ≤ c.time = leb-true low c.time (both_first _ _ e) in
     let fails : nat_le c.time t ≡ false = lt-leb c.time t (omega (arith, h, from)) in
     rw fails (known_late before t low ys h (both_second _ _ e))
 
-pub ordered_behind : (xs ys : List Change) → is_ordered (xs ++ ys) ≡ true → is_ordered ys ≡ true
-ordered_behind [] ys h = h
-ordered_behind (x ∷ xs) ys h = ordered_behind xs ys (both_second _ _ h)
+pub ordered_after : (xs ys : List Change) → is_ordered (xs ++ ys) ≡ true → is_ordered ys ≡ true
+ordered_after [] ys h = h
+ordered_after (x ∷ xs) ys h = ordered_after xs ys (both_second _ _ h)
 
 pub ordered_before : (xs ys : List Change) → is_ordered (xs ++ ys) ≡ true → is_ordered xs ≡ true
 ordered_before [] ys h = refl
@@ -41,20 +41,20 @@ ordered_more (x ∷ xs) c h k =
     and_from _ _ (list_all-append (λ (d : Change). nat_le x.time d.time) xs (c ∷ []) ∙ and_from _ _ (both_first _ _ h) (and_from _ _ (both_first _ _ k) refl)) (ordered_more xs c (both_second _ _ h) (both_second _ _ k))
 
 -- the item in the middle is of the time or earlier
-pub known_upper : (before : Option Declared) (t : ℕ) (xs ys zs : List Change) (c : Change) → xs ≡ ys ++ c ∷ zs → c.time ≤ t → known c.found t zs ≡ known before t xs
+pub known_upper : (before : Option Declared) (t : ℕ) (xs ys zs : List Change) (c : Change) → xs ≡ ys ++ c ∷ zs → c.time ≤ t → latest_known c.found t zs ≡ latest_known before t xs
 known_upper before t xs ys zs c e h =
     let passes : nat_le c.time t ≡ true = le-leb c.time t h in
-    sym (ap (known before t) e ∙ known-append t ys (c ∷ zs) before ∙ rw passes refl)
+    sym (ap (latest_known before t) e ∙ known-append t ys (c ∷ zs) before ∙ rw passes refl)
 
 -- it is later
-pub known_lower : (before : Option Declared) (t : ℕ) (xs ys zs : List Change) (c : Change) → xs ≡ ys ++ c ∷ zs → t < c.time → is_ordered xs ≡ true → known before t ys ≡ known before t xs
+pub known_lower : (before : Option Declared) (t : ℕ) (xs ys zs : List Change) (c : Change) → xs ≡ ys ++ c ∷ zs → t < c.time → is_ordered xs ≡ true → latest_known before t ys ≡ latest_known before t xs
 known_lower before t xs ys zs c e h k =
     let fails : nat_le c.time t ≡ false = lt-leb c.time t h in
-    let ends : is_ordered (c ∷ zs) ≡ true = ordered_behind ys (c ∷ zs) (sym (ap is_ordered e) ∙ k) in
-    let late : known (known before t ys) t zs ≡ known before t ys = known_late (known before t ys) t c.time zs h (both_first _ _ ends) in
-    sym (ap (known before t) e ∙ known-append t ys (c ∷ zs) before ∙ rw fails late)
+    let ends : is_ordered (c ∷ zs) ≡ true = ordered_after ys (c ∷ zs) (sym (ap is_ordered e) ∙ k) in
+    let late : latest_known (latest_known before t ys) t zs ≡ latest_known before t ys = known_late (latest_known before t ys) t c.time zs h (both_first _ _ ends) in
+    sym (ap (latest_known before t) e ∙ known-append t ys (c ∷ zs) before ∙ rw fails late)
 
-pub known_one : (before : Option Declared) (t : ℕ) (c : Change) → known before t (c ∷ []) ≡ (if nat_le c.time t then c.found else before)
+pub known_one : (before : Option Declared) (t : ℕ) (c : Change) → latest_known before t (c ∷ []) ≡ (if nat_le c.time t then c.found else before)
 known_one before t c = refl
 
 -- ---- one more change
@@ -89,8 +89,8 @@ module _ (rows : List (List Change)) (key : ℕ) (c : Change) (inside : key < le
       by_key : ((q == key) ≡ true) × (q ≡ key) ⊎ ((q == key) ≡ false) × (q ≢ key) → known_of (with_change rows key c) q t ≡ (if (q == key) && nat_le c.time t then c.found else known_of rows q t)
       by_key (inl h) =
           let same : changes_of (with_change rows key c) q ≡ changes_of rows q ++ c ∷ [] = ap (changes_of (with_change rows key c)) h.1 ∙ changes_of_key ∙ ap (λ k. changes_of rows k ++ c ∷ []) (sym h.1) in
-          ap (known None t) same ∙ known-append t (changes_of rows q) (c ∷ []) None ∙ ap (λ b. if b && nat_le c.time t then c.found else known_of rows q t) (sym h.0)
-      by_key (inr h) = ap (known None t) (changes_of_other q h.1) ∙ ap (λ b. if b && nat_le c.time t then c.found else known_of rows q t) (sym h.0)
+          ap (latest_known None t) same ∙ known-append t (changes_of rows q) (c ∷ []) None ∙ ap (λ b. if b && nat_le c.time t then c.found else known_of rows q t) (sym h.0)
+      by_key (inr h) = ap (latest_known None t) (changes_of_other q h.1) ∙ ap (λ b. if b && nat_le c.time t then c.found else known_of rows q t) (sym h.0)
 
   pub adds_change : (new : List (List Change)) → new ≡ with_change rows key c → AddsChange rows new key c
   adds_change new e = rw e record {
@@ -117,29 +117,29 @@ adds_none rows first source time = record { width = refl; up_to = λ u. u; found
     either false x = refl
 
 -- one key more, in front of these
-module _ (old mid new : List (List Change)) (key first : ℕ) (keys : List ℕ) (source : Source) (time : ℕ) (finds : Option Declared) (earlier : is_earlier time source ≡ true) (behind : AddsChanges old mid keys (first + 1) source time) (is : finds ≡ found_from mid source key first) (one : AddsChange mid new key (record { time = time; found = finds })) where
+module _ (old mid new : List (List Change)) (key first : ℕ) (keys : List ℕ) (source : Source) (time : ℕ) (finds : Option Declared) (earlier : is_earlier time source ≡ true) (following : AddsChanges old mid keys (first + 1) source time) (is : finds ≡ found_from mid source key first) (one : AddsChange mid new key (record { time = time; found = finds })) where
   as_before : (of : Source) → is_earlier time of ≡ true → key < length old → found_from mid of key first ≡ found_from old of key first
   as_before Nothing before within = refl
   as_before (Class class) before within = refl
   as_before (Time past) before within =
-      behind.found key past within ∙
+      following.found key past within ∙
       ap (λ late. if late then option_map_or (found_from old source key) (position_from (λ k. key == k) (first + 1) keys) (known_of old key past) else known_of old key past)
       (lt-leb time past (omega (arith, leb-true (past + 1) time before)))
 
-  choose : (same late : Bool) (f : ℕ → Option Declared) (place : Option ℕ) (x : Option Declared) → (same ≡ true → finds ≡ f first) →
-      (if same && late then finds else (if late then option_map_or f place x else x)) ≡ (if late then option_map_or f (if same then Some first else place) x else x)
-  choose true true f place x e = e refl
-  choose true false f place x e = refl
-  choose false true f place x e = refl
-  choose false false f place x e = refl
+  choose : (same late : Bool) (f : ℕ → Option Declared) (index : Option ℕ) (x : Option Declared) → (same ≡ true → finds ≡ f first) →
+      (if same && late then finds else (if late then option_map_or f index x else x)) ≡ (if late then option_map_or f (if same then Some first else index) x else x)
+  choose true true f index x e = e refl
+  choose true false f index x e = refl
+  choose false true f index x e = refl
+  choose false false f index x e = refl
 
   pub adds_before : AddsChanges old new (key ∷ keys) first source time
   adds_before = record {
-    width = one.width ∙ behind.width;
-    up_to = λ u. one.up_to (behind.up_to u);
+    width = one.width ∙ following.width;
+    up_to = λ u. one.up_to (following.up_to u);
     found = λ q t h.
-        one.found q t (omega (arith, behind.width, h)) ∙
-        ap (λ x. if (q == key) && nat_le time t then finds else x) (behind.found q t h) ∙
+        one.found q t (omega (arith, following.width, h)) ∙
+        ap (λ x. if (q == key) && nat_le time t then finds else x) (following.found q t h) ∙
         choose (q == key) (nat_le time t) (found_from old source q) (position_from (λ k. q == k) (first + 1) keys) (known_of old q t)
         (λ e. let same : q ≡ key = eqb-true q key e in is ∙ as_before source earlier (omega (arith, same, h)) ∙ ap (λ k. found_from old source k first) (sym same));
   }

@@ -18,14 +18,14 @@ none_from_none at bases n = ap (nearest at) (line_of_none bases n)
 
 -- where nothing is found, the first class has nothing, nor have those after it
 pub first_has_nothing : (at : ℕ → Option ℕ) (class : ℕ) (rest : List ℕ) → nearest at (class ∷ rest) ≡ None → (at class ≡ None) × (nearest at rest ≡ None)
-first_has_nothing at class rest e = by_place (at class) refl e
+first_has_nothing at class rest e = by_index (at class) refl e
   where
-    by_place : (o : Option ℕ) → at class ≡ o → option_map_or (λ place. Some (class, place)) o (nearest at rest) ≡ None → (at class ≡ None) × (nearest at rest ≡ None)
-    by_place None h k = (h, k)
-    by_place (Some place) h k = cc
+    by_index : (o : Option ℕ) → at class ≡ o → option_map_or (λ index. Some (class, index)) o (nearest at rest) ≡ None → (at class ≡ None) × (nearest at rest ≡ None)
+    by_index None h k = (h, k)
+    by_index (Some index) h k = cc
 
-pub found_behind : (at : ℕ → Option ℕ) (class : ℕ) (rest : List ℕ) → at class ≡ None → nearest at (class ∷ rest) ≡ nearest at rest
-found_behind at class rest e = ap (λ o. option_map_or (λ place. Some (class, place)) o (nearest at rest)) e
+pub found_after : (at : ℕ → Option ℕ) (class : ℕ) (rest : List ℕ) → at class ≡ None → nearest at (class ∷ rest) ≡ nearest at rest
+found_after at class rest e = ap (λ o. option_map_or (λ index. Some (class, index)) o (nearest at rest)) e
 
 -- what is not found until bases end is not found at all
 pub finds_nothing : (at : ℕ → Option ℕ) (bases : List (Option ℕ)) (n : ℕ) (o : Option ℕ) → EndsFrom bases n o → nearest at (line_within bases n o) ≡ None → FindsNothing at bases o
@@ -35,7 +35,7 @@ finds_nothing at bases (suc n) (Some class) e h zero = refl
 finds_nothing at bases (suc n) (Some class) e h (suc m) =
     let both = first_has_nothing at class (line_within bases n (base_in bases class)) h in
     let further : EndsFrom bases n (base_in bases class) = cc e in
-    found_behind at class (line_within bases m (base_in bases class)) both.0 ∙ finds_nothing at bases n (base_in bases class) further both.1 m
+    found_after at class (line_within bases m (base_in bases class)) both.0 ∙ finds_nothing at bases n (base_in bases class) further both.1 m
 
 -- ---- the parts of lines
 
@@ -69,21 +69,21 @@ module _ (at : ℕ → Option ℕ) (bases cut : List (Option ℕ)) (parts : List
 
   -- one class further, where that has nothing
   one_further : (m class : ℕ) (o : Option ℕ) → at class ≡ None → base_in bases class ≡ o → nearest at (line_within bases (suc m) (Some class)) ≡ nearest at (line_within bases m o)
-  one_further m class o e f = found_behind at class (line_within bases m (base_in bases class)) e ∙ ap (λ b. nearest at (line_within bases m b)) f
+  one_further m class o e f = found_after at class (line_within bases m (base_in bases class)) e ∙ ap (λ b. nearest at (line_within bases m b)) f
 
   -- the line continues after a part in which nothing is found
-  abbrev GoesOnBehind : ℕ → Type 0
-  GoesOnBehind m = (class : ℕ) (part : Part) → part_in parts class ≡ Some part → FindsNothing at cut (Some class) → part.length ≤ m → nearest at (line_within bases m (Some class)) ≡ nearest at (line_within bases (m - part.length) (base_in bases part.last))
+  abbrev ContinuesAfter : ℕ → Type 0
+  ContinuesAfter m = (class : ℕ) (part : Part) → part_in parts class ≡ Some part → FindsNothing at cut (Some class) → part.length ≤ m → nearest at (line_within bases m (Some class)) ≡ nearest at (line_within bases (m - part.length) (base_in bases part.last))
 
-  pub goes_on_behind : (m : ℕ) → GoesOnBehind m
-  goes_on_behind zero class part e h k = by_part (part_by_base class part e)
+  pub continues_after : (m : ℕ) → ContinuesAfter m
+  continues_after zero class part e h k = by_part (part_by_base class part e)
     where
       by_part : IsAlone class part ⊎ HasNext class part → nearest at (line_within bases zero (Some class)) ≡ nearest at (line_within bases (zero - part.length) (base_in bases part.last))
       by_part (inl a) = absurd (omega (arith, a.2, k))
       by_part (inr n) = absurd (omega (arith, n.5, k))
-  goes_on_behind (suc m) class part e h k = by_part (part_by_base class part e) (goes_on_behind m)
+  continues_after (suc m) class part e h k = by_part (part_by_base class part e) (continues_after m)
     where
-      by_part : IsAlone class part ⊎ HasNext class part → GoesOnBehind m → nearest at (line_within bases (suc m) (Some class)) ≡ nearest at (line_within bases (suc m - part.length) (base_in bases part.last))
+      by_part : IsAlone class part ⊎ HasNext class part → ContinuesAfter m → nearest at (line_within bases (suc m) (Some class)) ≡ nearest at (line_within bases (suc m - part.length) (base_in bases part.last))
       by_part (inl a) more =
           let less : m ≡ suc m - part.length = omega (arith, a.2) in
           one_further m class (base_in bases class) (has_nothing class h) refl ∙ ap (λ n. nearest at (line_within bases n (base_in bases class))) less ∙ ap (λ c. nearest at (line_within bases (suc m - part.length) (base_in bases c))) (sym a.1)
@@ -101,26 +101,26 @@ module _ (at : ℕ → Option ℕ) (bases cut : List (Option ℕ)) (parts : List
 
   pub found_in_part : (n : ℕ) → IsFoundInPart n
   found_in_part zero left class part p rest e f g h = absurd (none-some p f)
-  found_in_part (suc n) left class part p rest e f g h = by_place (at class) refl f (part_by_base class part e) (found_in_part n)
+  found_in_part (suc n) left class part p rest e f g h = by_index (at class) refl f (part_by_base class part e) (found_in_part n)
     where
-      here : (left place : ℕ) → at class ≡ Some place → 0 < left → nearest at (line_within bases left (Some class)) ≡ Some (class, place)
-      here zero place a b = absurd (omega (arith, b))
-      here (suc l) place a b = ap (λ o. option_map_or (λ place. Some (class, place)) o (nearest at (line_within bases l (base_in bases class)))) a
+      here : (left index : ℕ) → at class ≡ Some index → 0 < left → nearest at (line_within bases left (Some class)) ≡ Some (class, index)
+      here zero index a b = absurd (omega (arith, b))
+      here (suc l) index a b = ap (λ o. option_map_or (λ index. Some (class, index)) o (nearest at (line_within bases l (base_in bases class)))) a
 
-      behind : (left base : ℕ) → at class ≡ None → base_in bases class ≡ Some base → nearest at (line_within bases (left - 1) (Some base)) ≡ Some p → nearest at (line_within bases left (Some class)) ≡ Some p
-      behind zero base a b c = absurd (none-some p c)
-      behind (suc l) base a b c = let same : l ≡ suc l - 1 = omega arith in one_further l class (Some base) a b ∙ ap (λ m. nearest at (line_within bases m (Some base))) same ∙ c
+      following : (left base : ℕ) → at class ≡ None → base_in bases class ≡ Some base → nearest at (line_within bases (left - 1) (Some base)) ≡ Some p → nearest at (line_within bases left (Some class)) ≡ Some p
+      following zero base a b c = absurd (none-some p c)
+      following (suc l) base a b c = let same : l ≡ suc l - 1 = omega arith in one_further l class (Some base) a b ∙ ap (λ m. nearest at (line_within bases m (Some base))) same ∙ c
 
-      by_place : (o : Option ℕ) → at class ≡ o → option_map_or (λ place. Some (class, place)) o (nearest at (line_within cut n (base_in cut class))) ≡ Some p → IsAlone class part ⊎ HasNext class part → IsFoundInPart n → nearest at (line_within bases left (Some class)) ≡ Some p
-      by_place None a c (inl alone) more = absurd (none-some p (sym (none_from_none at cut n) ∙ sym (ap (λ o. nearest at (line_within cut n o)) alone.0) ∙ c))
-      by_place None a c (inr s) more =
+      by_index : (o : Option ℕ) → at class ≡ o → option_map_or (λ index. Some (class, index)) o (nearest at (line_within cut n (base_in cut class))) ≡ Some p → IsAlone class part ⊎ HasNext class part → IsFoundInPart n → nearest at (line_within bases left (Some class)) ≡ Some p
+      by_index None a c (inl alone) more = absurd (none-some p (sym (none_from_none at cut n) ∙ sym (ap (λ o. nearest at (line_within cut n o)) alone.0) ∙ c))
+      by_index None a c (inr s) more =
           let further = more (left - 1) s.0 s.1 p rest s.3 (sym (ap (λ o. nearest at (line_within cut n o)) s.2) ∙ c) g (omega (arith, h, s.5)) in
-          behind left s.0 a (has class s.0 s.2) further
-      by_place (Some place) a c s more =
-          let same : (class, place) ≡ p = same_Some (class, place) p c in
+          following left s.0 a (has class s.0 s.2) further
+      by_index (Some index) a c s more =
+          let same : (class, index) ≡ p = same_Some (class, index) p c in
           let own : part ≡ rest = same_Some part rest (sym e ∙ ap (part_in parts) (ap (λ (q : ℕ × ℕ). q.0) same) ∙ g) in
           let some : 0 < left = omega (arith, h, ap (λ (q : Part). q.length) own) in
-          here left place a some ∙ ap Some same
+          here left index a some ∙ ap Some same
 
   -- nothing is found along cyclic bases, where nothing is found in the part of the class nor in that of the base after it
   abbrev GoesRound : ℕ → Type 0

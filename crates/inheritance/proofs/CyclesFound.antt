@@ -116,18 +116,18 @@ module _ (bases walks marks : List (Option ℕ)) (start : ℕ) (is : HaveWalked 
         closed : IsClosed bases (IsMarked marks')
         closed = round.closed is.marks_closed
 
-        turns : IsOwnBase bases class
-        turns = walked.own class one
+        transitions : IsOwnBase bases class
+        transitions = walked.own class one
 
         own : (c : ℕ) → IsMarked marks' c → IsOwnBase bases c
         own c m = elim (round.later c m.0 m.1) [
           | inl e ↦ is.own c (m.0, e)
-          | inr e ↦ own_further bases class c turns e.1
+          | inr e ↦ own_further bases class c transitions e.1
         ]
 
         class_marked : IsMarked marks' class
         class_marked =
-            let first = first_base bases turns.0 class class turns.1 in
+            let first = first_base bases transitions.0 class class transitions.1 in
             round.begun (omega (arith, has_base bases class first.0 first.1, round.width, is.marks_width))
 
         found : (c : ℕ) → IsMarked walks' c → IsOwnBase bases c → IsMarked marks' c
@@ -177,7 +177,7 @@ module _ (bases marks : List (Option ℕ)) (exact : MarksOwnBases bases marks) w
   not_marked : (class : ℕ) → is_some (walk_at marks class) ≡ false → IsOwnBase bases class → ⊥
   not_marked class e own = let m = (exact class).1 own in let wrong : true ≡ false = sym (ap is_some m.1) ∙ e in cc wrong
 
-  -- where no place is marked, no class is
+  -- where no index is marked, no class is
   none_marked : position is_some marks ≡ None → (class : ℕ) → is_some (walk_at marks class) ≡ false
   none_marked e class = elim (cases_lt class (length marks)) [
     | inl l ↦ fails_before_first is_some marks class None (omega (arith, l, position_none is_some marks e))

@@ -1,12 +1,12 @@
 mod ChangeLaws
 pub mod LineLaws
 mod CutLaws
-mod SoughtLaws
-mod LedgerLaws
+mod QueryLaws
+mod ScopedTableLaws
 mod CycleLaws
 mod WalkLaws
 mod CyclesFound
-mod BehindBasesLaws
-mod BehindBasesFound
+mod TopologicalOrderLaws
+mod TopologicalOrderFound
 mod WrittenLists
 pub mod Results

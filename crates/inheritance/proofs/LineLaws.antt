@@ -13,7 +13,7 @@ pub line_step : (bases : List (Option ℕ)) (m class : ℕ) → 0 < m → line_w
 line_step bases zero class h = absurd (omega (arith, h))
 line_step bases (suc m) class h = let k : suc m - 1 ≡ m = omega arith in ap (λ n. class ∷ line_within bases n (base_in bases class)) (sym k)
 
--- a class whose bases end, and its base: there are as many of them with one class less
+-- of a class whose bases end, the line of its base is the same within one class less
 pub line_of_base : (bases : List (Option ℕ)) (most class : ℕ) → 0 < most → Ends bases most class → line_within bases (most - 1) (base_in bases class) ≡ line_within bases most (base_in bases class)
 line_of_base bases most class h e = let both : class ∷ line_within bases (most - 1) (base_in bases class) ≡ class ∷ line_within bases most (base_in bases class) = sym (line_step bases most class h) ∙ sym e in cc both
 

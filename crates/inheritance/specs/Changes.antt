@@ -8,9 +8,9 @@ use Rattle.inheritance.specs.declared.changes.Source.{Source}
 use Rattle.inheritance.specs.declared.changes.Source.TheVariants.{Nothing, Class, Time}
 
 -- what is found at a time: what the last change up to it says
-abbrev pub known : Option Declared → ℕ → List Change → Option Declared
-known before time [] = before
-known before time (c ∷ cs) = known (if nat_le c.time time then c.found else before) time cs
+abbrev pub latest_known : Option Declared → ℕ → List Change → Option Declared
+latest_known before time [] = before
+latest_known before time (c ∷ cs) = latest_known (if nat_le c.time time then c.found else before) time cs
 
 -- no change is of a later time than one after it
 abbrev pub is_ordered : List Change → Bool
@@ -27,7 +27,7 @@ changes_of rows key = slice_index_or rows key []
 
 -- what a key finds at a time
 abbrev pub known_of : List (List Change) → ℕ → ℕ → Option Declared
-known_of rows key time = known None time (changes_of rows key)
+known_of rows key time = latest_known None time (changes_of rows key)
 
 -- one more change of a key
 abbrev pub with_change : List (List Change) → ℕ → Change → List (List Change)
@@ -48,11 +48,11 @@ pub record AddsChange (old new : List (List Change)) (key : ℕ) (change : Chang
   pub up_to : AreUpTo change.time old → AreUpTo change.time new
   pub found : (q t : ℕ) → q < length old → known_of new q t ≡ (if (q == key) && nat_le change.time t then change.found else known_of old q t)
 
--- what a key that a class declares at a place finds from then on: it there, what was found at an earlier time, or nothing
+-- what a key that a class declares at an index finds from then on: it there, what was found at an earlier time, or nothing
 abbrev pub found_from : List (List Change) → Source → ℕ → ℕ → Option Declared
-found_from rows Nothing key place = None
-found_from rows (Class class) key place = Some (record { class = class; place = place })
-found_from rows (Time time) key place = known_of rows key time
+found_from rows Nothing key index = None
+found_from rows (Class class) key index = Some (record { class = class; index = index })
+found_from rows (Time time) key index = known_of rows key time
 
 -- it speaks of no time from this one on
 abbrev pub is_earlier : ℕ → Source → Bool
@@ -60,7 +60,7 @@ is_earlier time Nothing = true
 is_earlier time (Class class) = true
 is_earlier time (Time earlier) = nat_le (earlier + 1) time
 
--- each of these keys finds another declaration from a time on, by the first place at which it occurs
+-- each of these keys finds another declaration from a time on, by the first index at which it occurs
 pub record AddsChanges (old new : List (List Change)) (keys : List ℕ) (first : ℕ) (source : Source) (time : ℕ) : Type 0 where
   pub width : length new ≡ length old
   pub up_to : AreUpTo time old → AreUpTo time new

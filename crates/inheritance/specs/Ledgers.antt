@@ -7,17 +7,17 @@ use Rattle.inheritance.specs.declared.changes.Source.{Source}
 use Rattle.inheritance.specs.declared.changes.Source.TheVariants.{Nothing, Time}
 use Rattle.inheritance.specs.declared.forests.Forest.{Forest}
 use Rattle.inheritance.specs.declared.ledgers.Entry.{Entry}
-use Rattle.inheritance.specs.declared.ledgers.Ledger.{Ledger}
+use Rattle.inheritance.specs.declared.ledgers.ScopedTable.{ScopedTable}
 use Rattle.inheritance.specs.Changes.{known_of, AreOrdered, AreUpTo}
-use Rattle.inheritance.specs.Lines.{base_in, line_within, Ends, place_in, nearest}
+use Rattle.inheritance.specs.Lines.{base_in, line_within, Ends, index_in, nearest}
 
--- the class and the place of a declaration
+-- the class and the index of a declaration
 abbrev pub pair_of : Option Declared → Option (ℕ × ℕ)
-pair_of found = option_map (λ (d : Declared). (d.class, d.place)) found
+pair_of found = option_map (λ (d : Declared). (d.class, d.index)) found
 
 -- the nearest class with a key, from a class on, among the given number of classes
 abbrev pub nearest_from : Forest → ℕ → ℕ → Option ℕ → Option (ℕ × ℕ)
-nearest_from forest key n class = nearest (place_in (map (λ v. v.items) forest.declared.items) key) (line_within forest.bases.items n class)
+nearest_from forest key n class = nearest (index_in (map (λ v. v.items) forest.declared.items) key) (line_within forest.bases.items n class)
 
 -- when a class was entered
 abbrev pub entry_in : List (Option Entry) → ℕ → Option Entry
@@ -44,15 +44,15 @@ pub record IsRightBefore (forest : Forest) (time : ℕ) (rows : List (List Chang
   pub based : (class base : ℕ) (entry : Entry) → entry_in entries class ≡ Some entry → base_in forest.bases.items class ≡ Some base → (other : Entry) × (entry_in entries base ≡ Some other)
   pub standing : IsStanding forest rows entries time current
 
-abbrev pub IsRight : Forest → ℕ → Ledger → Type 0
-IsRight forest time ledger = IsRightBefore forest time (map (λ v. v.items) ledger.changes.items) ledger.entries.items ledger.current
+abbrev pub IsRight : Forest → ℕ → ScopedTable → Type 0
+IsRight forest time scoped_table = IsRightBefore forest time (map (λ v. v.items) scoped_table.changes.items) scoped_table.entries.items scoped_table.current
 
 -- each key finds the nearest class with it, from each class that was entered, whose bases end
-pub record IsDone (forest : Forest) (ledger : Ledger) : Type 0 where
-  pub width : length ledger.changes.items ≡ forest.keys
-  pub ordered : AreOrdered (map (λ v. v.items) ledger.changes.items)
-  pub ended : (class : ℕ) (entry : Entry) → entry_in ledger.entries.items class ≡ Some entry → Ends forest.bases.items forest.most class
-  pub right : (class : ℕ) (entry : Entry) → entry_in ledger.entries.items class ≡ Some entry → (key : ℕ) → key < forest.keys → pair_of (known_of (map (λ v. v.items) ledger.changes.items) key entry.time) ≡ nearest_from forest key forest.most (Some class)
+pub record IsDone (forest : Forest) (scoped_table : ScopedTable) : Type 0 where
+  pub width : length scoped_table.changes.items ≡ forest.keys
+  pub ordered : AreOrdered (map (λ v. v.items) scoped_table.changes.items)
+  pub ended : (class : ℕ) (entry : Entry) → entry_in scoped_table.entries.items class ≡ Some entry → Ends forest.bases.items forest.most class
+  pub right : (class : ℕ) (entry : Entry) → entry_in scoped_table.entries.items class ≡ Some entry → (key : ℕ) → key < forest.keys → pair_of (known_of (map (λ v. v.items) scoped_table.changes.items) key entry.time) ≡ nearest_from forest key forest.most (Some class)
 
 -- how many classes there are from a class on
 abbrev pub height_of : List (Option Entry) → Option ℕ → Option ℕ

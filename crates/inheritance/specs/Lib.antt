@@ -2,7 +2,7 @@ pub mod Changes
 pub mod Lines
 pub mod Ledgers
 pub mod Marked
-pub mod Sought
+pub mod Query
 pub mod CutCycles
 pub mod Cycles
-pub mod BehindBases
+pub mod TopologicalOrder

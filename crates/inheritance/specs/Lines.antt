@@ -17,11 +17,11 @@ line_within bases (suc n) (Some class) = class ∷ line_within bases n (base_in 
 abbrev pub Ends : List (Option ℕ) → ℕ → ℕ → Type 0
 Ends bases most class = line_within bases (suc most) (Some class) ≡ line_within bases most (Some class)
 
--- the first place at which a class declares a key
-abbrev pub place_in : List (List ℕ) → ℕ → ℕ → Option ℕ
-place_in declared key class = position_from (λ k. key == k) 0 (slice_index_or declared class [])
+-- the first index at which a class declares a key
+abbrev pub index_in : List (List ℕ) → ℕ → ℕ → Option ℕ
+index_in declared key class = position_from (λ k. key == k) 0 (slice_index_or declared class [])
 
--- the first class at which a place is found, with that place
+-- the first class at which an index is found, with that index
 abbrev pub nearest : (ℕ → Option ℕ) → List ℕ → Option (ℕ × ℕ)
 nearest at [] = None
-nearest at (class ∷ classes) = option_map_or (λ place. Some (class, place)) (at class) (nearest at classes)
+nearest at (class ∷ classes) = option_map_or (λ index. Some (class, index)) (at class) (nearest at classes)

@@ -3,7 +3,7 @@ use Rattle.std.specs.Prelude.{◌≡◌, ◌<◌, ℕ, Bool, true, false, List, 
 use Rattle.inheritance.specs.declared.forests.Forest.{Forest}
 use Rattle.inheritance.specs.Ledgers.{nearest_from}
 
--- whether the declaration that is found is marked, by its class and place
+-- whether the declaration that is found is marked, by its class and index
 abbrev pub is_marked : List (List Bool) → Option (ℕ × ℕ) → Bool
 is_marked marks None = false
 is_marked marks (Some p) = slice_index_or (slice_index_or marks p.0 []) p.1 false

@@ -1,15 +1,15 @@
 //! What keys find, as it changes while the classes are visited.
 
 ghost use Rattle.std.specs.Prelude.{◌≡◌, ◌<◌, true, None, OnOk, length, map};
-ghost use Rattle.inheritance.specs.Changes.{changes_of, is_ordered, known, known_of, found_from, is_earlier, AreOrdered, AreUpTo, AddsChange, AddsChanges};
+ghost use Rattle.inheritance.specs.Changes.{changes_of, is_ordered, latest_known, known_of, found_from, is_earlier, AreOrdered, AreUpTo, AddsChange, AddsChanges};
 
 use cil_model::memory::NoMemory;
 
-/// Where a key is declared: the number of the class, and the place among the keys that it declares.
+/// Where a key is declared: the number of the class, and the index among the keys that it declares.
 #[derive(Clone, Copy)]
 pub struct Declared {
     pub class: usize,
-    pub place: usize,
+    pub index: usize,
 }
 
 /// What a key finds from a time on.
@@ -30,7 +30,7 @@ pub(crate) enum Source {
 /// What is found at a time, by halving.
 fn latest(changes: &[Change], time: usize) -> Option<Declared>
     requires { is_ordered changes.now ≡ true }
-    ensures { result ≡ known None time changes.now }
+    ensures { result ≡ latest_known None time changes.now }
 {
     let mut found = None;
     let mut rest = changes;
@@ -78,18 +78,18 @@ fn record(changes: &mut Vec<Vec<Change>>, key: usize, change: Change) -> Result<
     Ok(())
 }
 
-fn found_from(changes: &[Vec<Change>], source: Source, key: usize, place: usize) -> Option<Declared>
+fn found_from(changes: &[Vec<Change>], source: Source, key: usize, index: usize) -> Option<Declared>
     requires { AreOrdered (map (λ v. v.items) changes.now) }
-    ensures { result ≡ found_from (map (λ v. v.items) changes.now) source key place }
+    ensures { result ≡ found_from (map (λ v. v.items) changes.now) source key index }
 {
     match source {
         Source::Nothing => None,
-        Source::Class(class) => Some(Declared { class, place }),
+        Source::Class(class) => Some(Declared { class, index }),
         Source::Time(time) => found_at(changes, key, time),
     }
 }
 
-/// Notes what the keys that a class declares find from a time on. A key that it declares twice is found at the first place.
+/// Notes what the keys that a class declares find from a time on. A key that it declares twice is found at the first index.
 /// The only error is out of memory.
 pub(crate) fn record_all(
     changes: &mut Vec<Vec<Change>>,
@@ -101,9 +101,9 @@ pub(crate) fn record_all(
     requires up_to { AreUpTo time (map (λ v. v.items) changes.old.items) }
     ensures { OnOk result (AddsChanges (map (λ v. v.items) changes.old.items) (map (λ v. v.items) changes.new.items) keys.now 0 source time) }
 {
-    for place in (0..keys.len()).rev() {
-        let key = keys[place];
-        let found = found_from(changes.as_slice(), source, key, place);
+    for index in (0..keys.len()).rev() {
+        let key = keys[index];
+        let found = found_from(changes.as_slice(), source, key, index);
         record(changes, key, Change { time, found })?;
     }
     Ok(())

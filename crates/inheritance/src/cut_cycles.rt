@@ -4,10 +4,10 @@ ghost use Rattle.std.specs.Prelude.{◌≡◌, Some, IfOk, map};
 ghost use Rattle.inheritance.specs.declared.cut_cycles.Part.{Part};
 ghost use Rattle.inheritance.specs.CutCycles.{part_in, part_of, AreParts, HasBasesOf, IsCut};
 
-use crate::behind_bases::classes_behind_bases;
 use crate::cycles::entry_at;
 use crate::forests::Forest;
 use crate::inheritance::Inheritance;
+use crate::topological_order::classes_in_topological_order;
 use cil_model::memory::NoMemory;
 use std::alloc::Global;
 
@@ -26,7 +26,7 @@ pub struct CutCycles {
     ghost parted: { AreParts cut.forest.bases.items parts.items },
 }
 
-/// Each part gives back its own.
+/// Each part is dropped.
 impl Drop for CutCycles {
     fn drop(self) {
         let CutCycles {
@@ -46,8 +46,8 @@ fn cut_bases(
 {
     let mut cut = Vec::new(alloc);
     cut.extend_from_slice(bases)?;
-    for place in 0..classes.len() {
-        let class = classes[place];
+    for index in 0..classes.len() {
+        let class = classes[index];
         if class < cut.len() {
             cut[class] = None;
         }
@@ -115,7 +115,7 @@ pub(crate) fn parts_of(
     ensures { IfOk result (λ parts. AreParts bases.now parts.items) }
 {
     let mut parts = vec![in alloc; None; bases.len()]?;
-    let classes = classes_behind_bases(alloc, bases)?;
+    let classes = classes_in_topological_order(alloc, bases)?;
     for class in classes.as_slice() {
         if *class < parts.len() && parts[*class].is_none() {
             parts[*class] = part_of(parts.as_slice(), *class, entry_at(bases, *class));

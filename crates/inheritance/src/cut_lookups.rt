@@ -11,7 +11,7 @@ use crate::changes::Declared;
 use crate::cut_cycles::{CutCycles, Part, cut_forest, part_in, parts_of};
 use crate::cycles::Cycles;
 use crate::forests::Forest;
-use crate::inheritance::{Endless, Inheritance};
+use crate::inheritance::{Cyclic, Inheritance};
 use cil_model::memory::NoMemory;
 use std::alloc::Global;
 
@@ -32,11 +32,11 @@ impl CutCycles {
         Ok(Some(CutCycles { cut, parts }))
     }
 
-    fn part(&self, class: usize) -> Result<Part, Endless>
+    fn part(&self, class: usize) -> Result<Part, Cyclic>
         ensures { IfOk result (λ part. part_in self.now.parts.items class ≡ Some part) }
     {
         match part_in(self.parts.as_slice(), class) {
-            None => Err(Endless),
+            None => Err(Cyclic),
             Some(part) => Ok(part),
         }
     }
@@ -48,10 +48,10 @@ impl CutCycles {
         class: usize,
         key: usize,
         left: usize,
-    ) -> Result<Option<Declared>, Endless>
+    ) -> Result<Option<Declared>, Cyclic>
         requires cut { IsCut forest.now self.now.cut.forest }
         requires within { key < forest.now.keys }
-        ensures found { IfOk result (λ found. (declared : Declared) → found ≡ Some declared → nearest_from forest.now key left (Some class) ≡ Some (declared.class, declared.place)) }
+        ensures found { IfOk result (λ found. (declared : Declared) → found ≡ Some declared → nearest_from forest.now key left (Some class) ≡ Some (declared.class, declared.index)) }
         ensures absent { IfOk result (λ found. found ≡ None → (n : ℕ) → nearest_from self.now.cut.forest key n (Some class) ≡ None) }
     {
         let Some(found) = self.cut.nearest(class, key)? else {
@@ -62,17 +62,17 @@ impl CutCycles {
         if part.length < rest.length.saturating_add(left) {
             Ok(Some(found))
         } else {
-            Err(Endless)
+            Err(Cyclic)
         }
     }
 
     /// What a key finds after the part of a class's line, in which it finds nothing. An error where it is not known.
-    fn nearest_behind(
+    fn nearest_after(
         &self,
         forest: &Forest,
         part: Part,
         key: usize,
-    ) -> Result<Option<Declared>, Endless>
+    ) -> Result<Option<Declared>, Cyclic>
         requires cut { IsCut forest.now self.now.cut.forest }
         requires within { key < forest.now.keys }
         ensures { IfOk result (λ found. (class : ℕ) → part_in self.now.parts.items class ≡ Some part → ((n : ℕ) → nearest_from self.now.cut.forest key n (Some class) ≡ None) → pair_of found ≡ nearest_from forest.now key forest.now.most (Some class)) }
@@ -82,12 +82,12 @@ impl CutCycles {
         };
         let next = self.part(base)?;
         let Some(left) = forest.most.checked_sub(part.length) else {
-            return Err(Endless);
+            return Err(Cyclic);
         };
         match self.nearest_in_part(forest, base, key, left)? {
             Some(found) => Ok(Some(found)),
             None if next.last == part.last => Ok(None),
-            None => Err(Endless),
+            None => Err(Cyclic),
         }
     }
 
@@ -97,7 +97,7 @@ impl CutCycles {
         forest: &Forest,
         class: usize,
         key: usize,
-    ) -> Result<Option<Declared>, Endless>
+    ) -> Result<Option<Declared>, Cyclic>
         requires cut { IsCut forest.now self.now.cut.forest }
         requires within { key < forest.now.keys }
         ensures { IfOk result (λ found. pair_of found ≡ nearest_from forest.now key forest.now.most (Some class)) }
@@ -105,11 +105,11 @@ impl CutCycles {
         let part = self.part(class)?;
         match self.nearest_in_part(forest, class, key, forest.most)? {
             Some(found) => Ok(Some(found)),
-            None => self.nearest_behind(forest, part, key),
+            None => self.nearest_after(forest, part, key),
         }
     }
 
-    /// The nearest class that declares a key, from a class on, with the place of the key, within the number of classes that are looked at, whether
+    /// The nearest class that declares a key, from a class on, with the index of the key, within the number of classes that are looked at, whether
     /// the bases of the class end or not. Takes time with the logarithm of the number of classes that declare the key. Where the parts of
     /// the class's line do not determine it, it would follow the bases; they always do, which no contract says.
     pub fn nearest(&self, forest: &Forest, class: usize, key: usize) -> Option<Declared>
@@ -119,7 +119,7 @@ impl CutCycles {
     {
         match self.nearest_by_parts(forest, class, key) {
             Ok(found) => found,
-            Err(Endless) => forest.nearest_along(class, key),
+            Err(Cyclic) => forest.nearest_along(class, key),
         }
     }
 }

@@ -8,7 +8,7 @@ ghost use Rattle.inheritance.specs.Lines.{base_in, Ends};
 pub struct Forest {
     /// The base of each class.
     pub bases: Vec<Option<usize>>,
-    /// The keys that each class declares, by their places.
+    /// The keys that each class declares, by their indices.
     pub declared: Vec<Vec<usize>>,
     /// How many keys there are. They are the numbers below.
     pub keys: usize,

@@ -17,7 +17,7 @@ pub(crate) struct Entry {
 
 /// What each key finds by times, when each class was entered, and the class in which the search is.
 #[derive(Drop)]
-pub(crate) struct Ledger {
+pub(crate) struct ScopedTable {
     pub changes: Vec<Vec<Change>>,
     pub entries: Vec<Option<Entry>>,
     pub current: Option<usize>,
@@ -33,14 +33,14 @@ fn empty_rows(alloc: Global, keys: usize) -> Result<Vec<Vec<Change>>, NoMemory>
     Ok(rows)
 }
 
-impl Ledger {
+impl ScopedTable {
     ghost use Rattle.inheritance.specs.Ledgers.{entry_in, IsRight, height_of, source_of};
 
     /// Nothing is entered yet. The only error is out of memory.
     pub fn new(alloc: Global, forest: &Forest) -> Result<Self, NoMemory>
-        ensures { IfOk result (λ ledger. IsRight forest.now 0 ledger) }
+        ensures { IfOk result (λ scoped_table. IsRight forest.now 0 scoped_table) }
     {
-        Ok(Ledger {
+        Ok(ScopedTable {
             changes: empty_rows(alloc, forest.keys)?,
             entries: vec![in alloc; None; forest.bases.len()]?,
             current: None,

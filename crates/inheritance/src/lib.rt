@@ -1,7 +1,7 @@
 //! Finds, by numbers, the nearest class that declares a key, from a class on through its bases.
 //!
 //! The problem: a source can be made slow. Where a look-up climbs the bases, n classes in one chain cost n for each reference; and names are looked
-//! up before it is known that bases end, so a chain may also be a cycle, which is followed for as many classes as the definitions look at.
+//! up before it is known that bases end, so a chain may also be a cycle, which is followed for the number of classes that the definitions look at.
 //!
 //! The algorithm: one tour of the forest of classes (an Euler tour: enter a class after its base, leave it after its derived classes). Each key keeps
 //! its changes by time: a class that declares it is entered (it finds that class), or left (it finds again what its base found). What a key finds
@@ -15,7 +15,6 @@
 //! says.
 #![tactic(auto)]
 
-mod behind_bases;
 mod changes;
 mod cut_cycles;
 mod cut_lookups;
@@ -25,12 +24,13 @@ mod inheritance;
 mod ledgers;
 mod left_out;
 mod nearest;
-mod sought;
+mod query;
+mod topological_order;
 mod tours;
 
-pub use behind_bases::classes_behind_bases;
 pub use changes::Declared;
 pub use cut_cycles::CutCycles;
 pub use cycles::least_own_base;
 pub use forests::Forest;
-pub use inheritance::{Endless, Inheritance};
+pub use inheritance::{Cyclic, Inheritance};
+pub use topological_order::classes_in_topological_order;

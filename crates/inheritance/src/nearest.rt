@@ -13,20 +13,20 @@ fn is_key(key: usize, own: usize) -> bool
     key == own
 }
 
-/// The first place of a key among those that a class declares.
-fn place_of(keys: &[usize], key: usize) -> Option<usize>
+/// The first index of a key among those that a class declares.
+fn index_of(keys: &[usize], key: usize) -> Option<usize>
     ensures { result ≡ position_from (λ k. key == k) 0 keys.now }
 {
-    for place in 0..keys.len() {
-        if is_key(key, keys[place]) {
-            return Some(place);
+    for index in 0..keys.len() {
+        if is_key(key, keys[index]) {
+            return Some(index);
         }
     }
     None
 }
 
 impl Forest {
-    /// The nearest class that declares a key, from a class on, with the place of the key, found by following the bases: what is
+    /// The nearest class that declares a key, from a class on, with the index of the key, found by following the bases: what is
     /// found within the number of classes that are looked at. Takes time with these classes and what they declare.
     pub fn nearest_along(&self, first: usize, key: usize) -> Option<Declared>
         ensures { pair_of result ≡ nearest_from self.now key self.now.most (Some first) }
@@ -37,8 +37,8 @@ impl Forest {
             let Some(class) = next else {
                 return None;
             };
-            if let Some(place) = place_of(self.keys_of(class), key) {
-                return Some(Declared { class, place });
+            if let Some(index) = index_of(self.keys_of(class), key) {
+                return Some(Declared { class, index });
             }
             next = self.base(class);
             left -= 1;

@@ -29,7 +29,7 @@ use Rattle.cil_model.specs.declared.instructions.MethodReference.{MethodReferenc
 use Rattle.cil_model.specs.declared.instructions.Instruction.{Instruction}
 use Rattle.cil_model.specs.declared.instructions.Instruction.TheVariants as named
 use Rattle.instruction_text.specs.Characters.{IsPrintable, character_text, characters_text, is_printable, octal_text}
-use Rattle.instruction_text.specs.Texts.{assembly_text, brackets_text, class_text, constructor_text, element_text, field_text, instruction_text, labels_text, listed, method_name_text, method_text, operand_text, return_text, type_text, types_text, virtual_text, word_text}
+use Rattle.instruction_text.specs.Texts.{assembly_text, brackets_text, class_text, constructor_text, element_text, field_text, instruction_text, labels_text, list_text, method_name_text, method_text, operand_text, return_text, type_text, types_text, virtual_text, word_text}
 
 -- a text of printable characters
 pub record Printable (cs : List ℕ) : Type 0 where
@@ -48,7 +48,7 @@ each : {A : Type 0} (text : A → List ℕ) → ((x : A) → Printable (text x))
 each text p [] = word [] refl
 each text p (x ∷ xs) = both (p x) (each text p xs)
 
-printable_list : {A : Type 0} (text : A → List ℕ) → ((x : A) → Printable (text x)) → (xs : List A) → Printable (listed text xs)
+printable_list : {A : Type 0} (text : A → List ℕ) → ((x : A) → Printable (text x)) → (xs : List A) → Printable (list_text text xs)
 printable_list text p [] = word [] refl
 printable_list text p (x ∷ xs) = both (p x) (each (λ y. codes ", " ++ text y) (λ y. both (word (codes ", ") refl) (p y)) xs)
 
@@ -281,9 +281,9 @@ printable_operand (named.Unary op) = tt
 printable_operand (named.Shift op) = tt
 printable_operand (named.Compare op) = tt
 
-printable_behind : (text : Option (List ℕ)) → AllPrintable text → Printable (option_map_or (λ operand. codes " " ++ operand) text [])
-printable_behind None h = word [] refl
-printable_behind (Some text) h = both (word (codes " ") refl) h
+printable_after : (text : Option (List ℕ)) → AllPrintable text → Printable (option_map_or (λ operand. codes " " ++ operand) text [])
+printable_after None h = word [] refl
+printable_after (Some text) h = both (word (codes " ") refl) h
 
 pub printable_instruction : (i : Instruction) → Printable (instruction_text i)
-printable_instruction i = both (printable_word i) (printable_behind (operand_text i) (printable_operand i))
+printable_instruction i = both (printable_word i) (printable_after (operand_text i) (printable_operand i))

@@ -17,9 +17,9 @@ use Rattle.cil_model.specs.declared.instructions.Instruction.TheVariants.{NoOper
 use Rattle.instruction_text.specs.Characters.{characters_text}
 
 -- texts with a comma and a space between them
-abbrev pub listed : {A : Type 0} → (A → List ℕ) → List A → List ℕ
-listed text [] = []
-listed text (x ∷ xs) = text x ++ flat_map (λ y. codes ", " ++ text y) xs
+abbrev pub list_text : {A : Type 0} → (A → List ℕ) → List A → List ℕ
+list_text text [] = []
+list_text text (x ∷ xs) = text x ++ flat_map (λ y. codes ", " ++ text y) xs
 
 -- ---- types
 
@@ -52,7 +52,7 @@ return_text None = codes "void"
 return_text (Some t) = type_text t
 
 abbrev pub types_text : List DeclaredType → List ℕ
-types_text ts = codes "(" ++ listed type_text ts ++ codes ")"
+types_text ts = codes "(" ++ list_text type_text ts ++ codes ")"
 
 -- ---- members
 
@@ -76,7 +76,7 @@ constructor_text owner parameters = codes "void " ++ class_text owner ++ codes "
 -- ---- instructions
 
 abbrev pub labels_text : List (List ℕ) → List ℕ
-labels_text labels = codes "(" ++ listed characters_text labels ++ codes ")"
+labels_text labels = codes "(" ++ list_text characters_text labels ++ codes ")"
 
 -- the word of an instruction, with what is between it and an operand
 abbrev pub word_text : Instruction → List ℕ

@@ -19,7 +19,7 @@ use std::fmt::Display;
 /// An instruction as ilasm writes it, in its long form, with one space before an operand (ECMA-335 III): `ldc.i4 2`, `br L1`,
 /// `call void [mscorlib]System.Console::WriteLine(int32)`.
 ///
-/// It is one line of printable ASCII: in names and string literals a backslash and what represents it takes the place of each other
+/// It is one line of printable ASCII: in names and string literals a backslash and what represents it replaces each other
 /// byte.
 #[derive(Clone, Copy)]
 pub struct InstructionText<'a>(pub &'a Instruction);

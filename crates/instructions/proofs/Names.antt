@@ -8,15 +8,15 @@ use Rattle.cil_model.specs.declared.trees.Tree.{Tree}
 use Rattle.cil_model.specs.Declarations.{object_name}
 use Rattle.cil_model.specs.Assignable.{element_of_class, type_of_class}
 use Rattle.resolved_code.specs.Numbered.{class_name, element_at, type_at}
-use Rattle.resolved_code.specs.declared.types.NumberedElement.{NumberedElement}
-use Rattle.resolved_code.specs.declared.types.NumberedElement.TheVariants.{Int32, Int64, Object, String, Class}
-use Rattle.resolved_code.specs.declared.types.NumberedType.{NumberedType}
+use Rattle.resolved_code.specs.declared.types.ResolvedElement.{ResolvedElement}
+use Rattle.resolved_code.specs.declared.types.ResolvedElement.TheVariants.{Int32, Int64, Object, String, Class}
+use Rattle.resolved_code.specs.declared.types.ResolvedType.{ResolvedType}
 use Rattle.std.specs.Prelude.{IsSome, ◌==◌, false, if◌then◌else◌, option_and_then}
 use Rattle.cil_model.specs.Assignable.{is_assignable}
 use Rattle.object_memory.specs.declared.addresses.Addr.{Addr}
 use Rattle.object_memory.specs.declared.values.Value.TheVariants.{Ref}
 use Rattle.object_memory.specs.Objects.{Objects}
-use Rattle.instructions.specs.TypeTurns.{type_of_address, may_stand_as}
+use Rattle.instructions.specs.TypeTransitions.{type_of_address, may_stand_as}
 use Rattle.flow_rules.specs.Named.{class_named, element_named, is_known}
 use Rattle.cil_model.proofs.Lists.{none_is_some}
 
@@ -25,7 +25,7 @@ module _ (tree : Tree) where
   named_at None known = absurd cc
   named_at (Some c) known = refl
 
-  element_there : (r : NumberedElement) → is_known tree r ≡ true → element_at tree r ≡ Some (element_named tree r)
+  element_there : (r : ResolvedElement) → is_known tree r ≡ true → element_at tree r ≡ Some (element_named tree r)
   element_there Int32 known = refl
   element_there Int64 known = refl
   element_there Object known = refl
@@ -33,7 +33,7 @@ module _ (tree : Tree) where
   element_there (Class n) known = ap (option_map _) (named_at (class_name tree n) known)
 
   -- the type of the objects of a class, by an element that represents it
-  pub class_type : (n : ℕ) (r : NumberedElement) (t : DeclaredType) → (is_some (class_name tree n) ≡ true → element_named tree r ≡ element_of_class (class_named tree n)) → (is_some (class_name tree n) ≡ true → is_known tree r ≡ true)
+  pub class_type : (n : ℕ) (r : ResolvedElement) (t : DeclaredType) → (is_some (class_name tree n) ≡ true → element_named tree r ≡ element_of_class (class_named tree n)) → (is_some (class_name tree n) ≡ true → is_known tree r ≡ true)
       → option_map type_of_class (class_name tree n) ≡ Some t → type_at tree (record { element = r; brackets = 0 }) ≡ Some t
   class_type n r t named known e = by_name (class_name tree n) refl e
     where
@@ -48,14 +48,14 @@ module _ (tree : Tree) where
 -- ---- what may stand where
 
 -- the types that decide whether a reference may stand
-pub record Deciding (tree : Tree) (o : Objects) (a : Addr) (to : NumberedType) : Type 0 where
-  pub wanted : DeclaredType
+pub record Deciding (tree : Tree) (o : Objects) (a : Addr) (to : ResolvedType) : Type 0 where
+  pub required : DeclaredType
   pub own : DeclaredType
-  pub wanted_is : type_at tree to ≡ Some wanted
+  pub wanted_is : type_at tree to ≡ Some required
   pub own_is : type_of_address tree o a ≡ Some own
-  pub decided : may_stand_as tree o (Ref a) to ≡ Some (is_assignable tree own wanted)
+  pub decided : may_stand_as tree o (Ref a) to ≡ Some (is_assignable tree own required)
 
-pub deciding : (tree : Tree) (o : Objects) (a : Addr) (to : NumberedType) → (a.number == 0) ≡ false → IsSome (may_stand_as tree o (Ref a) to) → Deciding tree o a to
+pub deciding : (tree : Tree) (o : Objects) (a : Addr) (to : ResolvedType) → (a.number == 0) ≡ false → IsSome (may_stand_as tree o (Ref a) to) → Deciding tree o a to
 deciding tree o a to apart there = by_types (type_at tree to) refl (type_of_address tree o a) refl there
   where
     decides : Option DeclaredType → Option DeclaredType → Option Bool
@@ -68,7 +68,7 @@ deciding tree o a to apart there = by_types (type_at tree to) refl (type_of_addr
         ap (λ x. decides x (type_of_address tree o a)) e ∙ ap (decides (Some t)) f ∙ ap (λ (b : Bool). if b then Some true else None) apart in
         absurd (cc (ap is_some none, h))
     by_types (Some t) e (Some own) f h = record {
-      wanted = t;
+      required = t;
       own = own;
       wanted_is = e;
       own_is = f;

@@ -14,11 +14,11 @@ use Rattle.barriers.specs.Barriers.{are_comparable, are_same, is_monitor_storabl
 use Rattle.threads_monitors.specs.Frames.{Frames, with_stack}
 use Rattle.threads_monitors.specs.Monitors.{with_entry, with_exit}
 use Rattle.threads_monitors.specs.declared.effects.Effect.{Effect}
-use Rattle.threads_monitors.specs.declared.effects.Effect.TheVariants.{GoesOn, Returns, Blocks, Raises}
+use Rattle.threads_monitors.specs.declared.effects.Effect.TheVariants.{Continues, Returns, Blocks, Raises}
 use Rattle.threads_monitors.specs.declared.mutators.Mutator.{Mutator}
-use Rattle.instructions.specs.BuiltInTurns.{carried, enter_turn, exit_turn, is_countable, reference_from}
+use Rattle.instructions.specs.BuiltInTransitions.{carry, enter_transition, exit_transition, is_countable, reference_from}
 use Rattle.instructions.specs.Frames.{branch_reference, branch_test, comparison, same_reference}
-use Rattle.instructions.specs.ObjectTurns.{ObjectTurn}
+use Rattle.instructions.specs.ObjectTransitions.{ObjectTransition}
 
 -- ---- comparisons
 
@@ -49,34 +49,34 @@ module _ (phase : Phase) (o : Objects) (a b : Addr) where
 -- ---- exits
 
 -- where the thread doesn't continue its operand stays
-carried_stays : (m n : Frames) (x : Objects × Effect) → (x.1 ≡ GoesOn → ⊥) → carried m n x ≡ Some (m, x.0, x.1)
-carried_stays m n (o, GoesOn) other = absurd (other refl)
+carried_stays : (m n : Frames) (x : Objects × Effect) → (x.1 ≡ Continues → ⊥) → carry m n x ≡ Some (m, x.0, x.1)
+carried_stays m n (o, Continues) other = absurd (other refl)
 carried_stays m n (o, Returns) other = refl
 carried_stays m n (o, Blocks) other = refl
 carried_stays m n (o, Raises f) other = refl
 
 -- a rule of an entry or an exit, by which references it admits, and what it makes of the objects
 module _ (admits : Addr → Bool) (change : Addr → Objects × Effect) (m : Frames) where
-  abbrev turn_by : List Value → ObjectTurn
-  turn_by stack = reference_from stack m (λ a n. if admits a then carried m n (change a) else None)
+  abbrev transition_by : List Value → ObjectTransition
+  transition_by stack = reference_from stack m (λ a n. if admits a then carry m n (change a) else None)
 
-  pub stays : (a : Addr) (x : Objects × Effect) → slice_get m.running.stack 0 ≡ Some (Ref a) → IsSome (turn_by m.running.stack) → x ≡ change a → (x.1 ≡ GoesOn → ⊥) → turn_by m.running.stack ≡ Some (m, x.0, x.1)
+  pub stays : (a : Addr) (x : Objects × Effect) → slice_get m.running.stack 0 ≡ Some (Ref a) → IsSome (transition_by m.running.stack) → x ≡ change a → (x.1 ≡ Continues → ⊥) → transition_by m.running.stack ≡ Some (m, x.0, x.1)
   stays a x top there is other = by_stack m.running.stack top there
     where
-      by_test : (t : Bool) (rest : List Value) → IsSome (if t then carried m (with_stack m rest) (change a) else None) → (if t then carried m (with_stack m rest) (change a) else None) ≡ Some (m, x.0, x.1)
-      by_test true rest h = ap (carried m (with_stack m rest)) (sym is) ∙ carried_stays m (with_stack m rest) x other
+      by_test : (t : Bool) (rest : List Value) → IsSome (if t then carry m (with_stack m rest) (change a) else None) → (if t then carry m (with_stack m rest) (change a) else None) ≡ Some (m, x.0, x.1)
+      by_test true rest h = ap (carry m (with_stack m rest)) (sym is) ∙ carried_stays m (with_stack m rest) x other
       by_test false rest h = absurd cc
 
-      by_stack : (stack : List Value) → slice_get stack 0 ≡ Some (Ref a) → IsSome (turn_by stack) → turn_by stack ≡ Some (m, x.0, x.1)
+      by_stack : (stack : List Value) → slice_get stack 0 ≡ Some (Ref a) → IsSome (transition_by stack) → transition_by stack ≡ Some (m, x.0, x.1)
       by_stack [] e h = absurd cc
       by_stack (v ∷ rest) e h =
           let same : v ≡ Ref a = cc in
-          subst (λ w. turn_by (w ∷ rest) ≡ Some (m, x.0, x.1)) (sym same)
-          (by_test (admits a) rest (subst (λ w. IsSome (turn_by (w ∷ rest))) same h))
+          subst (λ w. transition_by (w ∷ rest) ≡ Some (m, x.0, x.1)) (sym same)
+          (by_test (admits a) rest (subst (λ w. IsSome (transition_by (w ∷ rest))) same h))
 
-module _ (mutator : Mutator) (m : Frames) (o : Objects) (a : Addr) (x : Objects × Effect) (top : slice_get m.running.stack 0 ≡ Some (Ref a)) (other : x.1 ≡ GoesOn → ⊥) where
-  pub enter_stays : IsSome (enter_turn mutator m o) → x ≡ with_entry mutator o a → enter_turn mutator m o ≡ Some (m, x.0, x.1)
+module _ (mutator : Mutator) (m : Frames) (o : Objects) (a : Addr) (x : Objects × Effect) (top : slice_get m.running.stack 0 ≡ Some (Ref a)) (other : x.1 ≡ Continues → ⊥) where
+  pub enter_stays : IsSome (enter_transition mutator m o) → x ≡ with_entry mutator o a → enter_transition mutator m o ≡ Some (m, x.0, x.1)
   enter_stays there is = stays (λ b. (b.number == 0) || (is_countable (monitor_at o b) && is_monitor_storable mutator.phase o b)) (with_entry mutator o) m a x top there is other
 
-  pub exit_stays : IsSome (exit_turn mutator m o) → x ≡ with_exit mutator o a → exit_turn mutator m o ≡ Some (m, x.0, x.1)
+  pub exit_stays : IsSome (exit_transition mutator m o) → x ≡ with_exit mutator o a → exit_transition mutator m o ≡ Some (m, x.0, x.1)
   exit_stays there is = stays (λ b. (b.number == 0) || (is_some (monitor_at o b) && is_monitor_storable mutator.phase o b)) (with_exit mutator o) m a x top there is other

@@ -10,7 +10,7 @@ use mir.Val.{bits, hbits}
 use mir.ValLaws.{pow-bits}
 use Rattle.cil_model.specs.declared.reports.Fault.{Fault}
 use Rattle.cil_model.specs.declared.reports.Fault.TheVariants.{Overflow, DivideByZero, Arithmetic}
-use Rattle.reference_machine.specs.Arithmetic.{is_in_range, exact, result_as, divided, least}
+use Rattle.reference_machine.specs.Arithmetic.{is_in_range, exact, result_as, quotient, least}
 
 -- ---- tests
 
@@ -25,7 +25,7 @@ both_true false b e = absurd cc
 -- what the tests of an integer's bits say of it
 pub record HasTests (w : Width) : Type 0 where
   pub fits : (z : ℤ) → SFits w z → is_in_range w z ≡ true
-  pub misfits : (z : ℤ) → (SFits w z → ⊥) → is_in_range w z ≡ false
+  pub kind_mismatches : (z : ℤ) → (SFits w z → ⊥) → is_in_range w z ≡ false
   pub lowest : of_z w (least w) ≡ 2 ^ hbits w
 
 fits_32 : (z : ℤ) → SFits w32 z → is_in_range w32 z ≡ true
@@ -45,10 +45,10 @@ in_64 (pos n) e = record { sfits = grind (arith, nat_tests) }
 in_64 (negsuc n) e = record { sfits = grind (arith, nat_tests) }
 
 pub tests_32 : HasTests w32
-tests_32 = record { fits = fits_32; misfits = λ z never. not_true (is_in_range w32 z) (λ e. never (in_32 z e)); lowest = refl }
+tests_32 = record { fits = fits_32; kind_mismatches = λ z never. not_true (is_in_range w32 z) (λ e. never (in_32 z e)); lowest = refl }
 
 pub tests_64 : HasTests w64
-tests_64 = record { fits = fits_64; misfits = λ z never. not_true (is_in_range w64 z) (λ e. never (in_64 z e)); lowest = refl }
+tests_64 = record { fits = fits_64; kind_mismatches = λ z never. not_true (is_in_range w64 z) (λ e. never (in_64 z e)); lowest = refl }
 
 -- ---- quotients
 
@@ -77,7 +77,7 @@ module _ (w : Width) where
 
   pub exact_is : HasTests w → (z v : ℤ) (o : Option ℤ) (r : Result ℤ Fault) → v ≡ z → SomeIff o (SFits w v) v → r ≡ ok_or o Overflow → result_as (λ x. x) r ≡ exact w z
   exact_is tests z v None r same never is =
-      ap (result_as (λ x. x)) is ∙ sym (ap (exact w) (sym same) ∙ ap (λ b. if b then Ok v else Err Overflow) (tests.misfits v never))
+      ap (result_as (λ x. x)) is ∙ sym (ap (exact w) (sym same) ∙ ap (λ b. if b then Ok v else Err Overflow) (tests.kind_mismatches v never))
   exact_is tests z v (Some x) r same some is =
       ap (result_as (λ x. x)) is ∙ ap Ok some.1 ∙ sym (ap (exact w) (sym same) ∙ ap (λ b. if b then Ok v else Err Overflow) (tests.fits v some.0))
 
@@ -91,7 +91,7 @@ module _ (w : Width) where
   pub machine_quotient : (x y : ℤ) → SFits w x → SFits w y → (of_z w y ≡ 2 ^ bits w - 1 → of_z w x ≡ 2 ^ hbits w → ⊥) → SFits w (int_div (to_z w (of_z w x)) (to_z w (of_z w y)))
   machine_quotient x y fits_x fits_y never = subst (SFits w) (sym (read_back int_div x y fits_x fits_y)) (quotient_fits w x y fits_x fits_y never)
 
-  pub divides : HasTests w → (x y result : ℤ) → (of_z w y ≡ 0 → ⊥) → (of_z w y ≡ 2 ^ bits w - 1 → of_z w x ≡ 2 ^ hbits w → ⊥) → divided w x y result ≡ Ok result
+  pub divides : HasTests w → (x y result : ℤ) → (of_z w y ≡ 0 → ⊥) → (of_z w y ≡ 2 ^ bits w - 1 → of_z w x ≡ 2 ^ hbits w → ⊥) → quotient w x y result ≡ Ok result
   divides tests x y result some never =
       let divisor : int_eq y (pos 0) ≡ false = not_true (int_eq y (pos 0)) (λ e. some (ap (of_z w) ((Decides-int_eq y (pos 0)).0 e))) in
       let rest : (int_eq x (least w) && int_eq y (negsuc 0)) ≡ false =

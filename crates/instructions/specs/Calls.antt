@@ -8,17 +8,17 @@ use Rattle.object_memory.specs.declared.addresses.Addr.{Addr}
 use Rattle.object_memory.specs.declared.values.Value.{Value}
 use Rattle.object_memory.specs.declared.values.ValueKind.{ValueKind}
 use Rattle.object_memory.specs.declared.values.Value.TheVariants.{Ref}
-use Rattle.threads_monitors.specs.Frames.{Frames, size, with_place, with_stack, with_inserted, with_call, returned}
-use Rattle.threads_monitors.specs.declared.effects.Effect.TheVariants.{GoesOn, Returns, Raises}
+use Rattle.threads_monitors.specs.Frames.{Frames, size, with_pc, with_stack, with_inserted, with_call, return_frames}
+use Rattle.threads_monitors.specs.declared.effects.Effect.TheVariants.{Continues, Returns, Raises}
 use Rattle.object_memory.specs.declared.kinds.Kind.TheVariants.{Instance}
 use Rattle.object_memory.specs.Objects.{Objects}
-use Rattle.instructions.specs.Frames.{Turn, with_top}
-use Rattle.instructions.specs.ObjectTurns.{ObjectTurn, bears, beside, born}
+use Rattle.instructions.specs.Frames.{Transition, with_top}
+use Rattle.instructions.specs.ObjectTransitions.{ObjectTransition, bears, beside, birth_transition}
 use Rattle.instructions.specs.declared.calls.Callee.{Callee}
 
 -- continues once the frame is at the next instruction
-abbrev pub behind : Frames → (Frames → Turn) → Turn
-behind m go = if nat_lt m.running.place MOST_INSTRUCTIONS then go (with_place m (m.running.place + 1)) else None
+abbrev pub following : Frames → (Frames → Transition) → Transition
+following m go = if nat_lt m.running.pc MOST_INSTRUCTIONS then go (with_pc m (m.running.pc + 1)) else None
 
 -- ---- calls
 
@@ -28,59 +28,59 @@ pub record Called : Type 0 where
   pub arguments : ℕ
   pub locals : List ValueKind
 
-abbrev pub called : Callee → Called
-called c = record { method = c.method; arguments = c.arguments; locals = c.locals.now }
+abbrev pub call_of : Callee → Called
+call_of c = record { method = c.method; arguments = c.arguments; locals = c.locals.now }
 
 -- the number of frames is at its limit
 abbrev pub is_full : Frames → Bool
 is_full m = length m.below + 1 == m.depth
 
 -- a frame for the method, on the uppermost operands
-abbrev pub entered : Called → Option Addr → Frames → Turn
-entered callee object m =
+abbrev pub enter_callee : Called → Option Addr → Frames → Transition
+enter_callee callee object m =
     if nat_lt (length m.below + 1) m.depth && nat_le callee.arguments (length m.running.stack) && nat_le (callee.arguments + length callee.locals) m.room
-    then Some (with_call m callee.method callee.arguments callee.locals object, GoesOn) else None
+    then Some (with_call m callee.method callee.arguments callee.locals object, Continues) else None
 
 -- call (III.3.19): the caller is at the next instruction when it runs again
-abbrev pub call_turn : Called → Frames → Turn
-call_turn callee m = if is_full m then Some (m, Raises StackOverflow) else behind m (entered callee None)
+abbrev pub call_transition : Called → Frames → Transition
+call_transition callee m = if is_full m then Some (m, Raises StackOverflow) else following m (enter_callee callee None)
 
 -- the new object is the constructor's first argument, beneath the others (III.4.21)
-abbrev pub construct_turn : Called → Addr → Frames → Turn
-construct_turn callee object m =
+abbrev pub construct_transition : Called → Addr → Frames → Transition
+construct_transition callee object m =
     if nat_lt 0 callee.arguments && (nat_lt (size m.running) m.room && nat_le (callee.arguments - 1) (length m.running.stack))
-    then behind (with_inserted m (callee.arguments - 1) (Ref object)) (entered callee (Some object)) else None
+    then following (with_inserted m (callee.arguments - 1) (Ref object)) (enter_callee callee (Some object)) else None
 
 -- ---- births
 
 -- the constructor's frame for an object that was born, or memory is refused
-abbrev pub constructs : Called → Frames → Objects × Option Addr → ObjectTurn
+abbrev pub constructs : Called → Frames → Objects × Option Addr → ObjectTransition
 constructs callee m (o, None) = Some (m, o, Raises OutOfMemory)
-constructs callee m (o, Some a) = beside o (construct_turn callee a m)
+constructs callee m (o, Some a) = beside o (construct_transition callee a m)
 
 -- newobj (III.4.21) of a class with a constructor that has code: the depth is looked at before memory
-abbrev pub new_object_turn : Phase → ℕ → ℕ → Called → Frames → Objects → ObjectTurn
-new_object_turn phase class slots callee m o = if is_full m then Some (m, o, Raises StackOverflow) else bears phase o (Instance class) slots (constructs callee m)
+abbrev pub new_object_transition : Phase → ℕ → ℕ → Called → Frames → Objects → ObjectTransition
+new_object_transition phase class slots callee m o = if is_full m then Some (m, o, Raises StackOverflow) else bears phase o (Instance class) slots (constructs callee m)
 
 -- the same with a constructor that is built in, which is done at once
-abbrev pub new_plain_object_turn : Phase → ℕ → ℕ → Frames → Objects → ObjectTurn
-new_plain_object_turn phase class slots m o = bears phase o (Instance class) slots (born m)
+abbrev pub new_plain_object_transition : Phase → ℕ → ℕ → Frames → Objects → ObjectTransition
+new_plain_object_transition phase class slots m o = bears phase o (Instance class) slots (birth_transition m)
 
 -- ---- returns
 
 -- the frame below continues with what it is given; without one below the thread is done
-abbrev pub gives : Option Value → Frames → Turn
-gives v m = if length m.below == 0 then Some (m, Returns) else given_to v (returned m)
+abbrev pub gives : Option Value → Frames → Transition
+gives v m = if length m.below == 0 then Some (m, Returns) else given_to v (return_frames m)
   where
-    given_to : Option Value → Frames → Turn
-    given_to None m = Some (m, GoesOn)
-    given_to (Some v) m = if nat_lt (size m.running) m.room then Some (with_stack m (v ∷ m.running.stack), GoesOn) else None
+    given_to : Option Value → Frames → Transition
+    given_to None m = Some (m, Continues)
+    given_to (Some v) m = if nat_lt (size m.running) m.room then Some (with_stack m (v ∷ m.running.stack), Continues) else None
 
 -- the object that was constructed, or what the method returns, if anything
-abbrev pub return_by : Option Addr → Bool → Frames → Turn
+abbrev pub return_by : Option Addr → Bool → Frames → Transition
 return_by (Some object) has_value m = gives (Some (Ref object)) m
 return_by None true m = with_top m (λ v n. gives (Some v) n)
 return_by None false m = gives None m
 
-abbrev pub return_turn : Bool → Frames → Turn
-return_turn has_value m = return_by m.running.constructed has_value m
+abbrev pub return_transition : Bool → Frames → Transition
+return_transition has_value m = return_by m.running.constructed has_value m

@@ -11,40 +11,40 @@ use Rattle.cil_model.specs.declared.instructions.BranchComparison.{BranchCompari
 use Rattle.cil_model.specs.declared.instructions.BranchComparison.TheVariants.{Equal as BranchEqual, NotEqual}
 use Rattle.cil_model.specs.declared.limits.TheConstants.{MOST_INSTRUCTIONS}
 use Rattle.cil_model.specs.declared.reports.Fault.{Fault}
-use Rattle.cil_model.specs.Bodies.{at_place}
+use Rattle.cil_model.specs.Bodies.{at_index}
 use Rattle.cil_model.specs.declared.phases.Phase.{Phase}
 use Rattle.object_memory.specs.declared.values.Value.{Value}
 use Rattle.object_memory.specs.declared.values.Value.TheVariants.{Int32, Int64, Native, Ref}
 use Rattle.object_memory.specs.Objects.{Objects}
 use Rattle.barriers.specs.Barriers.{are_comparable, are_same}
-use Rattle.threads_monitors.specs.Frames.{Frames, size, with_place, with_stack, with_argument, with_local}
+use Rattle.threads_monitors.specs.Frames.{Frames, size, with_pc, with_stack, with_argument, with_local}
 use Rattle.threads_monitors.specs.declared.effects.Effect.{Effect}
-use Rattle.threads_monitors.specs.declared.effects.Effect.TheVariants.{GoesOn, Raises}
+use Rattle.threads_monitors.specs.declared.effects.Effect.TheVariants.{Continues, Raises}
 use Rattle.reference_machine.specs.Values.{Int32 as Int32Value, Int64 as Int64Value}
-use Rattle.reference_machine.specs.Arithmetic.{Operand, I4, I8, NativeInt, Object, binary_of, unary_of, shift_of, is_set_of, convert_32_of, convert_64_of, one_or_zero_of, compared, branch_values}
+use Rattle.reference_machine.specs.Arithmetic.{Operand, I4, I8, NativeInt, Object, binary_of, unary_of, shift_of, is_set_of, convert_32_of, convert_64_of, one_or_zero_of, comparison_holds, branch_values}
 
 -- the frames after an instruction, and its outcome; or it has no result
-abbrev pub Turn : Type 0
-Turn = Option (Frames × Effect)
+abbrev pub Transition : Type 0
+Transition = Option (Frames × Effect)
 
 -- ---- what instructions are put together from
 
--- on to the instruction at a place
-abbrev pub jump : ℕ → Frames → Turn
-jump place m = if nat_lt place MOST_INSTRUCTIONS then Some (with_place m place, GoesOn) else None
+-- on to the instruction at a pc
+abbrev pub jump : ℕ → Frames → Transition
+jump pc m = if nat_lt pc MOST_INSTRUCTIONS then Some (with_pc m pc, Continues) else None
 
 -- on to the next instruction
-abbrev pub onward : Frames → Turn
-onward m = if nat_lt m.running.place MOST_INSTRUCTIONS then Some (with_place m (m.running.place + 1), GoesOn) else None
+abbrev pub onward : Frames → Transition
+onward m = if nat_lt m.running.pc MOST_INSTRUCTIONS then Some (with_pc m (m.running.pc + 1), Continues) else None
 
 -- to one or the other
-abbrev pub branch_if : Bool → ℕ → Frames → Turn
-branch_if true place m = jump place m
-branch_if false place m = onward m
+abbrev pub branch_if : Bool → ℕ → Frames → Transition
+branch_if true pc m = jump pc m
+branch_if false pc m = onward m
 
 -- pushes a value and advances
-abbrev pub leaves : Value → Frames → Turn
-leaves v m = if nat_lt (size m.running) m.room then onward (with_stack m (v ∷ m.running.stack)) else None
+abbrev pub value_pushed : Value → Frames → Transition
+value_pushed v m = if nat_lt (size m.running) m.room then onward (with_stack m (v ∷ m.running.stack)) else None
 
 -- continues with the topmost value, which is taken
 abbrev pub top_of : {R : Type 0} → List Value → Frames → (Value → Frames → Option R) → Option R
@@ -60,9 +60,9 @@ given None go = None
 given (Some x) go = go x
 
 -- a result, or the fault
-abbrev pub leaves_result : Frames → Result Value Fault → Turn
-leaves_result m (Ok v) = leaves v m
-leaves_result m (Err f) = Some (m, Raises f)
+abbrev pub result_pushed : Frames → Result Value Fault → Transition
+result_pushed m (Ok v) = value_pushed v m
+result_pushed m (Err f) = Some (m, Raises f)
 
 -- ---- values
 
@@ -101,8 +101,8 @@ same_reference Equal same = Some same
 same_reference _ same = None
 
 abbrev pub comparison : Phase → Objects → Comparison → Value → Value → Option Bool
-comparison phase o op (Int32 x) (Int32 y) = Some (compared op x y)
-comparison phase o op (Int64 x) (Int64 y) = Some (compared op x y)
+comparison phase o op (Int32 x) (Int32 y) = Some (comparison_holds op x y)
+comparison phase o op (Int64 x) (Int64 y) = Some (comparison_holds op x y)
 comparison phase o op (Ref a) (Ref b) = if are_comparable phase o a b then same_reference op (are_same phase o a b) else None
 comparison phase o op _ _ = None
 
@@ -119,66 +119,66 @@ branch_test phase o op _ _ = None
 
 -- ---- instructions
 
-abbrev pub argument_turn : ℤ → Frames → Turn
-argument_turn n m = given (at_place m.running.arguments n) (λ v. leaves v m)
+abbrev pub argument_transition : ℤ → Frames → Transition
+argument_transition n m = given (at_index m.running.arguments n) (λ v. value_pushed v m)
 
-abbrev pub local_turn : ℤ → Frames → Turn
-local_turn n m = given (at_place m.running.locals n) (λ v. leaves v m)
+abbrev pub local_transition : ℤ → Frames → Transition
+local_transition n m = given (at_index m.running.locals n) (λ v. value_pushed v m)
 
--- a store to a place that is there
-abbrev pub stored : {X : Type 0} → (ℕ → Frames) → List X → ℤ → Turn
-stored store xs (pos n) = if nat_lt n (length xs) then onward (store n) else None
-stored store xs _ = None
+-- a store to an index that is there
+abbrev pub store_in : {X : Type 0} → (ℕ → Frames) → List X → ℤ → Transition
+store_in store xs (pos n) = if nat_lt n (length xs) then onward (store n) else None
+store_in store xs _ = None
 
-abbrev pub store_argument_turn : ℤ → Frames → Turn
-store_argument_turn n m = with_top m (λ v k. stored (λ i. with_argument k i v) k.running.arguments n)
+abbrev pub store_argument_transition : ℤ → Frames → Transition
+store_argument_transition n m = with_top m (λ v k. store_in (λ i. with_argument k i v) k.running.arguments n)
 
-abbrev pub store_local_turn : ℤ → Frames → Turn
-store_local_turn n m = with_top m (λ v k. stored (λ i. with_local k i v) k.running.locals n)
+abbrev pub store_local_transition : ℤ → Frames → Transition
+store_local_transition n m = with_top m (λ v k. store_in (λ i. with_local k i v) k.running.locals n)
 
-abbrev pub duplicate_turn : Frames → Turn
-duplicate_turn m = with_top m (λ v n. leaves v m)
+abbrev pub duplicate_transition : Frames → Transition
+duplicate_transition m = with_top m (λ v n. value_pushed v m)
 
-abbrev pub pop_turn : Frames → Turn
-pop_turn m = with_top m (λ v n. onward n)
+abbrev pub pop_transition : Frames → Transition
+pop_transition m = with_top m (λ v n. onward n)
 
 -- the second operand lies topmost
-abbrev pub binary_turn : BinaryOperation → Frames → Turn
-binary_turn op m = with_top m (λ w n. with_top n (λ v k. given (binary_result op v w) (leaves_result k)))
+abbrev pub binary_transition : BinaryOperation → Frames → Transition
+binary_transition op m = with_top m (λ w n. with_top n (λ v k. given (binary_result op v w) (result_pushed k)))
 
-abbrev pub unary_turn : UnaryOperation → Frames → Turn
-unary_turn op m = with_top m (λ v n. given (unary_result op v) (λ u. leaves u n))
+abbrev pub unary_transition : UnaryOperation → Frames → Transition
+unary_transition op m = with_top m (λ v n. given (unary_result op v) (λ u. value_pushed u n))
 
-abbrev pub shift_turn : ShiftOperation → Frames → Turn
-shift_turn op m = with_top m (λ w n. with_top n (λ v k. given (shift_result op v w) (λ u. leaves u k)))
+abbrev pub shift_transition : ShiftOperation → Frames → Transition
+shift_transition op m = with_top m (λ w n. with_top n (λ v k. given (shift_result op v w) (λ u. value_pushed u k)))
 
-abbrev pub compare_turn : Phase → Comparison → Frames → Objects → Turn
-compare_turn phase op m o = with_top m (λ w n. with_top n (λ v k. given (comparison phase o op v w) (λ holds. leaves (one_or_zero holds) k)))
+abbrev pub compare_transition : Phase → Comparison → Frames → Objects → Transition
+compare_transition phase op m o = with_top m (λ w n. with_top n (λ v k. given (comparison phase o op v w) (λ holds. value_pushed (one_or_zero holds) k)))
 
-abbrev pub convert_32_turn : Frames → Turn
-convert_32_turn m = with_top m (λ v n. given (in_32_bits v) (λ u. leaves u n))
+abbrev pub convert_32_transition : Frames → Transition
+convert_32_transition m = with_top m (λ v n. given (in_32_bits v) (λ u. value_pushed u n))
 
-abbrev pub convert_64_turn : Frames → Turn
-convert_64_turn m = with_top m (λ v n. given (in_64_bits v) (λ u. leaves u n))
+abbrev pub convert_64_transition : Frames → Transition
+convert_64_transition m = with_top m (λ v n. given (in_64_bits v) (λ u. value_pushed u n))
 
 -- brtrue (III.3.18), and brfalse (III.3.17)
-abbrev pub branch_true_turn : ℕ → Frames → Turn
-branch_true_turn place m = with_top m (λ v n. given (is_set v) (λ holds. branch_if holds place n))
+abbrev pub branch_true_transition : ℕ → Frames → Transition
+branch_true_transition pc m = with_top m (λ v n. given (is_set v) (λ holds. branch_if holds pc n))
 
-abbrev pub branch_false_turn : ℕ → Frames → Turn
-branch_false_turn place m = with_top m (λ v n. given (is_set v) (λ holds. branch_if (not holds) place n))
+abbrev pub branch_false_transition : ℕ → Frames → Transition
+branch_false_transition pc m = with_top m (λ v n. given (is_set v) (λ holds. branch_if (not holds) pc n))
 
-abbrev pub branch_compare_turn : Phase → BranchComparison → ℕ → Frames → Objects → Turn
-branch_compare_turn phase op place m o = with_top m (λ w n. with_top n (λ v k. given (branch_test phase o op v w) (λ holds. branch_if holds place k)))
+abbrev pub branch_compare_transition : Phase → BranchComparison → ℕ → Frames → Objects → Transition
+branch_compare_transition phase op pc m o = with_top m (λ w n. with_top n (λ v k. given (branch_test phase o op v w) (λ holds. branch_if holds pc k)))
 
--- to the place of that number, counted as unsigned, or on to the next instruction (III.3.66)
-abbrev pub to_place : Option ℕ → Frames → Turn
-to_place None m = onward m
-to_place (Some place) m = jump place m
+-- to the pc at that index of the table, read as unsigned, or on to the next instruction (III.3.66)
+abbrev pub to_pc : Option ℕ → Frames → Transition
+to_pc None m = onward m
+to_pc (Some pc) m = jump pc m
 
-abbrev pub switch_on : List ℕ → Value → Frames → Turn
-switch_on places (Int32 z) m = to_place (slice_get places (cast_unsigned w32 z)) m
-switch_on places _ m = None
+abbrev pub switch_on : List ℕ → Value → Frames → Transition
+switch_on pcs (Int32 z) m = to_pc (slice_get pcs (cast_unsigned w32 z)) m
+switch_on pcs _ m = None
 
-abbrev pub switch_turn : List ℕ → Frames → Turn
-switch_turn places m = with_top m (switch_on places)
+abbrev pub switch_transition : List ℕ → Frames → Transition
+switch_transition pcs m = with_top m (switch_on pcs)

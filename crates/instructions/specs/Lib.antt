@@ -1,7 +1,7 @@
 pub use Rattle.barriers.specs as barriers
 pub mod Frames
-pub mod LocalTurns
-pub mod ObjectTurns
+pub mod LocalTransitions
+pub mod ObjectTransitions
 pub mod Calls
-pub mod BuiltInTurns
-pub mod TypeTurns
+pub mod BuiltInTransitions
+pub mod TypeTransitions

@@ -1,9 +1,9 @@
 //! `newobj`.
 
 ghost use Rattle.std.specs.Prelude.{◌≡◌, IsSome, Some};
-ghost use Rattle.instructions.specs.Calls.{called, new_object_turn, new_plain_object_turn};
+ghost use Rattle.instructions.specs.Calls.{call_of, new_object_transition, new_plain_object_transition};
 
-use crate::arrays::leave_born;
+use crate::arrays::push_and_advance_born;
 use crate::calls::{Callee, construct};
 use cil_model::phases::Phase;
 use cil_model::reports::Fault;
@@ -20,8 +20,8 @@ pub fn new_object(
     slots: u32,
     callee: Callee,
 ) -> Effect
-    requires { IsSome (new_object_turn phase class slots (called callee) frames.old heap.old) }
-    ensures { Some (frames.new, heap.new, result) ≡ new_object_turn phase class slots (called callee.entry) frames.old heap.old }
+    requires { IsSome (new_object_transition phase class slots (call_of callee) frames.old heap.old) }
+    ensures { Some (frames.new, heap.new, result) ≡ new_object_transition phase class slots (call_of callee.entry) frames.old heap.old }
 {
     if frames.is_full() {
         return Effect::Raises(Fault::StackOverflow);
@@ -40,9 +40,9 @@ pub fn new_plain_object(
     class: u16,
     slots: u32,
 ) -> Effect
-    requires { IsSome (new_plain_object_turn phase class slots frames.old heap.old) }
-    ensures { Some (frames.new, heap.new, result) ≡ new_plain_object_turn phase class slots frames.old heap.old }
+    requires { IsSome (new_plain_object_transition phase class slots frames.old heap.old) }
+    ensures { Some (frames.new, heap.new, result) ≡ new_plain_object_transition phase class slots frames.old heap.old }
 {
     let object = barriers::birth(heap, phase, Kind::Instance(class), u64::from(slots));
-    leave_born(frames, object)
+    push_and_advance_born(frames, object)
 }

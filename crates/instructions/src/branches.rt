@@ -2,32 +2,32 @@
 
 ghost use Rattle.std.specs.Prelude.{◌≡◌, IsSome, Some, slice_get};
 ghost use Rattle.std.specs.Int.{w32, cast_unsigned};
-ghost use Rattle.instructions.specs.Frames.{branch_true_turn, branch_false_turn, branch_compare_turn, branch_test, switch_turn, is_set};
-ghost use Rattle.instructions.specs.LocalTurns.{branch_integers_turn, integers_branch};
+ghost use Rattle.instructions.specs.Frames.{branch_true_transition, branch_false_transition, branch_compare_transition, branch_test, switch_transition, is_set};
+ghost use Rattle.instructions.specs.LocalTransitions.{branch_integers_transition, integers_branch};
 
+use crate::control::{advance, branch_if, jump};
 use crate::integers::Integer;
-use crate::places::{branch_if, go_on, jump};
 use cil_model::instructions::BranchComparison;
 use cil_model::phases::Phase;
 use object_memory::{Heap, Value};
 use threads_monitors::{Effect, FrameMemory};
 
 /// `brtrue` (ECMA-335 III.3.18).
-pub fn branch_true(frames: &mut FrameMemory, place: usize) -> Effect
-    requires { IsSome (branch_true_turn place frames.old) }
-    ensures { Some (frames.new, result) ≡ branch_true_turn place frames.old }
+pub fn branch_true(frames: &mut FrameMemory, pc: usize) -> Effect
+    requires { IsSome (branch_true_transition pc frames.old) }
+    ensures { Some (frames.new, result) ≡ branch_true_transition pc frames.old }
 {
     let value = frames.pop();
-    branch_if(frames, is_set(value), place)
+    branch_if(frames, is_set(value), pc)
 }
 
 /// `brfalse` (ECMA-335 III.3.17).
-pub fn branch_false(frames: &mut FrameMemory, place: usize) -> Effect
-    requires { IsSome (branch_false_turn place frames.old) }
-    ensures { Some (frames.new, result) ≡ branch_false_turn place frames.old }
+pub fn branch_false(frames: &mut FrameMemory, pc: usize) -> Effect
+    requires { IsSome (branch_false_transition pc frames.old) }
+    ensures { Some (frames.new, result) ≡ branch_false_transition pc frames.old }
 {
     let value = frames.pop();
-    branch_if(frames, !is_set(value), place)
+    branch_if(frames, !is_set(value), pc)
 }
 
 /// Whether a value is neither zero nor null.
@@ -49,18 +49,14 @@ pub fn branch_compare(
     heap: &Heap,
     phase: Phase,
     operation: BranchComparison,
-    place: usize,
+    pc: usize,
 ) -> Effect
-    requires { IsSome (branch_compare_turn phase operation place frames.old heap.now) }
-    ensures { Some (frames.new, result) ≡ branch_compare_turn phase operation place frames.old heap.now }
+    requires { IsSome (branch_compare_transition phase operation pc frames.old heap.now) }
+    ensures { Some (frames.new, result) ≡ branch_compare_transition phase operation pc frames.old heap.now }
 {
     let second = frames.pop();
     let first = frames.pop();
-    branch_if(
-        frames,
-        is_taken(heap, phase, operation, first, second),
-        place,
-    )
+    branch_if(frames, is_taken(heap, phase, operation, first, second), pc)
 }
 
 /// Whether a branch that compares two integers of one size, or two references, is taken.
@@ -87,17 +83,13 @@ fn is_taken(
 }
 
 /// `bge`, `bgt`, `ble` and `blt` (ECMA-335 III.3.6 to III.3.13), of two integers of one size. It asks no heap.
-pub fn branch_integers(
-    frames: &mut FrameMemory,
-    operation: BranchComparison,
-    place: usize,
-) -> Effect
-    requires { IsSome (branch_integers_turn operation place frames.old) }
-    ensures { Some (frames.new, result) ≡ branch_integers_turn operation place frames.old }
+pub fn branch_integers(frames: &mut FrameMemory, operation: BranchComparison, pc: usize) -> Effect
+    requires { IsSome (branch_integers_transition operation pc frames.old) }
+    ensures { Some (frames.new, result) ≡ branch_integers_transition operation pc frames.old }
 {
     let second = frames.pop();
     let first = frames.pop();
-    branch_if(frames, integers_branch(operation, first, second), place)
+    branch_if(frames, integers_branch(operation, first, second), pc)
 }
 
 /// Whether a branch that compares two integers of one size is taken.
@@ -112,22 +104,22 @@ fn integers_branch(operation: BranchComparison, first: Value, second: Value) -> 
     }
 }
 
-/// The place of that number, counted as unsigned. None where there is no such place.
-fn numbered_place(places: &[usize], number: i32) -> Option<usize>
-    ensures { result ≡ slice_get places.now (cast_unsigned w32 number) }
+/// The pc at that index, read as unsigned. None where there is no such index.
+fn index_of_operand(pcs: &[usize], number: i32) -> Option<usize>
+    ensures { result ≡ slice_get pcs.now (cast_unsigned w32 number) }
 {
-    places.get(number.cast_unsigned() as usize).copied()
+    pcs.get(number.cast_unsigned() as usize).copied()
 }
 
 /// `switch` (ECMA-335 III.3.66).
-pub fn switch(frames: &mut FrameMemory, places: &[usize]) -> Effect
-    requires { IsSome (switch_turn places.now frames.old) }
-    ensures { Some (frames.new, result) ≡ switch_turn places.now frames.old }
+pub fn switch(frames: &mut FrameMemory, pcs: &[usize]) -> Effect
+    requires { IsSome (switch_transition pcs.now frames.old) }
+    ensures { Some (frames.new, result) ≡ switch_transition pcs.now frames.old }
 {
     match frames.pop() {
-        Value::Int32(number) => match numbered_place(places, number) {
-            Some(place) => jump(frames, place),
-            None => go_on(frames),
+        Value::Int32(number) => match index_of_operand(pcs, number) {
+            Some(pc) => jump(frames, pc),
+            None => advance(frames),
         },
         _ => unreachable!(),
     }

@@ -2,18 +2,18 @@
 
 ghost use Rattle.std.specs.Prelude.{◌≡◌, IsSome, Some};
 ghost use Rattle.class_layout.specs.Laid.{IsLayout};
-ghost use Rattle.instructions.specs.TypeTurns.{cast_class_turn, is_instance_turn, store_reference_turn, store_admitted, element_at, held_type};
+ghost use Rattle.instructions.specs.TypeTransitions.{cast_class_transition, is_instance_transition, store_reference_transition, store_admitted, element_at, held_type};
 
-use crate::arrays::{index, place_in};
+use crate::arrays::{checked_index, index};
+use crate::control::push_and_advance;
 use crate::fields::store_slot;
-use crate::places::leave;
-use crate::types::{may_stand, numbered};
+use crate::types::{may_stand, resolved_element};
 use cil_model::phases::Phase;
 use cil_model::reports::Fault;
 use class_layout::Layout;
 use object_memory::{Addr, ArrayElement, Heap, Kind, Value};
 use resolved_code::Program;
-use resolved_code::types::NumberedType;
+use resolved_code::types::ResolvedType;
 use threads_monitors::{Effect, FrameMemory};
 
 /// `castclass` (ECMA-335 III.4.3). An object whose type does not fit raises `InvalidCast`; null fits.
@@ -22,15 +22,15 @@ pub fn cast_class(
     layout: &Layout,
     frames: &mut FrameMemory,
     heap: &mut Heap,
-    to: NumberedType,
+    to: ResolvedType,
 ) -> Effect
     requires layout { IsLayout program.now layout.now }
-    requires there { IsSome (cast_class_turn program.now to frames.old heap.old) }
-    ensures { Some (frames.new, heap.new, result) ≡ cast_class_turn program.now to frames.old heap.old }
+    requires there { IsSome (cast_class_transition program.now to frames.old heap.old) }
+    ensures { Some (frames.new, heap.new, result) ≡ cast_class_transition program.now to frames.old heap.old }
 {
     let value = frames.pop();
     if may_stand(program, layout, heap, value, to) {
-        leave(frames, value)
+        push_and_advance(frames, value)
     } else {
         Effect::Raises(Fault::InvalidCast)
     }
@@ -42,26 +42,26 @@ pub fn is_instance(
     layout: &Layout,
     frames: &mut FrameMemory,
     heap: &mut Heap,
-    to: NumberedType,
+    to: ResolvedType,
 ) -> Effect
     requires layout { IsLayout program.now layout.now }
-    requires there { IsSome (is_instance_turn program.now to frames.old heap.old) }
-    ensures { Some (frames.new, heap.new, result) ≡ is_instance_turn program.now to frames.old heap.old }
+    requires there { IsSome (is_instance_transition program.now to frames.old heap.old) }
+    ensures { Some (frames.new, heap.new, result) ≡ is_instance_transition program.now to frames.old heap.old }
 {
     let value = frames.pop();
     if may_stand(program, layout, heap, value, to) {
-        leave(frames, value)
+        push_and_advance(frames, value)
     } else {
-        leave(frames, Value::Ref(Addr::null()))
+        push_and_advance(frames, Value::Ref(Addr::null()))
     }
 }
 
 /// The type of what an array holds.
-fn held_type(array: ArrayElement) -> NumberedType
+fn held_type(array: ArrayElement) -> ResolvedType
     ensures { result ≡ held_type array }
 {
-    NumberedType {
-        element: numbered(array.element),
+    ResolvedType {
+        element: resolved_element(array.element),
         brackets: u32::from(array.brackets),
     }
 }
@@ -77,7 +77,7 @@ fn element(heap: &Heap, array: Addr) -> ArrayElement
     }
 }
 
-/// Stores a reference to a place of an array that is there, where the array's own elements admit it; else it raises
+/// Stores a reference to an element of an array that is there, where the array's own elements admit it; else it raises
 /// `ArrayTypeMismatch`.
 fn store_admitted(
     program: &Program,
@@ -87,15 +87,15 @@ fn store_admitted(
     phase: Phase,
     value: Value,
     array: Addr,
-    place: u32,
+    slot: u32,
 ) -> Effect
     requires layout { IsLayout program.now layout.now }
-    requires there { IsSome (store_admitted phase program.now value place array frames.old heap.old) }
-    ensures { Some (frames.new, heap.new, result) ≡ store_admitted phase program.now value place array frames.old heap.old }
+    requires there { IsSome (store_admitted phase program.now value slot array frames.old heap.old) }
+    ensures { Some (frames.new, heap.new, result) ≡ store_admitted phase program.now value slot array frames.old heap.old }
 {
     let held = held_type(element(heap, array));
     if may_stand(program, layout, heap, value, held) {
-        store_slot(frames, heap, phase, value, array, place)
+        store_slot(frames, heap, phase, value, array, slot)
     } else {
         Effect::Raises(Fault::ArrayTypeMismatch)
     }
@@ -111,8 +111,8 @@ pub fn store_reference(
     phase: Phase,
 ) -> Effect
     requires layout { IsLayout program.now layout.now }
-    requires there { IsSome (store_reference_turn phase program.now frames.old heap.old) }
-    ensures { Some (frames.new, heap.new, result) ≡ store_reference_turn phase program.now frames.old heap.old }
+    requires there { IsSome (store_reference_transition phase program.now frames.old heap.old) }
+    ensures { Some (frames.new, heap.new, result) ≡ store_reference_transition phase program.now frames.old heap.old }
 {
     let value = frames.pop();
     let operand = frames.pop();
@@ -122,8 +122,10 @@ pub fn store_reference(
     if array.is_null() {
         return Effect::Raises(Fault::NullReference);
     }
-    match place_in(index(operand), heap.slots(array)) {
-        Some(place) => store_admitted(program, layout, frames, heap, phase, value, array, place),
+    match checked_index(index(operand), heap.slots(array)) {
+        Some(element) => store_admitted(
+            program, layout, frames, heap, phase, value, array, element,
+        ),
         None => Effect::Raises(Fault::IndexOutOfRange),
     }
 }

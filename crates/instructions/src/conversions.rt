@@ -5,7 +5,7 @@ ghost use Rattle.std.specs.Int.{w32, w64, cast_signed, cast_unsigned};
 
 /// The low 32 bits, read with a sign: `conv.i4` of an integer of 64 bits (ECMA-335 III.3.27). It never faults.
 #[inline]
-pub fn truncated(x: i64) -> i32
+pub fn truncate(x: i64) -> i32
     ensures { result ≡ cast_signed w32 (cast_unsigned w64 x % 2 ^ 32) }
 {
     let low = x.cast_unsigned() % 4_294_967_296;

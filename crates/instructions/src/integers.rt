@@ -4,7 +4,7 @@ ghost use Rattle.std.specs.Prelude.{◌≡◌, ℤ, pos, Some};
 ghost use Rattle.std.specs.Int.{Width, w32, w64};
 ghost use Rattle.std.specs.Ordering.{int_eq};
 ghost use Rattle.reference_machine.specs.Values.{Value, Int32, Int64};
-ghost use Rattle.reference_machine.specs.Arithmetic.{binary, unary, shift, compared, branch_values, result_as};
+ghost use Rattle.reference_machine.specs.Arithmetic.{binary, unary, shift, comparison_holds, branch_values, result_as};
 
 use cil_model::instructions::{
     BinaryOperation, BranchComparison, Comparison, ShiftOperation, UnaryOperation,
@@ -43,7 +43,7 @@ pub trait Integer: Copy {
 
     /// Whether `ceq`, `cgt` or `clt` gives 1 (III.3.21, III.3.22, III.3.25).
     fn compare(op: Comparison, x: Self, y: Self) -> bool
-        ensures { result ≡ compared op (number x) (number y) };
+        ensures { result ≡ comparison_holds op (number x) (number y) };
 
     /// Whether a branch that compares `x` with `y` is taken (III.3.5 to III.3.14).
     fn branches(op: BranchComparison, x: Self, y: Self) -> bool
@@ -97,11 +97,11 @@ macro_rules! unary_result {
 
 macro_rules! shifted {
     ($op:expr, $x:expr, $amount:expr) => {{
-        let places = $amount.cast_unsigned() % Self::BITS;
+        let bits = $amount.cast_unsigned() % Self::BITS;
         match $op {
-            ShiftOperation::Left => $x << places,
-            ShiftOperation::Right => $x >> places,
-            ShiftOperation::RightUnsigned => ($x.cast_unsigned() >> places).cast_signed(),
+            ShiftOperation::Left => $x << bits,
+            ShiftOperation::Right => $x >> bits,
+            ShiftOperation::RightUnsigned => ($x.cast_unsigned() >> bits).cast_signed(),
         }
     }};
 }

@@ -2,9 +2,9 @@
 
 ghost use Rattle.std.specs.Prelude.{◌≡◌, ◌++◌, ◌∷◌, [], if◌then◌else◌, is_ok, IsSome, Some, IfOk, OnOk, OnErr, option_map};
 ghost use Rattle.std.specs.Fmt.{signed_decimal};
-ghost use Rattle.instructions.specs.BuiltInTurns.{write_turn, line_of, text_at};
+ghost use Rattle.instructions.specs.BuiltInTransitions.{write_transition, line_of, text_at};
 
-use crate::places::go_on;
+use crate::control::advance;
 use cil_model::memory::NoMemory;
 use cil_model::texts::Text;
 use itoa::Buffer;
@@ -61,11 +61,11 @@ pub fn write(
     console: &mut Vec<u8>,
     literals: &[Text],
 ) -> Result<Effect, NoMemory>
-    requires { IsSome (write_turn literals.now console.old.items frames.old) }
-    ensures written { IfOk result (λ effect. Some (frames.new, console.new.items, effect) ≡ write_turn literals.now console.old.items frames.old) }
+    requires { IsSome (write_transition literals.now console.old.items frames.old) }
+    ensures written { IfOk result (λ effect. Some (frames.new, console.new.items, effect) ≡ write_transition literals.now console.old.items frames.old) }
     ensures refused { OnErr result ((frames.new ≡ frames.old) × (console.new.items ≡ console.old.items)) }
 {
     print(console, literals, frames.operand(0))?;
     frames.pop();
-    Ok(go_on(frames))
+    Ok(advance(frames))
 }

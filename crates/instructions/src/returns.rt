@@ -1,7 +1,7 @@
 //! Returns.
 
 ghost use Rattle.std.specs.Prelude.{◌≡◌, IsSome, Some};
-ghost use Rattle.instructions.specs.Calls.{gives, return_turn};
+ghost use Rattle.instructions.specs.Calls.{gives, return_transition};
 
 use object_memory::Value;
 use threads_monitors::{Effect, FrameMemory};
@@ -18,14 +18,14 @@ fn give(frames: &mut FrameMemory, value: Option<Value>) -> Effect
     if let Some(value) = value {
         frames.push(value);
     }
-    Effect::GoesOn
+    Effect::Continues
 }
 
 /// `ret` (ECMA-335 III.3.57), of a method that returns a value or none. A constructor that `newobj` runs gives the object that it
 /// made. It takes no memory.
 pub fn return_from(frames: &mut FrameMemory, has_value: bool) -> Effect
-    requires { IsSome (return_turn has_value frames.old) }
-    ensures { Some (frames.new, result) ≡ return_turn has_value frames.old }
+    requires { IsSome (return_transition has_value frames.old) }
+    ensures { Some (frames.new, result) ≡ return_transition has_value frames.old }
 {
     if let Some(object) = frames.constructed() {
         return give(frames, Some(Value::Ref(object)));

@@ -1,19 +1,19 @@
 //! Static fields.
 
 ghost use Rattle.std.specs.Prelude.{◌≡◌, IsSome, Some};
-ghost use Rattle.instructions.specs.ObjectTurns.{load_static_turn, store_static_turn};
+ghost use Rattle.instructions.specs.ObjectTransitions.{load_static_transition, store_static_transition};
 
-use crate::places::{go_on, leave};
+use crate::control::{advance, push_and_advance};
 use cil_model::phases::Phase;
 use object_memory::{Heap, Value};
 use threads_monitors::{Effect, FrameMemory};
 
 /// `ldsfld` (ECMA-335 III.4.14), by the number of the static field.
 pub fn load_static(frames: &mut FrameMemory, statics: &[Value], number: u32) -> Effect
-    requires { IsSome (load_static_turn number frames.old statics.now) }
-    ensures { Some (frames.new, result) ≡ load_static_turn number frames.old statics.now }
+    requires { IsSome (load_static_transition number frames.old statics.now) }
+    ensures { Some (frames.new, result) ≡ load_static_transition number frames.old statics.now }
 {
-    leave(frames, statics[number as usize])
+    push_and_advance(frames, statics[number as usize])
 }
 
 /// `stsfld` (ECMA-335 III.4.30), by the number of the static field, for a thread in this phase. The other fields stay.
@@ -24,10 +24,10 @@ pub fn store_static(
     statics: &mut [Value],
     number: u32,
 ) -> Effect
-    requires { IsSome (store_static_turn phase number frames.old heap.old statics.old) }
-    ensures { Some (frames.new, (heap.new, statics.new), result) ≡ store_static_turn phase number frames.old heap.old statics.old }
+    requires { IsSome (store_static_transition phase number frames.old heap.old statics.old) }
+    ensures { Some (frames.new, (heap.new, statics.new), result) ≡ store_static_transition phase number frames.old heap.old statics.old }
 {
     let value = frames.pop();
     barriers::store_static(heap, phase, statics, number as usize, value);
-    go_on(frames)
+    advance(frames)
 }

@@ -1,4 +1,4 @@
 -- What a machine holds at first.
-pub mod InitialContent
+pub mod InitialMachineState
 pub mod StaticFields
 pub mod FewStaticFields

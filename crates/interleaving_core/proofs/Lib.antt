@@ -2,5 +2,5 @@ pub use Rattle.simulation.proofs as simulation
 pub use Rattle.simulation.proofs as simulation
 pub mod Threads
 pub mod InitialContents
-pub mod CollectorTurns
+pub mod CollectorTransitions
 pub mod Runs

@@ -7,8 +7,8 @@ use Rattle.object_memory.specs.declared.values.Value.{Value}
 use Rattle.phase_handshake.specs.Handshakes.{first_handshakes}
 use Rattle.simulation.specs.collector.Phases.{no_progress}
 use Rattle.threads_monitors.specs.declared.threads.Thread.{Thread}
-use Rattle.simulation.specs.MachineContents.{Content}
+use Rattle.simulation.specs.MachineStates.{MachineState}
 
-abbrev pub beginning_content : Tree → Limits → List Thread → Objects → List Value → List ℕ → Content
-beginning_content tree limits threads objects statics printed =
+abbrev pub initial_machine_state_of : Tree → Limits → List Thread → Objects → List Value → List ℕ → MachineState
+initial_machine_state_of tree limits threads objects statics printed =
     record { tree = tree; limits = limits; threads = threads; posts = first_handshakes; progress = no_progress; objects = objects; statics = statics; printed = printed }

@@ -7,24 +7,24 @@ use Rattle.cil_model.specs.declared.events.Event.{Event}
 use Rattle.cil_model.specs.declared.limits.Limits.{Limits}
 use Rattle.cil_model.specs.declared.reports.Report.{Report}
 use Rattle.cil_model.specs.declared.trees.Tree.{Tree}
-use Rattle.simulation.specs.MachineContents.{Content}
-use Rattle.simulation.specs.Owed.{AreCyclesBounded, LeavesWhatIsOwed}
-use Rattle.simulation.specs.Runs.{AreTurns, StandsAfter}
-use Rattle.simulation.specs.Turns.{opening_content}
+use Rattle.simulation.specs.MachineStates.{MachineState}
+use Rattle.simulation.specs.Owed.{AreCyclesBounded, LeavesOnlyOwed}
+use Rattle.simulation.specs.Runs.{AreTransitions, StandsAfter}
+use Rattle.simulation.specs.Transitions.{initial_machine_state}
 
 -- A machine that was made for an accepted program has done these events, with these reports, and it stands after them. Its cycles had few working events, and
 -- where the last event ends one, no more words are in use than are owed.
-pub record HasDone (tree : Tree) (limits : Limits) (events : List Event) (reports : List Report) (c : Content) : Type 0 where
+pub record HasDone (tree : Tree) (limits : Limits) (events : List Event) (reports : List Report) (c : MachineState) : Type 0 where
   pub accepted : IsAccepted tree
   pub in_range : are_in_range limits ≡ true
-  pub first : Content
-  pub opens : opening_content tree limits ≡ Some first
-  pub turns : AreTurns first events c reports
+  pub first : MachineState
+  pub opens : initial_machine_state tree limits ≡ Some first
+  pub transitions : AreTransitions first events c reports
   pub stands : StandsAfter tree limits events reports c
   pub bounded : AreCyclesBounded tree limits (zip events reports)
-  pub leaves : LeavesWhatIsOwed tree limits events reports c
+  pub leaves : LeavesOnlyOwed tree limits events reports c
 
 -- whatever it has done before, it has then done these events too
-abbrev pub DoesMore : Content → List Event → List Report → Content → Type 0
+abbrev pub DoesMore : MachineState → List Event → List Report → MachineState → Type 0
 DoesMore c events reports after =
     (tree : Tree) (limits : Limits) (before : List Event) (given : List Report) → HasDone tree limits before given c → HasDone tree limits (before ++ events) (given ++ reports) after

@@ -4,7 +4,7 @@ use Rattle.cil_model.specs.declared.trees.Tree.{Tree}
 use Rattle.threads_monitors.specs.Frames.{Frame, Frames}
 use Rattle.simulation.specs.interpreter.Local.{AreLocalSteps, EndsLocal, IsReadySomewhere, alone}
 use Rattle.simulation.specs.Lending.{RunsFrame}
-use Rattle.simulation.specs.MachineContents.{Content, frame_room}
+use Rattle.simulation.specs.MachineStates.{MachineState, frame_room}
 
 -- the program, the thread, how many steps it had left as the loan began, the frame that it had then, the frame as it is now, and how many instructions
 -- were done in between
@@ -17,14 +17,14 @@ pub record Lent : Type 0 where
   pub done : ℕ
 
 -- from some frame a thread that has this number of steps left can advance by local instructions, as long as a step is left
-abbrev pub CanGoOnLocally : Tree → (left : ℕ) → Frame → Type 0
-CanGoOnLocally tree left f = (n : ℕ) (g : Frame) → n < left → AreLocalSteps tree frame_room n f g → IsReadySomewhere tree frame_room g
+abbrev pub CanContinueLocally : Tree → (left : ℕ) → Frame → Type 0
+CanContinueLocally tree left f = (n : ℕ) (g : Frame) → n < left → AreLocalSteps tree frame_room n f g → IsReadySomewhere tree frame_room g
 
 -- the frame is `done` local instructions from its origin, and a step is left after them
 pub record IsLent (l : Lent) : Type 0 where
   pub steps : AreLocalSteps l.tree frame_room l.done l.origin l.frame
   pub less : l.done < l.left
-  pub ready : CanGoOnLocally l.tree l.left l.origin
+  pub ready : CanContinueLocally l.tree l.left l.origin
 
 -- no further local instruction is done: the next one is not local, or would raise a fault, or is the last one of the thread's budget
 abbrev pub Stops : Lent → Type 0
@@ -43,7 +43,7 @@ pub record RanLocally (old : Lent) (most : ℕ) (new : Lent) : Type 0 where
   pub stops : count < most → Stops new
 
 -- a loan that begins: the frame that runs in a live thread
-pub record Begins (c : Content) (t : ℕ) (l : Lent) : Type 0 where
+pub record Begins (c : MachineState) (t : ℕ) (l : Lent) : Type 0 where
   pub tree : l.tree ≡ c.tree
   pub thread : l.thread ≡ t
   pub done : l.done ≡ 0
@@ -51,7 +51,7 @@ pub record Begins (c : Content) (t : ℕ) (l : Lent) : Type 0 where
   pub origin : RunsFrame c t l.left l.origin
 
 -- the thread of a loan stands as it did when the loan began
-abbrev pub IsAtOrigin : Content → Lent → Type 0
+abbrev pub IsAtOrigin : MachineState → Lent → Type 0
 IsAtOrigin c l = RunsFrame c l.thread l.left l.origin
 
 -- the memory of a frame that is alone

@@ -5,11 +5,11 @@ use Rattle.reference_machine.specs.BuiltIn.{Action, Enter, Exit}
 use Rattle.object_memory.specs.declared.addresses.Addr.{Addr}
 use Rattle.object_memory.specs.declared.values.Value.{Value}
 use Rattle.threads_monitors.specs.Frames.{Frames}
-use Rattle.threads_monitors.specs.declared.threads.Standing.{Standing}
-use Rattle.threads_monitors.specs.declared.threads.Standing.TheVariants.{Live, Ended}
+use Rattle.threads_monitors.specs.declared.threads.ThreadStatus.{ThreadStatus}
+use Rattle.threads_monitors.specs.declared.threads.ThreadStatus.TheVariants.{Live, Ended}
 use Rattle.threads_monitors.specs.declared.threads.Thread.{Thread}
 use Rattle.simulation.specs.interpreter.Calls.{top_reference}
-use Rattle.simulation.specs.MachineContents.{Content}
+use Rattle.simulation.specs.MachineStates.{MachineState}
 use Rattle.interleaving_core.specs.Waits.{action_at}
 
 -- null has no monitor
@@ -27,10 +27,10 @@ abbrev pub monitor_in : Tree → Frames → Option Addr
 monitor_in tree m = option_and_then (λ a. monitor_by a m.running.stack) (action_at tree m)
 
 -- a thread that has ended enters and leaves none
-abbrev pub standing_monitor : Tree → Standing → Option Addr
-standing_monitor tree (Live m) = monitor_in tree m
-standing_monitor tree (Ended e) = None
+abbrev pub status_monitor : Tree → ThreadStatus → Option Addr
+status_monitor tree (Live m) = monitor_in tree m
+status_monitor tree (Ended e) = None
 
 -- the one whose monitor the next instruction of the thread of a number is for; none where it is for none, and where the thread is not live
-abbrev pub next_monitor : Content → ℕ → Option Addr
-next_monitor c t = option_and_then (λ (x : Thread). standing_monitor c.tree x.standing) (slice_get c.threads t)
+abbrev pub next_monitor : MachineState → ℕ → Option Addr
+next_monitor c t = option_and_then (λ (x : Thread). status_monitor c.tree x.thread_status) (slice_get c.threads t)

@@ -8,11 +8,11 @@ use Rattle.cil_model.specs.Mentions.{literals_of}
 use Rattle.reference_machine.specs.BuiltIn.{Action, Write}
 use Rattle.object_memory.specs.declared.values.Value.{Value}
 use Rattle.threads_monitors.specs.Frames.{Frames}
-use Rattle.threads_monitors.specs.declared.threads.Standing.{Standing}
-use Rattle.threads_monitors.specs.declared.threads.Standing.TheVariants.{Live, Ended}
+use Rattle.threads_monitors.specs.declared.threads.ThreadStatus.{ThreadStatus}
+use Rattle.threads_monitors.specs.declared.threads.ThreadStatus.TheVariants.{Live, Ended}
 use Rattle.threads_monitors.specs.declared.threads.Thread.{Thread}
-use Rattle.simulation.specs.instructions.BuiltInTurns.{line_of}
-use Rattle.simulation.specs.MachineContents.{Content}
+use Rattle.simulation.specs.instructions.BuiltInTransitions.{line_of}
+use Rattle.simulation.specs.MachineStates.{MachineState}
 use Rattle.interleaving_core.specs.Waits.{action_at}
 
 -- the line that an action prints with the topmost value of the stack; nothing unless it is Console.WriteLine
@@ -25,12 +25,12 @@ abbrev pub print_in : Tree → Frames → List ℕ
 print_in tree m = option_map_or (λ a. print_by tree a m.running.stack) (action_at tree m) []
 
 -- a thread that has ended prints nothing
-abbrev pub standing_print : Tree → Standing → List ℕ
-standing_print tree (Live m) = print_in tree m
-standing_print tree (Ended e) = []
+abbrev pub status_print : Tree → ThreadStatus → List ℕ
+status_print tree (Live m) = print_in tree m
+status_print tree (Ended e) = []
 
 -- the bytes that an event prints: the line of a live thread's next instruction, else nothing
-abbrev pub next_print : Content → Event → List ℕ
-next_print c (Step t) = option_map_or (λ (x : Thread). standing_print c.tree x.standing) (slice_get c.threads t) []
+abbrev pub next_print : MachineState → Event → List ℕ
+next_print c (Step t) = option_map_or (λ (x : Thread). status_print c.tree x.thread_status) (slice_get c.threads t) []
 next_print c (Ack t) = []
 next_print c Gc = []

@@ -9,27 +9,27 @@ use Rattle.phase_handshake.specs.Handshakes.{Handshakes, seat_of}
 use Rattle.phase_handshake.specs.declared.posts.Seat.{Seat}
 use Rattle.threads_monitors.specs.Frames.{Frames}
 use Rattle.threads_monitors.specs.Threads.{end_of}
-use Rattle.threads_monitors.specs.declared.threads.Standing.TheVariants.{Live}
+use Rattle.threads_monitors.specs.declared.threads.ThreadStatus.TheVariants.{Live}
 use Rattle.threads_monitors.specs.declared.threads.Thread.{Thread}
 use Rattle.simulation.specs.interpreter.Instructions.{IsDone, Answer}
-use Rattle.simulation.specs.MachineContents.{Content, mutator_of}
-use Rattle.simulation.specs.StandsFor.{Represents}
-use Rattle.simulation.specs.Sound.{IsSound as IsSoundContent}
+use Rattle.simulation.specs.MachineStates.{MachineState, mutator_of}
+use Rattle.simulation.specs.Refines.{Represents}
+use Rattle.simulation.specs.Sound.{IsSound as IsSoundMachineState}
 use Rattle.simulation.specs.Ready.{IsReady, IsAnswerable}
 use Rattle.interleaving_core.specs.declared.engine.Engine.{Engine}
 
 -- the machine state of an engine
-abbrev pub content_of : Engine → Content
-content_of e = record { tree = e.program; limits = e.limits; threads = e.threads.items; posts = e.posts; progress = e.progress; objects = e.store.heap; statics = e.store.statics.items; printed = e.store.console.items }
+abbrev pub machine_state_of : Engine → MachineState
+machine_state_of e = record { tree = e.program; limits = e.limits; threads = e.threads.items; posts = e.posts; progress = e.progress; objects = e.store.heap; statics = e.store.statics.items; printed = e.store.console.items }
 
 -- the machine state is sound, each live thread is ready, and what its instruction asks of other threads can be answered
-pub record CanGoOn (e : Engine) : Type 0 where
+pub record CanContinue (e : Engine) : Type 0 where
   pub limits : IsTrue (are_in_range e.limits)
-  pub content : IsSoundContent (content_of e)
+  pub machine_state : IsSoundMachineState (machine_state_of e)
   pub statics : length e.store.statics.items < 2 ^ 32
-  pub ready : (t left : ℕ) (m : Frames) → slice_get e.threads.items t ≡ Some (record { standing = Live m; steps_left = left }) → IsReady (content_of e) t m
-  pub answerable : (t left : ℕ) (m : Frames) → slice_get e.threads.items t ≡ Some (record { standing = Live m; steps_left = left }) → (a : Answer) →
-      IsDone e.program (mutator_of (content_of e) t) m e.store.heap e.store.statics.items e.store.console.items a → IsAnswerable (content_of e) t left a a.outcome
+  pub ready : (t left : ℕ) (m : Frames) → slice_get e.threads.items t ≡ Some (record { thread_status = Live m; steps_left = left }) → IsReady (machine_state_of e) t m
+  pub answerable : (t left : ℕ) (m : Frames) → slice_get e.threads.items t ≡ Some (record { thread_status = Live m; steps_left = left }) → (a : Answer) →
+      IsDone e.program (mutator_of (machine_state_of e) t) m e.store.heap e.store.statics.items e.store.console.items a → IsAnswerable (machine_state_of e) t left a a.outcome
 
 -- how the thread of a number ended; none where it is live or was never started
 abbrev pub end_at : List Thread → ℕ → Option End
@@ -38,7 +38,7 @@ end_at threads n = option_and_then end_of (slice_get threads n)
 -- there are no more threads than there may be, and the machine state represents a state of the reference machine
 pub record IsSound (e : Engine) : Type 0 where
   pub state : State
-  pub represents : Represents (content_of e) state
+  pub represents : Represents (machine_state_of e) state
   pub few : length e.threads.items ≤ MOST_THREADS
 
 -- the phase that a live thread has acknowledged; none where it has ended or was never started

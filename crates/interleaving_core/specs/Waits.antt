@@ -15,12 +15,12 @@ use Rattle.object_memory.specs.Cells.{null}
 use Rattle.object_memory.specs.Objects.{Objects, monitor_at, object_slots}
 use Rattle.threads_monitors.specs.Frames.{Frames}
 use Rattle.threads_monitors.specs.Threads.{is_live_at, thread_on}
-use Rattle.threads_monitors.specs.declared.threads.Standing.{Standing}
-use Rattle.threads_monitors.specs.declared.threads.Standing.TheVariants.{Live, Ended}
+use Rattle.threads_monitors.specs.declared.threads.ThreadStatus.{ThreadStatus}
+use Rattle.threads_monitors.specs.declared.threads.ThreadStatus.TheVariants.{Live, Ended}
 use Rattle.threads_monitors.specs.declared.threads.Thread.{Thread}
 use Rattle.simulation.specs.interpreter.Calls.{class_at, top_reference}
 use Rattle.simulation.specs.interpreter.Instructions.{IsAt, line_at}
-use Rattle.simulation.specs.MachineContents.{Content}
+use Rattle.simulation.specs.MachineStates.{MachineState}
 use Rattle.interleaving_core.specs.declared.waits.Wait.{Wait}
 use Rattle.interleaving_core.specs.declared.waits.Wait.TheVariants.{Monitor, Join}
 
@@ -50,7 +50,7 @@ abbrev pub join_wait : List Thread → Objects → Addr → Option Wait
 join_wait threads o a = if a.number == 0 then None else option_and_then (end_awaited threads) (thread_on o a)
 
 -- what a thread waits for that is about to do this with the topmost value of its stack
-abbrev pub wait_by : Content → ℕ → Action → List Value → Option Wait
+abbrev pub wait_by : MachineState → ℕ → Action → List Value → Option Wait
 wait_by c t Enter stack = option_and_then (monitor_wait c.objects t) (top_reference stack)
 wait_by c t JoinAction stack = option_and_then (join_wait c.threads c.objects) (top_reference stack)
 wait_by c t _ stack = None
@@ -60,20 +60,20 @@ abbrev pub action_at : Tree → Frames → Option Action
 action_at tree m = option_and_then (λ (l : Line). called_action tree l.instruction) (line_at tree m)
 
 -- what a live thread with these frames waits for
-abbrev pub wait_in : Content → ℕ → Frames → Option Wait
+abbrev pub wait_in : MachineState → ℕ → Frames → Option Wait
 wait_in c t m = option_and_then (λ a. wait_by c t a m.running.stack) (action_at c.tree m)
 
 -- one that has ended waits for nothing
-abbrev pub standing_wait : Content → ℕ → Standing → Option Wait
-standing_wait c t (Live m) = wait_in c t m
-standing_wait c t (Ended e) = None
+abbrev pub status_wait : MachineState → ℕ → ThreadStatus → Option Wait
+status_wait c t (Live m) = wait_in c t m
+status_wait c t (Ended e) = None
 
 -- what the thread of a number waits for; none where its next step is not blocked, and where it is not live
-abbrev pub wait_at : Content → ℕ → Option Wait
-wait_at c t = option_and_then (λ (x : Thread). standing_wait c t x.standing) (slice_get c.threads t)
+abbrev pub wait_at : MachineState → ℕ → Option Wait
+wait_at c t = option_and_then (λ (x : Thread). status_wait c t x.thread_status) (slice_get c.threads t)
 
 -- what lies at the address that a frame is about to enter or to join, where it does that: a monitor, or the slot that identifies a thread
 pub record HasObject (tree : Tree) (o : Objects) (m : Frames) : Type 0 where
-  pub place : IsSome (line_at tree m)
+  pub pc : IsSome (line_at tree m)
   pub monitor : (op : Operation) → IsAt tree m op → action_at tree m ≡ Some Enter → (a : Addr) → top_reference m.running.stack ≡ Some a → a ≢ null → IsSome (monitor_at o a)
   pub slot : (op : Operation) → IsAt tree m op → action_at tree m ≡ Some JoinAction → (a : Addr) → top_reference m.running.stack ≡ Some a → a ≢ null → 0 < length (object_slots o a)

@@ -5,25 +5,25 @@ ghost use Rattle.threads_monitors.specs.Frames.{Frame};
 ghost use Rattle.object_memory.specs.Spaces.{IsThere, forward};
 ghost use Rattle.threads_monitors.specs.Roots.{frame_roots, frames_upward, roots, with_references};
 ghost use Rattle.simulation.specs.Collecting.{answers_round, flips_frames, with_flipped, with_roots_marked, with_thread_marked};
-ghost use Rattle.simulation.specs.Sound.{IsSound as IsSoundContent};
-ghost use Rattle.simulation.specs.Turns.{IsTurn};
+ghost use Rattle.simulation.specs.Sound.{IsSound as IsSoundMachineState};
+ghost use Rattle.simulation.specs.Transitions.{IsTransition};
 ghost use Rattle.cil_model.specs.declared.events.Event.TheVariants.{Ack as AckOf};
 ghost use Rattle.interleaving_core.specs.Acknowledging.{AreAllThere};
-ghost use Rattle.interleaving_core.specs.Views.{content_of};
+ghost use Rattle.interleaving_core.specs.Views.{machine_state_of};
 
 use crate::engine::Engine;
 use cil_model::phases::Phase;
 use cil_model::reports::Report;
 use object_memory::{Addr, Heap, Value};
 use simulation::collector_code::mark_values;
-use threads_monitors::{FrameMemory, Standing};
+use threads_monitors::{FrameMemory, ThreadStatus};
 
 impl Engine {
     /// An acknowledgement of a thread: of the posted phase, or else of the posted round, for which all is marked that its frames hold.
     /// With that of ThreadFlip its frames are flipped. Where neither is open to it, nothing changes.
     pub(crate) fn acknowledge(&mut self, thread: u8) -> Report
-        requires sound { IsSoundContent (content_of self.old) }
-        ensures { IsTurn (content_of self.old) (AckOf thread) (content_of self.new, result) }
+        requires sound { IsSoundMachineState (machine_state_of self.old) }
+        ensures { IsTransition (machine_state_of self.old) (AckOf thread) (machine_state_of self.new, result) }
     {
         if self.answers_round(thread) {
             self.mark_held(thread);
@@ -42,7 +42,7 @@ impl Engine {
 
     /// Whether an acknowledgement of the thread is one of a round of marking.
     fn answers_round(&self, thread: u8) -> bool
-        ensures { result ≡ answers_round (content_of self.now) thread }
+        ensures { result ≡ answers_round (machine_state_of self.now) thread }
     {
         match self.posts.seat(thread) {
             Some(seat) => {
@@ -57,7 +57,7 @@ impl Engine {
 
     /// Whether an acknowledgement of the thread is its flip.
     fn flips_frames(&self, thread: u8) -> bool
-        ensures { result ≡ flips_frames (content_of self.now) thread }
+        ensures { result ≡ flips_frames (machine_state_of self.now) thread }
     {
         match self.posts.seat(thread) {
             Some(seat) => {
@@ -67,37 +67,37 @@ impl Engine {
         }
     }
 
-    /// Puts the forward of each reference that the frames of a thread hold in its place. Nothing else changes.
+    /// Replaces each reference that the frames of a thread hold by its forward. Nothing else changes.
     fn flip_held(&mut self, thread: u8)
-        requires sound { IsSoundContent (content_of self.old) }
-        requires flips { flips_frames (content_of self.old) thread ≡ true }
-        ensures { content_of self.new ≡ record (content_of self.old) { threads = with_flipped self.old.store.heap self.old.threads.items thread (slice_get self.old.threads.items thread) } }
+        requires sound { IsSoundMachineState (machine_state_of self.old) }
+        requires flips { flips_frames (machine_state_of self.old) thread ≡ true }
+        ensures { machine_state_of self.new ≡ record (machine_state_of self.old) { threads = with_flipped self.old.store.heap self.old.threads.items thread (slice_get self.old.threads.items thread) } }
     {
         let heap = &self.store.heap;
         let Some(thread) = self.threads.get_mut(usize::from(thread)) else {
             return;
         };
-        if let Standing::Live(frames) = &mut thread.standing {
+        if let ThreadStatus::Live(frames) = &mut thread.thread_status {
             flip_frames(heap, frames);
         }
     }
 
     /// Marks what the frames of a thread that acknowledges a round hold. Nothing else changes.
     fn mark_held(&mut self, thread: u8)
-        requires sound { IsSoundContent (content_of self.old) }
-        requires answers { answers_round (content_of self.old) thread ≡ true }
-        ensures { content_of self.new ≡ record (content_of self.old) { objects = with_thread_marked self.old.store.heap (slice_get self.old.threads.items thread) } }
+        requires sound { IsSoundMachineState (machine_state_of self.old) }
+        requires answers { answers_round (machine_state_of self.old) thread ≡ true }
+        ensures { machine_state_of self.new ≡ record (machine_state_of self.old) { objects = with_thread_marked self.old.store.heap (slice_get self.old.threads.items thread) } }
     {
         let Some(thread) = self.threads.get(usize::from(thread)) else {
             return;
         };
-        if let Standing::Live(frames) = &thread.standing {
+        if let ThreadStatus::Live(frames) = &thread.thread_status {
             mark_frames(&mut self.store.heap, frames);
         }
     }
 }
 
-/// Puts the forward of each reference that frames hold in its place. Nothing else changes.
+/// Replaces each reference that frames hold by its forward. Nothing else changes.
 fn flip_frames(heap: &Heap, frames: &mut FrameMemory)
     requires there { AreAllThere heap.now (roots frames.old) }
     ensures { frames.new ≡ with_references (forward heap.now.spaces) frames.old }

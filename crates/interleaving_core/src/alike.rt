@@ -1,8 +1,8 @@
 //! Comparison of two machines of one program.
 
 ghost use Rattle.std.specs.Prelude.{◌≡◌, map, true};
-ghost use Rattle.interleaving_core.specs.Alike.{AreAlike, standing_of};
-ghost use Rattle.interleaving_core.specs.Views.{content_of};
+ghost use Rattle.interleaving_core.specs.Alike.{AreAlike, status_of};
+ghost use Rattle.interleaving_core.specs.Views.{machine_state_of};
 
 use crate::engine::Engine;
 use object_memory::Digest;
@@ -11,13 +11,16 @@ use threads_monitors::{Thread, are_same};
 
 /// Whether two lists of threads are equal except for the remaining steps. True only if they are.
 fn are_alike_threads(threads: &[Thread], others: &[Thread]) -> bool
-    ensures { result ≡ true → map standing_of threads.now ≡ map standing_of others.now }
+    ensures { result ≡ true → map status_of threads.now ≡ map status_of others.now }
 {
     if threads.len() != others.len() {
         return false;
     }
     for index in 0..threads.len() {
-        if !threads[index].standing.is_like(&others[index].standing) {
+        if !threads[index]
+            .thread_status
+            .is_like(&others[index].thread_status)
+        {
             return false;
         }
     }
@@ -48,9 +51,9 @@ fn is_same_progress(progress: Progress, other: Progress) -> bool
 
 /// Whether two machines of one program within the same limits differ in nothing but the remaining steps of threads. True only if so.
 pub(crate) fn are_alike(engine: &Engine, other: &Engine) -> bool
-    requires program { (content_of other.now).tree ≡ (content_of engine.now).tree }
+    requires program { (machine_state_of other.now).tree ≡ (machine_state_of engine.now).tree }
     requires limits { other.now.limits ≡ engine.now.limits }
-    ensures { result ≡ true → AreAlike (content_of engine.now) (content_of other.now) }
+    ensures { result ≡ true → AreAlike (machine_state_of engine.now) (machine_state_of other.now) }
 {
     engine.posts.is_like(&other.posts)
         && is_same_progress(engine.progress, other.progress)
@@ -71,7 +74,7 @@ pub(crate) fn digest_of(engine: &Engine) -> Digest {
         digest.add(u64::from(*byte));
     }
     for thread in &engine.threads {
-        thread.standing.digest(&mut digest);
+        thread.thread_status.digest(&mut digest);
     }
     digest
 }

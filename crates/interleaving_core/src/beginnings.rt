@@ -8,8 +8,8 @@ ghost use Rattle.simulation.specs.loaded_program.AllMethods.{all_methods};
 ghost use Rattle.simulation.specs.loaded_program.Prepared.{local_kinds};
 ghost use Rattle.object_memory.specs.declared.values.Value.{Value as AnyValue};
 ghost use Rattle.object_memory.specs.declared.values.Value.TheVariants.{Ref};
-ghost use Rattle.simulation.specs.MachineContents.{frame_room};
-ghost use Rattle.simulation.specs.Turns.{run_member, thread_at, thread_for};
+ghost use Rattle.simulation.specs.MachineStates.{frame_room};
+ghost use Rattle.simulation.specs.Transitions.{run_member, thread_at, thread_for};
 ghost use Rattle.simulation.specs.interpreter.Calls.{chosen_at};
 ghost use Rattle.threads_monitors.specs.Threads.{new_thread};
 
@@ -19,7 +19,7 @@ use name_tables::numbers::THREAD;
 use object_memory::{Addr, Heap};
 use simulation::interpreter_code::calls::class_number;
 use simulation::interpreter_code::loaded_code::LoadedProgram;
-use threads_monitors::Beginning;
+use threads_monitors::ThreadStart;
 
 /// How many values a frame may hold: arguments, locals, the stack, and a new object beneath the operands of its constructor.
 pub(crate) const FRAME_ROOM: usize = MOST_ARGUMENTS + MOST_LOCALS + MOST_STACK as usize + 1;
@@ -27,11 +27,11 @@ pub(crate) const FRAME_ROOM: usize = MOST_ARGUMENTS + MOST_LOCALS + MOST_STACK a
 /// `Cilvm.Thread`'s `Run` by number: its second method.
 const RUN: MemberNumber = MemberNumber {
     class: THREAD,
-    place: 1,
+    index: 1,
 };
 
 /// What a thread begins with that runs the method of a flat number first.
-pub(crate) fn beginning(program: &LoadedProgram, limits: Limits, method: u32) -> Beginning<'_>
+pub(crate) fn beginning(program: &LoadedProgram, limits: Limits, method: u32) -> ThreadStart<'_>
     requires there { IsSome (slice_get (all_methods program.now) method) }
     requires limits { are_in_range limits ≡ true }
     ensures depth { 0 < result.depth }
@@ -42,7 +42,7 @@ pub(crate) fn beginning(program: &LoadedProgram, limits: Limits, method: u32) ->
 {
     // For the prover alone: it brings in that the program is legal.
     let _legal = program.program().tree();
-    Beginning {
+    ThreadStart {
         method,
         locals: program.method(method).locals.as_slice(),
         depth: limits.depth as usize,
@@ -57,7 +57,7 @@ pub(crate) fn beginning_on<'a>(
     limits: Limits,
     heap: &Heap,
     object: Addr,
-) -> Beginning<'a>
+) -> ThreadStart<'a>
     requires limits { are_in_range limits ≡ true }
     requires there { IsSome (thread_for program.now limits heap.now object) }
     ensures depth { 0 < result.depth }

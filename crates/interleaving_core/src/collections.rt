@@ -7,10 +7,10 @@ ghost use Rattle.cil_model.specs.declared.phases.Phase.TheVariants.{Idle as Idle
 ghost use Rattle.cil_model.specs.declared.reports.Report.TheVariants.{Worked as WorkedOf};
 ghost use Rattle.reference_machine.specs.Cycles.{phase_after};
 ghost use Rattle.phase_handshake.specs.Handshakes.{all_seen};
-ghost use Rattle.simulation.specs.Collecting.{cycle_opened, mark_work, opening_words, rounds, with_next_phase, work};
-ghost use Rattle.simulation.specs.Sound.{IsSound as IsSoundContent};
-ghost use Rattle.simulation.specs.Turns.{IsTurn, TakesMemory};
-ghost use Rattle.interleaving_core.specs.Views.{content_of};
+ghost use Rattle.simulation.specs.Collecting.{cycle_opened, mark_work, initial_words, rounds, with_next_phase, work};
+ghost use Rattle.simulation.specs.Sound.{IsSound as IsSoundMachineState};
+ghost use Rattle.simulation.specs.Transitions.{IsTransition, TakesMemory};
+ghost use Rattle.interleaving_core.specs.Views.{machine_state_of};
 
 use crate::cycle_memory::CycleMemory;
 use crate::engine::Engine;
@@ -29,11 +29,11 @@ impl Engine {
     /// that opens a cycle can cause, changes nothing.
     pub(crate) fn collect(&mut self, alloc: Global) -> Result<Report, NoMemory>
         requires limits { are_in_range self.old.limits ≡ true }
-        requires sound { IsSoundContent (content_of self.old) }
+        requires sound { IsSoundMachineState (machine_state_of self.old) }
         requires few { length self.old.store.statics.items < 2 ^ 32 }
-        ensures turns { IfOk result (λ report. IsTurn (content_of self.old) GcOf (content_of self.new, report)) }
-        ensures memory { OnErr result (TakesMemory (content_of self.old) GcOf) }
-        ensures refused { OnErr result (content_of self.new ≡ content_of self.old) }
+        ensures transitions { IfOk result (λ report. IsTransition (machine_state_of self.old) GcOf (machine_state_of self.new, report)) }
+        ensures memory { OnErr result (TakesMemory (machine_state_of self.old) GcOf) }
+        ensures refused { OnErr result (machine_state_of self.new ≡ machine_state_of self.old) }
     {
         if !self.posts.all_seen() {
             return Ok(Report::Waiting);
@@ -55,13 +55,13 @@ impl Engine {
     /// the size that is needed, no smaller one is tried.
     fn open_cycle(&mut self, alloc: Global) -> Result<Report, NoMemory>
         requires limits { are_in_range self.old.limits ≡ true }
-        requires sound { IsSoundContent (content_of self.old) }
+        requires sound { IsSoundMachineState (machine_state_of self.old) }
         requires posted { self.old.posts.posted ≡ IdleOf }
         requires seen { all_seen self.old.posts ≡ true }
-        ensures opened { IfOk result (λ report. (content_of self.new ≡ cycle_opened (content_of self.old)) × (report ≡ WorkedOf)) }
-        ensures refused { OnErr result (content_of self.new ≡ content_of self.old) }
+        ensures opened { IfOk result (λ report. (machine_state_of self.new ≡ cycle_opened (machine_state_of self.old)) × (report ≡ WorkedOf)) }
+        ensures refused { OnErr result (machine_state_of self.new ≡ machine_state_of self.old) }
     {
-        let words = self.opening_words();
+        let words = self.initial_words();
         let (size, _) = self.sizes();
         let memory = CycleMemory::take_or_new(&mut self.spare, alloc, words, size / 3)?;
         let (block, grey) = memory.into_parts();
@@ -71,9 +71,9 @@ impl Engine {
 
     /// The words of the block that a cycle opens with: twice those of the only one where more than half of it is used, within the limit;
     /// else the same number.
-    fn opening_words(&self) -> usize
-        requires sound { IsSoundContent (content_of self.now) }
-        ensures { result ≡ opening_words (content_of self.now) }
+    fn initial_words(&self) -> usize
+        requires sound { IsSoundMachineState (machine_state_of self.now) }
+        ensures { result ≡ initial_words (machine_state_of self.now) }
     {
         let (words, _) = self.sizes();
         let (used, _) = self.store.heap.used_words();
@@ -86,7 +86,7 @@ impl Engine {
 
     /// The words of the old space, or the only one, and of the new one: 0 where there is none.
     pub(crate) fn sizes(&self) -> (usize, usize)
-        requires sound { IsSoundContent (content_of self.now) }
+        requires sound { IsSoundMachineState (machine_state_of self.now) }
         ensures sizes { result ≡ (self.now.store.heap.spaces.old.words, self.now.store.heap.spaces.new.words) }
         ensures few { (result.0 ≤ MOST_WORDS) × (result.1 ≤ MOST_WORDS) }
     {
@@ -99,7 +99,7 @@ impl Engine {
     fn post(&mut self, phase: Phase) -> Report
         requires next { phase ≡ phase_after self.old.posts.posted }
         requires seen { IsTrue (all_seen self.old.posts) }
-        ensures after { content_of self.new ≡ with_next_phase (content_of self.old) }
+        ensures after { machine_state_of self.new ≡ with_next_phase (machine_state_of self.old) }
         ensures report { result ≡ WorkedOf }
     {
         self.posts.post(phase);
@@ -109,10 +109,10 @@ impl Engine {
 
     /// A step of Mark: the static fields are scanned, then the grey objects word by word, and then come rounds.
     fn mark_on(&mut self) -> Report
-        requires sound { IsSoundContent (content_of self.old) }
+        requires sound { IsSoundMachineState (machine_state_of self.old) }
         requires posted { self.old.posts.posted ≡ MarkOf }
         requires seen { all_seen self.old.posts ≡ true }
-        ensures { (content_of self.new, result) ≡ mark_work (content_of self.old) }
+        ensures { (machine_state_of self.new, result) ≡ mark_work (machine_state_of self.old) }
     {
         if !self.progress.scanned_statics {
             scan_statics(
@@ -136,7 +136,7 @@ impl Engine {
     fn end_round(&mut self) -> Report
         requires posted { self.old.posts.posted ≡ MarkOf }
         requires seen { all_seen self.old.posts ≡ true }
-        ensures { (content_of self.new, result) ≡ rounds (content_of self.old) }
+        ensures { (machine_state_of self.new, result) ≡ rounds (machine_state_of self.old) }
     {
         if is_closed(&self.progress, &self.store.heap, &self.posts) {
             return self.post(Phase::Allocate);
@@ -151,10 +151,10 @@ impl Engine {
 
     /// A step of Allocate: the next old object is looked at, and gets its other copy if it is marked.
     fn look_on(&mut self) -> Report
-        requires sound { IsSoundContent (content_of self.old) }
+        requires sound { IsSoundMachineState (machine_state_of self.old) }
         requires posted { self.old.posts.posted ≡ AllocateOf }
         requires seen { all_seen self.old.posts ≡ true }
-        ensures { (content_of self.new, result) ≡ work AllocateOf (content_of self.old) }
+        ensures { (machine_state_of self.new, result) ≡ work AllocateOf (machine_state_of self.old) }
     {
         if shell_step(&mut self.progress, &mut self.store.heap) {
             return Report::Worked;
@@ -164,10 +164,10 @@ impl Engine {
 
     /// A step of Copy: the next word of an object with two copies is copied.
     fn copy_on(&mut self) -> Report
-        requires sound { IsSoundContent (content_of self.old) }
+        requires sound { IsSoundMachineState (machine_state_of self.old) }
         requires posted { self.old.posts.posted ≡ CopyOf }
         requires seen { all_seen self.old.posts ≡ true }
-        ensures { (content_of self.new, result) ≡ work CopyOf (content_of self.old) }
+        ensures { (machine_state_of self.new, result) ≡ work CopyOf (machine_state_of self.old) }
     {
         if copy_step(
             &mut self.progress,
@@ -181,11 +181,11 @@ impl Engine {
 
     /// A step of HeapFlip: the next static field gets the forward of what it holds.
     fn flip_on(&mut self) -> Report
-        requires sound { IsSoundContent (content_of self.old) }
+        requires sound { IsSoundMachineState (machine_state_of self.old) }
         requires few { length self.old.store.statics.items < 2 ^ 32 }
         requires posted { self.old.posts.posted ≡ HeapFlipOf }
         requires seen { all_seen self.old.posts ≡ true }
-        ensures { (content_of self.new, result) ≡ work HeapFlipOf (content_of self.old) }
+        ensures { (machine_state_of self.new, result) ≡ work HeapFlipOf (machine_state_of self.old) }
     {
         if flip_static_step(
             &mut self.progress,
@@ -200,10 +200,10 @@ impl Engine {
     /// A step of Reclaim: the next object of the new space loses its mark and its other copy. Where none has any, the old space is
     /// retired, and the cycle is over: its block, with no word in use, is kept for the next cycle.
     fn clear_on(&mut self) -> Report
-        requires sound { IsSoundContent (content_of self.old) }
+        requires sound { IsSoundMachineState (machine_state_of self.old) }
         requires posted { self.old.posts.posted ≡ ReclaimOf }
         requires seen { all_seen self.old.posts ≡ true }
-        ensures { (content_of self.new, result) ≡ work ReclaimOf (content_of self.old) }
+        ensures { (machine_state_of self.new, result) ≡ work ReclaimOf (machine_state_of self.old) }
     {
         if clear_step(&mut self.progress, &mut self.store.heap) {
             return Report::Worked;

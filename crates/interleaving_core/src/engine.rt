@@ -13,10 +13,10 @@ ghost use Rattle.threads_monitors.specs.Frames.{Frames};
 ghost use Rattle.threads_monitors.specs.Threads.{is_live, is_live_at, start_fault};
 ghost use Rattle.simulation.specs.interpreter.declared.outcomes.Outcome.TheVariants.{Starts as StartsOn, Joins as JoinsOn};
 ghost use Rattle.simulation.specs.interpreter.Instructions.{Prints};
-ghost use Rattle.simulation.specs.MachineContents.{mutator_of};
+ghost use Rattle.simulation.specs.MachineStates.{mutator_of};
 ghost use Rattle.simulation.specs.Ready.{CanFinish};
-ghost use Rattle.simulation.specs.Turns.{IsTurn, TakesMemory, answered, counted, finish, live_thread, opening_content, seated, started, thread_for};
-ghost use Rattle.interleaving_core.specs.Views.{CanGoOn, content_of, end_at};
+ghost use Rattle.simulation.specs.Transitions.{IsTransition, TakesMemory, answer_step, count_step, finish, live_thread, initial_machine_state, seat_thread, start_thread, thread_for};
+ghost use Rattle.interleaving_core.specs.Views.{CanContinue, machine_state_of, end_at};
 ghost use Rattle.interleaving_core.specs.Monitors.{next_monitor};
 ghost use Rattle.interleaving_core.specs.Positions.{position_at};
 ghost use Rattle.interleaving_core.specs.Prints.{next_print};
@@ -25,8 +25,8 @@ ghost use Rattle.interleaving_core.specs.Finishing.{IsInstructed};
 
 use crate::beginnings::beginning_on;
 use crate::cycle_memory::CycleMemory;
+use crate::initial_states::{initial_parts, reset_heap};
 use crate::monitors::monitor_in;
-use crate::openings::{opening_parts, reset_heap};
 use crate::positions::{Position, position_in};
 use crate::prints::print_length_in;
 use crate::steps::{answer, instruct, leave_if_ended, seat_started};
@@ -42,7 +42,7 @@ use simulation::interpreter_code::loaded_code::LoadedProgram;
 use simulation::interpreter_code::outcomes::Outcome;
 use simulation::interpreter_code::stores::Store;
 use std::alloc::Global;
-use threads_monitors::{Effect, Mutator, Standing, Thread, join, start, start_fault};
+use threads_monitors::{Effect, Mutator, Thread, ThreadStatus, join, start, start_fault};
 
 /// A program, and all that changes while it runs: its threads, what a collector has posted and how far it is, and what instructions work on.
 pub struct Engine {
@@ -56,7 +56,7 @@ pub struct Engine {
     pub spare: Option<CycleMemory>,
 }
 
-/// Each part gives back its own.
+/// Each part is dropped.
 impl Drop for Engine {
     fn drop(self) {
         let Engine {
@@ -75,10 +75,10 @@ impl Engine {
     /// What an event does. Running out of memory, which only a print, a start or the opening of a cycle can cause, changes nothing.
     #[inline(always)]
     pub fn step(&mut self, alloc: Global, event: Event) -> Result<Report, NoMemory>
-        requires ready { CanGoOn self.old }
-        ensures turns { IfOk result (λ report. IsTurn (content_of self.old) event (content_of self.new, report)) }
-        ensures memory { OnErr result (TakesMemory (content_of self.old) event) }
-        ensures refused { OnErr result (content_of self.new ≡ content_of self.old) }
+        requires ready { CanContinue self.old }
+        ensures transitions { IfOk result (λ report. IsTransition (machine_state_of self.old) event (machine_state_of self.new, report)) }
+        ensures memory { OnErr result (TakesMemory (machine_state_of self.old) event) }
+        ensures refused { OnErr result (machine_state_of self.new ≡ machine_state_of self.old) }
     {
         match event {
             Event::Step(thread) if self.is_live(thread) => self.step_thread(alloc, thread),
@@ -92,11 +92,11 @@ impl Engine {
     /// first thread, the static fields or a block; nothing is changed then.
     pub fn reopen(&mut self, alloc: Global) -> Result<(), NoMemory>
         requires limits { are_in_range self.old.limits ≡ true }
-        ensures begins { OnOk result (opening_content self.old.program self.old.limits ≡ Some (content_of self.new)) }
+        ensures begins { OnOk result (initial_machine_state self.old.program self.old.limits ≡ Some (machine_state_of self.new)) }
         ensures alone { OnOk result (length self.new.threads.items ≡ 1) }
-        ensures refused { OnErr result (content_of self.new ≡ content_of self.old) }
+        ensures refused { OnErr result (machine_state_of self.new ≡ machine_state_of self.old) }
     {
-        let (threads, statics) = opening_parts(alloc, &self.program, self.limits)?;
+        let (threads, statics) = initial_parts(alloc, &self.program, self.limits)?;
         let literals = self.program.program().literals().len();
         reset_heap(&mut self.store.heap, alloc, self.limits.words, literals)?;
         self.store.statics = statics;
@@ -109,23 +109,23 @@ impl Engine {
 
     /// A step of a live thread.
     fn step_thread(&mut self, alloc: Global, number: u8) -> Result<Report, NoMemory>
-        requires ready { CanGoOn self.old }
+        requires ready { CanContinue self.old }
         requires live { is_live_at self.old.threads.items number ≡ true }
-        ensures turns { IfOk result (λ report. IsTurn (content_of self.old) (StepOf number) (content_of self.new, report)) }
-        ensures memory { OnErr result (TakesMemory (content_of self.old) (StepOf number)) }
-        ensures refused { OnErr result (content_of self.new ≡ content_of self.old) }
+        ensures transitions { IfOk result (λ report. IsTransition (machine_state_of self.old) (StepOf number) (machine_state_of self.new, report)) }
+        ensures memory { OnErr result (TakesMemory (machine_state_of self.old) (StepOf number)) }
+        ensures refused { OnErr result (machine_state_of self.new ≡ machine_state_of self.old) }
     {
         let outcome = self.instruct(number)?;
         self.finish(alloc, number, outcome)
     }
 
-    /// The instruction at a live thread's place, whose step isn't counted yet.
+    /// The instruction at a live thread's pc, whose step isn't counted yet.
     fn instruct(&mut self, number: u8) -> Result<Outcome, NoMemory>
-        requires ready { CanGoOn self.old }
+        requires ready { CanContinue self.old }
         requires live { is_live_at self.old.threads.items number ≡ true }
-        ensures instructed { IfOk result (λ outcome. IsInstructed (content_of self.old) number outcome (content_of self.new)) }
-        ensures prints { OnErr result ((left : ℕ) (m : Frames) → slice_get self.old.threads.items number ≡ Some (live_thread left m) → Prints self.old.program (mutator_of (content_of self.old) number) m self.old.store.heap self.old.store.statics.items self.old.store.console.items) }
-        ensures refused { OnErr result (content_of self.new ≡ content_of self.old) }
+        ensures instructed { IfOk result (λ outcome. IsInstructed (machine_state_of self.old) number outcome (machine_state_of self.new)) }
+        ensures prints { OnErr result ((left : ℕ) (m : Frames) → slice_get self.old.threads.items number ≡ Some (live_thread left m) → Prints self.old.program (mutator_of (machine_state_of self.old) number) m self.old.store.heap self.old.store.statics.items self.old.store.console.items) }
+        ensures refused { OnErr result (machine_state_of self.new ≡ machine_state_of self.old) }
     {
         instruct(
             &mut self.threads[usize::from(number)],
@@ -138,17 +138,17 @@ impl Engine {
         )
     }
 
-    /// Counts the step of a live thread whose instruction came to this, and reports it. A start alone can be refused.
+    /// Counts the step of a live thread whose instruction had this outcome, and reports it. A start alone can be refused.
     fn finish(&mut self, alloc: Global, number: u8, outcome: Outcome) -> Result<Report, NoMemory>
         requires limits { are_in_range self.old.limits ≡ true }
         requires live { is_live_at self.old.threads.items number ≡ true }
-        requires can { (left : ℕ) (m : Frames) → slice_get self.old.threads.items number ≡ Some (live_thread left m) → CanFinish (content_of self.old) number m outcome }
-        ensures finished { IfOk result (λ report. (left : ℕ) (m : Frames) → slice_get self.old.threads.items number ≡ Some (live_thread left m) → finish (content_of self.old) number left m outcome ≡ Some (content_of self.new, report)) }
+        requires can { (left : ℕ) (m : Frames) → slice_get self.old.threads.items number ≡ Some (live_thread left m) → CanFinish (machine_state_of self.old) number m outcome }
+        ensures finished { IfOk result (λ report. (left : ℕ) (m : Frames) → slice_get self.old.threads.items number ≡ Some (live_thread left m) → finish (machine_state_of self.old) number left m outcome ≡ Some (machine_state_of self.new, report)) }
         ensures free { OnErr result ((object : AnyAddr) × (outcome ≡ StartsOn object) × (start_fault self.old.threads.items self.old.store.heap object ≡ None)) }
-        ensures refused { OnErr result ((object : AnyAddr) × (outcome ≡ StartsOn object) × (content_of self.new ≡ content_of self.old)) }
+        ensures refused { OnErr result ((object : AnyAddr) × (outcome ≡ StartsOn object) × (machine_state_of self.new ≡ machine_state_of self.old)) }
     {
         match outcome {
-            Outcome::Comes(effect) => Ok(self.settle(number, effect)),
+            Outcome::Comes(effect) => Ok(self.charge_step(number, effect)),
             Outcome::Starts(object) => self.finish_start(alloc, number, object),
             Outcome::Joins(object) => Ok(self.finish_join(number, object)),
         }
@@ -158,10 +158,10 @@ impl Engine {
     fn finish_start(&mut self, alloc: Global, number: u8, object: Addr) -> Result<Report, NoMemory>
         requires limits { are_in_range self.old.limits ≡ true }
         requires live { is_live_at self.old.threads.items number ≡ true }
-        requires can { (left : ℕ) (m : Frames) → slice_get self.old.threads.items number ≡ Some (live_thread left m) → CanFinish (content_of self.old) number m (StartsOn object) }
-        ensures finished { IfOk result (λ report. (left : ℕ) (m : Frames) → slice_get self.old.threads.items number ≡ Some (live_thread left m) → finish (content_of self.old) number left m (StartsOn object) ≡ Some (content_of self.new, report)) }
+        requires can { (left : ℕ) (m : Frames) → slice_get self.old.threads.items number ≡ Some (live_thread left m) → CanFinish (machine_state_of self.old) number m (StartsOn object) }
+        ensures finished { IfOk result (λ report. (left : ℕ) (m : Frames) → slice_get self.old.threads.items number ≡ Some (live_thread left m) → finish (machine_state_of self.old) number left m (StartsOn object) ≡ Some (machine_state_of self.new, report)) }
         ensures free { OnErr result (start_fault self.old.threads.items self.old.store.heap object ≡ None) }
-        ensures refused { OnErr result (content_of self.new ≡ content_of self.old) }
+        ensures refused { OnErr result (machine_state_of self.new ≡ machine_state_of self.old) }
     {
         let effect = self.start(alloc, number, object)?;
         Ok(self.answer(number, effect))
@@ -170,19 +170,19 @@ impl Engine {
     /// Counts the step of a live thread that asked for the end of another, and reports it.
     fn finish_join(&mut self, number: u8, object: Addr) -> Report
         requires live { is_live_at self.old.threads.items number ≡ true }
-        requires can { (left : ℕ) (m : Frames) → slice_get self.old.threads.items number ≡ Some (live_thread left m) → CanFinish (content_of self.old) number m (JoinsOn object) }
-        ensures { (left : ℕ) (m : Frames) → slice_get self.old.threads.items number ≡ Some (live_thread left m) → finish (content_of self.old) number left m (JoinsOn object) ≡ Some (content_of self.new, result) }
+        requires can { (left : ℕ) (m : Frames) → slice_get self.old.threads.items number ≡ Some (live_thread left m) → CanFinish (machine_state_of self.old) number m (JoinsOn object) }
+        ensures { (left : ℕ) (m : Frames) → slice_get self.old.threads.items number ≡ Some (live_thread left m) → finish (machine_state_of self.old) number left m (JoinsOn object) ≡ Some (machine_state_of self.new, result) }
     {
         let effect = join(&self.threads, &self.store.heap, object);
         self.answer(number, effect)
     }
 
-    /// Counts a step of a live thread whose instruction came to this for the thread itself, and reports it.
-    fn settle(&mut self, number: u8, effect: Effect) -> Report
+    /// Counts a step of a live thread whose instruction had this effect for the thread itself, and reports it.
+    fn charge_step(&mut self, number: u8, effect: Effect) -> Report
         requires live { is_live_at self.old.threads.items number ≡ true }
-        ensures { (left : ℕ) (m : Frames) → slice_get self.old.threads.items number ≡ Some (live_thread left m) → counted (content_of self.old) number left effect m ≡ (content_of self.new, result) }
+        ensures { (left : ℕ) (m : Frames) → slice_get self.old.threads.items number ≡ Some (live_thread left m) → count_step (machine_state_of self.old) number left effect m ≡ (machine_state_of self.new, result) }
     {
-        let report = self.threads[usize::from(number)].settle(effect);
+        let report = self.threads[usize::from(number)].charge_step(effect);
         leave_if_ended(&mut self.posts, number, report);
         report
     }
@@ -191,8 +191,8 @@ impl Engine {
     fn answer(&mut self, number: u8, effect: Effect) -> Report
         requires live { is_live_at self.old.threads.items number ≡ true }
         requires operand { (left : ℕ) (m : Frames) → slice_get self.old.threads.items number ≡ Some (live_thread left m) → 0 < length m.running.stack }
-        requires behind { (left : ℕ) (m : Frames) → slice_get self.old.threads.items number ≡ Some (live_thread left m) → m.running.place < MOST_INSTRUCTIONS }
-        ensures { (left : ℕ) (m : Frames) → slice_get self.old.threads.items number ≡ Some (live_thread left m) → answered (content_of self.old) number left m effect ≡ (content_of self.new, result) }
+        requires following { (left : ℕ) (m : Frames) → slice_get self.old.threads.items number ≡ Some (live_thread left m) → m.running.pc < MOST_INSTRUCTIONS }
+        ensures { (left : ℕ) (m : Frames) → slice_get self.old.threads.items number ≡ Some (live_thread left m) → answer_step (machine_state_of self.old) number left m effect ≡ (machine_state_of self.new, result) }
     {
         let report = answer(&mut self.threads[usize::from(number)], effect);
         leave_if_ended(&mut self.posts, number, report);
@@ -204,12 +204,12 @@ impl Engine {
     fn start(&mut self, alloc: Global, starter: u8, object: Addr) -> Result<Effect, NoMemory>
         requires limits { are_in_range self.old.limits ≡ true }
         requires slot { object ≢ null → 0 < length (object_slots self.old.store.heap object) }
-        requires ready { object ≢ null → is_word_storable (mutator_of (content_of self.old) starter).phase self.old.store.heap object 0 ≡ true }
+        requires ready { object ≢ null → is_word_storable (mutator_of (machine_state_of self.old) starter).phase self.old.store.heap object 0 ≡ true }
         requires there { start_fault self.old.threads.items self.old.store.heap object ≡ None → IsSome (thread_for self.old.program self.old.limits self.old.store.heap object) }
-        ensures started { IfOk result (λ effect. Some (self.new.threads.items, self.new.store.heap, effect) ≡ started (mutator_of (content_of self.old) starter).phase self.old.program self.old.limits self.old.threads.items self.old.store.heap object) }
-        ensures others { IfOk result (λ effect. content_of self.new ≡ record (content_of self.old) { threads = self.new.threads.items; posts = seated effect (content_of self.old).posts (length self.old.threads.items) starter; objects = self.new.store.heap }) }
+        ensures started { IfOk result (λ effect. Some (self.new.threads.items, self.new.store.heap, effect) ≡ start_thread (mutator_of (machine_state_of self.old) starter).phase self.old.program self.old.limits self.old.threads.items self.old.store.heap object) }
+        ensures others { IfOk result (λ effect. machine_state_of self.new ≡ record (machine_state_of self.old) { threads = self.new.threads.items; posts = seat_thread effect (machine_state_of self.old).posts (length self.old.threads.items) starter; objects = self.new.store.heap }) }
         ensures free { OnErr result (start_fault self.old.threads.items self.old.store.heap object ≡ None) }
-        ensures refused { OnErr result (content_of self.new ≡ content_of self.old) }
+        ensures refused { OnErr result (machine_state_of self.new ≡ machine_state_of self.old) }
     {
         if let Some(fault) = start_fault(&self.threads, &self.store.heap, object) {
             return Ok(Effect::Raises(fault));
@@ -253,37 +253,37 @@ impl Engine {
     pub fn position_of(&self, thread: u8) -> Option<Position>
         ensures { result ≡ position_at self.now.threads.items thread }
     {
-        position_in(&self.thread(thread)?.standing)
+        position_in(&self.thread(thread)?.thread_status)
     }
 
     /// What the thread waits for. None where its next step is not blocked, and where it has ended or was never started.
     pub fn wait_of(&self, thread: u8) -> Option<Wait>
-        requires ready { CanGoOn self.now }
+        requires ready { CanContinue self.now }
         requires few { length self.now.threads.items ≤ MOST_THREADS }
-        ensures { result ≡ wait_at (content_of self.now) thread }
+        ensures { result ≡ wait_at (machine_state_of self.now) thread }
     {
-        match &self.thread(thread)?.standing {
-            Standing::Live(frames) => wait_in(self, thread, frames),
-            Standing::Ended(_) => None,
+        match &self.thread(thread)?.thread_status {
+            ThreadStatus::Live(frames) => wait_in(self, thread, frames),
+            ThreadStatus::Ended(_) => None,
         }
     }
 
     /// The object whose monitor the thread's next instruction is for. None where it is for none, and where the thread has ended or was
     /// never started.
     pub fn monitor_of(&self, thread: u8) -> Option<Addr>
-        requires ready { CanGoOn self.now }
-        ensures { result ≡ next_monitor (content_of self.now) thread }
+        requires ready { CanContinue self.now }
+        ensures { result ≡ next_monitor (machine_state_of self.now) thread }
     {
-        match &self.thread(thread)?.standing {
-            Standing::Live(frames) => monitor_in(&self.program, frames),
-            Standing::Ended(_) => None,
+        match &self.thread(thread)?.thread_status {
+            ThreadStatus::Live(frames) => monitor_in(&self.program, frames),
+            ThreadStatus::Ended(_) => None,
         }
     }
 
     /// How many bytes an event prints.
     pub fn print_length(&self, event: Event) -> usize
-        requires ready { CanGoOn self.now }
-        ensures { result ≡ length (next_print (content_of self.now) event) }
+        requires ready { CanContinue self.now }
+        ensures { result ≡ length (next_print (machine_state_of self.now) event) }
     {
         match event {
             Event::Step(number) => self.thread_print_length(number),
@@ -293,15 +293,15 @@ impl Engine {
 
     /// How many bytes the next step of the thread prints. 0 where it has ended or was never started.
     fn thread_print_length(&self, number: u8) -> usize
-        requires ready { CanGoOn self.now }
-        ensures { result ≡ length (next_print (content_of self.now) (StepOf number)) }
+        requires ready { CanContinue self.now }
+        ensures { result ≡ length (next_print (machine_state_of self.now) (StepOf number)) }
     {
         let Some(thread) = self.thread(number) else {
             return 0;
         };
-        match &thread.standing {
-            Standing::Live(frames) => print_length_in(&self.program, frames),
-            Standing::Ended(_) => 0,
+        match &thread.thread_status {
+            ThreadStatus::Live(frames) => print_length_in(&self.program, frames),
+            ThreadStatus::Ended(_) => 0,
         }
     }
 

@@ -5,9 +5,9 @@ ghost use Rattle.cil_model.specs.declared.phases.Phase.TheVariants.{Copy as Copy
 ghost use Rattle.object_memory.specs.Cells.{cell_in};
 ghost use Rattle.object_memory.specs.Spaces.{AreSpaces, forward};
 ghost use Rattle.simulation.specs.instructions.barriers.Barriers.{are_same};
-ghost use Rattle.simulation.specs.Sound.{IsSound as IsSoundContent};
+ghost use Rattle.simulation.specs.Sound.{IsSound as IsSoundMachineState};
 ghost use Rattle.interleaving_core.specs.Forwards.{forwarded};
-ghost use Rattle.interleaving_core.specs.Views.{content_of};
+ghost use Rattle.interleaving_core.specs.Views.{machine_state_of};
 
 use crate::engine::Engine;
 use object_memory::{Addr, Heap};
@@ -15,7 +15,7 @@ use object_memory::{Addr, Heap};
 impl Engine {
     /// The forward of any address: that of the new copy where an old object with two copies lies there, else the address itself.
     fn forward_of(&self, address: Addr) -> Addr
-        requires sound { IsSoundContent (content_of self.now) }
+        requires sound { IsSoundMachineState (machine_state_of self.now) }
         ensures { result ≡ forward self.now.store.heap.spaces address }
     {
         let heap = &self.store.heap;
@@ -28,7 +28,7 @@ impl Engine {
 
     /// The forward of an address where it is that of a literal or of an object of the new space. None of any other.
     pub(crate) fn forwarded(&self, address: Addr) -> Option<Addr>
-        requires sound { IsSoundContent (content_of self.now) }
+        requires sound { IsSoundMachineState (machine_state_of self.now) }
         ensures { result ≡ forwarded self.now.store.heap address }
     {
         let forward = self.forward_of(address);
@@ -41,7 +41,7 @@ impl Engine {
 
     /// Whether two addresses are equal or those of the two copies of one object.
     pub(crate) fn is_same(&self, first: Addr, second: Addr) -> bool
-        requires sound { IsSoundContent (content_of self.now) }
+        requires sound { IsSoundMachineState (machine_state_of self.now) }
         ensures { result ≡ are_same CopyOf self.now.store.heap first second }
     {
         first == second || self.forward_of(first) == self.forward_of(second)
@@ -53,12 +53,12 @@ fn is_in_old(heap: &Heap, address: Addr) -> bool
     requires { AreSpaces heap.now.spaces }
     ensures { result ≡ is_some (cell_in heap.now.spaces.old address) }
 {
-    let mut place = 0;
-    while let Some(object) = heap.old_at(place) {
+    let mut offset = 0;
+    while let Some(object) = heap.old_at(offset) {
         if object == address {
             return true;
         }
-        place += heap.size(object);
+        offset += heap.size(object);
     }
     false
 }
@@ -68,12 +68,12 @@ fn is_in_new(heap: &Heap, address: Addr) -> bool
     requires { AreSpaces heap.now.spaces }
     ensures { result ≡ is_some (cell_in heap.now.spaces.new address) }
 {
-    let mut place = 0;
-    while let Some(object) = heap.new_at(place) {
+    let mut offset = 0;
+    while let Some(object) = heap.new_at(offset) {
         if object == address {
             return true;
         }
-        place += heap.size(object);
+        offset += heap.size(object);
     }
     false
 }

@@ -5,10 +5,10 @@ ghost use Rattle.threads_monitors.specs.Frames.{Frame, Frames, with_running};
 ghost use Rattle.simulation.specs.interpreter.Local.{AreLocalSteps, IsNextLocal, IsReadySomewhere, alone, frames_over};
 ghost use Rattle.threads_monitors.specs.Threads.{is_live_at};
 ghost use Rattle.simulation.specs.Lending.{with_live};
-ghost use Rattle.interleaving_core.specs.Views.{content_of};
-ghost use Rattle.simulation.specs.MachineContents.{frame_room};
-ghost use Rattle.simulation.specs.Turns.{live_thread};
-ghost use Rattle.interleaving_core.specs.Loans.{Begins, CanGoOnLocally, IsAlone, IsAtOrigin, IsLent, RanLocally};
+ghost use Rattle.interleaving_core.specs.Views.{machine_state_of};
+ghost use Rattle.simulation.specs.MachineStates.{frame_room};
+ghost use Rattle.simulation.specs.Transitions.{live_thread};
+ghost use Rattle.interleaving_core.specs.Loans.{Begins, CanContinueLocally, IsAlone, IsAtOrigin, IsLent, RanLocally};
 
 use crate::beginnings::FRAME_ROOM;
 use crate::engine::Engine;
@@ -17,7 +17,7 @@ use simulation::interpreter_code::loaded_code::LoadedProgram;
 use simulation::interpreter_code::local_runs::{is_next_local, run_local};
 use std::alloc::{AllocError, Global};
 use std::marker::Model;
-use threads_monitors::{FrameMemory, Standing, Thread};
+use threads_monitors::{FrameMemory, Thread, ThreadStatus};
 
 /// A share of the program, and memory for two frames.
 struct Rooms {
@@ -26,7 +26,7 @@ struct Rooms {
     frame: FrameMemory,
 }
 
-/// Each part gives back its own.
+/// Each part is dropped.
 impl Drop for Rooms {
     fn drop(self) {
         let Rooms {
@@ -71,7 +71,7 @@ pub struct Loan {
     done: u32,
 }
 
-/// Each part gives back its own.
+/// Each part is dropped.
 impl Drop for Loan {
     fn drop(self) {
         let Loan {
@@ -121,7 +121,7 @@ impl LoanRoom {
     pub(crate) fn fill(self, frames: &FrameMemory, thread: u8, left: u32) -> Loan
         requires room { frames.now.room ≡ frame_room }
         requires some { 0 < left }
-        requires ready { CanGoOnLocally self left frames.now.running }
+        requires ready { CanContinueLocally self left frames.now.running }
         ensures { result ≡ record { tree = self; thread = thread; left = left; origin = frames.now.running; frame = frames.now.running; done = 0 } }
     {
         let LoanRoom { mut rooms } = self;
@@ -189,11 +189,11 @@ impl Loan {
         ensures yes { IsTrue result → (m : Frames) × (thread.now ≡ live_thread self.now.left m) × (m.running ≡ self.now.origin) }
         ensures no { (m : Frames) → thread.now ≡ live_thread self.now.left m → m.running ≡ self.now.origin → IsTrue result }
     {
-        match &thread.standing {
-            Standing::Live(frames) => {
+        match &thread.thread_status {
+            ThreadStatus::Live(frames) => {
                 thread.steps_left == self.left && frames.runs_same(&self.rooms.origin)
             }
-            Standing::Ended(_) => false,
+            ThreadStatus::Ended(_) => false,
         }
     }
 
@@ -202,7 +202,7 @@ impl Loan {
         requires { (m : Frames) × (thread.old ≡ live_thread self.now.left m) × (m.room ≡ frame_room) }
         ensures { (m : Frames) → thread.old ≡ live_thread self.now.left m → thread.new ≡ live_thread (self.now.left - self.now.done) (with_running m self.now.frame) }
     {
-        let Standing::Live(frames) = &mut thread.standing else {
+        let ThreadStatus::Live(frames) = &mut thread.thread_status else {
             unreachable!()
         };
         frames.set_running(&self.rooms.frame);
@@ -218,9 +218,9 @@ impl Engine {
         ensures others { is_live_at self.now.threads.items thread ≡ false → result ≡ false }
     {
         match self.thread(thread) {
-            Some(theirs) => match &theirs.standing {
-                Standing::Live(frames) => is_next_local(&self.program, frames),
-                Standing::Ended(_) => false,
+            Some(theirs) => match &theirs.thread_status {
+                ThreadStatus::Live(frames) => is_next_local(&self.program, frames),
+                ThreadStatus::Ended(_) => false,
             },
             None => false,
         }
@@ -230,22 +230,22 @@ impl Engine {
     pub(crate) fn lend(&self, thread: u8, room: LoanRoom) -> Loan
         requires live { is_live_at self.now.threads.items thread ≡ true }
         requires tree { room ≡ self.now.program }
-        requires ready { (left : ℕ) (m : Frames) → slice_get self.now.threads.items thread ≡ Some (live_thread left m) → (m.room ≡ frame_room) × (0 < left) × CanGoOnLocally self.now.program left m.running }
-        ensures { Begins (content_of self.now) thread result }
+        requires ready { (left : ℕ) (m : Frames) → slice_get self.now.threads.items thread ≡ Some (live_thread left m) → (m.room ≡ frame_room) × (0 < left) × CanContinueLocally self.now.program left m.running }
+        ensures { Begins (machine_state_of self.now) thread result }
     {
         let Some(theirs) = self.thread(thread) else {
             unreachable!()
         };
-        match &theirs.standing {
-            Standing::Live(frames) => room.fill(frames, thread, theirs.steps_left),
-            Standing::Ended(_) => unreachable!(),
+        match &theirs.thread_status {
+            ThreadStatus::Live(frames) => room.fill(frames, thread, theirs.steps_left),
+            ThreadStatus::Ended(_) => unreachable!(),
         }
     }
 
     /// Whether the thread of a loan stands as it did when the loan began.
     pub(crate) fn is_at_origin(&self, loan: &Loan) -> bool
         requires room { (left : ℕ) (m : Frames) → slice_get self.now.threads.items loan.now.thread ≡ Some (live_thread left m) → m.room ≡ frame_room }
-        ensures { IsTrue result ↔ IsAtOrigin (content_of self.now) loan.now }
+        ensures { IsTrue result ↔ IsAtOrigin (machine_state_of self.now) loan.now }
     {
         match self.thread(loan.thread()) {
             Some(thread) => loan.is_origin_in(thread),
@@ -255,8 +255,8 @@ impl Engine {
 
     /// Has the thread of a loan, which stands as it did when the loan began, stand where the loan is.
     pub(crate) fn take_back(&mut self, loan: &Loan)
-        requires { IsAtOrigin (content_of self.old) loan.now }
-        ensures { (at : IsAtOrigin (content_of self.old) loan.now) → content_of self.new ≡ with_live (content_of self.old) loan.now.thread (loan.now.left - loan.now.done) (frames_over loan.now.frame at.below at.depth frame_room) }
+        requires { IsAtOrigin (machine_state_of self.old) loan.now }
+        ensures { (at : IsAtOrigin (machine_state_of self.old) loan.now) → machine_state_of self.new ≡ with_live (machine_state_of self.old) loan.now.thread (loan.now.left - loan.now.done) (frames_over loan.now.frame at.below at.depth frame_room) }
     {
         let Some(thread) = self.threads.get_mut(usize::from(loan.thread())) else {
             unreachable!()

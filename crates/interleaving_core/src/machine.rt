@@ -4,7 +4,7 @@ ghost use Rattle.std.specs.Prelude.{◌≡◌, ◌↔◌, IsTrue, replicate, tru
 ghost use Rattle.std.specs.List.{count_by, zip};
 ghost use Rattle.cil_model.specs.Ranges.{are_in_range, is_between};
 ghost use Rattle.cil_model.specs.declared.limits.TheConstants.{MOST_THREADS};
-ghost use Rattle.reference_machine.specs.Runs.{opening};
+ghost use Rattle.reference_machine.specs.Runs.{initial_state};
 ghost use Rattle.reference_machine.specs.States.{State};
 ghost use Rattle.object_memory.specs.Cells.{used_words};
 ghost use Rattle.object_memory.specs.Objects.{used_space, whole_space};
@@ -18,8 +18,8 @@ ghost use Rattle.interleaving_core.specs.Positions.{position_at};
 ghost use Rattle.interleaving_core.specs.Prints.{next_print};
 ghost use Rattle.interleaving_core.specs.Waits.{wait_at};
 ghost use Rattle.interleaving_core.specs.Alike.{AreAlike};
-ghost use Rattle.simulation.specs.StandsFor.{Represents};
-ghost use Rattle.simulation.specs.Turns.{IsTurn, TakesMemory, live_thread, opening_content};
+ghost use Rattle.simulation.specs.Refines.{Represents};
+ghost use Rattle.simulation.specs.Transitions.{IsTransition, TakesMemory, live_thread, initial_machine_state};
 ghost use Rattle.simulation.specs.interpreter.Local.{IsNextLocal};
 ghost use Rattle.threads_monitors.specs.Frames.{Frames};
 ghost use Rattle.interleaving_core.specs.Loans.{Begins, IsAtOrigin};
@@ -27,15 +27,15 @@ ghost use Rattle.cil_model.specs.declared.events.Event.TheVariants.{Step as Step
 ghost use Rattle.cil_model.specs.declared.phases.Phase.TheVariants.{Copy as CopyOf};
 ghost use Rattle.cil_model.specs.declared.reports.Report.TheVariants.{Ran as RanOf};
 ghost use Rattle.interleaving_core.specs.Refusals.{number_of};
-ghost use Rattle.simulation.specs.MachineContents.{Content};
-ghost use Rattle.simulation.specs.Runs.{AreTurns, FollowsReference};
+ghost use Rattle.simulation.specs.MachineStates.{MachineState};
+ghost use Rattle.simulation.specs.Runs.{AreTransitions, FollowsReference};
 ghost use Rattle.cil_model.specs.declared.reports.Report.{Report as AnyReport};
 ghost use Rattle.interleaving_core.specs.declared.machine.Refused.TheVariants.{Limits as BadLimits, OutOfMemory};
 
 use crate::alike::{are_alike, digest_of};
 use crate::engine::Engine;
+use crate::initial_states::open_engine;
 use crate::loans::{Loan, LoanRoom};
-use crate::openings::opened;
 use crate::positions::Position;
 use crate::waits::Wait;
 use cil_model::events::Event;
@@ -87,12 +87,12 @@ pub struct Machine {
 }
 
 impl Model for Machine {
-    ghost use Rattle.simulation.specs.MachineContents.{Content};
-    ghost use Rattle.interleaving_core.specs.Views.{IsSound, content_of};
+    ghost use Rattle.simulation.specs.MachineStates.{MachineState};
+    ghost use Rattle.interleaving_core.specs.Views.{IsSound, machine_state_of};
 
-    ghost Value = { Content };
+    ghost Value = { MachineState };
 
-    ghost view = { λ m. content_of m.engine };
+    ghost view = { λ m. machine_state_of m.engine };
 
     ghost invariant = { λ m. IsSound m.engine };
 }
@@ -105,22 +105,22 @@ impl Machine {
     pub fn new(alloc: Global, program: Verified, limits: Limits) -> Result<Machine, Refused>
         ensures limits { (result ≡ Err BadLimits) ↔ (are_in_range limits ≡ false) }
         ensures program { IfOk result (λ m. (m.tree ≡ program) × (m.limits ≡ limits)) }
-        ensures begins { IfOk result (λ m. opening_content program limits ≡ Some m) }
-        ensures opening { IfOk result (λ m. (s : State) × (opening program limits ≡ Some s) × Represents m s) }
+        ensures begins { IfOk result (λ m. initial_machine_state program limits ≡ Some m) }
+        ensures initial_state { IfOk result (λ m. (s : State) × (initial_state program limits ≡ Some s) × Represents m s) }
         ensures done { IfOk result (λ m. HasDone program limits [] [] m) }
     {
         if !are_in_range(limits) {
             return Err(Refused::Limits);
         }
         Ok(Machine {
-            engine: opened(alloc, program, limits)?,
+            engine: open_engine(alloc, program, limits)?,
         })
     }
 
     /// Takes the machine back to its initial state, with the same program and limits. The block of its heap is kept if the heap has not grown; the frames
     /// of thread 0 and the static fields are allocated again. `NoMemory` if there is no memory for them; nothing is changed then.
     pub fn reopen(&mut self, alloc: Global) -> Result<(), NoMemory>
-        ensures begins { OnOk result (opening_content self.old.tree self.old.limits ≡ Some self.new) }
+        ensures begins { OnOk result (initial_machine_state self.old.tree self.old.limits ≡ Some self.new) }
         ensures refused { OnErr result (self.new ≡ self.old) }
     {
         // For the prover alone: it brings in the laws of the field.
@@ -136,7 +136,7 @@ impl Machine {
     /// Running out of memory, which only a print, a start or the opening of a cycle can cause, changes nothing and isn't counted.
     #[inline(always)]
     pub fn step(&mut self, alloc: Global, event: Event) -> Result<Report, NoMemory>
-        ensures turns { IfOk result (λ report. IsTurn self.old event (self.new, report)) }
+        ensures transitions { IfOk result (λ report. IsTransition self.old event (self.new, report)) }
         ensures follows { IfOk result (λ report. FollowsReference self.old self.new ((event, report) ∷ [])) }
         ensures does { IfOk result (λ report. DoesMore self.old (event ∷ []) (report ∷ []) self.new) }
         ensures same { (self.new.tree ≡ self.old.tree) × (self.new.limits ≡ self.old.limits) }
@@ -156,14 +156,14 @@ impl Machine {
         events: &[Event],
         reports: &mut Vec<Report>,
     ) -> Result<(), NoMemory>
-        ensures turns { OnOk result (AreTurns self.old events.now self.new (drop (length reports.old.items) reports.new.items)) }
+        ensures transitions { OnOk result (AreTransitions self.old events.now self.new (drop (length reports.old.items) reports.new.items)) }
         ensures appended { take (length reports.old.items) reports.new.items ≡ reports.old.items }
         ensures each { OnOk result (length reports.new.items ≡ length reports.old.items + length events.now) }
         ensures follows { OnOk result (FollowsReference self.old self.new (zip events.now (drop (length reports.old.items) reports.new.items))) }
         ensures does { OnOk result (DoesMore self.old events.now (drop (length reports.old.items) reports.new.items) self.new) }
         ensures same { (self.new.tree ≡ self.old.tree) × (self.new.limits ≡ self.old.limits) }
         ensures stopped { OnErr result ((count : ℕ) × (count < length events.now)
-            × AreTurns self.old (take count events.now) self.new (drop (length reports.old.items) reports.new.items)
+            × AreTransitions self.old (take count events.now) self.new (drop (length reports.old.items) reports.new.items)
             × FollowsReference self.old self.new (zip (take count events.now) (drop (length reports.old.items) reports.new.items))
             × DoesMore self.old (take count events.now) (drop (length reports.old.items) reports.new.items) self.new) }
     {
@@ -220,7 +220,7 @@ impl Machine {
     pub fn take_back(&mut self, loan: Loan) -> LoanRoom
         requires tree { loan.tree ≡ self.old.tree }
         requires origin { IsAtOrigin self.old loan }
-        ensures turns { AreTurns self.old (replicate loan.done (StepOf loan.thread)) self.new (replicate loan.done RanOf) }
+        ensures transitions { AreTransitions self.old (replicate loan.done (StepOf loan.thread)) self.new (replicate loan.done RanOf) }
         ensures room { result ≡ self.old.tree }
         ensures printed { self.new.printed ≡ self.old.printed }
         ensures same { (self.new.tree ≡ self.old.tree) × (self.new.limits ≡ self.old.limits) }
@@ -241,7 +241,7 @@ impl Machine {
     /// event itself prints no more. It takes no memory.
     pub fn print_length(&self, event: Event) -> usize
         ensures length { result ≡ length (next_print self.now event) }
-        ensures printed { (after : Content × AnyReport) → IsTurn self.now event after → length after.0.printed ≤ length self.now.printed + result }
+        ensures printed { (after : MachineState × AnyReport) → IsTransition self.now event after → length after.0.printed ≤ length self.now.printed + result }
     {
         // For the prover alone: it brings in the laws of the field.
         let _engine = &self.engine;
@@ -273,7 +273,7 @@ impl Machine {
         self.engine.is_live(thread)
     }
 
-    /// Where a thread is: the method that runs, the place of its next instruction, how many frames it has, and how many values are on the
+    /// Where a thread is: the method that runs, the pc of its next instruction, how many frames it has, and how many values are on the
     /// stack of the running one. None where it has ended or was never started.
     pub fn position_of(&self, thread: u8) -> Option<Position>
         ensures { result ≡ position_at self.now.threads thread }

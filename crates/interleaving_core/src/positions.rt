@@ -3,7 +3,7 @@
 ghost use Rattle.std.specs.Prelude.{◌≡◌};
 ghost use Rattle.interleaving_core.specs.Positions.{position_in, position_of};
 
-use threads_monitors::{FrameMemory, Standing};
+use threads_monitors::{FrameMemory, ThreadStatus};
 
 /// Where a live thread is.
 #[derive(Clone, Copy)]
@@ -11,8 +11,8 @@ pub struct Position {
     /// The number of the method that runs, among the methods of all classes: those of each class in source order, class after class,
     /// the built-in ones first.
     pub method: u32,
-    /// The place of the next instruction in that method, from 0.
-    pub place: u32,
+    /// The pc of the next instruction in that method, from 0.
+    pub pc: u32,
     /// How many frames the thread has: 1 and, for each call that has not returned, one more.
     pub frames: usize,
     /// How many values the running frame has on its stack.
@@ -20,12 +20,12 @@ pub struct Position {
 }
 
 /// Where a thread that stands so is. None where it has ended.
-pub(crate) fn position_in(standing: &Standing) -> Option<Position>
-    ensures { result ≡ position_in standing.now }
+pub(crate) fn position_in(thread_status: &ThreadStatus) -> Option<Position>
+    ensures { result ≡ position_in thread_status.now }
 {
-    match standing {
-        Standing::Live(frames) => Some(position_of(frames)),
-        Standing::Ended(_) => None,
+    match thread_status {
+        ThreadStatus::Live(frames) => Some(position_of(frames)),
+        ThreadStatus::Ended(_) => None,
     }
 }
 
@@ -35,7 +35,7 @@ fn position_of(frames: &FrameMemory) -> Position
 {
     Position {
         method: frames.method(),
-        place: frames.place(),
+        pc: frames.pc(),
         frames: frames.frame_count(),
         height: frames.stack_height(),
     }

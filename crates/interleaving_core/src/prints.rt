@@ -3,7 +3,7 @@
 ghost use Rattle.std.specs.Prelude.{◌≡◌, ◌+◌, [], IsSome, length, unwrap_or};
 ghost use Rattle.std.specs.Fmt.{signed_decimal};
 ghost use Rattle.object_memory.specs.declared.values.Value.TheVariants.{Ref as RefTo};
-ghost use Rattle.simulation.specs.instructions.BuiltInTurns.{line_of};
+ghost use Rattle.simulation.specs.instructions.BuiltInTransitions.{line_of};
 ghost use Rattle.simulation.specs.interpreter.Instructions.{line_at};
 ghost use Rattle.interleaving_core.specs.Prints.{print_in};
 

@@ -8,7 +8,7 @@ ghost use Rattle.object_memory.specs.Objects.{monitor_at, object_slots};
 ghost use Rattle.simulation.specs.loaded_program.Prepared.{action_named};
 ghost use Rattle.simulation.specs.interpreter.Calls.{top_reference};
 ghost use Rattle.simulation.specs.interpreter.Instructions.{IsAt, line_at};
-ghost use Rattle.interleaving_core.specs.Views.{content_of};
+ghost use Rattle.interleaving_core.specs.Views.{machine_state_of};
 ghost use Rattle.interleaving_core.specs.Waits.{HasObject, action_at, called_member, join_wait, monitor_wait, wait_in};
 
 use crate::engine::Engine;
@@ -16,8 +16,8 @@ use name_tables::lookups::MemberNumber;
 use object_memory::{Addr, Heap, Monitor, Value};
 use resolved_code::operations::Operation;
 use simulation::interpreter_code::calls::class_number;
+use simulation::interpreter_code::fetch::operation_at;
 use simulation::interpreter_code::loaded_code::{Action, LoadedProgram};
-use simulation::interpreter_code::places::operation_at;
 use threads_monitors::{FrameMemory, Thread, is_live, thread_on};
 
 /// What a live thread waits for whose next step is blocked.
@@ -49,7 +49,7 @@ fn called_member(operation: &Operation) -> Option<MemberNumber>
 
 /// The built-in member that the running frame is about to call, by what it does. None where its next instruction calls no such member.
 pub(crate) fn action_at(program: &LoadedProgram, frames: &FrameMemory) -> Option<Action>
-    requires place { IsSome (line_at program.now frames.now) }
+    requires pc { IsSome (line_at program.now frames.now) }
     ensures action { option_map action_named result ≡ action_at program.now frames.now }
     ensures at { (operation : AnyOperation) × IsAt program.now frames.now operation }
 {
@@ -111,7 +111,7 @@ fn join_wait(threads: &[Thread], heap: &Heap, object: Addr) -> Option<Wait>
 pub(crate) fn wait_in(engine: &Engine, thread: u8, frames: &FrameMemory) -> Option<Wait>
     requires object { HasObject engine.now.program engine.now.store.heap frames.now }
     requires few { length engine.now.threads.items ≤ MOST_THREADS }
-    ensures { result ≡ wait_in (content_of engine.now) thread frames.now }
+    ensures { result ≡ wait_in (machine_state_of engine.now) thread frames.now }
 {
     let heap = &engine.store.heap;
     match action_at(&engine.program, frames)? {

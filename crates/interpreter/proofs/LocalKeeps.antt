@@ -7,94 +7,94 @@ use Rattle.cil_model.proofs.Lists.{none_is_some}
 use Rattle.cil_model.specs.declared.instructions.BinaryOperation.{BinaryOperation}
 use Rattle.cil_model.specs.declared.limits.TheConstants.{MOST_INSTRUCTIONS}
 use Rattle.cil_model.specs.declared.reports.Fault.{Fault}
-use Rattle.cil_model.specs.Bodies.{at_place}
+use Rattle.cil_model.specs.Bodies.{at_index}
 use Rattle.object_memory.specs.declared.values.Value.{Value}
 use Rattle.object_memory.specs.declared.values.Value.TheVariants.{Int32, Int64, Native, Ref}
 use Rattle.loaded_program.specs.declared.instructions.LinkedInstruction.{LinkedInstruction}
 use Rattle.loaded_program.specs.declared.instructions.LinkedInstruction.TheVariants as Linked
 use Rattle.threads_monitors.specs.declared.effects.Effect.{Effect}
-use Rattle.threads_monitors.specs.declared.effects.Effect.TheVariants.{GoesOn, Raises}
-use Rattle.threads_monitors.specs.Frames.{Frames, size, with_argument, with_local, with_place, with_running, with_stack}
-use Rattle.instructions.specs.Frames.{Turn, binary_result, branch_if, given, in_32_bits, in_64_bits, is_set, jump, leaves, leaves_result, one_or_zero, onward, shift_result, stored, switch_on, to_place, top_of, unary_result, with_top}
-use Rattle.instructions.specs.LocalTurns.{integers_branch, integers_compared}
-use Rattle.interpreter.specs.Local.{local_link_turn}
+use Rattle.threads_monitors.specs.declared.effects.Effect.TheVariants.{Continues, Raises}
+use Rattle.threads_monitors.specs.Frames.{Frames, size, with_argument, with_local, with_pc, with_running, with_stack}
+use Rattle.instructions.specs.Frames.{Transition, binary_result, branch_if, given, in_32_bits, in_64_bits, is_set, jump, value_pushed, result_pushed, one_or_zero, onward, shift_result, store_in, switch_on, to_pc, top_of, unary_result, with_top}
+use Rattle.instructions.specs.LocalTransitions.{integers_branch, integers_compared}
+use Rattle.interpreter.specs.Local.{local_link_transition}
 
 -- frames after an instruction, with its outcome: only the running frame is another, of the same method; a plain instruction advances
 pub record Keeps (plain : Bool) (m : Frames) (x : Frames × Effect) : Type 0 where
   pub frames : x.0 ≡ with_running m x.0.running
   pub method : x.0.running.method ≡ m.running.method
-  pub goes : plain ≡ true → x.1 ≡ GoesOn
+  pub goes : plain ≡ true → x.1 ≡ Continues
 
-abbrev pub TurnKeeps : Bool → Frames → Turn → Type 0
-TurnKeeps plain m t = (x : Frames × Effect) → t ≡ Some x → Keeps plain m x
+abbrev pub TransitionKeeps : Bool → Frames → Transition → Type 0
+TransitionKeeps plain m t = (x : Frames × Effect) → t ≡ Some x → Keeps plain m x
 
 module _ (plain : Bool) where
-  none_keeps : (m : Frames) → TurnKeeps plain m None
+  none_keeps : (m : Frames) → TransitionKeeps plain m None
   none_keeps m x e = none_is_some x e
 
-  some_keeps : (m n : Frames) → n ≡ with_running m n.running → n.running.method ≡ m.running.method → TurnKeeps plain m (Some (n, GoesOn))
+  some_keeps : (m n : Frames) → n ≡ with_running m n.running → n.running.method ≡ m.running.method → TransitionKeeps plain m (Some (n, Continues))
   some_keeps m n frames method x e =
-      let same : (n, GoesOn) ≡ x = same_Some (n, GoesOn) x e in
+      let same : (n, Continues) ≡ x = same_Some (n, Continues) x e in
       subst (Keeps plain m) same (record { frames = frames; method = method; goes = λ _. refl })
 
-  if_keeps : (b : Bool) (m : Frames) (t u : Turn) → TurnKeeps plain m t → TurnKeeps plain m u → TurnKeeps plain m (if b then t else u)
+  if_keeps : (b : Bool) (m : Frames) (t u : Transition) → TransitionKeeps plain m t → TransitionKeeps plain m u → TransitionKeeps plain m (if b then t else u)
   if_keeps true m t u h k = h
   if_keeps false m t u h k = k
 
-  jump_keeps : (place : ℕ) (m : Frames) → TurnKeeps plain m (jump place m)
-  jump_keeps place m = if_keeps (nat_lt place MOST_INSTRUCTIONS) m (Some (with_place m place, GoesOn)) None (some_keeps m (with_place m place) refl refl) (none_keeps m)
+  jump_keeps : (pc : ℕ) (m : Frames) → TransitionKeeps plain m (jump pc m)
+  jump_keeps pc m = if_keeps (nat_lt pc MOST_INSTRUCTIONS) m (Some (with_pc m pc, Continues)) None (some_keeps m (with_pc m pc) refl refl) (none_keeps m)
 
-  onward_keeps : (m : Frames) → TurnKeeps plain m (onward m)
-  onward_keeps m = if_keeps (nat_lt m.running.place MOST_INSTRUCTIONS) m (Some (with_place m (m.running.place + 1), GoesOn)) None (some_keeps m (with_place m (m.running.place + 1)) refl refl) (none_keeps m)
+  onward_keeps : (m : Frames) → TransitionKeeps plain m (onward m)
+  onward_keeps m = if_keeps (nat_lt m.running.pc MOST_INSTRUCTIONS) m (Some (with_pc m (m.running.pc + 1), Continues)) None (some_keeps m (with_pc m (m.running.pc + 1)) refl refl) (none_keeps m)
 
   -- from another running frame of the same method
-  from_other : (m n : Frames) → n ≡ with_running m n.running → n.running.method ≡ m.running.method → (t : Turn) → TurnKeeps plain n t → TurnKeeps plain m t
+  from_other : (m n : Frames) → n ≡ with_running m n.running → n.running.method ≡ m.running.method → (t : Transition) → TransitionKeeps plain n t → TransitionKeeps plain m t
   from_other m n frames method t h x e =
       let k = h x e in
       record { frames = k.frames ∙ ap (λ (y : Frames). with_running y x.0.running) frames; method = k.method ∙ method; goes = k.goes }
 
-  leaves_keeps : (v : Value) (m : Frames) → TurnKeeps plain m (leaves v m)
+  leaves_keeps : (v : Value) (m : Frames) → TransitionKeeps plain m (value_pushed v m)
   leaves_keeps v m =
       if_keeps (nat_lt (size m.running) m.room) m (onward (with_stack m (v ∷ m.running.stack))) None
       (from_other m (with_stack m (v ∷ m.running.stack)) refl refl (onward (with_stack m (v ∷ m.running.stack))) (onward_keeps (with_stack m (v ∷ m.running.stack)))) (none_keeps m)
 
-  branch_keeps : (b : Bool) (place : ℕ) (m : Frames) → TurnKeeps plain m (branch_if b place m)
-  branch_keeps true place m = jump_keeps place m
-  branch_keeps false place m = onward_keeps m
+  branch_keeps : (b : Bool) (pc : ℕ) (m : Frames) → TransitionKeeps plain m (branch_if b pc m)
+  branch_keeps true pc m = jump_keeps pc m
+  branch_keeps false pc m = onward_keeps m
 
-  top_keeps : (m : Frames) (go : Value → Frames → Turn) → ((v : Value) (rest : List Value) → TurnKeeps plain (with_stack m rest) (go v (with_stack m rest))) → TurnKeeps plain m (with_top m go)
+  top_keeps : (m : Frames) (go : Value → Frames → Transition) → ((v : Value) (rest : List Value) → TransitionKeeps plain (with_stack m rest) (go v (with_stack m rest))) → TransitionKeeps plain m (with_top m go)
   top_keeps m go keeps = by_stack m.running.stack
     where
-      by_stack : (stack : List Value) → TurnKeeps plain m (top_of stack m go)
+      by_stack : (stack : List Value) → TransitionKeeps plain m (top_of stack m go)
       by_stack [] = none_keeps m
       by_stack (v ∷ rest) = from_other m (with_stack m rest) refl refl (go v (with_stack m rest)) (keeps v rest)
 
-  given_keeps : {X : Type 0} (x : Option X) (m : Frames) (go : X → Turn) → ((a : X) → TurnKeeps plain m (go a)) → TurnKeeps plain m (given x go)
+  given_keeps : {X : Type 0} (x : Option X) (m : Frames) (go : X → Transition) → ((a : X) → TransitionKeeps plain m (go a)) → TransitionKeeps plain m (given x go)
   given_keeps None m go keeps = none_keeps m
   given_keeps (Some a) m go keeps = keeps a
 
-  stored_keeps : {X : Type 0} (m : Frames) (store : ℕ → Frames) (xs : List X) (n : ℤ) → ((i : ℕ) → (store i ≡ with_running m (store i).running) × ((store i).running.method ≡ m.running.method)) → TurnKeeps plain m (stored store xs n)
+  stored_keeps : {X : Type 0} (m : Frames) (store : ℕ → Frames) (xs : List X) (n : ℤ) → ((i : ℕ) → (store i ≡ with_running m (store i).running) × ((store i).running.method ≡ m.running.method)) → TransitionKeeps plain m (store_in store xs n)
   stored_keeps m store xs (pos n) same = if_keeps (nat_lt n (length xs)) m (onward (store n)) None (from_other m (store n) (same n).0 (same n).1 (onward (store n)) (onward_keeps (store n))) (none_keeps m)
   stored_keeps m store xs (negsuc n) same = none_keeps m
 
-  place_keeps : (place : Option ℕ) (m : Frames) → TurnKeeps plain m (to_place place m)
-  place_keeps None m = onward_keeps m
-  place_keeps (Some place) m = jump_keeps place m
+  pc_keeps : (pc : Option ℕ) (m : Frames) → TransitionKeeps plain m (to_pc pc m)
+  pc_keeps None m = onward_keeps m
+  pc_keeps (Some pc) m = jump_keeps pc m
 
-  switch_keeps : (places : List ℕ) (v : Value) (m : Frames) → TurnKeeps plain m (switch_on places v m)
-  switch_keeps places (Int32 z) m = place_keeps (slice_get places (cast_unsigned w32 z)) m
-  switch_keeps places (Int64 z) m = none_keeps m
-  switch_keeps places (Native z) m = none_keeps m
-  switch_keeps places (Ref a) m = none_keeps m
+  switch_keeps : (pcs : List ℕ) (v : Value) (m : Frames) → TransitionKeeps plain m (switch_on pcs v m)
+  switch_keeps pcs (Int32 z) m = pc_keeps (slice_get pcs (cast_unsigned w32 z)) m
+  switch_keeps pcs (Int64 z) m = none_keeps m
+  switch_keeps pcs (Native z) m = none_keeps m
+  switch_keeps pcs (Ref a) m = none_keeps m
 
-  one_keeps : {X : Type 0} (f : Value → Option X) (go : X → Frames → Turn) → ((x : X) (k : Frames) → TurnKeeps plain k (go x k)) → (m : Frames) → TurnKeeps plain m (with_top m (λ v n. given (f v) (λ x. go x n)))
+  one_keeps : {X : Type 0} (f : Value → Option X) (go : X → Frames → Transition) → ((x : X) (k : Frames) → TransitionKeeps plain k (go x k)) → (m : Frames) → TransitionKeeps plain m (with_top m (λ v n. given (f v) (λ x. go x n)))
   one_keeps f go keeps m = top_keeps m (λ v n. given (f v) (λ x. go x n)) (λ v rest. given_keeps (f v) (with_stack m rest) (λ x. go x (with_stack m rest)) (λ x. keeps x (with_stack m rest)))
 
-  two_keeps : {X : Type 0} (f : Value → Value → Option X) (go : X → Frames → Turn) → ((x : X) (k : Frames) → TurnKeeps plain k (go x k)) → (m : Frames) →
-      TurnKeeps plain m (with_top m (λ w n. with_top n (λ v k. given (f v w) (λ x. go x k))))
+  two_keeps : {X : Type 0} (f : Value → Value → Option X) (go : X → Frames → Transition) → ((x : X) (k : Frames) → TransitionKeeps plain k (go x k)) → (m : Frames) →
+      TransitionKeeps plain m (with_top m (λ w n. with_top n (λ v k. given (f v w) (λ x. go x k))))
   two_keeps f go keeps m = top_keeps m (λ w n. with_top n (λ v k. given (f v w) (λ x. go x k))) (λ w rest. one_keeps (λ v. f v w) go keeps (with_stack m rest))
 
-result_keeps : (r : Result Value Fault) (m : Frames) → TurnKeeps false m (leaves_result m r)
+result_keeps : (r : Result Value Fault) (m : Frames) → TransitionKeeps false m (result_pushed m r)
 result_keeps (Ok v) m x e = leaves_keeps false v m x e
 result_keeps (Err f) m x e =
     let same : (m, Raises f) ≡ x = same_Some (m, Raises f) x e in
@@ -105,32 +105,32 @@ abbrev pub is_plain : LinkedInstruction → Bool
 is_plain (Linked.Binary op) = false
 is_plain _ = true
 
-pub local_keeps : (l : LinkedInstruction) (m : Frames) → TurnKeeps (is_plain l) m (local_link_turn l m)
+pub local_keeps : (l : LinkedInstruction) (m : Frames) → TransitionKeeps (is_plain l) m (local_link_transition l m)
 local_keeps Linked.NoOperation m = onward_keeps true m
 local_keeps (Linked.LoadInt32 z) m = leaves_keeps true (Int32 z) m
 local_keeps (Linked.LoadInt64 z) m = leaves_keeps true (Int64 z) m
 local_keeps Linked.LoadNull m = leaves_keeps true _ m
-local_keeps (Linked.LoadArgument n) m = given_keeps true (at_place m.running.arguments n) m (λ v. leaves v m) (λ v. leaves_keeps true v m)
+local_keeps (Linked.LoadArgument n) m = given_keeps true (at_index m.running.arguments n) m (λ v. value_pushed v m) (λ v. leaves_keeps true v m)
 local_keeps (Linked.StoreArgument n) m =
-    top_keeps true m (λ v k. stored (λ i. with_argument k i v) k.running.arguments n)
+    top_keeps true m (λ v k. store_in (λ i. with_argument k i v) k.running.arguments n)
     (λ v rest. stored_keeps true (with_stack m rest) (λ i. with_argument (with_stack m rest) i v) (with_stack m rest).running.arguments n (λ i. (refl, refl)))
-local_keeps (Linked.LoadLocal n) m = given_keeps true (at_place m.running.locals n) m (λ v. leaves v m) (λ v. leaves_keeps true v m)
+local_keeps (Linked.LoadLocal n) m = given_keeps true (at_index m.running.locals n) m (λ v. value_pushed v m) (λ v. leaves_keeps true v m)
 local_keeps (Linked.StoreLocal n) m =
-    top_keeps true m (λ v k. stored (λ i. with_local k i v) k.running.locals n)
+    top_keeps true m (λ v k. store_in (λ i. with_local k i v) k.running.locals n)
     (λ v rest. stored_keeps true (with_stack m rest) (λ i. with_local (with_stack m rest) i v) (with_stack m rest).running.locals n (λ i. (refl, refl)))
-local_keeps Linked.Duplicate m = top_keeps true m (λ v n. leaves v m) (λ v rest. from_other true (with_stack m rest) m refl refl (leaves v m) (leaves_keeps true v m))
+local_keeps Linked.Duplicate m = top_keeps true m (λ v n. value_pushed v m) (λ v rest. from_other true (with_stack m rest) m refl refl (value_pushed v m) (leaves_keeps true v m))
 local_keeps Linked.Pop m = top_keeps true m (λ v n. onward n) (λ v rest. onward_keeps true (with_stack m rest))
-local_keeps (Linked.Binary op) m = two_keeps false (binary_result op) (λ r k. leaves_result k r) (λ r k. result_keeps r k) m
-local_keeps (Linked.Unary op) m = one_keeps true (unary_result op) leaves (leaves_keeps true) m
-local_keeps (Linked.Shift op) m = two_keeps true (shift_result op) leaves (leaves_keeps true) m
-local_keeps (Linked.Compare op) m = two_keeps true (integers_compared op) (λ holds k. leaves (one_or_zero holds) k) (λ holds k. leaves_keeps true (one_or_zero holds) k) m
-local_keeps Linked.ConvertInt32 m = one_keeps true in_32_bits leaves (leaves_keeps true) m
-local_keeps Linked.ConvertInt64 m = one_keeps true in_64_bits leaves (leaves_keeps true) m
-local_keeps (Linked.Branch place) m = jump_keeps true place m
-local_keeps (Linked.BranchTrue place) m = one_keeps true is_set (λ holds k. branch_if holds place k) (λ holds k. branch_keeps true holds place k) m
-local_keeps (Linked.BranchFalse place) m = one_keeps true is_set (λ holds k. branch_if (not holds) place k) (λ holds k. branch_keeps true (not holds) place k) m
-local_keeps (Linked.BranchCompare op place) m = two_keeps true (integers_branch op) (λ holds k. branch_if holds place k) (λ holds k. branch_keeps true holds place k) m
-local_keeps (Linked.Switch places) m = top_keeps true m (switch_on places) (λ v rest. switch_keeps true places v (with_stack m rest))
+local_keeps (Linked.Binary op) m = two_keeps false (binary_result op) (λ r k. result_pushed k r) (λ r k. result_keeps r k) m
+local_keeps (Linked.Unary op) m = one_keeps true (unary_result op) value_pushed (leaves_keeps true) m
+local_keeps (Linked.Shift op) m = two_keeps true (shift_result op) value_pushed (leaves_keeps true) m
+local_keeps (Linked.Compare op) m = two_keeps true (integers_compared op) (λ holds k. value_pushed (one_or_zero holds) k) (λ holds k. leaves_keeps true (one_or_zero holds) k) m
+local_keeps Linked.ConvertInt32 m = one_keeps true in_32_bits value_pushed (leaves_keeps true) m
+local_keeps Linked.ConvertInt64 m = one_keeps true in_64_bits value_pushed (leaves_keeps true) m
+local_keeps (Linked.Branch pc) m = jump_keeps true pc m
+local_keeps (Linked.BranchTrue pc) m = one_keeps true is_set (λ holds k. branch_if holds pc k) (λ holds k. branch_keeps true holds pc k) m
+local_keeps (Linked.BranchFalse pc) m = one_keeps true is_set (λ holds k. branch_if (not holds) pc k) (λ holds k. branch_keeps true (not holds) pc k) m
+local_keeps (Linked.BranchCompare op pc) m = two_keeps true (integers_branch op) (λ holds k. branch_if holds pc k) (λ holds k. branch_keeps true holds pc k) m
+local_keeps (Linked.Switch pcs) m = top_keeps true m (switch_on pcs) (λ v rest. switch_keeps true pcs v (with_stack m rest))
 local_keeps _ m = none_keeps true m
 
 pub plain_unless : (l : LinkedInstruction) → ((op : BinaryOperation) → l ≡ Linked.Binary op → ⊥) → is_plain l ≡ true

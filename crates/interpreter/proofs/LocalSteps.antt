@@ -14,27 +14,27 @@ use Rattle.cil_model.specs.Bodies.{lines_of}
 use Rattle.loaded_program.specs.declared.instructions.LinkedInstruction.{LinkedInstruction}
 use Rattle.threads_monitors.specs.declared.mutators.Mutator.{Mutator}
 use Rattle.threads_monitors.specs.declared.effects.Effect.{Effect}
-use Rattle.threads_monitors.specs.declared.effects.Effect.TheVariants.{GoesOn, Raises}
+use Rattle.threads_monitors.specs.declared.effects.Effect.TheVariants.{Continues, Raises}
 use Rattle.threads_monitors.specs.Frames.{Frame, Frames}
-use Rattle.instructions.specs.Frames.{Turn}
-use Rattle.instructions.specs.LocalTurns.{IsFaulty}
+use Rattle.instructions.specs.Frames.{Transition}
+use Rattle.instructions.specs.LocalTransitions.{IsFaulty}
 use Rattle.interpreter.specs.declared.outcomes.Outcome.TheVariants.{Comes}
-use Rattle.interpreter.specs.Instructions.{IsAt, IsDone, answer_of, link_of, linked_turn, of_frames, operation_turn}
-use Rattle.interpreter.specs.Local.{EndsLocal, IsLocalStep, IsNextLocal, IsReadySomewhere, alone, frames_over, is_local, is_local_link, local_link_turn}
+use Rattle.interpreter.specs.Instructions.{IsAt, IsDone, answer_of, link_of, linked_transition, of_frames, operation_transition}
+use Rattle.interpreter.specs.Local.{EndsLocal, IsLocalStep, IsNextLocal, IsReadySomewhere, alone, frames_over, is_local, is_local_link, local_link_transition}
 use Rattle.interpreter.proofs.Executing.{linked_here}
 use Rattle.interpreter.proofs.Linking.{link_does, link_is}
-use Rattle.interpreter.proofs.LocalRules.{local_is, local_moves, moved_turn}
+use Rattle.interpreter.proofs.LocalRules.{local_is, local_moves, moved_transition}
 
 -- where a transition is given by another, it has a result where that has one
-framed_some : (o : Objects) (ss : List Value) (c : List ℕ) (t : Turn) → IsSome (of_frames o ss c t) → IsSome t
+framed_some : (o : Objects) (ss : List Value) (c : List ℕ) (t : Transition) → IsSome (of_frames o ss c t) → IsSome t
 framed_some o ss c None h = absurd cc
 framed_some o ss c (Some x) h = refl
 
-moved_some : (below : List Frame) (depth : ℕ) (t : Turn) → IsSome (moved_turn below depth t) → IsSome t
+moved_some : (below : List Frame) (depth : ℕ) (t : Transition) → IsSome (moved_transition below depth t) → IsSome t
 moved_some below depth None h = absurd cc
 moved_some below depth (Some x) h = refl
 
-module _ (tree : Tree) (room : ℕ) (f : Frame) (l : LinkedInstruction) (at : IsLinkedAt tree f.method f.place l) (ready : IsReadySomewhere tree room f) where
+module _ (tree : Tree) (room : ℕ) (f : Frame) (l : LinkedInstruction) (at : IsLinkedAt tree f.method f.pc l) (ready : IsReadySomewhere tree room f) where
   abbrev op : Operation
   op = at.linked.operation
 
@@ -45,7 +45,7 @@ module _ (tree : Tree) (room : ℕ) (f : Frame) (l : LinkedInstruction) (at : Is
   abbrev somewhere : Frames
   somewhere = frames_over f ready.below ready.depth room
 
-  has_answer : IsSome (operation_turn tree ready.mutator op somewhere ready.objects ready.statics ready.printed)
+  has_answer : IsSome (operation_transition tree ready.mutator op somewhere ready.objects ready.statics ready.printed)
   has_answer = ready.there op (at_over ready.below ready.depth) at.linked.links.constant
 
   -- so it is linked to this, over any frames
@@ -56,29 +56,29 @@ module _ (tree : Tree) (room : ℕ) (f : Frame) (l : LinkedInstruction) (at : Is
   is_alike = sym (ap (λ x. option_map_or is_local_link x false) linked)
 
   -- a local one has a result on the frame alone
-  pub has_local : is_local_link l ≡ true → IsSome (local_link_turn l (alone room f))
+  pub has_local : is_local_link l ≡ true → IsSome (local_link_transition l (alone room f))
   has_local local =
-      let there : IsSome (linked_turn tree ready.mutator l somewhere ready.objects ready.statics ready.printed) =
+      let there : IsSome (linked_transition tree ready.mutator l somewhere ready.objects ready.statics ready.printed) =
       subst IsSome (link_does tree ready.mutator somewhere ready.objects ready.statics ready.printed op l linked) has_answer in
-      let on_frames : IsSome (local_link_turn l somewhere) =
-      framed_some ready.objects ready.statics ready.printed (local_link_turn l somewhere) (subst IsSome (local_is tree ready.mutator somewhere ready.objects ready.statics ready.printed l local) there) in
-      moved_some ready.below ready.depth (local_link_turn l (alone room f)) (subst IsSome (local_moves ready.below ready.depth l (alone room f)) on_frames)
+      let on_frames : IsSome (local_link_transition l somewhere) =
+      framed_some ready.objects ready.statics ready.printed (local_link_transition l somewhere) (subst IsSome (local_is tree ready.mutator somewhere ready.objects ready.statics ready.printed l local) there) in
+      moved_some ready.below ready.depth (local_link_transition l (alone room f)) (subst IsSome (local_moves ready.below ready.depth l (alone room f)) on_frames)
 
   -- over any frames and in any memory
   module _ (local : is_local_link l ≡ true) (below : List Frame) (depth : ℕ) (mutator : Mutator) (o : Objects) (statics : List Value) (printed : List ℕ) where
     abbrev here : Frames
     here = frames_over f below depth room
 
-    on_linked : linked_turn tree mutator l here o statics printed ≡ of_frames o statics printed (moved_turn below depth (local_link_turn l (alone room f)))
+    on_linked : linked_transition tree mutator l here o statics printed ≡ of_frames o statics printed (moved_transition below depth (local_link_transition l (alone room f)))
     on_linked = local_is tree mutator here o statics printed l local ∙ ap (of_frames o statics printed) (local_moves below depth l (alone room f))
 
-    pub done_here : (m : Frames) (e : Effect) → local_link_turn l (alone room f) ≡ Some (m, e) →
+    pub done_here : (m : Frames) (e : Effect) → local_link_transition l (alone room f) ≡ Some (m, e) →
         IsDone tree mutator here o statics printed (answer_of (record m { below = below; depth = depth }) o statics printed (Comes e))
     done_here m e is = record {
       operation = op;
       at = at_over below depth;
       constant = at.linked.links.constant;
-      is = sym (ap (λ (t : Turn). of_frames o statics printed (moved_turn below depth t)) is) ∙ sym on_linked ∙ sym (link_does tree mutator here o statics printed op l linked);
+      is = sym (ap (λ (t : Transition). of_frames o statics printed (moved_transition below depth t)) is) ∙ sym on_linked ∙ sym (link_does tree mutator here o statics printed op l linked);
     }
 
   -- whether it is one
@@ -86,18 +86,18 @@ module _ (tree : Tree) (room : ℕ) (f : Frame) (l : LinkedInstruction) (at : Is
   next_is local is = (op, at_over [] 1, sym is_alike ∙ sym is)
 
   -- it is one of the frame
-  pub local_step : is_local_link l ≡ true → (m : Frames) → local_link_turn l (alone room f) ≡ Some (m, GoesOn) → m ≡ alone room m.running → IsLocalStep tree room f m.running
+  pub local_step : is_local_link l ≡ true → (m : Frames) → local_link_transition l (alone room f) ≡ Some (m, Continues) → m ≡ alone room m.running → IsLocalStep tree room f m.running
   local_step local m is same = record {
     operation = op;
     at = at_over [] 1;
     local = sym is_alike ∙ local;
     done = λ below depth mutator o statics printed.
-        subst (λ (k : Frames). IsDone tree mutator (frames_over f below depth room) o statics printed (answer_of k o statics printed (Comes GoesOn)))
-        (ap (λ (k : Frames). record k { below = below; depth = depth }) same) (done_here local below depth mutator o statics printed m GoesOn is);
+        subst (λ (k : Frames). IsDone tree mutator (frames_over f below depth room) o statics printed (answer_of k o statics printed (Comes Continues)))
+        (ap (λ (k : Frames). record k { below = below; depth = depth }) same) (done_here local below depth mutator o statics printed m Continues is);
   }
 
   -- or it is none, or raises a fault
-  pub ends_here : (is_local_link l ≡ false) ⊎ ((is_local_link l ≡ true) × IsFaulty (local_link_turn l (alone room f))) → EndsLocal tree room f
+  pub ends_here : (is_local_link l ≡ false) ⊎ ((is_local_link l ≡ true) × IsFaulty (local_link_transition l (alone room f))) → EndsLocal tree room f
   ends_here (inl other) = inl (op, at_over [] 1, sym is_alike ∙ other)
   ends_here (inr (local, (m, fault, raises))) =
       inr (record {
@@ -110,17 +110,17 @@ module _ (tree : Tree) (room : ℕ) (f : Frame) (l : LinkedInstruction) (at : Is
 
 -- ---- a method's code
 
-pub linked_in : (tree : Tree) (code : List LinkedInstruction) (method place : ℕ) → IsCode tree method code → IsSome (line_in tree method place) → (l : LinkedInstruction) × (slice_get code place ≡ Some l) × IsLinkedAt tree method place l
-linked_in tree code method place is there =
-    let line = some_of (line_in tree method place) there in
-    let line_is : slice_get (lines_of is.found.1) place ≡ Some line.0 = sym (ap (option_and_then (λ (found : ClassName × Method). slice_get (lines_of found.1) place)) is.found_is) ∙ line.1 in
-    let l = alike_from (IsLinkedLine tree is.found) (lines_of is.found.1) code place line.0 is.lines line_is in
+pub linked_in : (tree : Tree) (code : List LinkedInstruction) (method pc : ℕ) → IsCode tree method code → IsSome (line_in tree method pc) → (l : LinkedInstruction) × (slice_get code pc ≡ Some l) × IsLinkedAt tree method pc l
+linked_in tree code method pc is there =
+    let line = some_of (line_in tree method pc) there in
+    let line_is : slice_get (lines_of is.found.1) pc ≡ Some line.0 = sym (ap (option_and_then (λ (found : ClassName × Method). slice_get (lines_of found.1) pc)) is.found_is) ∙ line.1 in
+    let l = alike_from (IsLinkedLine tree is.found) (lines_of is.found.1) code pc line.0 is.lines line_is in
     (l.0, l.1, record { found = is.found; line = line.0; found_is = is.found_is; line_is = line_is; linked = l.2 })
 
 -- what is linked for a frame's next instruction, where it is ready
-pub linked_at : (tree : Tree) (m : Frames) (room method place : ℕ) (code : List LinkedInstruction) (l : LinkedInstruction) → IsReadySomewhere tree room m.running → method ≡ m.running.method → place ≡ m.running.place → IsCode tree method code
-    → ((t : Tree) (k : ℕ) → IsCode t k code → IsSome (line_in t k place) → IsLinkedAt t k place l) → IsLinkedAt tree m.running.method m.running.place l
-linked_at tree m room method place code l ready same_method same_place is found =
-    let there : IsSome (line_in tree method place) =
-    subst (λ k. IsSome (line_in tree k place)) (sym same_method) (subst (λ k. IsSome (line_in tree m.running.method k)) (sym same_place) ready.place) in
-    linked_here tree m method place l same_method same_place (found tree method is there)
+pub linked_at : (tree : Tree) (m : Frames) (room method pc : ℕ) (code : List LinkedInstruction) (l : LinkedInstruction) → IsReadySomewhere tree room m.running → method ≡ m.running.method → pc ≡ m.running.pc → IsCode tree method code
+    → ((t : Tree) (k : ℕ) → IsCode t k code → IsSome (line_in t k pc) → IsLinkedAt t k pc l) → IsLinkedAt tree m.running.method m.running.pc l
+linked_at tree m room method pc code l ready same_method same_pc is found =
+    let there : IsSome (line_in tree method pc) =
+    subst (λ k. IsSome (line_in tree k pc)) (sym same_method) (subst (λ k. IsSome (line_in tree m.running.method k)) (sym same_pc) ready.pc) in
+    linked_here tree m method pc l same_method same_pc (found tree method is there)

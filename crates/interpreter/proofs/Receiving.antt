@@ -15,17 +15,17 @@ use Rattle.threads_monitors.specs.Frames.{Frames}
 use Rattle.threads_monitors.specs.declared.effects.Effect.TheVariants.{Raises}
 use Rattle.instructions.specs.Frames.{given}
 use Rattle.interpreter.specs.declared.outcomes.Outcome.TheVariants.{Comes}
-use Rattle.interpreter.specs.Calls.{CallTurn, call_answer, call_numbered, chosen, chosen_by, class_at, receiver, run_on, run_turn, virtual_numbered}
+use Rattle.interpreter.specs.Calls.{CallTransition, call_answer, call_by_id, chosen_method, chosen_by, class_at, receiver, run_on, run_transition, virtual_by_id}
 use Rattle.interpreter.proofs.Running.{given_some}
 
 module _ (tree : Tree) (mutator : Mutator) (number operands : ℕ) (m : Frames) (o : Objects) (console : List ℕ) where
-  abbrev pub null_raised : CallTurn
+  abbrev pub null_raised : CallTransition
   null_raised = Some (call_answer m o console (Comes (Raises NullReference)))
 
-  abbrev runs : ClassName × Method → CallTurn
-  runs run = run_turn tree mutator run m o console
+  abbrev runs : ClassName × Method → CallTransition
+  runs run = run_transition tree mutator run m o console
 
-  abbrev pub received : ClassName × Method → Addr → CallTurn
+  abbrev pub received : ClassName × Method → Addr → CallTransition
   received found a = run_on tree mutator found a m o console
 
   -- the method that is named, and the object
@@ -34,27 +34,27 @@ module _ (tree : Tree) (mutator : Mutator) (number operands : ℕ) (m : Frames) 
     pub object : Addr
     pub found_is : slice_get (all_methods tree) number ≡ Some found
     pub object_is : receiver m.running.stack operands ≡ Some object
-    pub whole : virtual_numbered tree mutator number operands m o console ≡ received found object
+    pub whole : virtual_by_id tree mutator number operands m o console ≡ received found object
 
-  pub receiving : IsSome (virtual_numbered tree mutator number operands m o console) → Receiving
+  pub receiving : IsSome (virtual_by_id tree mutator number operands m o console) → Receiving
   receiving there =
       let found = given_some (slice_get (all_methods tree) number) (λ found. given (receiver m.running.stack operands) (received found)) there in
       let object = given_some (receiver m.running.stack operands) (received found.0) (subst IsSome found.2 there) in
       record { found = found.0; object = object.0; found_is = found.1; object_is = object.1; whole = found.2 ∙ object.2 }
 
-  module _ (there : IsSome (virtual_numbered tree mutator number operands m o console)) (a : Addr) (is : receiver m.running.stack operands ≡ Some a) where
+  module _ (there : IsSome (virtual_by_id tree mutator number operands m o console)) (a : Addr) (is : receiver m.running.stack operands ≡ Some a) where
     abbrev call : Receiving
     call = receiving there
 
-    same : virtual_numbered tree mutator number operands m o console ≡ received call.found a
+    same : virtual_by_id tree mutator number operands m o console ≡ received call.found a
     same =
         let e = call.object_is in
         let one : call.object ≡ a = cc in
         call.whole ∙ ap (received call.found) one
 
     -- null
-    pub on_null : (a.number == 0) ≡ true → virtual_numbered tree mutator number operands m o console ≡ null_raised
-    on_null null = same ∙ ap (λ (b : Bool). if b then null_raised else given (chosen tree o a call.found) runs) null
+    pub on_null : (a.number == 0) ≡ true → virtual_by_id tree mutator number operands m o console ≡ null_raised
+    on_null null = same ∙ ap (λ (b : Bool). if b then null_raised else given (chosen_method tree o a call.found) runs) null
 
     -- or an object: its class, and the method that runs on objects of that
     pub record Choosing : Type 0 where
@@ -62,13 +62,13 @@ module _ (tree : Tree) (mutator : Mutator) (number operands : ℕ) (m : Frames) 
       pub run : ClassName × Method
       pub class_is : class_at o a ≡ Some class
       pub run_is : target_in tree number class ≡ Some run
-      pub whole : virtual_numbered tree mutator number operands m o console ≡ runs run
+      pub whole : virtual_by_id tree mutator number operands m o console ≡ runs run
 
     pub choosing : (a.number == 0) ≡ false → Choosing
     choosing object =
-        let whole : virtual_numbered tree mutator number operands m o console ≡ given (chosen tree o a call.found) runs =
-        same ∙ ap (λ (b : Bool). if b then null_raised else given (chosen tree o a call.found) runs) object in
-        let run = given_some (chosen tree o a call.found) runs (subst IsSome whole there) in
+        let whole : virtual_by_id tree mutator number operands m o console ≡ given (chosen_method tree o a call.found) runs =
+        same ∙ ap (λ (b : Bool). if b then null_raised else given (chosen_method tree o a call.found) runs) object in
+        let run = given_some (chosen_method tree o a call.found) runs (subst IsSome whole there) in
         let class = then_some (chosen_by tree call.found) (class_at o a) run.0 run.1 in
         record {
           class = class.0;
@@ -80,7 +80,7 @@ module _ (tree : Tree) (mutator : Mutator) (number operands : ℕ) (m : Frames) 
 
     -- which the target is
     pub target_runs : (object : (a.number == 0) ≡ false) (class : Option ℕ) (target : ℕ) → class_at o a ≡ Some class → slice_get (all_methods tree) target ≡ target_in tree number class
-        → virtual_numbered tree mutator number operands m o console ≡ call_numbered tree mutator target m o console
+        → virtual_by_id tree mutator number operands m o console ≡ call_by_id tree mutator target m o console
     target_runs object class target class_is target_is =
         let choice = choosing object in
         let e = choice.class_is in

@@ -16,10 +16,10 @@ use Rattle.loaded_program.specs.AllMethods.{all_methods}
 use Rattle.loaded_program.specs.MethodNumbers.{number_of}
 use Rattle.threads_monitors.specs.declared.mutators.Mutator.{Mutator}
 use Rattle.threads_monitors.specs.Frames.{Frames}
-use Rattle.instructions.specs.Frames.{Turn, given}
-use Rattle.instructions.specs.ObjectTurns.{beside}
-use Rattle.instructions.specs.Calls.{call_turn, new_object_turn, new_plain_object_turn}
-use Rattle.interpreter.specs.Calls.{act_turn, beside_console, call_numbered, called_as, made, made_numbered, run_turn}
+use Rattle.instructions.specs.Frames.{Transition, given}
+use Rattle.instructions.specs.ObjectTransitions.{beside}
+use Rattle.instructions.specs.Calls.{call_transition, new_object_transition, new_plain_object_transition}
+use Rattle.interpreter.specs.Calls.{act_transition, beside_console, call_by_id, called_as, make_object, made_by_id, run_transition}
 
 -- ---- options
 
@@ -50,34 +50,34 @@ called_alike tree found entry k locals known same =
     ∙ ap (λ (x : List ValueKind). record { method = k; arguments = length (argument_types found.1 found.0); locals = x }) (same ∙ known.locals)
 
 module _ (tree : Tree) (mutator : Mutator) (n : ℕ) (found : ClassName × Method) (at : slice_get (all_methods tree) n ≡ Some found) (m : Frames) (o : Objects) (console : List ℕ) where
-  pub runs_found : call_numbered tree mutator n m o console ≡ run_turn tree mutator found m o console
-  runs_found = ap (λ x. given x (λ f. run_turn tree mutator f m o console)) at
+  pub runs_found : call_by_id tree mutator n m o console ≡ run_transition tree mutator found m o console
+  runs_found = ap (λ x. given x (λ f. run_transition tree mutator f m o console)) at
 
-  pub run_acts : (a : Action) → action_of found.0 found.1 ≡ Some a → call_numbered tree mutator n m o console ≡ act_turn tree mutator a m o console
+  pub run_acts : (a : Action) → action_of found.0 found.1 ≡ Some a → call_by_id tree mutator n m o console ≡ act_transition tree mutator a m o console
   run_acts a is =
       runs_found
-      ∙ ap (λ x. option_map_or (λ b. act_turn tree mutator b m o console) x (given (number_of tree found) (λ k. beside_console console (beside o (call_turn (called_as found k) m))))) is
+      ∙ ap (λ x. option_map_or (λ b. act_transition tree mutator b m o console) x (given (number_of tree found) (λ k. beside_console console (beside o (call_transition (called_as found k) m))))) is
 
-  pub run_calls : action_of found.0 found.1 ≡ None → number_of tree found ≡ Some n → call_numbered tree mutator n m o console ≡ beside_console console (beside o (call_turn (called_as found n) m))
+  pub run_calls : action_of found.0 found.1 ≡ None → number_of tree found ≡ Some n → call_by_id tree mutator n m o console ≡ beside_console console (beside o (call_transition (called_as found n) m))
   run_calls is numbered =
       runs_found
-      ∙ ap (λ x. option_map_or (λ b. act_turn tree mutator b m o console) x (given (number_of tree found) (λ k. beside_console console (beside o (call_turn (called_as found k) m))))) is
-      ∙ ap (λ x. given x (λ k. beside_console console (beside o (call_turn (called_as found k) m)))) numbered
+      ∙ ap (λ x. option_map_or (λ b. act_transition tree mutator b m o console) x (given (number_of tree found) (λ k. beside_console console (beside o (call_transition (called_as found k) m))))) is
+      ∙ ap (λ x. given x (λ k. beside_console console (beside o (call_transition (called_as found k) m)))) numbered
 
-  pub call_there : (t : Turn) → IsSome (beside_console console (beside o t)) → IsSome t
+  pub call_there : (t : Transition) → IsSome (beside_console console (beside o t)) → IsSome t
   call_there t there = mapped_there _ t (mapped_there _ (beside o t) there)
 
   module _ (class slots : ℕ) where
-    made_found : made_numbered tree mutator class slots n m o ≡ made tree mutator class slots found m o
-    made_found = ap (λ x. given x (λ f. made tree mutator class slots f m o)) at
+    made_found : made_by_id tree mutator class slots n m o ≡ make_object tree mutator class slots found m o
+    made_found = ap (λ x. given x (λ f. make_object tree mutator class slots f m o)) at
 
-    pub made_plain : (a : Action) → action_of found.0 found.1 ≡ Some a → made_numbered tree mutator class slots n m o ≡ new_plain_object_turn mutator.phase class slots m o
+    pub made_plain : (a : Action) → action_of found.0 found.1 ≡ Some a → made_by_id tree mutator class slots n m o ≡ new_plain_object_transition mutator.phase class slots m o
     made_plain a is =
         made_found
-        ∙ ap (λ x. option_map_or (λ b. new_plain_object_turn mutator.phase class slots m o) x (given (number_of tree found) (λ k. new_object_turn mutator.phase class slots (called_as found k) m o))) is
+        ∙ ap (λ x. option_map_or (λ b. new_plain_object_transition mutator.phase class slots m o) x (given (number_of tree found) (λ k. new_object_transition mutator.phase class slots (called_as found k) m o))) is
 
-    pub made_called : action_of found.0 found.1 ≡ None → number_of tree found ≡ Some n → made_numbered tree mutator class slots n m o ≡ new_object_turn mutator.phase class slots (called_as found n) m o
+    pub made_called : action_of found.0 found.1 ≡ None → number_of tree found ≡ Some n → made_by_id tree mutator class slots n m o ≡ new_object_transition mutator.phase class slots (called_as found n) m o
     made_called is numbered =
         made_found
-        ∙ ap (λ x. option_map_or (λ b. new_plain_object_turn mutator.phase class slots m o) x (given (number_of tree found) (λ k. new_object_turn mutator.phase class slots (called_as found k) m o))) is
-        ∙ ap (λ x. given x (λ k. new_object_turn mutator.phase class slots (called_as found k) m o)) numbered
+        ∙ ap (λ x. option_map_or (λ b. new_plain_object_transition mutator.phase class slots m o) x (given (number_of tree found) (λ k. new_object_transition mutator.phase class slots (called_as found k) m o))) is
+        ∙ ap (λ x. given x (λ k. new_object_transition mutator.phase class slots (called_as found k) m o)) numbered

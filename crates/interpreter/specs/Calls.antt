@@ -28,9 +28,9 @@ use Rattle.threads_monitors.specs.declared.effects.Effect.{Effect}
 use Rattle.threads_monitors.specs.declared.effects.Effect.TheVariants.{Raises}
 pub use Rattle.loaded_program.specs.Loaded.{chosen_by}
 use Rattle.instructions.specs.Frames.{given, with_top, onward}
-use Rattle.instructions.specs.ObjectTurns.{ObjectTurn, beside}
-use Rattle.instructions.specs.Calls.{Called, call_turn, new_object_turn, new_plain_object_turn}
-use Rattle.instructions.specs.BuiltInTurns.{enter_turn, exit_turn, write_turn}
+use Rattle.instructions.specs.ObjectTransitions.{ObjectTransition, beside}
+use Rattle.instructions.specs.Calls.{Called, call_transition, new_object_transition, new_plain_object_transition}
+use Rattle.instructions.specs.BuiltInTransitions.{enter_transition, exit_transition, write_transition}
 use Rattle.interpreter.specs.declared.outcomes.Outcome.{Outcome}
 use Rattle.interpreter.specs.declared.outcomes.Outcome.TheVariants.{Comes, Starts, Joins}
 
@@ -45,16 +45,16 @@ abbrev pub call_answer : Frames → Objects → List ℕ → Outcome → CallAns
 call_answer m o console outcome = record { frames = m; objects = o; printed = console; outcome = outcome }
 
 -- or there is none
-abbrev pub CallTurn : Type 0
-CallTurn = Option CallAnswer
+abbrev pub CallTransition : Type 0
+CallTransition = Option CallAnswer
 
 -- a transition of frames and objects beside the printed bytes
-abbrev pub beside_console : List ℕ → ObjectTurn → CallTurn
-beside_console console turn = option_map (λ (t : Frames × Objects × Effect). call_answer t.0 t.1 console (Comes t.2)) turn
+abbrev pub beside_console : List ℕ → ObjectTransition → CallTransition
+beside_console console transition = option_map (λ (t : Frames × Objects × Effect). call_answer t.0 t.1 console (Comes t.2)) transition
 
 -- whether a rule has a result that prints: there are more bytes than there were
-abbrev pub prints : List ℕ → CallTurn → Bool
-prints console turn = option_map_or (λ (t : CallAnswer). nat_lt (length console) (length t.printed)) turn false
+abbrev pub prints : List ℕ → CallTransition → Bool
+prints console transition = option_map_or (λ (t : CallAnswer). nat_lt (length console) (length t.printed)) transition false
 
 -- ---- built-in members
 
@@ -64,17 +64,17 @@ top_reference (Ref a ∷ rest) = Some a
 top_reference _ = None
 
 -- asks for something of another thread; the operand stays until it is done
-abbrev pub asks : (Addr → Outcome) → Frames → Objects → List ℕ → CallTurn
+abbrev pub asks : (Addr → Outcome) → Frames → Objects → List ℕ → CallTransition
 asks what m o console = option_map (λ a. call_answer m o console (what a)) (top_reference m.running.stack)
 
 -- what a member without code does
-abbrev pub act_turn : Tree → Mutator → Action → Frames → Objects → List ℕ → CallTurn
-act_turn tree mutator Construct m o console = with_top m (λ v n. beside_console console (beside o (onward n)))
-act_turn tree mutator Write m o console = option_map (λ (t : Frames × List ℕ × Effect). call_answer t.0 o t.1 (Comes t.2)) (write_turn (literals_of tree) console m)
-act_turn tree mutator Enter m o console = beside_console console (enter_turn mutator m o)
-act_turn tree mutator Exit m o console = beside_console console (exit_turn mutator m o)
-act_turn tree mutator Start m o console = asks Starts m o console
-act_turn tree mutator Join m o console = asks Joins m o console
+abbrev pub act_transition : Tree → Mutator → Action → Frames → Objects → List ℕ → CallTransition
+act_transition tree mutator Construct m o console = with_top m (λ v n. beside_console console (beside o (onward n)))
+act_transition tree mutator Write m o console = option_map (λ (t : Frames × List ℕ × Effect). call_answer t.0 o t.1 (Comes t.2)) (write_transition (literals_of tree) console m)
+act_transition tree mutator Enter m o console = beside_console console (enter_transition mutator m o)
+act_transition tree mutator Exit m o console = beside_console console (exit_transition mutator m o)
+act_transition tree mutator Start m o console = asks Starts m o console
+act_transition tree mutator Join m o console = asks Joins m o console
 
 -- ---- calls
 
@@ -83,14 +83,14 @@ abbrev pub called_as : ClassName × Method → ℕ → Called
 called_as found n = record { method = n; arguments = length (argument_types found.1 found.0); locals = local_kinds found.1 }
 
 -- a method that runs: an action of its own, or a frame (III.3.19)
-abbrev pub run_turn : Tree → Mutator → ClassName × Method → Frames → Objects → List ℕ → CallTurn
-run_turn tree mutator found m o console =
-    option_map_or (λ a. act_turn tree mutator a m o console) (action_of found.0 found.1)
-    (given (number_of tree found) (λ n. beside_console console (beside o (call_turn (called_as found n) m))))
+abbrev pub run_transition : Tree → Mutator → ClassName × Method → Frames → Objects → List ℕ → CallTransition
+run_transition tree mutator found m o console =
+    option_map_or (λ a. act_transition tree mutator a m o console) (action_of found.0 found.1)
+    (given (number_of tree found) (λ n. beside_console console (beside o (call_transition (called_as found n) m))))
 
 -- the same of the method of a flat number
-abbrev pub call_numbered : Tree → Mutator → ℕ → Frames → Objects → List ℕ → CallTurn
-call_numbered tree mutator number m o console = given (slice_get (all_methods tree) number) (λ found. run_turn tree mutator found m o console)
+abbrev pub call_by_id : Tree → Mutator → ℕ → Frames → Objects → List ℕ → CallTransition
+call_by_id tree mutator number m o console = given (slice_get (all_methods tree) number) (λ found. run_transition tree mutator found m o console)
 
 -- the number of the class of an object of this kind; an array has none
 abbrev pub class_of_kind : Kind → Option ℕ
@@ -102,12 +102,12 @@ abbrev pub class_at : Objects → Addr → Option (Option ℕ)
 class_at o a = option_map_or (λ n. Some (Some STRING)) (literal_number a) (option_map (λ (c : Cell). class_of_kind c.kind) (object_cell o a))
 
 -- the method that runs for an object
-abbrev pub chosen : Tree → Objects → Addr → ClassName × Method → Option (ClassName × Method)
-chosen tree o a found = option_and_then (chosen_by tree found) (class_at o a)
+abbrev pub chosen_method : Tree → Objects → Addr → ClassName × Method → Option (ClassName × Method)
+chosen_method tree o a found = option_and_then (chosen_by tree found) (class_at o a)
 
 -- the same of the method of a number
 abbrev pub chosen_at : Tree → Objects → Addr → MemberNumber → Option (ClassName × Method)
-chosen_at tree o a n = option_and_then (chosen tree o a) (method_at tree (n.class, n.place))
+chosen_at tree o a n = option_and_then (chosen_method tree o a) (method_at tree (n.class, n.index))
 
 -- the object on which a method with this number of operands is called
 abbrev pub receiver_in : Option Value → Option Addr
@@ -119,25 +119,25 @@ receiver stack zero = None
 receiver stack (suc n) = receiver_in (slice_get stack n)
 
 -- the method runs that an object has for the named one; null raises NullReference (III.4.2)
-abbrev pub run_on : Tree → Mutator → ClassName × Method → Addr → Frames → Objects → List ℕ → CallTurn
+abbrev pub run_on : Tree → Mutator → ClassName × Method → Addr → Frames → Objects → List ℕ → CallTransition
 run_on tree mutator found a m o console =
     if a.number == 0 then Some (call_answer m o console (Comes (Raises NullReference)))
-    else given (chosen tree o a found) (λ run. run_turn tree mutator run m o console)
+    else given (chosen_method tree o a found) (λ run. run_transition tree mutator run m o console)
 
 -- a virtual call of a method with this number of operands (III.4.2)
-abbrev pub virtual_turn : Tree → Mutator → ClassName × Method → ℕ → Frames → Objects → List ℕ → CallTurn
-virtual_turn tree mutator found operands m o console = given (receiver m.running.stack operands) (λ a. run_on tree mutator found a m o console)
+abbrev pub virtual_transition : Tree → Mutator → ClassName × Method → ℕ → Frames → Objects → List ℕ → CallTransition
+virtual_transition tree mutator found operands m o console = given (receiver m.running.stack operands) (λ a. run_on tree mutator found a m o console)
 
 -- of the method of a flat number
-abbrev pub virtual_numbered : Tree → Mutator → ℕ → ℕ → Frames → Objects → List ℕ → CallTurn
-virtual_numbered tree mutator number operands m o console = given (slice_get (all_methods tree) number) (λ found. virtual_turn tree mutator found operands m o console)
+abbrev pub virtual_by_id : Tree → Mutator → ℕ → ℕ → Frames → Objects → List ℕ → CallTransition
+virtual_by_id tree mutator number operands m o console = given (slice_get (all_methods tree) number) (λ found. virtual_transition tree mutator found operands m o console)
 
 -- an object of a class with this number of slots, at once where its constructor is built in (III.4.21)
-abbrev pub made : Tree → Mutator → ℕ → ℕ → ClassName × Method → Frames → Objects → ObjectTurn
-made tree mutator class slots found m o =
-    option_map_or (λ a. new_plain_object_turn mutator.phase class slots m o) (action_of found.0 found.1)
-    (given (number_of tree found) (λ n. new_object_turn mutator.phase class slots (called_as found n) m o))
+abbrev pub make_object : Tree → Mutator → ℕ → ℕ → ClassName × Method → Frames → Objects → ObjectTransition
+make_object tree mutator class slots found m o =
+    option_map_or (λ a. new_plain_object_transition mutator.phase class slots m o) (action_of found.0 found.1)
+    (given (number_of tree found) (λ n. new_object_transition mutator.phase class slots (called_as found n) m o))
 
 -- the same with the constructor of a flat number
-abbrev pub made_numbered : Tree → Mutator → ℕ → ℕ → ℕ → Frames → Objects → ObjectTurn
-made_numbered tree mutator class slots number m o = given (slice_get (all_methods tree) number) (λ found. made tree mutator class slots found m o)
+abbrev pub made_by_id : Tree → Mutator → ℕ → ℕ → ℕ → Frames → Objects → ObjectTransition
+made_by_id tree mutator class slots number m o = given (slice_get (all_methods tree) number) (λ found. make_object tree mutator class slots found m o)

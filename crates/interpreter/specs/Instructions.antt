@@ -22,13 +22,13 @@ pub use Rattle.loaded_program.specs.Operands.{HasSmallConstant}
 use Rattle.threads_monitors.specs.declared.mutators.Mutator.{Mutator}
 use Rattle.threads_monitors.specs.declared.effects.Effect.{Effect}
 use Rattle.threads_monitors.specs.Frames.{Frames}
-use Rattle.instructions.specs.Frames.{Turn, given, jump, onward, leaves, argument_turn, local_turn, store_argument_turn, store_local_turn, duplicate_turn, pop_turn, binary_turn, unary_turn, shift_turn, compare_turn, convert_32_turn, convert_64_turn, branch_true_turn, branch_false_turn, branch_compare_turn, switch_turn}
-use Rattle.instructions.specs.ObjectTurns.{ObjectTurn, StaticTurn, load_field_turn, store_field_turn, load_length_turn, load_element_turn, store_element_turn, new_array_turn, load_static_turn, store_static_turn}
-use Rattle.instructions.specs.TypeTurns.{cast_class_turn, is_instance_turn, store_reference_turn}
-use Rattle.instructions.specs.Calls.{return_turn}
+use Rattle.instructions.specs.Frames.{Transition, given, jump, onward, value_pushed, argument_transition, local_transition, store_argument_transition, store_local_transition, duplicate_transition, pop_transition, binary_transition, unary_transition, shift_transition, compare_transition, convert_32_transition, convert_64_transition, branch_true_transition, branch_false_transition, branch_compare_transition, switch_transition}
+use Rattle.instructions.specs.ObjectTransitions.{ObjectTransition, StaticTransition, load_field_transition, store_field_transition, load_length_transition, load_element_transition, store_element_transition, new_array_transition, load_static_transition, store_static_transition}
+use Rattle.instructions.specs.TypeTransitions.{cast_class_transition, is_instance_transition, store_reference_transition}
+use Rattle.instructions.specs.Calls.{return_transition}
 use Rattle.interpreter.specs.declared.outcomes.Outcome.{Outcome}
 use Rattle.interpreter.specs.declared.outcomes.Outcome.TheVariants.{Comes}
-use Rattle.interpreter.specs.Calls.{CallAnswer, CallTurn, call_numbered, made_numbered, virtual_numbered}
+use Rattle.interpreter.specs.Calls.{CallAnswer, CallTransition, call_by_id, made_by_id, virtual_by_id}
 
 -- the frames of the thread, the objects, the static fields and the printed bytes after an instruction, and its outcome
 pub record Answer : Type 0 where
@@ -42,73 +42,73 @@ abbrev pub answer_of : Frames → Objects → List Value → List ℕ → Outcom
 answer_of m o statics console outcome = record { frames = m; objects = o; statics = statics; printed = console; outcome = outcome }
 
 -- or there is none
-abbrev pub MachineTurn : Type 0
-MachineTurn = Option Answer
+abbrev pub MachineTransition : Type 0
+MachineTransition = Option Answer
 
 module _ (o : Objects) (statics : List Value) (console : List ℕ) where
   -- what changes the frames alone
-  abbrev pub of_frames : Turn → MachineTurn
-  of_frames turn = option_map (λ (t : Frames × Effect). answer_of t.0 o statics console (Comes t.1)) turn
+  abbrev pub of_frames : Transition → MachineTransition
+  of_frames transition = option_map (λ (t : Frames × Effect). answer_of t.0 o statics console (Comes t.1)) transition
 
   -- what changes objects too
-  abbrev pub of_objects : ObjectTurn → MachineTurn
-  of_objects turn = option_map (λ (t : Frames × Objects × Effect). answer_of t.0 t.1 statics console (Comes t.2)) turn
+  abbrev pub of_objects : ObjectTransition → MachineTransition
+  of_objects transition = option_map (λ (t : Frames × Objects × Effect). answer_of t.0 t.1 statics console (Comes t.2)) transition
 
   -- or static fields
-  abbrev pub of_statics : StaticTurn → MachineTurn
-  of_statics turn = option_map (λ (t : Frames × (Objects × List Value) × Effect). answer_of t.0 t.1.0 t.1.1 console (Comes t.2)) turn
+  abbrev pub of_statics : StaticTransition → MachineTransition
+  of_statics transition = option_map (λ (t : Frames × (Objects × List Value) × Effect). answer_of t.0 t.1.0 t.1.1 console (Comes t.2)) transition
 
   -- or the printed bytes
-  abbrev pub of_calls : CallTurn → MachineTurn
-  of_calls turn = option_map (λ (t : CallAnswer). answer_of t.frames t.objects statics t.printed t.outcome) turn
+  abbrev pub of_calls : CallTransition → MachineTransition
+  of_calls transition = option_map (λ (t : CallAnswer). answer_of t.frames t.objects statics t.printed t.outcome) transition
 
 -- ---- linked instructions
 
 -- what each linked instruction does
-abbrev pub linked_turn : Tree → Mutator → LinkedInstruction → Frames → Objects → List Value → List ℕ → MachineTurn
-linked_turn tree mutator NoOperation m o ss c = of_frames o ss c (onward m)
-linked_turn tree mutator (LoadInt32 z) m o ss c = of_frames o ss c (leaves (Int32 z) m)
-linked_turn tree mutator (LoadInt64 z) m o ss c = of_frames o ss c (leaves (Int64 z) m)
-linked_turn tree mutator LoadNull m o ss c = of_frames o ss c (leaves (Ref null) m)
-linked_turn tree mutator (LoadString a) m o ss c = of_frames o ss c (leaves (Ref a) m)
-linked_turn tree mutator (LoadArgument n) m o ss c = of_frames o ss c (argument_turn n m)
-linked_turn tree mutator (StoreArgument n) m o ss c = of_frames o ss c (store_argument_turn n m)
-linked_turn tree mutator (LoadLocal n) m o ss c = of_frames o ss c (local_turn n m)
-linked_turn tree mutator (StoreLocal n) m o ss c = of_frames o ss c (store_local_turn n m)
-linked_turn tree mutator Duplicate m o ss c = of_frames o ss c (duplicate_turn m)
-linked_turn tree mutator Pop m o ss c = of_frames o ss c (pop_turn m)
-linked_turn tree mutator (Binary op) m o ss c = of_frames o ss c (binary_turn op m)
-linked_turn tree mutator (Unary op) m o ss c = of_frames o ss c (unary_turn op m)
-linked_turn tree mutator (Shift op) m o ss c = of_frames o ss c (shift_turn op m)
-linked_turn tree mutator (Compare op) m o ss c = of_frames o ss c (compare_turn mutator.phase op m o)
-linked_turn tree mutator ConvertInt32 m o ss c = of_frames o ss c (convert_32_turn m)
-linked_turn tree mutator ConvertInt64 m o ss c = of_frames o ss c (convert_64_turn m)
-linked_turn tree mutator (Branch place) m o ss c = of_frames o ss c (jump place m)
-linked_turn tree mutator (BranchTrue place) m o ss c = of_frames o ss c (branch_true_turn place m)
-linked_turn tree mutator (BranchFalse place) m o ss c = of_frames o ss c (branch_false_turn place m)
-linked_turn tree mutator (BranchCompare op place) m o ss c = of_frames o ss c (branch_compare_turn mutator.phase op place m o)
-linked_turn tree mutator (Switch places) m o ss c = of_frames o ss c (switch_turn places m)
-linked_turn tree mutator (LoadField slot kind) m o ss c = of_objects o ss c (load_field_turn kind slot m o)
-linked_turn tree mutator (StoreField slot) m o ss c = of_objects o ss c (store_field_turn mutator.phase slot m o)
-linked_turn tree mutator (LoadStaticField number) m o ss c = of_frames o ss c (load_static_turn number m ss)
-linked_turn tree mutator (StoreStaticField number) m o ss c = of_statics o ss c (store_static_turn mutator.phase number m o ss)
-linked_turn tree mutator (NewArray element) m o ss c = of_objects o ss c (new_array_turn mutator.phase element m o)
-linked_turn tree mutator LoadLength m o ss c = of_objects o ss c (load_length_turn m o)
-linked_turn tree mutator (LoadElement kind) m o ss c = of_objects o ss c (load_element_turn kind m o)
-linked_turn tree mutator StoreElement m o ss c = of_objects o ss c (store_element_turn mutator.phase m o)
-linked_turn tree mutator StoreElementReference m o ss c = of_objects o ss c (store_reference_turn mutator.phase tree m o)
-linked_turn tree mutator (CastClass t) m o ss c = of_objects o ss c (cast_class_turn tree t m o)
-linked_turn tree mutator (IsInstance t) m o ss c = of_objects o ss c (is_instance_turn tree t m o)
-linked_turn tree mutator (Call number) m o ss c = of_calls o ss c (call_numbered tree mutator number m o c)
-linked_turn tree mutator (CallVirtual number operands) m o ss c = of_calls o ss c (virtual_numbered tree mutator number operands m o c)
-linked_turn tree mutator (NewObject class slots number) m o ss c = of_objects o ss c (made_numbered tree mutator class slots number m o)
-linked_turn tree mutator (Return has_result) m o ss c = of_frames o ss c (return_turn has_result m)
+abbrev pub linked_transition : Tree → Mutator → LinkedInstruction → Frames → Objects → List Value → List ℕ → MachineTransition
+linked_transition tree mutator NoOperation m o ss c = of_frames o ss c (onward m)
+linked_transition tree mutator (LoadInt32 z) m o ss c = of_frames o ss c (value_pushed (Int32 z) m)
+linked_transition tree mutator (LoadInt64 z) m o ss c = of_frames o ss c (value_pushed (Int64 z) m)
+linked_transition tree mutator LoadNull m o ss c = of_frames o ss c (value_pushed (Ref null) m)
+linked_transition tree mutator (LoadString a) m o ss c = of_frames o ss c (value_pushed (Ref a) m)
+linked_transition tree mutator (LoadArgument n) m o ss c = of_frames o ss c (argument_transition n m)
+linked_transition tree mutator (StoreArgument n) m o ss c = of_frames o ss c (store_argument_transition n m)
+linked_transition tree mutator (LoadLocal n) m o ss c = of_frames o ss c (local_transition n m)
+linked_transition tree mutator (StoreLocal n) m o ss c = of_frames o ss c (store_local_transition n m)
+linked_transition tree mutator Duplicate m o ss c = of_frames o ss c (duplicate_transition m)
+linked_transition tree mutator Pop m o ss c = of_frames o ss c (pop_transition m)
+linked_transition tree mutator (Binary op) m o ss c = of_frames o ss c (binary_transition op m)
+linked_transition tree mutator (Unary op) m o ss c = of_frames o ss c (unary_transition op m)
+linked_transition tree mutator (Shift op) m o ss c = of_frames o ss c (shift_transition op m)
+linked_transition tree mutator (Compare op) m o ss c = of_frames o ss c (compare_transition mutator.phase op m o)
+linked_transition tree mutator ConvertInt32 m o ss c = of_frames o ss c (convert_32_transition m)
+linked_transition tree mutator ConvertInt64 m o ss c = of_frames o ss c (convert_64_transition m)
+linked_transition tree mutator (Branch pc) m o ss c = of_frames o ss c (jump pc m)
+linked_transition tree mutator (BranchTrue pc) m o ss c = of_frames o ss c (branch_true_transition pc m)
+linked_transition tree mutator (BranchFalse pc) m o ss c = of_frames o ss c (branch_false_transition pc m)
+linked_transition tree mutator (BranchCompare op pc) m o ss c = of_frames o ss c (branch_compare_transition mutator.phase op pc m o)
+linked_transition tree mutator (Switch pcs) m o ss c = of_frames o ss c (switch_transition pcs m)
+linked_transition tree mutator (LoadField slot kind) m o ss c = of_objects o ss c (load_field_transition kind slot m o)
+linked_transition tree mutator (StoreField slot) m o ss c = of_objects o ss c (store_field_transition mutator.phase slot m o)
+linked_transition tree mutator (LoadStaticField number) m o ss c = of_frames o ss c (load_static_transition number m ss)
+linked_transition tree mutator (StoreStaticField number) m o ss c = of_statics o ss c (store_static_transition mutator.phase number m o ss)
+linked_transition tree mutator (NewArray element) m o ss c = of_objects o ss c (new_array_transition mutator.phase element m o)
+linked_transition tree mutator LoadLength m o ss c = of_objects o ss c (load_length_transition m o)
+linked_transition tree mutator (LoadElement kind) m o ss c = of_objects o ss c (load_element_transition kind m o)
+linked_transition tree mutator StoreElement m o ss c = of_objects o ss c (store_element_transition mutator.phase m o)
+linked_transition tree mutator StoreElementReference m o ss c = of_objects o ss c (store_reference_transition mutator.phase tree m o)
+linked_transition tree mutator (CastClass t) m o ss c = of_objects o ss c (cast_class_transition tree t m o)
+linked_transition tree mutator (IsInstance t) m o ss c = of_objects o ss c (is_instance_transition tree t m o)
+linked_transition tree mutator (Call number) m o ss c = of_calls o ss c (call_by_id tree mutator number m o c)
+linked_transition tree mutator (CallVirtual number operands) m o ss c = of_calls o ss c (virtual_by_id tree mutator number operands m o c)
+linked_transition tree mutator (NewObject class slots number) m o ss c = of_objects o ss c (made_by_id tree mutator class slots number m o)
+linked_transition tree mutator (Return has_result) m o ss c = of_frames o ss c (return_transition has_result m)
 
 -- whether an instruction has a result that prints
-abbrev pub is_printing : List ℕ → MachineTurn → Bool
-is_printing c turn = option_map_or (λ (t : Answer). nat_lt (length c) (length t.printed)) turn false
+abbrev pub is_printing : List ℕ → MachineTransition → Bool
+is_printing c transition = option_map_or (λ (t : Answer). nat_lt (length c) (length t.printed)) transition false
 
--- ---- a resolved instruction at a frame's place
+-- ---- a resolved instruction at a frame's pc
 
 -- the method of the frame
 abbrev pub method_of : Tree → Frames → Option (ClassName × Method)
@@ -116,7 +116,7 @@ method_of tree m = slice_get (all_methods tree) m.running.method
 
 -- its line
 abbrev pub line_at : Tree → Frames → Option Line
-line_at tree m = option_and_then (λ (found : ClassName × Method). slice_get (lines_of found.1) m.running.place) (method_of tree m)
+line_at tree m = option_and_then (λ (found : ClassName × Method). slice_get (lines_of found.1) m.running.pc) (method_of tree m)
 
 -- whether that method returns a value (II.15.3)
 abbrev pub returns_value : Tree → Frames → Bool
@@ -127,15 +127,15 @@ abbrev pub link_of : Tree → Frames → Operation → Option LinkedInstruction
 link_of tree m op = link tree (returns_value tree m) op
 
 -- a resolved instruction does what its link does
-abbrev pub operation_turn : Tree → Mutator → Operation → Frames → Objects → List Value → List ℕ → MachineTurn
-operation_turn tree mutator op m o ss c = given (link_of tree m op) (λ l. linked_turn tree mutator l m o ss c)
+abbrev pub operation_transition : Tree → Mutator → Operation → Frames → Objects → List Value → List ℕ → MachineTransition
+operation_transition tree mutator op m o ss c = given (link_of tree m op) (λ l. linked_transition tree mutator l m o ss c)
 
 -- a resolved instruction that represents the one there
 pub record IsAt (tree : Tree) (m : Frames) (op : Operation) : Type 0 where
   pub found : ClassName × Method
   pub line : Line
   pub found_is : method_of tree m ≡ Some found
-  pub line_is : slice_get (lines_of found.1) m.running.place ≡ Some line
+  pub line_is : slice_get (lines_of found.1) m.running.pc ≡ Some line
   pub stands : IsOperation tree (lines_of found.1) line.instruction op
 
 -- what a thread's next instruction has done: its result is that of a resolved instruction there
@@ -143,7 +143,7 @@ pub record IsDone (tree : Tree) (mutator : Mutator) (m : Frames) (o : Objects) (
   pub operation : Operation
   pub at : IsAt tree m operation
   pub constant : HasSmallConstant operation
-  pub is : Some answer ≡ operation_turn tree mutator operation m o ss c
+  pub is : Some answer ≡ operation_transition tree mutator operation m o ss c
 
 -- what a thread's next instruction would have done prints
 abbrev pub Prints : Tree → Mutator → Frames → Objects → List Value → List ℕ → Type 0

@@ -12,12 +12,12 @@ use Rattle.object_memory.specs.Objects.{Objects}
 use Rattle.loaded_program.specs.declared.instructions.LinkedInstruction.{LinkedInstruction}
 use Rattle.loaded_program.specs.declared.instructions.LinkedInstruction.TheVariants as Linked
 use Rattle.threads_monitors.specs.declared.mutators.Mutator.{Mutator}
-use Rattle.threads_monitors.specs.declared.effects.Effect.TheVariants.{GoesOn, Raises}
+use Rattle.threads_monitors.specs.declared.effects.Effect.TheVariants.{Continues, Raises}
 use Rattle.threads_monitors.specs.Frames.{Frame, Frames}
-use Rattle.instructions.specs.Frames.{Turn, jump, onward, leaves, argument_turn, local_turn, store_argument_turn, store_local_turn, duplicate_turn, pop_turn, binary_turn, unary_turn, shift_turn, convert_32_turn, convert_64_turn, branch_true_turn, branch_false_turn, switch_turn}
-use Rattle.instructions.specs.LocalTurns.{branch_integers_turn, compare_integers_turn, is_ordered, is_ordered_branch}
+use Rattle.instructions.specs.Frames.{Transition, jump, onward, value_pushed, argument_transition, local_transition, store_argument_transition, store_local_transition, duplicate_transition, pop_transition, binary_transition, unary_transition, shift_transition, convert_32_transition, convert_64_transition, branch_true_transition, branch_false_transition, switch_transition}
+use Rattle.instructions.specs.LocalTransitions.{branch_integers_transition, compare_integers_transition, is_ordered, is_ordered_branch}
 use Rattle.interpreter.specs.declared.outcomes.Outcome.TheVariants.{Comes}
-use Rattle.interpreter.specs.Instructions.{HasSmallConstant, IsAt, IsDone, answer_of, line_at, link_of, operation_turn}
+use Rattle.interpreter.specs.Instructions.{HasSmallConstant, IsAt, IsDone, answer_of, line_at, link_of, operation_transition}
 
 -- ---- which they are
 
@@ -40,11 +40,11 @@ is_local_link (Linked.Shift op) = true
 is_local_link (Linked.Compare op) = is_ordered op
 is_local_link Linked.ConvertInt32 = true
 is_local_link Linked.ConvertInt64 = true
-is_local_link (Linked.Branch place) = true
-is_local_link (Linked.BranchTrue place) = true
-is_local_link (Linked.BranchFalse place) = true
-is_local_link (Linked.BranchCompare op place) = is_ordered_branch op
-is_local_link (Linked.Switch places) = true
+is_local_link (Linked.Branch pc) = true
+is_local_link (Linked.BranchTrue pc) = true
+is_local_link (Linked.BranchFalse pc) = true
+is_local_link (Linked.BranchCompare op pc) = is_ordered_branch op
+is_local_link (Linked.Switch pcs) = true
 is_local_link _ = false
 
 -- a resolved instruction is local if its link is
@@ -68,7 +68,7 @@ pub record IsLocalStep (tree : Tree) (room : ℕ) (f g : Frame) : Type 0 where
   pub at : IsAt tree (alone room f) operation
   pub local : is_local tree (alone room f) operation ≡ true
   pub done : (below : List Frame) (depth : ℕ) (mutator : Mutator) (o : Objects) (statics : List Value) (printed : List ℕ) →
-      IsDone tree mutator (frames_over f below depth room) o statics printed (answer_of (frames_over g below depth room) o statics printed (Comes GoesOn))
+      IsDone tree mutator (frames_over f below depth room) o statics printed (answer_of (frames_over g below depth room) o statics printed (Comes Continues))
 
 -- n of them, one after another
 abbrev pub AreLocalSteps : Tree → (room : ℕ) → ℕ → Frame → Frame → Type 0
@@ -104,32 +104,32 @@ pub record IsReadySomewhere (tree : Tree) (room : ℕ) (f : Frame) : Type 0 wher
   pub objects : Objects
   pub statics : List Value
   pub printed : List ℕ
-  pub place : IsSome (line_at tree (frames_over f below depth room))
-  pub there : (op : Operation) → IsAt tree (frames_over f below depth room) op → HasSmallConstant op → IsSome (operation_turn tree mutator op (frames_over f below depth room) objects statics printed)
+  pub pc : IsSome (line_at tree (frames_over f below depth room))
+  pub there : (op : Operation) → IsAt tree (frames_over f below depth room) op → HasSmallConstant op → IsSome (operation_transition tree mutator op (frames_over f below depth room) objects statics printed)
 
 -- ---- what they do
 
 -- what a local one does to frames; none of another one
-abbrev pub local_link_turn : LinkedInstruction → Frames → Turn
-local_link_turn Linked.NoOperation m = onward m
-local_link_turn (Linked.LoadInt32 z) m = leaves (Int32 z) m
-local_link_turn (Linked.LoadInt64 z) m = leaves (Int64 z) m
-local_link_turn Linked.LoadNull m = leaves (Ref null) m
-local_link_turn (Linked.LoadArgument n) m = argument_turn n m
-local_link_turn (Linked.StoreArgument n) m = store_argument_turn n m
-local_link_turn (Linked.LoadLocal n) m = local_turn n m
-local_link_turn (Linked.StoreLocal n) m = store_local_turn n m
-local_link_turn Linked.Duplicate m = duplicate_turn m
-local_link_turn Linked.Pop m = pop_turn m
-local_link_turn (Linked.Binary op) m = binary_turn op m
-local_link_turn (Linked.Unary op) m = unary_turn op m
-local_link_turn (Linked.Shift op) m = shift_turn op m
-local_link_turn (Linked.Compare op) m = compare_integers_turn op m
-local_link_turn Linked.ConvertInt32 m = convert_32_turn m
-local_link_turn Linked.ConvertInt64 m = convert_64_turn m
-local_link_turn (Linked.Branch place) m = jump place m
-local_link_turn (Linked.BranchTrue place) m = branch_true_turn place m
-local_link_turn (Linked.BranchFalse place) m = branch_false_turn place m
-local_link_turn (Linked.BranchCompare op place) m = branch_integers_turn op place m
-local_link_turn (Linked.Switch places) m = switch_turn places m
-local_link_turn _ m = None
+abbrev pub local_link_transition : LinkedInstruction → Frames → Transition
+local_link_transition Linked.NoOperation m = onward m
+local_link_transition (Linked.LoadInt32 z) m = value_pushed (Int32 z) m
+local_link_transition (Linked.LoadInt64 z) m = value_pushed (Int64 z) m
+local_link_transition Linked.LoadNull m = value_pushed (Ref null) m
+local_link_transition (Linked.LoadArgument n) m = argument_transition n m
+local_link_transition (Linked.StoreArgument n) m = store_argument_transition n m
+local_link_transition (Linked.LoadLocal n) m = local_transition n m
+local_link_transition (Linked.StoreLocal n) m = store_local_transition n m
+local_link_transition Linked.Duplicate m = duplicate_transition m
+local_link_transition Linked.Pop m = pop_transition m
+local_link_transition (Linked.Binary op) m = binary_transition op m
+local_link_transition (Linked.Unary op) m = unary_transition op m
+local_link_transition (Linked.Shift op) m = shift_transition op m
+local_link_transition (Linked.Compare op) m = compare_integers_transition op m
+local_link_transition Linked.ConvertInt32 m = convert_32_transition m
+local_link_transition Linked.ConvertInt64 m = convert_64_transition m
+local_link_transition (Linked.Branch pc) m = jump pc m
+local_link_transition (Linked.BranchTrue pc) m = branch_true_transition pc m
+local_link_transition (Linked.BranchFalse pc) m = branch_false_transition pc m
+local_link_transition (Linked.BranchCompare op pc) m = branch_integers_transition op pc m
+local_link_transition (Linked.Switch pcs) m = switch_transition pcs m
+local_link_transition _ m = None

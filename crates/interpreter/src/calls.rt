@@ -2,7 +2,7 @@
 
 ghost use Rattle.std.specs.Prelude.{◌≡◌, IsSome, Some, IfOk, OnErr, true};
 ghost use Rattle.loaded_program.specs.Prepared.{action_named};
-ghost use Rattle.interpreter.specs.Calls.{act_turn, call_answer, call_numbered, class_at, made_numbered, prints, receiver, top_reference, virtual_numbered};
+ghost use Rattle.interpreter.specs.Calls.{act_transition, call_answer, call_by_id, class_at, made_by_id, prints, receiver, top_reference, virtual_by_id};
 ghost use Rattle.interpreter.specs.Stores.{HoldSame};
 
 use crate::outcomes::Outcome;
@@ -36,11 +36,11 @@ fn act(
     frames: &mut FrameMemory,
     store: &mut Store,
 ) -> Result<Outcome, NoMemory>
-    requires { IsSome (act_turn program.now mutator (action_named action) frames.old store.old.heap store.old.console.items) }
-    ensures done { IfOk result (λ outcome. Some (call_answer frames.new store.new.heap store.new.console.items outcome) ≡ act_turn program.now mutator (action_named action) frames.old store.old.heap store.old.console.items) }
+    requires { IsSome (act_transition program.now mutator (action_named action) frames.old store.old.heap store.old.console.items) }
+    ensures done { IfOk result (λ outcome. Some (call_answer frames.new store.new.heap store.new.console.items outcome) ≡ act_transition program.now mutator (action_named action) frames.old store.old.heap store.old.console.items) }
     ensures statics { store.new.statics.items ≡ store.old.statics.items }
     ensures refused { OnErr result ((frames.new ≡ frames.old) × HoldSame store.old store.new) }
-    ensures prints { OnErr result (prints store.old.console.items (act_turn program.now mutator (action_named action) frames.old store.old.heap store.old.console.items) ≡ true) }
+    ensures prints { OnErr result (prints store.old.console.items (act_transition program.now mutator (action_named action) frames.old store.old.heap store.old.console.items) ≡ true) }
 {
     match action {
         Action::Construct => Ok(Outcome::Comes(stack::pop(frames))),
@@ -66,11 +66,11 @@ pub(crate) fn run(
     frames: &mut FrameMemory,
     store: &mut Store,
 ) -> Result<Outcome, NoMemory>
-    requires { IsSome (call_numbered program.now mutator number frames.old store.old.heap store.old.console.items) }
-    ensures done { IfOk result (λ outcome. Some (call_answer frames.new store.new.heap store.new.console.items outcome) ≡ call_numbered program.now mutator number frames.old store.old.heap store.old.console.items) }
+    requires { IsSome (call_by_id program.now mutator number frames.old store.old.heap store.old.console.items) }
+    ensures done { IfOk result (λ outcome. Some (call_answer frames.new store.new.heap store.new.console.items outcome) ≡ call_by_id program.now mutator number frames.old store.old.heap store.old.console.items) }
     ensures statics { store.new.statics.items ≡ store.old.statics.items }
     ensures refused { OnErr result ((frames.new ≡ frames.old) × HoldSame store.old store.new) }
-    ensures prints { OnErr result (prints store.old.console.items (call_numbered program.now mutator number frames.old store.old.heap store.old.console.items) ≡ true) }
+    ensures prints { OnErr result (prints store.old.console.items (call_by_id program.now mutator number frames.old store.old.heap store.old.console.items) ≡ true) }
 {
     let entry = program.method(number);
     match entry.action {
@@ -121,11 +121,11 @@ pub(crate) fn run_virtual(
     frames: &mut FrameMemory,
     store: &mut Store,
 ) -> Result<Outcome, NoMemory>
-    requires { IsSome (virtual_numbered program.now mutator number operands frames.old store.old.heap store.old.console.items) }
-    ensures done { IfOk result (λ outcome. Some (call_answer frames.new store.new.heap store.new.console.items outcome) ≡ virtual_numbered program.now mutator number operands frames.old store.old.heap store.old.console.items) }
+    requires { IsSome (virtual_by_id program.now mutator number operands frames.old store.old.heap store.old.console.items) }
+    ensures done { IfOk result (λ outcome. Some (call_answer frames.new store.new.heap store.new.console.items outcome) ≡ virtual_by_id program.now mutator number operands frames.old store.old.heap store.old.console.items) }
     ensures statics { store.new.statics.items ≡ store.old.statics.items }
     ensures refused { OnErr result ((frames.new ≡ frames.old) × HoldSame store.old store.new) }
-    ensures prints { OnErr result (prints store.old.console.items (virtual_numbered program.now mutator number operands frames.old store.old.heap store.old.console.items) ≡ true) }
+    ensures prints { OnErr result (prints store.old.console.items (virtual_by_id program.now mutator number operands frames.old store.old.heap store.old.console.items) ≡ true) }
 {
     let object = receiver(frames, operands);
     if object.is_null() {
@@ -145,8 +145,8 @@ pub(crate) fn create(
     frames: &mut FrameMemory,
     heap: &mut Heap,
 ) -> Effect
-    requires { IsSome (made_numbered program.now mutator class slots number frames.old heap.old) }
-    ensures { Some (frames.new, heap.new, result) ≡ made_numbered program.now mutator class slots number frames.old heap.old }
+    requires { IsSome (made_by_id program.now mutator class slots number frames.old heap.old) }
+    ensures { Some (frames.new, heap.new, result) ≡ made_by_id program.now mutator class slots number frames.old heap.old }
 {
     let entry = program.method(number);
     match entry.action {

@@ -1,14 +1,14 @@
 //! One linked instruction.
 
 ghost use Rattle.std.specs.Prelude.{◌≡◌, IsSome, Some, IfOk, OnErr, true};
-ghost use Rattle.interpreter.specs.Instructions.{is_printing, answer_of, linked_turn};
+ghost use Rattle.interpreter.specs.Instructions.{is_printing, answer_of, linked_transition};
 ghost use Rattle.interpreter.specs.Stores.{HoldSame};
 
 use crate::calls::{create, run, run_virtual};
 use crate::outcomes::Outcome;
 use crate::stores::Store;
 use cil_model::memory::NoMemory;
-use instructions::{arithmetic, arrays, branches, casts, fields, places, returns, stack, statics};
+use instructions::{arithmetic, arrays, branches, casts, control, fields, returns, stack, statics};
 use loaded_program::{LinkedInstruction, LoadedProgram};
 use object_memory::{Addr, Value};
 use threads_monitors::{FrameMemory, Mutator};
@@ -22,17 +22,26 @@ pub(crate) fn execute(
     frames: &mut FrameMemory,
     store: &mut Store,
 ) -> Result<Outcome, NoMemory>
-    requires { IsSome (linked_turn program.now mutator instruction.now frames.old store.old.heap store.old.statics.items store.old.console.items) }
-    ensures done { IfOk result (λ outcome. Some (answer_of frames.new store.new.heap store.new.statics.items store.new.console.items outcome) ≡ linked_turn program.now mutator instruction.now frames.old store.old.heap store.old.statics.items store.old.console.items) }
+    requires { IsSome (linked_transition program.now mutator instruction.now frames.old store.old.heap store.old.statics.items store.old.console.items) }
+    ensures done { IfOk result (λ outcome. Some (answer_of frames.new store.new.heap store.new.statics.items store.new.console.items outcome) ≡ linked_transition program.now mutator instruction.now frames.old store.old.heap store.old.statics.items store.old.console.items) }
     ensures refused { OnErr result ((frames.new ≡ frames.old) × HoldSame store.old store.new) }
-    ensures prints { OnErr result (is_printing store.old.console.items (linked_turn program.now mutator instruction.now frames.old store.old.heap store.old.statics.items store.old.console.items) ≡ true) }
+    ensures prints { OnErr result (is_printing store.old.console.items (linked_transition program.now mutator instruction.now frames.old store.old.heap store.old.statics.items store.old.console.items) ≡ true) }
 {
     let effect = match instruction {
-        LinkedInstruction::NoOperation => places::go_on(frames),
-        LinkedInstruction::LoadInt32(number) => places::leave(frames, Value::Int32(*number)),
-        LinkedInstruction::LoadInt64(number) => places::leave(frames, Value::Int64(*number)),
-        LinkedInstruction::LoadNull => places::leave(frames, Value::Ref(Addr::null())),
-        LinkedInstruction::LoadString(literal) => places::leave(frames, Value::Ref(*literal)),
+        LinkedInstruction::NoOperation => control::advance(frames),
+        LinkedInstruction::LoadInt32(number) => control::push_and_advance(
+            frames,
+            Value::Int32(*number),
+        ),
+        LinkedInstruction::LoadInt64(number) => control::push_and_advance(
+            frames,
+            Value::Int64(*number),
+        ),
+        LinkedInstruction::LoadNull => control::push_and_advance(frames, Value::Ref(Addr::null())),
+        LinkedInstruction::LoadString(literal) => control::push_and_advance(
+            frames,
+            Value::Ref(*literal),
+        ),
         LinkedInstruction::LoadArgument(index) => stack::load_argument(frames, *index),
         LinkedInstruction::StoreArgument(index) => stack::store_argument(frames, *index),
         LinkedInstruction::LoadLocal(index) => stack::load_local(frames, *index),
@@ -50,17 +59,17 @@ pub(crate) fn execute(
         ),
         LinkedInstruction::ConvertInt32 => arithmetic::convert_to_32(frames),
         LinkedInstruction::ConvertInt64 => arithmetic::convert_to_64(frames),
-        LinkedInstruction::Branch(place) => places::jump(frames, *place),
-        LinkedInstruction::BranchTrue(place) => branches::branch_true(frames, *place),
-        LinkedInstruction::BranchFalse(place) => branches::branch_false(frames, *place),
-        LinkedInstruction::BranchCompare(comparison, place) => branches::branch_compare(
+        LinkedInstruction::Branch(pc) => control::jump(frames, *pc),
+        LinkedInstruction::BranchTrue(pc) => branches::branch_true(frames, *pc),
+        LinkedInstruction::BranchFalse(pc) => branches::branch_false(frames, *pc),
+        LinkedInstruction::BranchCompare(comparison, pc) => branches::branch_compare(
             frames,
             &store.heap,
             mutator.phase,
             *comparison,
-            *place,
+            *pc,
         ),
-        LinkedInstruction::Switch(places) => branches::switch(frames, places.as_slice()),
+        LinkedInstruction::Switch(pcs) => branches::switch(frames, pcs.as_slice()),
         LinkedInstruction::LoadField { slot, kind } => fields::load_field(
             frames,
             &mut store.heap,

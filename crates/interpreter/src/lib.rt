@@ -5,9 +5,9 @@
 
 pub mod calls;
 mod execution;
+pub mod fetch;
 pub mod local_runs;
 pub mod outcomes;
-pub mod places;
 pub mod stores;
 
 pub use loaded_program as loaded_code;

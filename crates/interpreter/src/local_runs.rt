@@ -4,12 +4,12 @@ ghost use Rattle.std.specs.Prelude.{◌≡◌, ◌⊎◌, ◌<◌, ◌≤◌, �
 ghost use Rattle.cil_model.specs.declared.trees.Tree.{Tree};
 ghost use Rattle.loaded_program.specs.Loaded.{IsCode, IsLinkedAt, line_in};
 ghost use Rattle.threads_monitors.specs.Frames.{Frame};
-ghost use Rattle.threads_monitors.specs.declared.effects.Effect.TheVariants.{GoesOn};
-ghost use Rattle.instructions.specs.LocalTurns.{IsFaulty, is_ordered, is_ordered_branch};
-ghost use Rattle.interpreter.specs.Local.{AreLocalSteps, EndsLocal, IsNextLocal, IsReadySomewhere, alone, is_local_link, local_link_turn};
+ghost use Rattle.threads_monitors.specs.declared.effects.Effect.TheVariants.{Continues};
+ghost use Rattle.instructions.specs.LocalTransitions.{IsFaulty, is_ordered, is_ordered_branch};
+ghost use Rattle.interpreter.specs.Local.{AreLocalSteps, EndsLocal, IsNextLocal, IsReadySomewhere, alone, is_local_link, local_link_transition};
 
 use cil_model::instructions::{BranchComparison, Comparison};
-use instructions::{arithmetic, branches, places, stack};
+use instructions::{arithmetic, branches, control, stack};
 use loaded_program::{LinkedInstruction, LoadedProgram};
 use object_memory::{Addr, Value};
 use threads_monitors::{Effect, FrameMemory};
@@ -70,14 +70,20 @@ fn is_local(instruction: &LinkedInstruction) -> bool
 /// Does a local instruction.
 fn execute_local(instruction: &LinkedInstruction, frames: &mut FrameMemory) -> Effect
     requires local { is_local_link instruction.now ≡ true }
-    requires there { IsSome (local_link_turn instruction.now frames.old) }
-    ensures { Some (frames.new, result) ≡ local_link_turn instruction.now frames.old }
+    requires there { IsSome (local_link_transition instruction.now frames.old) }
+    ensures { Some (frames.new, result) ≡ local_link_transition instruction.now frames.old }
 {
     match instruction {
-        LinkedInstruction::NoOperation => places::go_on(frames),
-        LinkedInstruction::LoadInt32(number) => places::leave(frames, Value::Int32(*number)),
-        LinkedInstruction::LoadInt64(number) => places::leave(frames, Value::Int64(*number)),
-        LinkedInstruction::LoadNull => places::leave(frames, Value::Ref(Addr::null())),
+        LinkedInstruction::NoOperation => control::advance(frames),
+        LinkedInstruction::LoadInt32(number) => control::push_and_advance(
+            frames,
+            Value::Int32(*number),
+        ),
+        LinkedInstruction::LoadInt64(number) => control::push_and_advance(
+            frames,
+            Value::Int64(*number),
+        ),
+        LinkedInstruction::LoadNull => control::push_and_advance(frames, Value::Ref(Addr::null())),
         LinkedInstruction::LoadArgument(index) => stack::load_argument(frames, *index),
         LinkedInstruction::StoreArgument(index) => stack::store_argument(frames, *index),
         LinkedInstruction::LoadLocal(index) => stack::load_local(frames, *index),
@@ -92,13 +98,13 @@ fn execute_local(instruction: &LinkedInstruction, frames: &mut FrameMemory) -> E
         }
         LinkedInstruction::ConvertInt32 => arithmetic::convert_to_32(frames),
         LinkedInstruction::ConvertInt64 => arithmetic::convert_to_64(frames),
-        LinkedInstruction::Branch(place) => places::jump(frames, *place),
-        LinkedInstruction::BranchTrue(place) => branches::branch_true(frames, *place),
-        LinkedInstruction::BranchFalse(place) => branches::branch_false(frames, *place),
-        LinkedInstruction::BranchCompare(comparison, place) => {
-            branches::branch_integers(frames, *comparison, *place)
+        LinkedInstruction::Branch(pc) => control::jump(frames, *pc),
+        LinkedInstruction::BranchTrue(pc) => branches::branch_true(frames, *pc),
+        LinkedInstruction::BranchFalse(pc) => branches::branch_false(frames, *pc),
+        LinkedInstruction::BranchCompare(comparison, pc) => {
+            branches::branch_integers(frames, *comparison, *pc)
         }
-        LinkedInstruction::Switch(places) => branches::switch(frames, places.as_slice()),
+        LinkedInstruction::Switch(pcs) => branches::switch(frames, pcs.as_slice()),
         _ => unreachable!(),
     }
 }
@@ -106,9 +112,9 @@ fn execute_local(instruction: &LinkedInstruction, frames: &mut FrameMemory) -> E
 /// Does an instruction where it is local and raises no fault, and returns true. Otherwise it returns false and nothing changes.
 #[inline(always)]
 fn do_local(instruction: &LinkedInstruction, frames: &mut FrameMemory) -> bool
-    requires { is_local_link instruction.now ≡ true → IsSome (local_link_turn instruction.now frames.old) }
-    ensures done { result ≡ true → (is_local_link instruction.now ≡ true) × (local_link_turn instruction.now frames.old ≡ Some (frames.new, GoesOn)) }
-    ensures stays { result ≡ false → (frames.new ≡ frames.old) × ((is_local_link instruction.now ≡ false) ⊎ ((is_local_link instruction.now ≡ true) × IsFaulty (local_link_turn instruction.now frames.old))) }
+    requires { is_local_link instruction.now ≡ true → IsSome (local_link_transition instruction.now frames.old) }
+    ensures done { result ≡ true → (is_local_link instruction.now ≡ true) × (local_link_transition instruction.now frames.old ≡ Some (frames.new, Continues)) }
+    ensures stays { result ≡ false → (frames.new ≡ frames.old) × ((is_local_link instruction.now ≡ false) ⊎ ((is_local_link instruction.now ≡ true) × IsFaulty (local_link_transition instruction.now frames.old))) }
 {
     if !is_local(instruction) {
         return false;
@@ -120,12 +126,12 @@ fn do_local(instruction: &LinkedInstruction, frames: &mut FrameMemory) -> bool
     true
 }
 
-/// The instruction at a place of a method's code.
-fn line_of(code: &[LinkedInstruction], place: u32) -> &LinkedInstruction
-    requires { (tree : Tree) × (method : ℕ) × IsCode tree method code.now × IsSome (line_in tree method place) }
-    ensures { (tree : Tree) (method : ℕ) → IsCode tree method code.now → IsSome (line_in tree method place) → IsLinkedAt tree method place result.now }
+/// The instruction at a pc of a method's code.
+fn line_of(code: &[LinkedInstruction], pc: u32) -> &LinkedInstruction
+    requires { (tree : Tree) × (method : ℕ) × IsCode tree method code.now × IsSome (line_in tree method pc) }
+    ensures { (tree : Tree) (method : ℕ) → IsCode tree method code.now → IsSome (line_in tree method pc) → IsLinkedAt tree method pc result.now }
 {
-    &code[place as usize]
+    &code[pc as usize]
 }
 
 /// Whether the next instruction of the frame that runs is a local one.
@@ -133,7 +139,7 @@ pub fn is_next_local(program: &LoadedProgram, frames: &FrameMemory) -> bool
     requires { IsReadySomewhere program.now frames.now.room frames.now.running }
     ensures { IsNextLocal program.now frames.now.room frames.now.running result }
 {
-    is_local(program.instruction(frames.method(), frames.place()))
+    is_local(program.instruction(frames.method(), frames.pc()))
 }
 
 /// Does local instructions of the only frame, at most the given number, and returns how many it did. It stops before one that is not local or that
@@ -151,7 +157,7 @@ pub fn run_local(program: &LoadedProgram, frames: &mut FrameMemory, most: u32) -
     }
     let code = program.code(frames.method());
     for count in 0..most {
-        if !do_local(line_of(code, frames.place()), frames) {
+        if !do_local(line_of(code, frames.pc()), frames) {
             return count;
         }
     }

@@ -1,4 +1,4 @@
-//! What to write in the place of names that this profile lacks.
+//! What to write in place of names that this profile lacks.
 
 use crate::sentences::{write_one, write_two};
 use crate::sites::key_of;
@@ -9,7 +9,7 @@ use source_positions::name_tables::keys::{ClassKey, FieldKey, MethodKey};
 use source_positions::name_tables::kinds::is_static;
 use std::fmt;
 
-/// What to write in the place of what breaks a rule. It prints as one sentence without an end.
+/// What to write in place of what breaks a rule. It prints as one sentence without an end.
 #[derive(Clone, Copy)]
 pub enum Advice<'a> {
     /// This sentence.
@@ -44,7 +44,7 @@ impl fmt::Display for Advice<'_> {
     }
 }
 
-/// What to write in the place of a type that is no class of the source, nor of this profile's libraries.
+/// What to write in place of a type that is no class of the source, nor of this profile's libraries.
 fn advice_on_type(name: &str) -> Option<&'static str> {
     match name {
         "Object" | "System.Object" => Some("write `object`, without `class`"),
@@ -58,7 +58,7 @@ fn advice_on_type(name: &str) -> Option<&'static str> {
     }
 }
 
-/// What to write in the place of a class that is none of the source, nor of this profile's libraries.
+/// What to write in place of a class that is none of the source, nor of this profile's libraries.
 fn advice_on_class(name: &str) -> Option<&'static str> {
     match name {
         "Object" => Some("write `[mscorlib]System.Object`"),
@@ -76,7 +76,7 @@ fn advice_on_class(name: &str) -> Option<&'static str> {
     }
 }
 
-/// What to write in the place of a class by its name alone.
+/// What to write in place of a class by its name alone.
 fn advice_on_name(name: &str, role: Role) -> Option<&'static str> {
     match (role, advice_on_type(name)) {
         (Role::Type, Some(advice)) => Some(advice),
@@ -84,7 +84,7 @@ fn advice_on_name(name: &str, role: Role) -> Option<&'static str> {
     }
 }
 
-/// What to write in the place of a class that is not there, or whose assembly is not declared.
+/// What to write in place of a class that is not there, or whose assembly is not declared.
 fn advice_on_absent_class<'a>(class: ClassKey<'a>, role: Role) -> Option<Advice<'a>> {
     let name = class.name.as_str();
     if let Some(sentence) = advice_on_name(name, role) {
@@ -101,7 +101,7 @@ fn advice_on_absent_class<'a>(class: ClassKey<'a>, role: Role) -> Option<Advice<
     }
 }
 
-/// What to write in the place of a class that may not be named so.
+/// What to write in place of a class that may not be named so.
 fn advice_on_fault<'a>(class: ClassKey<'a>, role: Role, fault: ClassFault) -> Option<Advice<'a>> {
     let assembly = match class.assembly {
         None => "",
@@ -122,7 +122,7 @@ fn advice_on_fault<'a>(class: ClassKey<'a>, role: Role, fault: ClassFault) -> Op
     }
 }
 
-/// What to write in the place of a method of a built-in class that it lacks, by the class.
+/// What to write in place of a method of a built-in class that it lacks, by the class.
 fn advice_on_member(owner: &str) -> Option<&'static str> {
     match owner {
         "System.Console" => Some("write `WriteLine` of one `int32`, `int64` or `string`"),
@@ -133,7 +133,7 @@ fn advice_on_member(owner: &str) -> Option<&'static str> {
     }
 }
 
-/// What to write in the place of a method that is not there.
+/// What to write in place of a method that is not there.
 fn advice_on_method(owner: ClassKey, method: MethodKey) -> Option<&'static str> {
     match method.name?.as_str() {
         "ctor" => Some("write `.ctor`, with its `.`"),
@@ -193,7 +193,7 @@ fn advice_on_member_near<'a>(unknown: &Unknown<'a>) -> Option<&'static str> {
     }
 }
 
-/// What to write in the place of a name that denotes nothing of the kind needed.
+/// What to write in place of a name that denotes nothing of the kind needed.
 pub(crate) fn advice_on<'a>(unknown: &Unknown<'a>) -> Option<Advice<'a>> {
     match unknown {
         Unknown::Extern(_) => Some(Advice::Extern("mscorlib")),

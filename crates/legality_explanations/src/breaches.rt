@@ -6,7 +6,7 @@ use std::fmt;
 
 /// What breaks a rule. It prints as one sentence without an end.
 pub trait Breach: fmt::Display {
-    /// What is said at the place with which it does not agree.
+    /// What is said at the location with which it does not agree.
     fn note(&self) -> &'static str {
         "that method is declared here"
     }

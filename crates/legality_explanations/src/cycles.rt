@@ -1,14 +1,14 @@
 //! Classes that stand in the chain of their own base (number 203).
 
 ghost use Rattle.std.specs.Prelude.{IfSome};
-ghost use Rattle.legality_explanations.specs.Places.{IsOfClass};
+ghost use Rattle.legality_explanations.specs.Locations.{IsOfClass};
 
 use crate::breaches::{Breach, Found};
 use crate::sentences::{write_one, write_two};
 use crate::sites::{Sites, class_key};
 use source_positions::name_tables::keys::ClassKey;
 use source_positions::name_tables::lookups::NameTables;
-use source_positions::{ClassPart, ClassText, Place};
+use source_positions::{ClassPart, ClassText, Location};
 use std::fmt;
 
 /// The most bases that are named.
@@ -64,7 +64,7 @@ fn write_bases<W: fmt::Write>(f: &mut fmt::Formatter<W>, own_base: &OwnBase) -> 
 
 /// A class that is its own base. None where the tree has no such class.
 pub(crate) fn own_base<'a>(names: &'a NameTables<'a>, class: usize) -> Option<Found<OwnBase<'a>>>
-    ensures { IfSome result (λ found. IfSome found.1.place (IsOfClass class)) }
+    ensures { IfSome result (λ found. IfSome found.1.index (IsOfClass class)) }
 {
     let declared = names.classes.tree.classes.as_slice().get(class)?;
     let key = ClassKey::of_source(declared);
@@ -74,6 +74,6 @@ pub(crate) fn own_base<'a>(names: &'a NameTables<'a>, class: usize) -> Option<Fo
         names,
     };
     let part = ClassPart::Base;
-    let place = Place::InClass { class, part };
-    Some((own_base, Sites::at(place)))
+    let index = Location::InClass { class, part };
+    Some((own_base, Sites::at(index)))
 }

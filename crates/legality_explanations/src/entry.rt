@@ -1,7 +1,7 @@
 //! The entry point (number 206).
 
 ghost use Rattle.std.specs.Prelude.{◌≡◌, IfSome};
-ghost use Rattle.legality_explanations.specs.Places.{IsOfClass};
+ghost use Rattle.legality_explanations.specs.Locations.{IsOfClass};
 
 use crate::advice::Advice;
 use crate::breaches::{Breach, Found};
@@ -12,7 +12,7 @@ use metadata::violations::SourceMember;
 use source_positions::cil_model::trees::{Method, Tree};
 use source_positions::cil_model::types::DeclaredType;
 use source_positions::name_tables::keys::MethodKey;
-use source_positions::{MemberPart, MethodText, Place, TypeText};
+use source_positions::{Location, MemberPart, MethodText, TypeText};
 use std::fmt;
 
 /// Why a source has not one entry point, in a static method without parameters that returns nothing.
@@ -49,8 +49,8 @@ impl fmt::Display for BadEntry<'_> {
     }
 }
 
-/// The place of a method's entry point, and the method.
-fn entry_at(tree: &Tree, method: SourceMember) -> Option<(Place, &Method)>
+/// The location of a method's entry point, and the method.
+fn entry_at(tree: &Tree, method: SourceMember) -> Option<(Location, &Method)>
     ensures { IfSome result (λ found. IsOfClass method.class found.0) }
 {
     let (spot, declared) = located_method(tree, method)?;
@@ -82,7 +82,7 @@ fn second_entry(
     first: SourceMember,
     second: SourceMember,
 ) -> Option<Found<BadEntry<'_>>>
-    ensures again { IfSome result (λ found. IfSome found.1.place (IsOfClass second.class)) }
+    ensures again { IfSome result (λ found. IfSome found.1.index (IsOfClass second.class)) }
     ensures first { IfSome result (λ found. IfSome found.1.other (IsOfClass first.class)) }
 {
     let (first, _) = entry_at(tree, first)?;
@@ -92,9 +92,9 @@ fn second_entry(
 
 /// An entry point in a method that returns a value.
 fn returning(tree: &Tree, method: SourceMember) -> Option<Found<BadEntry<'_>>> {
-    let (place, declared) = entry_at(tree, method)?;
+    let (index, declared) = entry_at(tree, method)?;
     let returned = declared.signature.return_type.as_ref()?;
-    found(BadEntry::Returns(returned), Sites::at(place))
+    found(BadEntry::Returns(returned), Sites::at(index))
 }
 
 /// An entry point in a method that has another fault.
@@ -103,12 +103,12 @@ fn unfit<'a>(
     method: SourceMember,
     fault: &'static str,
 ) -> Option<Found<BadEntry<'a>>> {
-    let (place, declared) = entry_at(tree, method)?;
+    let (index, declared) = entry_at(tree, method)?;
     let method = key_of(declared);
-    found(BadEntry::Unfit { method, fault }, Sites::at(place))
+    found(BadEntry::Unfit { method, fault }, Sites::at(index))
 }
 
-/// Why a source has not one fit entry point. None where the tree has no such place.
+/// Why a source has not one fit entry point. None where the tree has no such location.
 pub(crate) fn bad_entry(tree: &Tree, entry: violations::BadEntry) -> Option<Found<BadEntry<'_>>> {
     match entry {
         violations::BadEntry::Absent => found(BadEntry::Absent, Sites::NONE),

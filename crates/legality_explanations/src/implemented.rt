@@ -1,16 +1,16 @@
 //! Methods of listed interfaces that are absent (number 204).
 
 ghost use Rattle.std.specs.Prelude.{IfSome};
-ghost use Rattle.legality_explanations.specs.Places.{IsOfClass};
+ghost use Rattle.legality_explanations.specs.Locations.{IsOfClass};
 
 use crate::breaches::{Breach, Found};
-use crate::sites::{Sites, class_key, listed_interface, method_key, method_place};
+use crate::sites::{Sites, class_key, listed_interface, method_index, method_key};
 use metadata::violations;
 use source_positions::cil_model::texts::Text;
 use source_positions::cil_model::trees::Class;
 use source_positions::name_tables::keys::{ClassKey, MethodKey};
 use source_positions::name_tables::lookups::{MemberNumber, NameTables};
-use source_positions::{ClassPart, ClassText, MethodText, Place};
+use source_positions::{ClassPart, ClassText, Location, MethodText};
 use std::fmt;
 
 /// A method of an interface that a class lists, for which no class of the chain has a virtual method.
@@ -57,19 +57,19 @@ fn owner_along<'a>(names: &NameTables<'a>, first: &Class, key: MethodKey) -> Opt
     None
 }
 
-/// A method of a listed interface that a class neither has nor inherits as a virtual one. None where the tree has no such place.
+/// A method of a listed interface that a class neither has nor inherits as a virtual one. None where the tree has no such location.
 pub(crate) fn not_implemented<'a>(
     names: &NameTables<'a>,
     absent: violations::NotImplemented,
 ) -> Option<Found<NotImplemented<'a>>>
-    ensures { IfSome result (λ found. IfSome found.1.place (IsOfClass absent.class)) }
+    ensures { IfSome result (λ found. IfSome found.1.index (IsOfClass absent.class)) }
 {
     let violations::NotImplemented { class, listed } = absent;
     let declared = names.classes.tree.classes.as_slice().get(class)?;
     let interface = listed_interface(declared, listed.interface)?;
     let owner = MemberNumber {
         class: names.classes.number(interface)?,
-        place: listed.method,
+        index: listed.method,
     };
     let method = method_key(names, owner)?;
     let absent = NotImplemented {
@@ -79,7 +79,7 @@ pub(crate) fn not_implemented<'a>(
         plain_in: owner_along(names, declared, method),
     };
     let part = ClassPart::Interface(listed.interface);
-    let place = Place::InClass { class, part };
-    let sites = Sites::beside(place, method_place(names, owner.class, method));
+    let index = Location::InClass { class, part };
+    let sites = Sites::beside(index, method_index(names, owner.class, method));
     Some((absent, sites))
 }

@@ -3,7 +3,7 @@
 use crate::breaches::{Breach, Found};
 use crate::sentences::{write_one, write_two};
 use crate::sites::{
-    MemberSpot, Sites, class_key, class_name, key_of, method_key, method_place, source_number,
+    MemberSpot, Sites, class_key, class_name, key_of, method_index, method_key, source_number,
 };
 use metadata::violations;
 use metadata::violations::KindFault;
@@ -11,12 +11,12 @@ use source_positions::cil_model::texts::Text;
 use source_positions::cil_model::trees::Class;
 use source_positions::name_tables::keys::{ClassKey, MethodKey};
 use source_positions::name_tables::lookups::{MemberNumber, NameTables};
-use source_positions::{ClassText, MethodText, Place, nth_method};
+use source_positions::{ClassText, Location, MethodText, nth_method};
 use std::fmt;
 
 /// A method whose kind does not fit its class or what it inherits.
 #[derive(Clone, Copy)]
-pub enum Misfit<'a> {
+pub enum KindMismatch<'a> {
     /// A method of an interface that is not `newslot abstract virtual instance`.
     InInterface {
         interface: &'a Text,
@@ -42,10 +42,10 @@ pub enum Misfit<'a> {
     },
 }
 
-impl fmt::Display for Misfit<'_> {
+impl fmt::Display for KindMismatch<'_> {
     fn fmt<W: fmt::Write>(&self, f: &mut fmt::Formatter<W>) -> fmt::Result {
         match self {
-            Misfit::InInterface { interface, method } => {
+            KindMismatch::InInterface { interface, method } => {
                 let interface = interface.as_str();
                 let method = MethodText(*method);
                 write_two(
@@ -57,7 +57,7 @@ impl fmt::Display for Misfit<'_> {
                     "` is not `newslot abstract virtual instance`",
                 )
             }
-            Misfit::Abstract { class, method } => {
+            KindMismatch::Abstract { class, method } => {
                 let class = class.as_str();
                 let method = MethodText(*method);
                 write_two(
@@ -69,13 +69,13 @@ impl fmt::Display for Misfit<'_> {
                     "` is",
                 )
             }
-            Misfit::LeftOpen {
+            KindMismatch::LeftOpen {
                 class,
                 owner,
                 method,
                 hidden_by,
             } => write_left_open(f, *class, *owner, *method, *hidden_by),
-            Misfit::OverPlain {
+            KindMismatch::OverPlain {
                 class,
                 method,
                 owner,
@@ -126,10 +126,10 @@ fn write_left_open<W: fmt::Write>(
     }
 }
 
-impl Breach for Misfit<'_> {}
+impl Breach for KindMismatch<'_> {}
 
-fn found(misfit: Misfit<'_>, sites: Sites) -> Option<Found<Misfit<'_>>> {
-    Some((misfit, sites))
+fn found(kind_mismatch: KindMismatch<'_>, sites: Sites) -> Option<Found<KindMismatch<'_>>> {
+    Some((kind_mismatch, sites))
 }
 
 /// What stands between a class and one of its bases: the last class that is not abstract, since there first a method of that base is left
@@ -169,14 +169,14 @@ fn nearer_than(names: &NameTables, first: usize, owner: usize, key: MethodKey) -
 }
 
 /// A method that is left open, with what stands between its class, which is the owner, and the class that leaves it open.
-fn told_left_open<'a>(
+fn described_left_open<'a>(
     names: &NameTables<'a>,
     owner: usize,
     method: MethodKey<'a>,
     nearer: Nearer,
-) -> Option<Found<Misfit<'a>>> {
+) -> Option<Found<KindMismatch<'a>>> {
     let number = source_number(names, nearer.open?)?;
-    let misfit = Misfit::LeftOpen {
+    let kind_mismatch = KindMismatch::LeftOpen {
         class: &names.classes.tree.classes.as_slice().get(number)?.name,
         owner: class_key(names, owner)?,
         method,
@@ -185,62 +185,69 @@ fn told_left_open<'a>(
             Some(hiding) => class_key(names, hiding),
         },
     };
-    let declared = method_place(names, owner, method);
-    found(misfit, Sites::beside(class_name(number), declared))
+    let declared = method_index(names, owner, method);
+    found(kind_mismatch, Sites::beside(class_name(number), declared))
 }
 
 fn left_open<'a>(
     names: &NameTables<'a>,
     class: &Class,
     open: MemberNumber,
-) -> Option<Found<Misfit<'a>>> {
+) -> Option<Found<KindMismatch<'a>>> {
     let first = names.classes.number(ClassKey::of_source(class))?;
     let method = method_key(names, open)?;
     let nearer = nearer_than(names, first, open.class, method)?;
-    told_left_open(names, open.class, method, nearer)
+    described_left_open(names, open.class, method, nearer)
 }
 
-/// The name of a method of a class that has a number in the source, and the place of that name.
-fn named_method(class: usize, declared: &Class, method: usize) -> Option<(MethodKey<'_>, Place)> {
+/// The name of a method of a class that has a number in the source, and the location of that name.
+fn named_method(
+    class: usize,
+    declared: &Class,
+    method: usize,
+) -> Option<(MethodKey<'_>, Location)> {
     let (member, method) = nth_method(declared, method)?;
     Some((key_of(method), MemberSpot { class, member }.name()))
 }
 
-fn in_interface(class: usize, declared: &Class, method: usize) -> Option<Found<Misfit<'_>>> {
-    let (method, place) = named_method(class, declared, method)?;
+fn in_interface(class: usize, declared: &Class, method: usize) -> Option<Found<KindMismatch<'_>>> {
+    let (method, index) = named_method(class, declared, method)?;
     let interface = &declared.name;
-    found(Misfit::InInterface { interface, method }, Sites::at(place))
+    found(
+        KindMismatch::InInterface { interface, method },
+        Sites::at(index),
+    )
 }
 
-fn is_abstract(class: usize, declared: &Class, method: usize) -> Option<Found<Misfit<'_>>> {
-    let (method, place) = named_method(class, declared, method)?;
+fn is_abstract(class: usize, declared: &Class, method: usize) -> Option<Found<KindMismatch<'_>>> {
+    let (method, index) = named_method(class, declared, method)?;
     let class = &declared.name;
-    found(Misfit::Abstract { class, method }, Sites::at(place))
+    found(KindMismatch::Abstract { class, method }, Sites::at(index))
 }
 
 /// A method that would override one of a base, which has a number among all classes.
 fn over_plain<'a>(
     names: &NameTables<'a>,
     class: &'a Class,
-    named: (MethodKey<'a>, Place),
+    named: (MethodKey<'a>, Location),
     base: usize,
-) -> Option<Found<Misfit<'a>>> {
-    let (method, place) = named;
-    let misfit = Misfit::OverPlain {
+) -> Option<Found<KindMismatch<'a>>> {
+    let (method, index) = named;
+    let kind_mismatch = KindMismatch::OverPlain {
         class: &class.name,
         method,
         owner: class_key(names, base)?,
     };
-    let overridden = method_place(names, base, method);
-    found(misfit, Sites::beside(place, overridden))
+    let overridden = method_index(names, base, method);
+    found(kind_mismatch, Sites::beside(index, overridden))
 }
 
-/// A method whose kind does not fit its class or what that inherits. None where the tree has no such place.
-pub(crate) fn misfit_of<'a>(
+/// A method whose kind does not fit its class or what that inherits. None where the tree has no such location.
+pub(crate) fn kind_mismatch_of<'a>(
     names: &NameTables<'a>,
-    misfit: violations::Misfit,
-) -> Option<Found<Misfit<'a>>> {
-    let violations::Misfit { class, fault } = misfit;
+    kind_mismatch: violations::KindMismatch,
+) -> Option<Found<KindMismatch<'a>>> {
+    let violations::KindMismatch { class, fault } = kind_mismatch;
     let declared = names.classes.tree.classes.as_slice().get(class)?;
     match fault {
         KindFault::InInterface { method } => in_interface(class, declared, method),

@@ -1,7 +1,7 @@
 //! Limits that are passed (number 207), all of which are this profile's.
 
 use crate::breaches::{Breach, Found};
-use crate::references::{place_of, type_at};
+use crate::references::{location_of, type_at};
 use crate::sites::{MemberSpot, Sites, class_name, located_method};
 use metadata::violations;
 use metadata::violations::{MethodLimit, SourceMember, TypeSite};
@@ -16,7 +16,7 @@ use source_positions::name_tables::bodies::{code_of, lines_of, locals_of};
 use source_positions::name_tables::keys::ClassKey;
 use source_positions::name_tables::kinds::is_static;
 use source_positions::name_tables::lookups::NameTables;
-use source_positions::{LinePart, MemberPart, MethodPlace, Place, method_of_number};
+use source_positions::{LinePart, Location, MemberPart, MethodPosition, method_of_number};
 use std::fmt;
 
 /// How many of some things there may be.
@@ -124,8 +124,8 @@ impl fmt::Display for Passed<'_> {
 
 impl Breach for Passed<'_> {}
 
-fn found(passed: Passed<'_>, place: Place) -> Option<Found<Passed<'_>>> {
-    Some((passed, Sites::at(place)))
+fn found(passed: Passed<'_>, index: Location) -> Option<Found<Passed<'_>>> {
+    Some((passed, Sites::at(index)))
 }
 
 // ---- one method
@@ -187,14 +187,14 @@ fn passed_by_method(
 
 /// The first method of the source that is too many.
 fn passed_methods(classes: &[Class]) -> Option<Found<Passed<'_>>> {
-    let MethodPlace { class, member, .. } = method_of_number(classes, MOST_METHODS)?;
+    let MethodPosition { class, member, .. } = method_of_number(classes, MOST_METHODS)?;
     let spot = MemberSpot { class, member };
     found(Passed::Beyond(METHODS), spot.name())
 }
 
-/// The static field of a class that has this place among them.
-fn static_field_at(class: usize, declared: &Class, place: usize) -> Option<MemberSpot> {
-    let mut left = place;
+/// The static field of a class at this index among them.
+fn static_field_at(class: usize, declared: &Class, index: usize) -> Option<MemberSpot> {
+    let mut left = index;
     for (member, item) in declared.members.as_slice().iter().enumerate() {
         let Member::Field(field) = item else {
             continue;
@@ -213,9 +213,9 @@ fn static_field_at(class: usize, declared: &Class, place: usize) -> Option<Membe
 fn passed_static_fields(
     classes: &[Class],
     class: usize,
-    place: usize,
+    index: usize,
 ) -> Option<Found<Passed<'_>>> {
-    let spot = static_field_at(class, classes.get(class)?, place)?;
+    let spot = static_field_at(class, classes.get(class)?, index)?;
     found(Passed::Beyond(STATIC_FIELDS), spot.name())
 }
 
@@ -255,7 +255,7 @@ fn passed_fields<'a>(names: &NameTables<'a>, class: usize) -> Option<Found<Passe
 
 fn passed_brackets(tree: &Tree, site: TypeSite) -> Option<Found<Passed<'_>>> {
     let passed = Passed::Brackets(type_at(tree, site)?.brackets);
-    found(passed, place_of(tree, site.part)?)
+    found(passed, location_of(tree, site.part)?)
 }
 
 fn passed_in_method(
@@ -267,7 +267,7 @@ fn passed_in_method(
     passed_by_method(spot, declared, limit)
 }
 
-/// A limit that is passed. None where the tree has no such place.
+/// A limit that is passed. None where the tree has no such location.
 pub(crate) fn passed_limit<'a>(
     names: &NameTables<'a>,
     passed: violations::Passed,
@@ -280,8 +280,8 @@ pub(crate) fn passed_limit<'a>(
             found(passed, class_name(MOST_CLASSES))
         }
         violations::Passed::Methods => passed_methods(classes),
-        violations::Passed::StaticFields { class, place } => {
-            passed_static_fields(classes, class, place)
+        violations::Passed::StaticFields { class, index } => {
+            passed_static_fields(classes, class, index)
         }
         violations::Passed::Brackets(site) => passed_brackets(tree, site),
         violations::Passed::InstanceFields { class } => passed_fields(names, class),

@@ -9,7 +9,7 @@ use source_positions::cil_model::trees::Tree;
 use source_positions::cil_model::types::{ClassName, DeclaredType, Element};
 use source_positions::name_tables::bodies::{lines_of, locals_of};
 use source_positions::name_tables::keys::{ClassKey, FieldKey, MethodKey};
-use source_positions::{LinePart, MemberPart, Place};
+use source_positions::{LinePart, Location, MemberPart};
 
 // ---- types
 
@@ -41,10 +41,10 @@ fn types_of(tree: &Tree, part: TypesPart) -> Option<NamedTypes<'_>> {
     }
 }
 
-/// The type that stands at a place of the source.
+/// The type at a location of the source.
 pub fn type_at(tree: &Tree, site: TypeSite) -> Option<&DeclaredType> {
     let types = types_of(tree, site.part)?;
-    match types.parameters.get(site.place) {
+    match types.parameters.get(site.index) {
         None => types.last,
         found => found,
     }
@@ -65,8 +65,8 @@ fn spot_of(tree: &Tree, part: TypesPart) -> Option<MemberSpot> {
     }
 }
 
-/// The place of a part of a source that names types: the name of its member, `.locals`, or the name of its instruction.
-pub fn place_of(tree: &Tree, part: TypesPart) -> Option<Place> {
+/// The location of a part of a source that names types: the name of its member, `.locals`, or the name of its instruction.
+pub fn location_of(tree: &Tree, part: TypesPart) -> Option<Location> {
     let spot = spot_of(tree, part)?;
     Some(match part {
         TypesPart::Field(_) | TypesPart::Signature(_) => spot.name(),
@@ -97,11 +97,11 @@ fn count_classes(types: NamedTypes) -> usize {
 /// after the signature.
 fn classes_before(tree: &Tree, site: TypeSite) -> Option<usize> {
     let types = types_of(tree, site.part)?;
-    if site.place >= types.parameters.len() {
+    if site.index >= types.parameters.len() {
         return Some(0);
     }
     let before = count_classes(NamedTypes {
-        parameters: types.parameters.get(..site.place)?,
+        parameters: types.parameters.get(..site.index)?,
         last: types.last,
     });
     match site.part {
@@ -113,8 +113,8 @@ fn classes_before(tree: &Tree, site: TypeSite) -> Option<usize> {
     }
 }
 
-/// The place of the class in a type.
-pub fn class_place(tree: &Tree, site: TypeSite) -> Option<Place> {
+/// The location of the class in a type.
+pub fn class_position(tree: &Tree, site: TypeSite) -> Option<Location> {
     let spot = spot_of(tree, site.part)?;
     let before = classes_before(tree, site)?;
     Some(match site.part {

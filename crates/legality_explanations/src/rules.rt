@@ -2,10 +2,10 @@
 
 use crate::breaches::{Breach, Found};
 use crate::cycles::own_base;
-use crate::doubled::doubled_name;
+use crate::duplicates::duplicate_name;
 use crate::entry::bad_entry;
 use crate::implemented::not_implemented;
-use crate::kinds::misfit_of;
+use crate::kinds::kind_mismatch_of;
 use crate::limits::passed_limit;
 use crate::unknown::unknown_name;
 use metadata::violations::Violation;
@@ -13,31 +13,31 @@ use source_positions::cil_model::memory::NoMemory;
 use source_positions::cil_model::trees::Tree;
 use source_positions::name_tables::built_in::BuiltInClass;
 use source_positions::name_tables::lookups::NameTables;
-use source_positions::{Named, Place, offset_of};
+use source_positions::{Location, Named, offset_of};
 use std::alloc::Global;
 
-fn offset_at(text: &[u8], place: Option<Place>) -> Option<usize> {
-    offset_of(text, place?)
+fn offset_at(text: &[u8], index: Option<Location>) -> Option<usize> {
+    offset_of(text, index?)
 }
 
-/// The sentence of a breach at its place.
+/// The sentence of a breach at its location.
 fn sentence_at<B: Breach>(
     alloc: Global,
     named: Named,
     breach: &B,
-    place: Option<Place>,
+    index: Option<Location>,
 ) -> Result<String, NoMemory> {
-    let offset = offset_at(named.text, place);
+    let offset = offset_at(named.text, index);
     let sentence = breach.to_string(alloc)?;
     named.message(alloc, offset, sentence.as_str())
 }
 
-/// Adds what stands at the place with which a breach does not agree, if there is one.
+/// Adds what is at the location with which a breach does not agree, if there is one.
 fn push_note<B: Breach>(
     message: &mut String,
     named: Named,
     breach: &B,
-    other: Option<Place>,
+    other: Option<Location>,
 ) -> Result<(), NoMemory> {
     match offset_at(named.text, other) {
         None => Ok(()),
@@ -60,9 +60,9 @@ impl Explanation<'_> {
         found: Option<Found<B>>,
     ) -> Result<String, NoMemory> {
         let Some((breach, sites)) = found else {
-            return broken(self.alloc, self.named, self.violation);
+            return rule_text(self.alloc, self.named, self.violation);
         };
-        let mut message = sentence_at(self.alloc, self.named, &breach, sites.place)?;
+        let mut message = sentence_at(self.alloc, self.named, &breach, sites.index)?;
         push_note(&mut message, self.named, &breach, sites.other)?;
         if let Some(advice) = breach.advice() {
             writeln!(message, "help: {advice}")?;
@@ -73,7 +73,7 @@ impl Explanation<'_> {
     /// What was found of a rule that is broken, by the names of the tree where it needs them.
     fn of_violation(&self, tree: &Tree) -> Result<String, NoMemory> {
         match self.violation {
-            Violation::Doubled(doubled) => self.of_breach(doubled_name(tree, doubled)),
+            Violation::Duplicate(duplicates) => self.of_breach(duplicate_name(tree, duplicates)),
             Violation::BadEntry(entry) => self.of_breach(bad_entry(tree, entry)),
             _ => {
                 let table = BuiltInClass::all(self.alloc)?;
@@ -88,14 +88,17 @@ impl Explanation<'_> {
             Violation::Unknown(unknown) => self.of_breach(unknown_name(names, unknown)),
             Violation::OwnBase { class } => self.of_breach(own_base(names, class)),
             Violation::NotImplemented(absent) => self.of_breach(not_implemented(names, absent)),
-            Violation::Misfit(misfit) => self.of_breach(misfit_of(names, misfit)),
+            Violation::KindMismatch(kind_mismatch) => self.of_breach(kind_mismatch_of(
+                names,
+                kind_mismatch,
+            )),
             Violation::Passed(passed) => self.of_breach(passed_limit(names, passed)),
-            _ => broken(self.alloc, self.named, self.violation),
+            _ => rule_text(self.alloc, self.named, self.violation),
         }
     }
 }
 
-/// Why a tree breaks a rule, in words; the rule's own sentence where the tree has no such place. Where that does not agree with something
+/// Why a tree breaks a rule, in words; the rule's own sentence where the tree has no such location. Where that does not agree with something
 /// else, as with the first of two names, a second part of the text shows it; of a name that this profile lacks the last line says what to
 /// write instead. Fails only when out of memory.
 pub fn explain_rule(
@@ -113,7 +116,7 @@ pub fn explain_rule(
 }
 
 /// The sentence of the rule that is broken. Fails only when out of memory.
-fn broken(alloc: Global, named: Named, violation: Violation) -> Result<String, NoMemory> {
+fn rule_text(alloc: Global, named: Named, violation: Violation) -> Result<String, NoMemory> {
     let sentence = violation.to_string(alloc)?;
     named.message(alloc, None, sentence.as_str())
 }

@@ -1,46 +1,46 @@
 //! Where rules are broken.
 
 ghost use Rattle.std.specs.Prelude.{◌≡◌, IfSome, None, Some};
-ghost use Rattle.legality_explanations.specs.Places.{IsOfClass};
+ghost use Rattle.legality_explanations.specs.Locations.{IsOfClass};
 
 use metadata::violations::SourceMember;
 use source_positions::cil_model::trees::{Class, ClassKind, Field, Member, Method, Tree};
 use source_positions::name_tables::keys::{ClassKey, MethodKey};
 use source_positions::name_tables::lookups::{MemberNumber, NameTables};
-use source_positions::{ClassPart, LinePart, MemberPart, Place, nth_field, nth_method};
+use source_positions::{ClassPart, LinePart, Location, MemberPart, nth_field, nth_method};
 
 /// Where a rule is broken.
 #[derive(Clone, Copy)]
 pub struct Sites {
-    /// The place itself; none where there is none, as of an entry point that is absent.
-    pub place: Option<Place>,
+    /// The location itself; none where there is none, as of an entry point that is absent.
+    pub index: Option<Location>,
     /// Where that stands with which it does not agree, as the first of two names; none where there is no such thing, or it is built in.
-    pub other: Option<Place>,
+    pub other: Option<Location>,
 }
 
 impl Sites {
     /// Nowhere.
     pub const NONE: Sites = Sites {
-        place: None,
+        index: None,
         other: None,
     };
 
-    /// One place.
-    pub fn at(place: Place) -> Self
-        ensures { (result.place ≡ Some place) × (result.other ≡ None) }
+    /// One location.
+    pub fn at(index: Location) -> Self
+        ensures { (result.index ≡ Some index) × (result.other ≡ None) }
     {
         Sites {
-            place: Some(place),
+            index: Some(index),
             other: None,
         }
     }
 
-    /// A place that does not agree with another.
-    pub fn beside(place: Place, other: Option<Place>) -> Self
-        ensures { (result.place ≡ Some place) × (result.other ≡ other) }
+    /// A location that does not agree with another.
+    pub fn beside(index: Location, other: Option<Location>) -> Self
+        ensures { (result.index ≡ Some index) × (result.other ≡ other) }
     {
         Sites {
-            place: Some(place),
+            index: Some(index),
             other,
         }
     }
@@ -55,10 +55,10 @@ pub struct MemberSpot {
 
 impl MemberSpot {
     /// A part of the member before its first instruction.
-    pub fn part(self, part: MemberPart) -> Place
+    pub fn part(self, part: MemberPart) -> Location
         ensures { IsOfClass self.class result }
     {
-        Place::InMember {
+        Location::InMember {
             class: self.class,
             member: self.member,
             part,
@@ -66,17 +66,17 @@ impl MemberSpot {
     }
 
     /// The member's name.
-    pub fn name(self) -> Place
+    pub fn name(self) -> Location
         ensures { IsOfClass self.class result }
     {
         self.part(MemberPart::Name)
     }
 
     /// A part of an instruction of the member.
-    pub fn line(self, line: usize, part: LinePart) -> Place
+    pub fn line(self, line: usize, part: LinePart) -> Location
         ensures { IsOfClass self.class result }
     {
-        Place::InLine {
+        Location::InLine {
             class: self.class,
             member: self.member,
             line,
@@ -86,10 +86,10 @@ impl MemberSpot {
 }
 
 /// The name of the class of a number in the source.
-pub fn class_name(class: usize) -> Place
+pub fn class_name(class: usize) -> Location
     ensures { IsOfClass class result }
 {
-    Place::InClass {
+    Location::InClass {
         class,
         part: ClassPart::Name,
     }
@@ -104,8 +104,8 @@ pub fn key_of(method: &Method) -> MethodKey<'_> {
 pub fn located_method(tree: &Tree, number: SourceMember) -> Option<(MemberSpot, &Method)>
     ensures { IfSome result (λ found. found.0.class ≡ number.class) }
 {
-    let SourceMember { class, place } = number;
-    let (member, method) = nth_method(tree.classes.as_slice().get(class)?, place)?;
+    let SourceMember { class, index } = number;
+    let (member, method) = nth_method(tree.classes.as_slice().get(class)?, index)?;
     Some((MemberSpot { class, member }, method))
 }
 
@@ -113,12 +113,12 @@ pub fn located_method(tree: &Tree, number: SourceMember) -> Option<(MemberSpot, 
 pub fn located_field(tree: &Tree, number: SourceMember) -> Option<(MemberSpot, &Field)>
     ensures { IfSome result (λ found. found.0.class ≡ number.class) }
 {
-    let SourceMember { class, place } = number;
-    let (member, field) = nth_field(tree.classes.as_slice().get(class)?, place)?;
+    let SourceMember { class, index } = number;
+    let (member, field) = nth_field(tree.classes.as_slice().get(class)?, index)?;
     Some((MemberSpot { class, member }, field))
 }
 
-/// An interface that a class lists, by its place in the list. None where it lists no such.
+/// An interface that a class lists, by its index in the list. None where it lists no such interface.
 pub(crate) fn listed_interface(class: &Class, entry: usize) -> Option<ClassKey<'_>> {
     let ClassKind::Class { interfaces, .. } = &class.kind else {
         return None;
@@ -137,7 +137,7 @@ pub(crate) fn method_key<'a>(
     number: MemberNumber,
 ) -> Option<MethodKey<'a>> {
     let methods = names.classes.class(number.class)?.methods.as_slice();
-    Some(key_of(*methods.get(number.place)?))
+    Some(key_of(*methods.get(number.index)?))
 }
 
 /// The number in the source of a class that has a number among all classes, the built-in ones first. None for a built-in class.
@@ -159,9 +159,9 @@ fn member_number(class: &Class, key: MethodKey) -> Option<usize> {
     None
 }
 
-/// The place of the name of a method in a class, which has its number among all classes. None where the class is built in or has no such
+/// The location of the name of a method in a class, which has its number among all classes. None where the class is built in or has no such
 /// method.
-pub fn method_place(names: &NameTables, class: usize, key: MethodKey) -> Option<Place> {
+pub fn method_index(names: &NameTables, class: usize, key: MethodKey) -> Option<Location> {
     let class = source_number(names, class)?;
     let declared = names.classes.tree.classes.as_slice().get(class)?;
     let member = member_number(declared, key)?;

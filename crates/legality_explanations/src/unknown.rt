@@ -2,7 +2,7 @@
 
 use crate::advice::{Advice, advice_on};
 use crate::breaches::{Breach, Found};
-use crate::references::{MemberKey, class_of, class_place, line_at, member_of, type_at};
+use crate::references::{MemberKey, class_of, class_position, line_at, member_of, type_at};
 use crate::sentences::write_two;
 use crate::sites::{Sites, key_of, listed_interface, located_method};
 use metadata::mentions::labels_of;
@@ -15,7 +15,7 @@ use source_positions::name_tables::bodies::lines_of;
 use source_positions::name_tables::keys::{ClassKey, FieldKey, MethodKey};
 use source_positions::name_tables::kinds::is_static;
 use source_positions::name_tables::lookups::NameTables;
-use source_positions::{ClassPart, ClassText, LinePart, MethodText, Place, TypeText};
+use source_positions::{ClassPart, ClassText, LinePart, Location, MethodText, TypeText};
 use std::fmt;
 
 /// What a class is named as.
@@ -63,8 +63,8 @@ pub enum Unknown<'a> {
     },
 }
 
-fn found(unknown: Unknown<'_>, place: Place) -> Option<Found<Unknown<'_>>> {
-    Some((unknown, Sites::at(place)))
+fn found(unknown: Unknown<'_>, index: Location) -> Option<Found<Unknown<'_>>> {
+    Some((unknown, Sites::at(index)))
 }
 
 /// `static` or `instance`
@@ -312,17 +312,17 @@ fn unknown_in_heading(
         HeadingName::Base => ClassPart::Base,
         HeadingName::Interface(entry) => ClassPart::Interface(entry),
     };
-    let place = Place::InClass {
+    let index = Location::InClass {
         class: number,
         part,
     };
-    found(unknown_class(tree, class, role, fault), place)
+    found(unknown_class(tree, class, role, fault), index)
 }
 
 fn unknown_in_type(tree: &Tree, site: TypeSite, fault: ClassFault) -> Option<Found<Unknown<'_>>> {
     let class = class_of(type_at(tree, site)?)?;
-    let place = class_place(tree, site)?;
-    found(unknown_class(tree, class, Role::Type, fault), place)
+    let index = class_position(tree, site)?;
+    found(unknown_class(tree, class, Role::Type, fault), index)
 }
 
 // ---- instructions
@@ -476,20 +476,20 @@ fn unknown_label(
 ) -> Option<Found<Unknown<'_>>> {
     let (spot, instruction) = line_at(tree, method, line)?;
     let label = labels_of(instruction).get(target)?;
-    let place = spot.line(line, LinePart::Target(target));
+    let index = spot.line(line, LinePart::Target(target));
     let (_, declared) = located_method(tree, method)?;
     let near = near_label(lines_of(declared), label);
-    found(Unknown::Label { label, near }, place)
+    found(Unknown::Label { label, near }, index)
 }
 
 // ---- the whole tree
 
 fn unknown_extern(tree: &Tree, number: usize) -> Option<Found<Unknown<'_>>> {
     let name = tree.externs.as_slice().get(number)?;
-    found(Unknown::Extern(name), Place::Extern(number))
+    found(Unknown::Extern(name), Location::Extern(number))
 }
 
-/// A name that denotes nothing of the kind needed (number 202), and its place. None where the tree has no such place.
+/// A name that denotes nothing of the kind needed (number 202), and its location. None where the tree has no such location.
 pub fn unknown_name<'a>(
     names: &NameTables<'a>,
     unknown: violations::Unknown,

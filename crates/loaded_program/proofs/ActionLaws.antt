@@ -1,4 +1,4 @@
--- What the methods of each class do, by the numbers of the class and its place there.
+-- What the methods of each class do, by the number of the class and the index of the method in it.
 use Rattle.std.proofs.Common.{◌≡◌, ℕ, zero, suc, Option, Some, None, option_map, option_and_then, slice_get, refl, sym, ap, subst, ◌∙◌}
 use Rattle.std.proofs.lemmas.Option.{slice_get-map}
 use Rattle.cil_model.specs.declared.types.ClassName.{ClassName}

@@ -30,27 +30,27 @@ source_counted (c ∷ cs) =
 
 -- ---- counts one by one
 
-module _ {X : Type 0} (count : X → ℕ) (xs : List X) (i : ℕ) (x : X) (next behind : ℕ) (there : i < length xs) (is : x ≡ get_or xs i x) (behind_is : behind ≡ next + count x) where
+module _ {X : Type 0} (count : X → ℕ) (xs : List X) (i : ℕ) (x : X) (next following : ℕ) (there : i < length xs) (is : x ≡ get_or xs i x) (after_is : following ≡ next + count x) where
   counts_from : map count (drop i xs) ≡ count x ∷ map count (drop (i + 1) xs)
   counts_from =
       let on : suc i ≡ i + 1 = omega arith in
       ap (map count) (drop-cons xs i x there ∙ ap (λ n. get_or xs i x ∷ drop n xs) on) ∙ ap (λ y. count y ∷ map count (drop (i + 1) xs)) (sym is)
 
   -- the running count of a further one
-  pub running_more : (first all : List ℕ) → first ++ running_counts next (map count (drop i xs)) ≡ all → (first ++ next ∷ []) ++ running_counts behind (map count (drop (i + 1) xs)) ≡ all
+  pub running_more : (first all : List ℕ) → first ++ running_counts next (map count (drop i xs)) ≡ all → (first ++ next ∷ []) ++ running_counts following (map count (drop (i + 1) xs)) ≡ all
   running_more first all so_far =
-      append_assoc first (next ∷ []) (running_counts behind (map count (drop (i + 1) xs)))
-      ∙ ap (λ n. first ++ next ∷ running_counts n (map count (drop (i + 1) xs))) behind_is
+      append_assoc first (next ∷ []) (running_counts following (map count (drop (i + 1) xs)))
+      ∙ ap (λ n. first ++ next ∷ running_counts n (map count (drop (i + 1) xs))) after_is
       ∙ ap (λ ns. first ++ running_counts next ns) (sym counts_from)
       ∙ so_far
 
   -- and the sum up to it
-  pub counted_more : next ≡ sum_by count (take i xs) → behind ≡ sum_by count (take (i + 1) xs)
+  pub counted_more : next ≡ sum_by count (take i xs) → following ≡ sum_by count (take (i + 1) xs)
   counted_more so_far =
-      behind_is ∙ ap (λ n. n + count x) so_far ∙ ap (λ y. sum_by count (take i xs) + count y) is ∙ sym (sum_by_more count xs i x there)
+      after_is ∙ ap (λ n. n + count x) so_far ∙ ap (λ y. sum_by count (take i xs) + count y) is ∙ sym (sum_by_more count xs i x there)
 
   -- which is no more than the whole
-  pub counted_fit : {m : ℕ} → next ≡ sum_by count (take i xs) → sum_by count xs < m → behind < m
+  pub counted_fit : {m : ℕ} → next ≡ sum_by count (take i xs) → sum_by count xs < m → following < m
   counted_fit so_far less = omega (arith, counted_more so_far, sum_by-take-le count xs (i + 1), less)
 
 -- the running counts are given where none is left

@@ -16,11 +16,11 @@ use Rattle.cil_model.proofs.Lists.{get_before}
 
 -- ---- lists whose items stand in a relation
 
-pub alike_behind : {X Y : Type 0} (R : X → Y → Type 0) (xs : List X) (ys : List Y) (more : List X) (others : List Y) → AllAlike R xs ys → AllAlike R more others → AllAlike R (xs ++ more) (ys ++ others)
-alike_behind R [] [] more others h k = k
-alike_behind R (x ∷ xs) (y ∷ ys) more others h k = (h.0, alike_behind R xs ys more others h.1 k)
-alike_behind R [] (y ∷ ys) more others h k = absurd h
-alike_behind R (x ∷ xs) [] more others h k = absurd h
+pub alike_after : {X Y : Type 0} (R : X → Y → Type 0) (xs : List X) (ys : List Y) (more : List X) (others : List Y) → AllAlike R xs ys → AllAlike R more others → AllAlike R (xs ++ more) (ys ++ others)
+alike_after R [] [] more others h k = k
+alike_after R (x ∷ xs) (y ∷ ys) more others h k = (h.0, alike_after R xs ys more others h.1 k)
+alike_after R [] (y ∷ ys) more others h k = absurd h
+alike_after R (x ∷ xs) [] more others h k = absurd h
 
 -- the first items of a list, with one more
 pub one_more : {X : Type 0} (xs : List X) (i : ℕ) (x : X) → slice_get xs i ≡ Some x → take (i + 1) xs ≡ take i xs ++ x ∷ []
@@ -29,14 +29,14 @@ one_more xs i x at = take_more xs i x (slice_get_within xs i x at) ∙ ap (λ z.
 pub alike_more : {X Y : Type 0} (R : X → Y → Type 0) (xs : List X) (ys : List Y) (i : ℕ) (x : X) (y : Y) → AllAlike R (take i xs) ys → slice_get xs i ≡ Some x → R x y → AllAlike R (take (i + 1) xs) (ys ++ y ∷ [])
 alike_more {X} {Y} R xs ys i x y before at r =
     let P : List X → Type 0 = λ zs. AllAlike R zs (ys ++ y ∷ []) in
-    subst P (sym (one_more xs i x at)) (alike_behind R (take i xs) ys (x ∷ []) (y ∷ []) before (r, tt))
+    subst P (sym (one_more xs i x at)) (alike_after R (take i xs) ys (x ∷ []) (y ∷ []) before (r, tt))
 
-behind_from : {X : Type 0} (xs ys : List X) (n place : ℕ) → place ≡ length xs + n → slice_get (xs ++ ys) place ≡ slice_get ys n
-behind_from [] ys n place e =
-    let same : place ≡ n = omega arith in
+after_from : {X : Type 0} (xs ys : List X) (n index : ℕ) → index ≡ length xs + n → slice_get (xs ++ ys) index ≡ slice_get ys n
+after_from [] ys n index e =
+    let same : index ≡ n = omega arith in
     ap (slice_get ys) same
-behind_from (x ∷ xs) ys n zero e = absurd (omega arith)
-behind_from (x ∷ xs) ys n (suc place) e = behind_from xs ys n place (omega arith)
+after_from (x ∷ xs) ys n zero e = absurd (omega arith)
+after_from (x ∷ xs) ys n (suc index) e = after_from xs ys n index (omega arith)
 
 -- ---- methods of one class
 
@@ -66,8 +66,8 @@ flat_found : (next : ℕ) (es : List (ClassName × Declaration)) (n p : ℕ) (fo
 flat_found next [] n p found h = absurd (none_is_some found h)
 flat_found next (e ∷ es) zero p found h =
     let first : next ≡ next + 0 = omega arith in
-    let place : 0 + p ≡ p = omega arith in
-    (0, refl, ap Some first, ap (slice_get (owned_methods e ++ flat_map owned_methods es)) place ∙ get_before (owned_methods e) (flat_map owned_methods es) p found (slice_get-map (λ m. (e.0, m)) e.1.methods p ∙ h))
+    let index : 0 + p ≡ p = omega arith in
+    (0, refl, ap Some first, ap (slice_get (owned_methods e ++ flat_map owned_methods es)) index ∙ get_before (owned_methods e) (flat_map owned_methods es) p found (slice_get-map (λ m. (e.0, m)) e.1.methods p ∙ h))
 flat_found next (e ∷ es) (suc n) p found h =
     let further : FoundFlat (next + length e.1.methods) es n p found = flat_found (next + length e.1.methods) es n p found h in
     let own : length (owned_methods e) ≡ length e.1.methods = owned_count e in
@@ -75,8 +75,8 @@ flat_found next (e ∷ es) (suc n) p found h =
     let before : further.0 ≡ length (flat_map owned_methods (take n es)) = further.1 in
     let counted : length e.1.methods + further.0 ≡ length (owned_methods e ++ flat_map owned_methods (take n es)) = omega arith in
     let first : (next + length e.1.methods) + further.0 ≡ next + (length e.1.methods + further.0) = omega arith in
-    let place : (length e.1.methods + further.0) + p ≡ length (owned_methods e) + (further.0 + p) = omega arith in
-    (length e.1.methods + further.0, counted, further.2 ∙ ap Some first, behind_from (owned_methods e) (flat_map owned_methods es) (further.0 + p) ((length e.1.methods + further.0) + p) place ∙ further.3)
+    let index : (length e.1.methods + further.0) + p ≡ length (owned_methods e) + (further.0 + p) = omega arith in
+    (length e.1.methods + further.0, counted, further.2 ∙ ap Some first, after_from (owned_methods e) (flat_map owned_methods es) (further.0 + p) ((length e.1.methods + further.0) + p) index ∙ further.3)
 
 module _ (tree : Tree) (n p : ℕ) (found : ClassName × Method) (h : method_at tree (n, p) ≡ Some found) where
   abbrev flat : FoundFlat 0 (declarations tree) n p found
@@ -87,19 +87,19 @@ module _ (tree : Tree) (n p : ℕ) (found : ClassName × Method) (h : method_at 
   first_is_there numbers same e = none_is_some (0 + flat.0) (sym e ∙ ap (λ ns. slice_get ns n) same ∙ flat.2)
 
   -- the method is as far after it as it is after the first of its class
-  pub number_behind : (numbers : List ℕ) (first : ℕ) → numbers ≡ first_numbers 0 (declarations tree) → slice_get numbers n ≡ Some first →
+  pub number_after : (numbers : List ℕ) (first : ℕ) → numbers ≡ first_numbers 0 (declarations tree) → slice_get numbers n ≡ Some first →
       (first + p ≡ flat_number tree n p) × (slice_get (all_methods tree) (first + p) ≡ Some found) × (first + p < length (all_methods tree))
-  number_behind numbers first same e =
+  number_after numbers first same e =
       let both : Some first ≡ Some (0 + flat.0) = sym e ∙ ap (λ ns. slice_get ns n) same ∙ flat.2 in
       let known : first ≡ 0 + flat.0 = cc in
       let before : flat.0 ≡ length (flat_map owned_methods (take n (declarations tree))) = flat.1 in
       let counted : first + p ≡ flat_number tree n p = omega arith in
-      let place : first + p ≡ flat.0 + p = omega arith in
-      let there : slice_get (all_methods tree) (first + p) ≡ Some found = ap (slice_get (all_methods tree)) place ∙ flat.3 in
+      let index : first + p ≡ flat.0 + p = omega arith in
+      let there : slice_get (all_methods tree) (first + p) ≡ Some found = ap (slice_get (all_methods tree)) index ∙ flat.3 in
       (counted, there, slice_get_within (all_methods tree) (first + p) found there)
 
   -- so it stands there among all methods
   pub method_of_number : slice_get (all_methods tree) (flat_number tree n p) ≡ Some found
   method_of_number =
-      let place : flat_number tree n p ≡ flat.0 + p = omega (arith, flat.1) in
-      ap (slice_get (all_methods tree)) place ∙ flat.3
+      let index : flat_number tree n p ≡ flat.0 + p = omega (arith, flat.1) in
+      ap (slice_get (all_methods tree)) index ∙ flat.3

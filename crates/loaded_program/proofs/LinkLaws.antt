@@ -17,25 +17,25 @@ use Rattle.loaded_program.proofs.OperandLaws.{then_some, map_some, if_some, belo
 abbrev Known : {X : Type 0} → Option X → X → Type 0
 Known {X} o x = (y : X) → o ≡ Some y → x ≡ y
 
-pub string_is : (n : ℕ) (a : Addr) (wanted : LinkedInstruction) → (n < FIRST_LITERAL → a ≡ literal n) → (if nat_lt n FIRST_LITERAL then Some (Linked.LoadString (literal n)) else None) ≡ Some wanted → Linked.LoadString a ≡ wanted
-string_is n a wanted known e =
-    let passed = if_some (nat_lt n FIRST_LITERAL) (Some (Linked.LoadString (literal n))) wanted e in
-    ap (λ x. Linked.LoadString x) (known (below n FIRST_LITERAL passed.0)) ∙ same_Some (Linked.LoadString (literal n)) wanted passed.1
+pub string_is : (n : ℕ) (a : Addr) (required : LinkedInstruction) → (n < FIRST_LITERAL → a ≡ literal n) → (if nat_lt n FIRST_LITERAL then Some (Linked.LoadString (literal n)) else None) ≡ Some required → Linked.LoadString a ≡ required
+string_is n a required known e =
+    let passed = if_some (nat_lt n FIRST_LITERAL) (Some (Linked.LoadString (literal n))) required e in
+    ap (λ x. Linked.LoadString x) (known (below n FIRST_LITERAL passed.0)) ∙ same_Some (Linked.LoadString (literal n)) required passed.1
 
-pub mapped_is : {X : Type 0} (make : X → LinkedInstruction) (o : Option X) (x : X) (wanted : LinkedInstruction) → Known o x → option_map make o ≡ Some wanted → make x ≡ wanted
-mapped_is make o x wanted known e =
-    let there = map_some make o wanted e in
+pub mapped_is : {X : Type 0} (make : X → LinkedInstruction) (o : Option X) (x : X) (required : LinkedInstruction) → Known o x → option_map make o ≡ Some required → make x ≡ required
+mapped_is make o x required known e =
+    let there = map_some make o required e in
     ap make (known there.0 there.1) ∙ there.2
 
-pub field_is : (tree : Tree) (n : MemberNumber) (slot : ℕ) (kind : ValueKind) (wanted : LinkedInstruction) → Known (slot_at tree n) slot → Known (held_at tree n) kind → field_link tree n ≡ Some wanted → Linked.LoadField slot kind ≡ wanted
-field_is tree n slot kind wanted slot_known kind_known e =
-    let first = then_some (λ slot. option_map (λ kind. Linked.LoadField slot kind) (held_at tree n)) (slot_at tree n) wanted e in
-    ap (λ x. Linked.LoadField x kind) (slot_known first.0 first.1) ∙ mapped_is (λ x. Linked.LoadField first.0 x) (held_at tree n) kind wanted kind_known first.2
+pub field_is : (tree : Tree) (n : MemberNumber) (slot : ℕ) (kind : ValueKind) (required : LinkedInstruction) → Known (slot_at tree n) slot → Known (held_at tree n) kind → field_link tree n ≡ Some required → Linked.LoadField slot kind ≡ required
+field_is tree n slot kind required slot_known kind_known e =
+    let first = then_some (λ slot. option_map (λ kind. Linked.LoadField slot kind) (held_at tree n)) (slot_at tree n) required e in
+    ap (λ x. Linked.LoadField x kind) (slot_known first.0 first.1) ∙ mapped_is (λ x. Linked.LoadField first.0 x) (held_at tree n) kind required kind_known first.2
 
-pub new_is : (tree : Tree) (n : MemberNumber) (class slots number : ℕ) (wanted : LinkedInstruction) → Known (class_in n) class → Known (slots_at tree n) slots → Known (number_at tree n) number → new_link tree n ≡ Some wanted
-    → Linked.NewObject class slots number ≡ wanted
-new_is tree n class slots number wanted class_known slots_known number_known e =
-    let first = then_some (λ class. option_and_then (λ slots. option_map (λ number. Linked.NewObject class slots number) (number_at tree n)) (slots_at tree n)) (class_in n) wanted e in
-    let second = then_some (λ slots. option_map (λ number. Linked.NewObject first.0 slots number) (number_at tree n)) (slots_at tree n) wanted first.2 in
+pub new_is : (tree : Tree) (n : MemberNumber) (class slots number : ℕ) (required : LinkedInstruction) → Known (class_in n) class → Known (slots_at tree n) slots → Known (number_at tree n) number → new_link tree n ≡ Some required
+    → Linked.NewObject class slots number ≡ required
+new_is tree n class slots number required class_known slots_known number_known e =
+    let first = then_some (λ class. option_and_then (λ slots. option_map (λ number. Linked.NewObject class slots number) (number_at tree n)) (slots_at tree n)) (class_in n) required e in
+    let second = then_some (λ slots. option_map (λ number. Linked.NewObject first.0 slots number) (number_at tree n)) (slots_at tree n) required first.2 in
     ap (λ x. Linked.NewObject x slots number) (class_known first.0 first.1) ∙ ap (λ x. Linked.NewObject first.0 x number) (slots_known second.0 second.1)
-    ∙ mapped_is (λ x. Linked.NewObject first.0 second.0 x) (number_at tree n) number wanted number_known second.2
+    ∙ mapped_is (λ x. Linked.NewObject first.0 second.0 x) (number_at tree n) number required number_known second.2

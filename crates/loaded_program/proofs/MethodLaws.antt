@@ -29,7 +29,7 @@ use Rattle.loaded_program.specs.declared.linked_methods.Targets.TheVariants.{Its
 use Rattle.loaded_program.specs.Loaded.{AreTargets, IsLinkedAt, IsLinkedMethod, IsLinkedOperation, IsLinkedLine, IsTarget, chosen_by, has_value, line_in, operations_of, target_in, target_number}
 use Rattle.loaded_program.proofs.OperandLaws.{map_some, then_some}
 
--- the item of the second list at a place of the first
+-- the item of the second list at an index of the first
 pub alike_from : {X Y : Type 0} (R : X → Y → Type 0) (xs : List X) (ys : List Y) (n : ℕ) (x : X) → AllAlike R xs ys → slice_get xs n ≡ Some x → (y : Y) × (slice_get ys n ≡ Some y) × R x y
 alike_from R [] ys n x alike at = absurd (cc at)
 alike_from R (z ∷ xs) [] n x alike at = absurd alike
@@ -84,40 +84,40 @@ there_at [] n within = absurd (omega arith)
 there_at (x ∷ xs) zero within = (x, refl)
 there_at (x ∷ xs) (suc n) within = there_at xs n (omega arith)
 
--- the line at a place of a method, linked
+-- the line at a pc of a method, linked
 module _ (tree : Tree) (methods : List LinkedMethod) (linked : AllAlike (IsLinkedMethod tree) (all_methods tree) methods) (number : ℕ) where
   pub method_found : (found : ClassName × Method) → slice_get (all_methods tree) number ≡ Some found → (method : LinkedMethod) × (slice_get methods number ≡ Some method) × IsLinkedMethod tree found method
   method_found found at = alike_from (IsLinkedMethod tree) (all_methods tree) methods number found linked at
 
   -- a method and its line
-  pub record Lined (place : ℕ) : Type 0 where
+  pub record Lined (index : ℕ) : Type 0 where
     pub found : ClassName × Method
     pub line : Line
     pub found_is : slice_get (all_methods tree) number ≡ Some found
-    pub line_is : slice_get (lines_of found.1) place ≡ Some line
+    pub line_is : slice_get (lines_of found.1) index ≡ Some line
 
-  pub lined : (place : ℕ) → IsSome (line_in tree number place) → Lined place
-  lined place there =
-      let line = some_of (line_in tree number place) there in
-      let found = then_some (λ (found : ClassName × Method). slice_get (lines_of found.1) place) (slice_get (all_methods tree) number) line.0 line.1 in
+  pub lined : (index : ℕ) → IsSome (line_in tree number index) → Lined index
+  lined index there =
+      let line = some_of (line_in tree number index) there in
+      let found = then_some (λ (found : ClassName × Method). slice_get (lines_of found.1) index) (slice_get (all_methods tree) number) line.0 line.1 in
       record { found = found.0; line = line.0; found_is = found.1; line_is = found.2 }
 
-  pub is_linked_at : (place : ℕ) (here : Lined place) (method : LinkedMethod) (l : LinkedInstruction) → slice_get methods number ≡ Some method → slice_get method.code.items place ≡ Some l → IsLinkedAt tree number place l
-  is_linked_at place here method l method_is l_is =
+  pub is_linked_at : (index : ℕ) (here : Lined index) (method : LinkedMethod) (l : LinkedInstruction) → slice_get methods number ≡ Some method → slice_get method.code.items index ≡ Some l → IsLinkedAt tree number index l
+  is_linked_at index here method l method_is l_is =
       let known = method_found here.found here.found_is in
       let same : known.0 ≡ method = same_Some known.0 method (sym known.1 ∙ method_is) in
       let code : AllAlike (IsLinkedLine tree here.found) (lines_of here.found.1) method.code.items = subst (λ (m : LinkedMethod). AllAlike (IsLinkedLine tree here.found) (lines_of here.found.1) m.code.items) same known.2.code in
-      let line = alike_from (IsLinkedLine tree here.found) (lines_of here.found.1) method.code.items place here.line code here.line_is in
+      let line = alike_from (IsLinkedLine tree here.found) (lines_of here.found.1) method.code.items index here.line code here.line_is in
       record { found = here.found; line = here.line; found_is = here.found_is; line_is = here.line_is; linked = subst (IsLinkedLine tree here.found here.line) (same_Some line.0 l (sym line.1 ∙ l_is)) line.2 }
 
-  -- the place is within the code
-  pub within_code : (place : ℕ) (here : Lined place) (method : LinkedMethod) → slice_get methods number ≡ Some method → place < length method.code.items
-  within_code place here method method_is =
+  -- the pc is within the code
+  pub within_code : (index : ℕ) (here : Lined index) (method : LinkedMethod) → slice_get methods number ≡ Some method → index < length method.code.items
+  within_code index here method method_is =
       let known = method_found here.found here.found_is in
       let same : known.0 ≡ method = same_Some known.0 method (sym known.1 ∙ method_is) in
       let code : AllAlike (IsLinkedLine tree here.found) (lines_of here.found.1) method.code.items = subst (λ (m : LinkedMethod). AllAlike (IsLinkedLine tree here.found) (lines_of here.found.1) m.code.items) same known.2.code in
-      let line = alike_from (IsLinkedLine tree here.found) (lines_of here.found.1) method.code.items place here.line code here.line_is in
-      slice_get_within method.code.items place line.0 line.1
+      let line = alike_from (IsLinkedLine tree here.found) (lines_of here.found.1) method.code.items index here.line code here.line_is in
+      slice_get_within method.code.items index line.0 line.1
 
   -- ---- targets
 

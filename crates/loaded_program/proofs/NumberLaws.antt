@@ -15,15 +15,15 @@ use Rattle.cil_model.specs.Legality.{IsLegal, has_repeat, same_method, class_dou
 use Rattle.cil_model.proofs.Lists.{passes_not}
 use Rattle.cil_model.proofs.SameLaws.{never, both_first, both_second, same_class_itself, same_method_name_itself, same_signature_itself}
 use Rattle.name_tables.specs.Numbers.{declarations, class_number, source_entry, method_at}
-use Rattle.name_tables.proofs.NumberLaws.{IsNumbered, numbered, none_is_some, position_from-suc}
+use Rattle.name_tables.proofs.NumberLaws.{HasId, numbered, none_is_some, position_from-suc}
 use Rattle.resolved_code.proofs.ListLaws.Repeats.{has_repeat-map}
 use Rattle.loaded_program.specs.AllMethods.{owned_methods, all_methods, first_numbers}
 use Rattle.loaded_program.specs.MethodNumbers.{number_of}
-use Rattle.loaded_program.proofs.FlatLaws.{numbered_at, first_is_there, number_behind}
+use Rattle.loaded_program.proofs.FlatLaws.{numbered_at, first_is_there, number_after}
 
 -- ---- lists in which no item stands twice
 
--- each is found first at its own place
+-- each is found first at its own index
 found_first : {X : Type 0} (same : X → X → Bool) → ((x : X) → IsTrue (same x x)) → (xs : List X) (n : ℕ) (x : X) → has_repeat same xs ≡ false → slice_get xs n ≡ Some x → position_from (λ y. same y x) 0 xs ≡ Some n
 found_first same itself [] n x h e = absurd (none_is_some x e)
 found_first {X} same itself (y ∷ ys) zero x h e =
@@ -100,31 +100,31 @@ each_of_assembly (x ∷ xs) h ks = or_from _ _ (other_than_source x.0 x.1 ks (of
 
 -- ---- all classes
 
-not_doubled : (b : Bool) (rest : Option ℕ) → (if b then Some 201 else rest) ≡ None → b ≡ false
-not_doubled false rest h = refl
-not_doubled true rest h = absurd (none_is_some 201 (sym h))
+not_duplicate : (b : Bool) (rest : Option ℕ) → (if b then Some 201 else rest) ≡ None → b ≡ false
+not_duplicate false rest h = refl
+not_duplicate true rest h = absurd (none_is_some 201 (sym h))
 
 module _ (tree : Tree) where
   once_in_all : IsLegal tree → has_repeat same_found (all_methods tree) ≡ false
   once_in_all legal =
-      let single : doubles_name tree ≡ false = not_doubled _ _ legal in
+      let single : doubles_name tree ≡ false = not_duplicate _ _ legal in
       ap (has_repeat same_found) (flat_map-append owned_methods built_ins (map source_entry tree.classes)) ∙
       once_in_both same_found (flat_map owned_methods built_ins) (source_methods tree.classes) refl (each_of_assembly (flat_map owned_methods built_ins) refl tree.classes)
       (once_in_source tree.classes (or_parts _ _ (or_parts _ _ single).0).1 (or_parts _ _ single).1)
 
-  -- a method's place is its number
-  pub number_of_place : IsLegal tree → (n : ℕ) (found : ClassName × Method) → slice_get (all_methods tree) n ≡ Some found → number_of tree found ≡ Some n
-  number_of_place legal n found h = found_first same_found same_found_itself (all_methods tree) n found (once_in_all legal) h
+  -- a method's index is its number
+  pub number_of_index : IsLegal tree → (n : ℕ) (found : ClassName × Method) → slice_get (all_methods tree) n ≡ Some found → number_of tree found ≡ Some n
+  number_of_index legal n found h = found_first same_found same_found_itself (all_methods tree) n found (once_in_all legal) h
 
-  -- each method that a class declares has a place
-  pub place_of_declared : (k : ℕ) (found : ClassName × Method) → slice_get (methods_declared tree found.0) k ≡ Some found.1 → (n : ℕ) × (slice_get (all_methods tree) n ≡ Some found)
-  place_of_declared k found h = by_number (class_number tree found.0) (numbered tree found.0)
+  -- each method that a class declares has an index
+  pub index_of_declared : (k : ℕ) (found : ClassName × Method) → slice_get (methods_declared tree found.0) k ≡ Some found.1 → (n : ℕ) × (slice_get (all_methods tree) n ≡ Some found)
+  index_of_declared k found h = by_number (class_number tree found.0) (numbered tree found.0)
     where
       by_first : (n : ℕ) → method_at tree (n, k) ≡ Some found → (o : Option ℕ) → slice_get (first_numbers 0 (declarations tree)) n ≡ o → (m : ℕ) × (slice_get (all_methods tree) m ≡ Some found)
       by_first n at None e = absurd (first_is_there tree n k found at (first_numbers 0 (declarations tree)) refl e)
-      by_first n at (Some first) e = (first + k, (number_behind tree n k found at (first_numbers 0 (declarations tree)) first refl e).1)
+      by_first n at (Some first) e = (first + k, (number_after tree n k found at (first_numbers 0 (declarations tree)) first refl e).1)
 
-      by_number : (o : Option ℕ) → IsNumbered tree found.0 o → (m : ℕ) × (slice_get (all_methods tree) m ≡ Some found)
+      by_number : (o : Option ℕ) → HasId tree found.0 o → (m : ℕ) × (slice_get (all_methods tree) m ≡ Some found)
       by_number None e = absurd (none_is_some found.1 (sym (ap (λ z. slice_get (listed_by (λ (d : Declaration). d.methods) z) k) e) ∙ h))
       by_number (Some n) (d, e, at) =
           let own : slice_get d.methods k ≡ Some found.1 = sym (ap (λ z. slice_get (listed_by (λ (y : Declaration). y.methods) z) k) e) ∙ h in
@@ -133,12 +133,12 @@ module _ (tree : Tree) where
   -- it has a number, and stands there
   pub declared_is_numbered : IsLegal tree → (k : ℕ) (found : ClassName × Method) → slice_get (methods_declared tree found.0) k ≡ Some found.1 → (n : ℕ) × (number_of tree found ≡ Some n) × (slice_get (all_methods tree) n ≡ Some found)
   declared_is_numbered legal k found h =
-      let place : (n : ℕ) × (slice_get (all_methods tree) n ≡ Some found) = place_of_declared k found h in
-      (place.0, number_of_place legal place.0 found place.1, place.1)
+      let index : (n : ℕ) × (slice_get (all_methods tree) n ≡ Some found) = index_of_declared k found h in
+      (index.0, number_of_index legal index.0 found index.1, index.1)
 
-  -- the number of a method that is declared is its place
-  pub place_of_number : IsLegal tree → (k : ℕ) (found : ClassName × Method) → slice_get (methods_declared tree found.0) k ≡ Some found.1 → (n : ℕ) → number_of tree found ≡ Some n → slice_get (all_methods tree) n ≡ Some found
-  place_of_number legal k found h n e =
+  -- the number of a method that is declared is its index
+  pub index_of_number : IsLegal tree → (k : ℕ) (found : ClassName × Method) → slice_get (methods_declared tree found.0) k ≡ Some found.1 → (n : ℕ) → number_of tree found ≡ Some n → slice_get (all_methods tree) n ≡ Some found
+  index_of_number legal k found h n e =
       let known : (m : ℕ) × (number_of tree found ≡ Some m) × (slice_get (all_methods tree) m ≡ Some found) = declared_is_numbered legal k found h in
       let both : Some known.0 ≡ Some n = sym known.1 ∙ e in
       let same : known.0 ≡ n = cc in

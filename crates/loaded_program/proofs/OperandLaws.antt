@@ -10,7 +10,7 @@ use Rattle.name_tables.specs.declared.lookups.MemberNumber.{MemberNumber}
 use Rattle.name_tables.specs.Numbers.{field_at, method_at}
 use Rattle.resolved_code.specs.Resolved.{BothAlike}
 use Rattle.resolved_code.specs.Numbered.{class_name}
-use Rattle.resolved_code.specs.declared.types.NumberedType.{NumberedType}
+use Rattle.resolved_code.specs.declared.types.ResolvedType.{ResolvedType}
 use Rattle.object_memory.specs.declared.kinds.ArrayElement.{ArrayElement}
 use Rattle.object_memory.specs.declared.kinds.ElementType.{ElementType}
 use Rattle.loaded_program.specs.AllMethods.{flat_number}
@@ -66,14 +66,14 @@ module _ (tree : Tree) (field : MemberNumber) (n : ℕ) where
   -- an instance field and its slot
   pub record InstanceField : Type 0 where
     pub found : ClassName × Field
-    pub found_is : field_at tree (field.class, field.place) ≡ Some found
+    pub found_is : field_at tree (field.class, field.index) ≡ Some found
     pub is_instance : found.1.is_static ≡ false
     pub slot_is : instance_slot tree (key_at found) ≡ Some n
     pub fits : n < 2 ^ 32
 
   pub instance_field : slot_at tree field ≡ Some n → InstanceField
   instance_field e =
-      let found = then_some (slot_in tree) (field_at tree (field.class, field.place)) n e in
+      let found = then_some (slot_in tree) (field_at tree (field.class, field.index)) n e in
       let kind = unless_some found.0.1.is_static (option_and_then small (instance_slot tree (key_at found.0))) n found.2 in
       let slot = then_some small (instance_slot tree (key_at found.0)) n kind.1 in
       let size = small_is slot.0 n slot.2 in
@@ -82,14 +82,14 @@ module _ (tree : Tree) (field : MemberNumber) (n : ℕ) where
   -- a static field and its number
   pub record StaticField : Type 0 where
     pub found : ClassName × Field
-    pub found_is : field_at tree (field.class, field.place) ≡ Some found
+    pub found_is : field_at tree (field.class, field.index) ≡ Some found
     pub is_static : found.1.is_static ≡ true
     pub number_is : static_slot tree (key_at found) ≡ Some n
     pub fits : n < 2 ^ 32
 
   pub static_field : static_at tree field ≡ Some n → StaticField
   static_field e =
-      let found = then_some (static_in tree) (field_at tree (field.class, field.place)) n e in
+      let found = then_some (static_in tree) (field_at tree (field.class, field.index)) n e in
       let kind = if_some found.0.1.is_static (option_and_then small (static_slot tree (key_at found.0))) n found.2 in
       let number = then_some small (static_slot tree (key_at found.0)) n kind.1 in
       let size = small_is number.0 n number.2 in
@@ -111,16 +111,16 @@ sized tree member n e =
 -- the method of a number, and its flat number
 pub record Numbered (tree : Tree) (member : MemberNumber) (n : ℕ) : Type 0 where
   pub found : ClassName × Method
-  pub found_is : method_at tree (member.class, member.place) ≡ Some found
-  pub number_is : flat_number tree member.class member.place ≡ n
+  pub found_is : method_at tree (member.class, member.index) ≡ Some found
+  pub number_is : flat_number tree member.class member.index ≡ n
 
 pub numbered : (tree : Tree) (member : MemberNumber) (n : ℕ) → number_at tree member ≡ Some n → Numbered tree member n
 numbered tree member n e =
-    let found = map_some (λ (found : ClassName × Method). flat_number tree member.class member.place) (method_at tree (member.class, member.place)) n e in
+    let found = map_some (λ (found : ClassName × Method). flat_number tree member.class member.index) (method_at tree (member.class, member.index)) n e in
     record { found = found.0; found_is = found.1; number_is = found.2 }
 
 -- few brackets, and an element
-pub few_brackets : (t : NumberedType) (wanted : ArrayElement) → array_held t ≡ Some wanted → (t.brackets < 256) × ((e : ElementType) × (element_held t.element ≡ Some e) × (record { element = e; brackets = t.brackets } ≡ wanted))
-few_brackets t wanted e =
-    let passed = if_some (nat_lt t.brackets 256) (option_map (λ e. record { element = e; brackets = t.brackets }) (element_held t.element)) wanted e in
-    (below t.brackets 256 passed.0, map_some (λ e. record { element = e; brackets = t.brackets }) (element_held t.element) wanted passed.1)
+pub few_brackets : (t : ResolvedType) (required : ArrayElement) → array_held t ≡ Some required → (t.brackets < 256) × ((e : ElementType) × (element_held t.element ≡ Some e) × (record { element = e; brackets = t.brackets } ≡ required))
+few_brackets t required e =
+    let passed = if_some (nat_lt t.brackets 256) (option_map (λ e. record { element = e; brackets = t.brackets }) (element_held t.element)) required e in
+    (below t.brackets 256 passed.0, map_some (λ e. record { element = e; brackets = t.brackets }) (element_held t.element) required passed.1)

@@ -19,23 +19,23 @@ use Rattle.cil_model.specs.Assignable.{type_of_class}
 use Rattle.cil_model.specs.Declarations.{Declaration}
 use Rattle.resolved_code.specs.Numbered.{class_name, element_at, type_at, AreTypes}
 use Rattle.resolved_code.specs.Resolved.{AllAlike, IsBody, IsResolvedKind, IsResolvedMethod, IsResolvedClass}
-use Rattle.resolved_code.specs.declared.types.NumberedElement.{NumberedElement}
-use Rattle.resolved_code.specs.declared.types.NumberedElement.TheVariants.{Int32, Int64, Object, String, Class}
-use Rattle.resolved_code.specs.declared.types.NumberedType.{NumberedType}
+use Rattle.resolved_code.specs.declared.types.ResolvedElement.{ResolvedElement}
+use Rattle.resolved_code.specs.declared.types.ResolvedElement.TheVariants.{Int32, Int64, Object, String, Class}
+use Rattle.resolved_code.specs.declared.types.ResolvedType.{ResolvedType}
 use Rattle.resolved_code.specs.declared.classes.Body.{Body}
 use Rattle.resolved_code.specs.declared.classes.ResolvedKind.{ResolvedKind}
 use Rattle.resolved_code.specs.declared.classes.ResolvedKind.TheVariants as KindOf
 use Rattle.resolved_code.specs.declared.classes.ResolvedMethod.{ResolvedMethod}
 use Rattle.resolved_code.specs.declared.classes.ResolvedClass.{ResolvedClass}
 use Rattle.loaded_program.specs.AllMethods.{first_numbers}
-use Rattle.loaded_program.specs.Numbered.{numbered_kind_at, kind_of_numbered, numbered_locals, with_object, operand_count, running_counts}
+use Rattle.loaded_program.specs.Numbered.{resolved_kind_at, kind_of_resolved, resolved_locals, with_object, operand_count, running_counts}
 use Rattle.loaded_program.specs.Prepared.{kind_at, kind_of_type, local_kinds}
 use Rattle.resolved_code.proofs.ListLaws.RelatedLists.{alike_length}
 
 module _ (tree : Tree) where
   -- ---- types
 
-  element_kind : (e : NumberedElement) (f : Element) (n : ℕ) → element_at tree e ≡ Some f → numbered_kind_at e n ≡ kind_at f n
+  element_kind : (e : ResolvedElement) (f : Element) (n : ℕ) → element_at tree e ≡ Some f → resolved_kind_at e n ≡ kind_at f n
   element_kind e f (suc n) h = refl
   element_kind Int32 f zero h =
       let same : Int32Element ≡ f = cc in
@@ -51,34 +51,34 @@ module _ (tree : Tree) where
       ap (λ x. kind_at x 0) same
   element_kind (Class n) f zero h = by_name (class_name tree n) h
     where
-      by_name : (o : Option ClassName) → option_map ClassElement o ≡ Some f → numbered_kind_at (Class n) 0 ≡ kind_at f 0
+      by_name : (o : Option ClassName) → option_map ClassElement o ≡ Some f → resolved_kind_at (Class n) 0 ≡ kind_at f 0
       by_name None k = absurd (none-some f k)
       by_name (Some c) k =
           let same : ClassElement c ≡ f = cc in
           ap (λ x. kind_at x 0) same
 
-  type_kind : (n : NumberedType) (t : DeclaredType) → type_at tree n ≡ Some t → kind_of_numbered n ≡ kind_of_type t
+  type_kind : (n : ResolvedType) (t : DeclaredType) → type_at tree n ≡ Some t → kind_of_resolved n ≡ kind_of_type t
   type_kind n t h = by_element (element_at tree n.element) refl h
     where
-      by_element : (o : Option Element) → element_at tree n.element ≡ o → option_map {U = DeclaredType} (λ (e : Element). record { element = e; brackets = n.brackets }) o ≡ Some t → kind_of_numbered n ≡ kind_of_type t
+      by_element : (o : Option Element) → element_at tree n.element ≡ o → option_map {U = DeclaredType} (λ (e : Element). record { element = e; brackets = n.brackets }) o ≡ Some t → kind_of_resolved n ≡ kind_of_type t
       by_element None e k = absurd (none-some t k)
       by_element (Some f) e k =
           let typed : DeclaredType = record { element = f; brackets = n.brackets } in
           let same : typed ≡ t = cc in
           element_kind n.element f n.brackets e ∙ ap kind_of_type same
 
-  type_kinds : (ns : List NumberedType) (ts : List DeclaredType) → AreTypes tree ns ts → map kind_of_numbered ns ≡ map kind_of_type ts
+  type_kinds : (ns : List ResolvedType) (ts : List DeclaredType) → AreTypes tree ns ts → map kind_of_resolved ns ≡ map kind_of_type ts
   type_kinds [] [] h = refl
   type_kinds (n ∷ ns) (t ∷ ts) h =
       let first : type_at tree n ≡ Some t = cc in
       let others : map (type_at tree) ns ≡ map Some ts = cc in
-      let one : kind_of_numbered n ≡ kind_of_type t = type_kind n t first in
-      let more : map kind_of_numbered ns ≡ map kind_of_type ts = type_kinds ns ts others in
-      ap (λ k. k ∷ map kind_of_numbered ns) one ∙ ap (λ ks. kind_of_type t ∷ ks) more
+      let one : kind_of_resolved n ≡ kind_of_type t = type_kind n t first in
+      let more : map kind_of_resolved ns ≡ map kind_of_type ts = type_kinds ns ts others in
+      ap (λ k. k ∷ map kind_of_resolved ns) one ∙ ap (λ ks. kind_of_type t ∷ ks) more
   type_kinds [] (t ∷ ts) h = cc
   type_kinds (n ∷ ns) [] h = cc
 
-  type_count : (ns : List NumberedType) (ts : List DeclaredType) → AreTypes tree ns ts → length ns ≡ length ts
+  type_count : (ns : List ResolvedType) (ts : List DeclaredType) → AreTypes tree ns ts → length ns ≡ length ts
   type_count ns ts h = sym (length-map ns (type_at tree)) ∙ ap length h ∙ length-map ts Some
 
   -- ---- methods
@@ -101,10 +101,10 @@ module _ (tree : Tree) where
   counted (Named.Abstract a) (KindOf.Instance body) n t ts h e = absurd h
   counted (Named.Abstract a) (KindOf.Virtual b body) n t ts h e = absurd h
 
-  body_kinds : (code : Code) (body : Body) → IsBody tree code body → map kind_of_numbered body.locals ≡ map kind_of_type (code.locals ++ [])
+  body_kinds : (code : Code) (body : Body) → IsBody tree code body → map kind_of_resolved body.locals ≡ map kind_of_type (code.locals ++ [])
   body_kinds code body h = type_kinds body.locals code.locals h.locals ∙ ap (map kind_of_type) (sym (append-nil code.locals))
 
-  locals_by : (k : MethodKind) (r : ResolvedKind) → IsResolvedKind tree k r → map kind_of_numbered (numbered_locals r) ≡ map kind_of_type (flat_map (λ (code : Code). code.locals) (option_to_list (code_of k)))
+  locals_by : (k : MethodKind) (r : ResolvedKind) → IsResolvedKind tree k r → map kind_of_resolved (resolved_locals r) ≡ map kind_of_type (flat_map (λ (code : Code). code.locals) (option_to_list (code_of k)))
   locals_by (Named.Static code) (KindOf.Static body) h = body_kinds code body h
   locals_by (Named.Instance code) (KindOf.Instance body) h = body_kinds code body h
   locals_by (Named.Virtual a code) (KindOf.Virtual b body) h = body_kinds code body h.1
@@ -128,14 +128,14 @@ module _ (tree : Tree) where
     arguments_alike c = counted m.kind r.kind (length r.parameters) (type_of_class c) m.signature.parameters is.kind (type_count r.parameters m.signature.parameters is.parameters)
 
     -- what the locals hold
-    pub locals_alike : map kind_of_numbered (numbered_locals r.kind) ≡ local_kinds m
+    pub locals_alike : map kind_of_resolved (resolved_locals r.kind) ≡ local_kinds m
     locals_alike = locals_by m.kind r.kind is.kind
 
     -- whether a call leaves a value
     pub value_alike : is_some r.return_type ≡ is_some m.signature.return_type
     value_alike = by_types r.return_type m.signature.return_type is.return_type
       where
-        by_types : (o : Option NumberedType) (p : Option DeclaredType) → option_map (type_at tree) o ≡ option_map Some p → is_some o ≡ is_some p
+        by_types : (o : Option ResolvedType) (p : Option DeclaredType) → option_map (type_at tree) o ≡ option_map Some p → is_some o ≡ is_some p
         by_types None None h = refl
         by_types (Some n) (Some t) h = refl
         by_types None (Some t) h = cc

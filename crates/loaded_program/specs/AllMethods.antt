@@ -10,11 +10,11 @@ use Rattle.name_tables.specs.Numbers.{declarations}
 abbrev pub owned_methods : ClassName × Declaration → List (ClassName × Method)
 owned_methods e = map (λ m. (e.0, m)) e.1.methods
 
--- the methods of all classes, in the order of the classes' numbers; a method's flat number is its place here
+-- the methods of all classes, in the order of the classes' numbers; a method's flat number is its index here
 abbrev pub all_methods : Tree → List (ClassName × Method)
 all_methods tree = flat_map owned_methods (declarations tree)
 
--- the flat number of the method at a place of a class: the methods of the classes before it, and the place
+-- the flat number of the method at an index of a class: the methods of the classes before it, and the index
 abbrev pub flat_number : Tree → ℕ → ℕ → ℕ
 flat_number tree n p = length (flat_map owned_methods (take n (declarations tree))) + p
 

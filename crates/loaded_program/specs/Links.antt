@@ -18,11 +18,11 @@ use Rattle.loaded_program.specs.Operands.{slot_at, static_at, held_at, array_hel
 
 -- the flat number of a member, where it is a method
 abbrev pub number_at : Tree → MemberNumber → Option ℕ
-number_at tree n = option_map (λ (found : ClassName × Method). flat_number tree n.class n.place) (method_at tree (n.class, n.place))
+number_at tree n = option_map (λ (found : ClassName × Method). flat_number tree n.class n.index) (method_at tree (n.class, n.index))
 
 -- a virtual call of a method, with the number of its operands (III.4.2)
 abbrev pub virtual_link : Tree → MemberNumber → Option LinkedInstruction
-virtual_link tree n = option_map (λ (found : ClassName × Method). Linked.CallVirtual (flat_number tree n.class n.place) (length (argument_types found.1 found.0))) (method_at tree (n.class, n.place))
+virtual_link tree n = option_map (λ (found : ClassName × Method). Linked.CallVirtual (flat_number tree n.class n.index) (length (argument_types found.1 found.0))) (method_at tree (n.class, n.index))
 
 -- an object's class, its slots and its constructor (III.4.21)
 abbrev pub new_link : Tree → MemberNumber → Option LinkedInstruction
@@ -51,11 +51,11 @@ link tree has_value (Resolved.Shift op) = Some (Linked.Shift op)
 link tree has_value (Resolved.Compare op) = Some (Linked.Compare op)
 link tree has_value Resolved.ConvertInt32 = Some Linked.ConvertInt32
 link tree has_value Resolved.ConvertInt64 = Some Linked.ConvertInt64
-link tree has_value (Resolved.Branch place) = Some (Linked.Branch place)
-link tree has_value (Resolved.BranchTrue place) = Some (Linked.BranchTrue place)
-link tree has_value (Resolved.BranchFalse place) = Some (Linked.BranchFalse place)
-link tree has_value (Resolved.BranchCompare op place) = Some (Linked.BranchCompare op place)
-link tree has_value (Resolved.Switch places) = Some (Linked.Switch places)
+link tree has_value (Resolved.Branch index) = Some (Linked.Branch index)
+link tree has_value (Resolved.BranchTrue index) = Some (Linked.BranchTrue index)
+link tree has_value (Resolved.BranchFalse index) = Some (Linked.BranchFalse index)
+link tree has_value (Resolved.BranchCompare op index) = Some (Linked.BranchCompare op index)
+link tree has_value (Resolved.Switch indices) = Some (Linked.Switch indices)
 link tree has_value (Resolved.LoadField owner field) = field_link tree field
 link tree has_value (Resolved.StoreField owner field) = option_map (λ slot. Linked.StoreField slot) (slot_at tree field)
 link tree has_value (Resolved.LoadStaticField field) = option_map (λ number. Linked.LoadStaticField number) (static_at tree field)
@@ -77,4 +77,4 @@ link tree has_value Resolved.Return = Some (Linked.Return has_value)
 
 -- a linked instruction is the link of a resolved one, where that has one
 abbrev pub IsLinked : Tree → Bool → Operation → LinkedInstruction → Type 0
-IsLinked tree has_value operation linked = (wanted : LinkedInstruction) → link tree has_value operation ≡ Some wanted → linked ≡ wanted
+IsLinked tree has_value operation linked = (required : LinkedInstruction) → link tree has_value operation ≡ Some required → linked ≡ required

@@ -54,11 +54,11 @@ pub record IsLinkedLine (tree : Tree) (found : ClassName × Method) (line : Line
   pub stands : IsOperation tree (lines_of found.1) line.instruction operation
   pub links : IsLinkedOperation tree (has_value found) operation linked
 
--- the number of the method that runs on objects of a class in the place of a method, where one does (II.10.3, II.12.2)
+-- the number of the method that runs on objects of a class in place of a method, where one does (II.10.3, II.12.2)
 abbrev pub IsTarget : Tree → ClassName × Method → ClassName → ℕ → Type 0
 IsTarget tree found class number = (run : ClassName × Method) → target tree class found.0 found.1 ≡ Some run → slice_get (all_methods tree) number ≡ Some run
 
--- which method runs in the place of a method: itself where it is not virtual, else one for each class
+-- which method runs in place of a method: itself where it is not virtual, else one for each class
 abbrev pub AreTargets : Tree → ClassName × Method → Targets → Type 0
 AreTargets tree found Itself = is_virtual found.1.kind ≡ false
 AreTargets tree found (ByClass row) = (is_virtual found.1.kind ≡ true) × AllAlike (λ (e : ClassName × Declaration) number. IsTarget tree found e.0 number) (declarations tree) row.items
@@ -82,16 +82,16 @@ pub record IsLoaded (tree : Tree) (layout : Layout) (table : MethodTable) (metho
 
 -- ---- what is found
 
--- the line at a place of the method with a flat number
+-- the line at a pc of the method with a flat number
 abbrev pub line_in : Tree → ℕ → ℕ → Option Line
-line_in tree method place = option_and_then (λ (found : ClassName × Method). slice_get (lines_of found.1) place) (slice_get (all_methods tree) method)
+line_in tree method index = option_and_then (λ (found : ClassName × Method). slice_get (lines_of found.1) index) (slice_get (all_methods tree) method)
 
 -- the linked instruction there
-pub record IsLinkedAt (tree : Tree) (method place : ℕ) (instruction : LinkedInstruction) : Type 0 where
+pub record IsLinkedAt (tree : Tree) (method index : ℕ) (instruction : LinkedInstruction) : Type 0 where
   pub found : ClassName × Method
   pub line : Line
   pub found_is : slice_get (all_methods tree) method ≡ Some found
-  pub line_is : slice_get (lines_of found.1) place ≡ Some line
+  pub line_is : slice_get (lines_of found.1) index ≡ Some line
   pub linked : IsLinkedLine tree found line instruction
 
 -- the linked instructions of the method with a flat number, one for each of its lines
@@ -100,7 +100,7 @@ pub record IsCode (tree : Tree) (method : ℕ) (code : List LinkedInstruction) :
   pub found_is : slice_get (all_methods tree) method ≡ Some found
   pub lines : AllAlike (IsLinkedLine tree found) (lines_of found.1) code
 
--- the method that runs in the place of another on an object of the class of a number, or on an array, which has none: a method that is not virtual
+-- the method that runs in place of another on an object of the class of a number, or on an array, which has none: a method that is not virtual
 -- runs itself (III.4.2)
 abbrev pub chosen_by : Tree → ClassName × Method → Option ℕ → Option (ClassName × Method)
 chosen_by tree found (Some n) = option_and_then (λ d. target tree d found.0 found.1) (class_name tree n)

@@ -11,9 +11,9 @@ use Rattle.name_tables.specs.Numbers.{field_at}
 use Rattle.resolved_code.specs.Numbered.{class_name}
 use Rattle.resolved_code.specs.declared.operations.Operation.{Operation}
 use Rattle.resolved_code.specs.declared.operations.Operation.TheVariants.{LoadInt32, LoadInt64}
-use Rattle.resolved_code.specs.declared.types.NumberedElement.{NumberedElement}
-use Rattle.resolved_code.specs.declared.types.NumberedElement.TheVariants.{Int32 as NumberedInt32, Int64 as NumberedInt64, Object as NumberedObject, String as NumberedString, Class as NumberedClass}
-use Rattle.resolved_code.specs.declared.types.NumberedType.{NumberedType}
+use Rattle.resolved_code.specs.declared.types.ResolvedElement.{ResolvedElement}
+use Rattle.resolved_code.specs.declared.types.ResolvedElement.TheVariants.{Int32 as ResolvedInt32, Int64 as ResolvedInt64, Object as ResolvedObject, String as ResolvedString, Class as ClassById}
+use Rattle.resolved_code.specs.declared.types.ResolvedType.{ResolvedType}
 use Rattle.object_memory.specs.declared.kinds.ArrayElement.{ArrayElement}
 use Rattle.object_memory.specs.declared.kinds.ElementType.{ElementType}
 use Rattle.object_memory.specs.declared.kinds.ElementType.TheVariants.{Int32 as HeldInt32, Int64 as HeldInt64, Object as HeldObject, String as HeldString, Class as HeldClass}
@@ -39,28 +39,28 @@ abbrev pub slot_in : Tree → ClassName × Field → Option ℕ
 slot_in tree found = if found.1.is_static then None else option_and_then small (instance_slot tree (key_at found))
 
 abbrev pub slot_at : Tree → MemberNumber → Option ℕ
-slot_at tree n = option_and_then (slot_in tree) (field_at tree (n.class, n.place))
+slot_at tree n = option_and_then (slot_in tree) (field_at tree (n.class, n.index))
 
 -- the number of a static field
 abbrev pub static_in : Tree → ClassName × Field → Option ℕ
 static_in tree found = if found.1.is_static then option_and_then small (static_slot tree (key_at found)) else None
 
 abbrev pub static_at : Tree → MemberNumber → Option ℕ
-static_at tree n = option_and_then (static_in tree) (field_at tree (n.class, n.place))
+static_at tree n = option_and_then (static_in tree) (field_at tree (n.class, n.index))
 
 -- what a field holds
 abbrev pub held_at : Tree → MemberNumber → Option ValueKind
-held_at tree n = option_map (λ (found : ClassName × Field). kind_of_type found.1.field_type) (field_at tree (n.class, n.place))
+held_at tree n = option_map (λ (found : ClassName × Field). kind_of_type found.1.field_type) (field_at tree (n.class, n.index))
 
 -- what an array of these elements is made by: a class's number of 16 bits, and few brackets
-abbrev pub element_held : NumberedElement → Option ElementType
-element_held NumberedInt32 = Some HeldInt32
-element_held NumberedInt64 = Some HeldInt64
-element_held NumberedObject = Some HeldObject
-element_held NumberedString = Some HeldString
-element_held (NumberedClass n) = if nat_lt n (2 ^ 16) then Some (HeldClass n) else None
+abbrev pub element_held : ResolvedElement → Option ElementType
+element_held ResolvedInt32 = Some HeldInt32
+element_held ResolvedInt64 = Some HeldInt64
+element_held ResolvedObject = Some HeldObject
+element_held ResolvedString = Some HeldString
+element_held (ClassById n) = if nat_lt n (2 ^ 16) then Some (HeldClass n) else None
 
-abbrev pub array_held : NumberedType → Option ArrayElement
+abbrev pub array_held : ResolvedType → Option ArrayElement
 array_held t = if nat_lt t.brackets 256 then option_map (λ e. record { element = e; brackets = t.brackets }) (element_held t.element) else None
 
 -- the number of a member's class, of 16 bits

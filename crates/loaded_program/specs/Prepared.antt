@@ -19,7 +19,7 @@ use Rattle.loaded_program.specs.declared.methods.TableMethod.{TableMethod}
 use Rattle.loaded_program.specs.declared.table.MethodTable.{MethodTable}
 use Rattle.loaded_program.specs.AllMethods.{all_methods, first_numbers}
 
--- what a place of a type holds: every type but the two integers is a reference (I.8.2.1)
+-- what a variable of a type holds: every type but the two integers is a reference (I.8.2.1)
 abbrev pub kind_at : Element → ℕ → ValueKind
 kind_at e (suc n) = Kind.Ref
 kind_at Int32 zero = Kind.Int32
@@ -47,7 +47,7 @@ action_named Join = BuiltIn.Join
 
 -- an entry of a method of a class
 pub record IsTableMethod (tree : Tree) (found : ClassName × Method) (entry : TableMethod) : Type 0 where
-  pub member : method_at tree (entry.member.class, entry.member.place) ≡ Some found
+  pub member : method_at tree (entry.member.class, entry.member.index) ≡ Some found
   pub arguments : entry.arguments ≡ length (argument_types found.1 found.0)
   pub locals : entry.locals.items ≡ local_kinds found.1
   pub has_value : entry.has_value ≡ is_some found.1.signature.return_type

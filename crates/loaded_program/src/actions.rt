@@ -28,20 +28,20 @@ pub enum Action {
     Join,
 }
 
-fn monitor_action(place: usize) -> Option<Action>
-    ensures { (tree : Tree) (c : ClassName) (m : Method) → method_at tree (MONITOR, place) ≡ Some (c, m) → option_map action_named result ≡ action_of c m }
+fn monitor_action(index: usize) -> Option<Action>
+    ensures { (tree : Tree) (c : ClassName) (m : Method) → method_at tree (MONITOR, index) ≡ Some (c, m) → option_map action_named result ≡ action_of c m }
 {
-    match place {
+    match index {
         0 => Some(Action::Enter),
         1 => Some(Action::Exit),
         _ => None,
     }
 }
 
-fn thread_action(place: usize) -> Option<Action>
-    ensures { (tree : Tree) (c : ClassName) (m : Method) → method_at tree (THREAD, place) ≡ Some (c, m) → option_map action_named result ≡ action_of c m }
+fn thread_action(index: usize) -> Option<Action>
+    ensures { (tree : Tree) (c : ClassName) (m : Method) → method_at tree (THREAD, index) ≡ Some (c, m) → option_map action_named result ≡ action_of c m }
 {
-    match place {
+    match index {
         0 => Some(Action::Construct),
         2 => Some(Action::Start),
         3 => Some(Action::Join),
@@ -52,13 +52,13 @@ fn thread_action(place: usize) -> Option<Action>
 /// What a call of a method does, by its number: the built-in classes and their members have fixed ones. None for a method with code
 /// of its own. Where no method has the number, any.
 pub(crate) fn action_at(member: MemberNumber) -> Option<Action>
-    ensures { (tree : Tree) (c : ClassName) (m : Method) → method_at tree (member.class, member.place) ≡ Some (c, m) → option_map action_named result ≡ action_of c m }
+    ensures { (tree : Tree) (c : ClassName) (m : Method) → method_at tree (member.class, member.index) ≡ Some (c, m) → option_map action_named result ≡ action_of c m }
 {
     match member.class {
         OBJECT => Some(Action::Construct),
         CONSOLE => Some(Action::Write),
-        MONITOR => monitor_action(member.place),
-        THREAD => thread_action(member.place),
+        MONITOR => monitor_action(member.index),
+        THREAD => thread_action(member.index),
         _ => None,
     }
 }

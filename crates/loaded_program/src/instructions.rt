@@ -5,7 +5,7 @@ use cil_model::instructions::{
 };
 use cil_model::sequences::Sequence;
 use object_memory::{Addr, ArrayElement, ValueKind};
-use resolved_code::types::NumberedType;
+use resolved_code::types::ResolvedType;
 
 /// An instruction with what its step needs: slots of fields, addresses of literals, flat numbers of methods.
 #[derive(Drop)]
@@ -73,9 +73,9 @@ pub enum LinkedInstruction {
     /// `stelem.ref`
     StoreElementReference,
     /// `castclass`
-    CastClass(NumberedType),
+    CastClass(ResolvedType),
     /// `isinst`
-    IsInstance(NumberedType),
+    IsInstance(ResolvedType),
     /// `call`
     Call(u32),
     /// `callvirt`: the method that is named, and how many operands it takes, the object counted

@@ -64,7 +64,7 @@ fn is_virtual(kind: &ResolvedKind) -> bool
 fn class_target(linker: &Linker, class: usize, method: MemberNumber) -> u32
     requires { CanLink linker.now }
     ensures { (e : ClassName × Declaration) (found : ClassName × Method) → slice_get (declarations linker.now.program.now) class ≡ Some e →
-        method_at linker.now.program.now (method.class, method.place) ≡ Some found → IsTarget linker.now.program.now found e.0 result }
+        method_at linker.now.program.now (method.class, method.index) ≡ Some found → IsTarget linker.now.program.now found e.0 result }
 {
     match linker.layout.target(class, method) {
         Some(target) => linker.table.number(target),
@@ -75,7 +75,7 @@ fn class_target(linker: &Linker, class: usize, method: MemberNumber) -> u32
 /// The same for the objects of each class. The only error is out of memory.
 fn target_row(alloc: Global, linker: &Linker, method: MemberNumber) -> Result<Vec<u32>, NoMemory>
     requires { CanLink linker.now }
-    ensures { IfOk result (λ row. (found : ClassName × Method) → method_at linker.now.program.now (method.class, method.place) ≡ Some found →
+    ensures { IfOk result (λ row. (found : ClassName × Method) → method_at linker.now.program.now (method.class, method.index) ≡ Some found →
         AllAlike (λ (e : ClassName × Declaration) number. IsTarget linker.now.program.now found e.0 number) (declarations linker.now.program.now) row.items) }
 {
     let classes = linker.program.classes();
@@ -94,7 +94,7 @@ fn method_targets(
     kind: &ResolvedKind,
 ) -> Result<Targets, NoMemory>
     requires { CanLink linker.now }
-    ensures { IfOk result (λ targets. (found : ClassName × Method) → method_at linker.now.program.now (method.class, method.place) ≡ Some found →
+    ensures { IfOk result (λ targets. (found : ClassName × Method) → method_at linker.now.program.now (method.class, method.index) ≡ Some found →
         IsResolvedKind linker.now.program.now found.1.kind kind.now → AreTargets linker.now.program.now found targets) }
 {
     if is_virtual(kind) {

@@ -13,7 +13,7 @@ ghost use Rattle.loaded_program.specs.Links.{IsLinked, number_at, virtual_link};
 ghost use Rattle.loaded_program.specs.Loaded.{CanLink};
 
 use crate::instructions::LinkedInstruction;
-use crate::methods::numbered_kind;
+use crate::methods::resolved_kind;
 use crate::operands::{array_element, class_of, in_32_bits, literal_address};
 use crate::table::MethodTable;
 use cil_model::memory::NoMemory;
@@ -54,12 +54,12 @@ pub(crate) fn constants_are_small(operation: &Operation)
     }
 }
 
-/// A copy of places. The only error is out of memory.
-fn copied(alloc: Global, places: &[usize]) -> Result<Sequence<usize>, NoMemory>
-    ensures { IfOk result (λ copy. copy ≡ places.now) }
+/// A copy of a list of indices. The only error is out of memory.
+fn copy_of(alloc: Global, indices: &[usize]) -> Result<Sequence<usize>, NoMemory>
+    ensures { IfOk result (λ copy. copy ≡ indices.now) }
 {
-    let mut copy = Vec::with_capacity(alloc, places.len())?;
-    copy.extend_from_slice(places)?;
+    let mut copy = Vec::with_capacity(alloc, indices.len())?;
+    copy.extend_from_slice(indices)?;
     Ok(Sequence::new(copy))
 }
 
@@ -81,7 +81,7 @@ impl Linker<'_> {
         ensures { (kind : AnyKind) → held_at self.now.program.now field ≡ Some kind → result ≡ kind }
     {
         match self.program.field(field) {
-            Some(field) => numbered_kind(field.field_type),
+            Some(field) => resolved_kind(field.field_type),
             None => ValueKind::Ref,
         }
     }
@@ -116,7 +116,7 @@ impl Linker<'_> {
     /// A virtual call of a method. Any where no method is there.
     fn virtual_call(&self, member: MemberNumber) -> LinkedInstruction
         requires { CanLink self.now }
-        ensures { (wanted : AnyLinked) → virtual_link self.now.program.now member ≡ Some wanted → result ≡ wanted }
+        ensures { (required : AnyLinked) → virtual_link self.now.program.now member ≡ Some required → result ≡ required }
     {
         let method = self.table.number(member);
         LinkedInstruction::CallVirtual {
@@ -156,16 +156,16 @@ impl Linker<'_> {
             Operation::Compare(comparison) => Ok(LinkedInstruction::Compare(*comparison)),
             Operation::ConvertInt32 => Ok(LinkedInstruction::ConvertInt32),
             Operation::ConvertInt64 => Ok(LinkedInstruction::ConvertInt64),
-            Operation::Branch(place) => Ok(LinkedInstruction::Branch(*place)),
-            Operation::BranchTrue(place) => Ok(LinkedInstruction::BranchTrue(*place)),
-            Operation::BranchFalse(place) => Ok(LinkedInstruction::BranchFalse(*place)),
-            Operation::BranchCompare(comparison, place) => Ok(LinkedInstruction::BranchCompare(
+            Operation::Branch(index) => Ok(LinkedInstruction::Branch(*index)),
+            Operation::BranchTrue(index) => Ok(LinkedInstruction::BranchTrue(*index)),
+            Operation::BranchFalse(index) => Ok(LinkedInstruction::BranchFalse(*index)),
+            Operation::BranchCompare(comparison, index) => Ok(LinkedInstruction::BranchCompare(
                 *comparison,
-                *place,
+                *index,
             )),
-            Operation::Switch(places) => Ok(LinkedInstruction::Switch(copied(
+            Operation::Switch(indices) => Ok(LinkedInstruction::Switch(copy_of(
                 alloc,
-                places.as_slice(),
+                indices.as_slice(),
             )?)),
             Operation::LoadField { field, .. } => Ok(LinkedInstruction::LoadField {
                 slot: self.slot(*field),

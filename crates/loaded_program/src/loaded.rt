@@ -46,7 +46,7 @@ impl Model for LoadedProgram {
 }
 
 impl LoadedProgram {
-    /// The program with this layout, loaded. Program and layout are dropped where memory is wanting, the only error.
+    /// The program with this layout, loaded. The only error is out of memory; program and layout are dropped then.
     pub fn new(alloc: Global, program: Program, layout: Layout) -> Result<Self, NoMemory>
         requires { IsLayout program layout }
         ensures { IfOk result (λ loaded. loaded ≡ program) }
@@ -82,9 +82,9 @@ impl LoadedProgram {
         self.parts.layout()
     }
 
-    /// The flat number of a method, by its class and its place there. Any where no method is there.
+    /// The flat number of a method, by its class and its index in it. Any number where there is no such method.
     pub fn number(&self, member: MemberNumber) -> u32
-        ensures { (found : ClassName × Method) → method_at self.now (member.class, member.place) ≡ Some found → slice_get (all_methods self.now) result ≡ Some found }
+        ensures { (found : ClassName × Method) → method_at self.now (member.class, member.index) ≡ Some found → slice_get (all_methods self.now) result ≡ Some found }
     {
         self.parts.number(member)
     }
@@ -106,12 +106,12 @@ impl LoadedProgram {
         self.parts.code(method)
     }
 
-    /// The instruction at a place of the method with this flat number.
-    pub fn instruction(&self, method: u32, place: u32) -> &LinkedInstruction
-        requires { IsSome (line_in self.now method place) }
-        ensures { IsLinkedAt self.now method place result.now }
+    /// The instruction at a pc of the method with this flat number.
+    pub fn instruction(&self, method: u32, index: u32) -> &LinkedInstruction
+        requires { IsSome (line_in self.now method index) }
+        ensures { IsLinkedAt self.now method index result.now }
     {
-        self.parts.instruction(method, place)
+        self.parts.instruction(method, index)
     }
 
     /// The flat number of the method that runs where the method with this one is called on an object of a class, or on an array, which has

@@ -9,7 +9,7 @@ ghost use Rattle.name_tables.specs.Numbers.{declarations, method_at};
 ghost use Rattle.resolved_code.specs.Numbered.{type_at};
 ghost use Rattle.resolved_code.specs.Resolved.{AllAlike, IsResolvedMethod};
 ghost use Rattle.loaded_program.specs.AllMethods.{owned_methods};
-ghost use Rattle.loaded_program.specs.Numbered.{kind_of_numbered, numbered_locals, operand_count};
+ghost use Rattle.loaded_program.specs.Numbered.{kind_of_resolved, resolved_locals, operand_count};
 ghost use Rattle.loaded_program.specs.Prepared.{kind_of_type, IsTableMethod};
 
 use crate::actions::{Action, action_at};
@@ -18,13 +18,13 @@ use cil_model::types::{DeclaredType, Element};
 use name_tables::lookups::MemberNumber;
 use object_memory::ValueKind;
 use resolved_code::classes::{ResolvedKind, ResolvedMethod};
-use resolved_code::types::{NumberedElement, NumberedType};
+use resolved_code::types::{ResolvedElement, ResolvedType};
 use std::alloc::Global;
 
 /// What a call needs to know of a method (ECMA-335 II.15).
 #[derive(Drop)]
 pub struct TableMethod {
-    /// Its class, and its place there.
+    /// Its class, and its index in the class.
     pub member: MemberNumber,
     /// How many operands a call takes, `this` counted.
     pub arguments: usize,
@@ -36,7 +36,7 @@ pub struct TableMethod {
     pub action: Option<Action>,
 }
 
-/// What a place of a type holds: an integer of its size, else a reference (ECMA-335 I.8.2.1).
+/// What a variable of a type holds: an integer of its size, else a reference (ECMA-335 I.8.2.1).
 pub fn value_kind(declared: &DeclaredType) -> ValueKind
     ensures { result ≡ kind_of_type declared.now }
 {
@@ -50,26 +50,26 @@ pub fn value_kind(declared: &DeclaredType) -> ValueKind
     }
 }
 
-/// What a place of a type holds, where the type is given by number.
-pub(crate) fn numbered_kind(numbered: NumberedType) -> ValueKind
-    ensures by_number { result ≡ kind_of_numbered numbered }
+/// What a variable of a type holds, where the type is given by number.
+pub(crate) fn resolved_kind(numbered: ResolvedType) -> ValueKind
+    ensures by_number { result ≡ kind_of_resolved numbered }
     ensures by_name { (tree : Tree) (t : DeclaredType) → type_at tree numbered ≡ Some t → result ≡ kind_of_type t }
 {
     if numbered.brackets > 0 {
         return ValueKind::Ref;
     }
     match numbered.element {
-        NumberedElement::Int32 => ValueKind::Int32,
-        NumberedElement::Int64 => ValueKind::Int64,
-        NumberedElement::Object | NumberedElement::String | NumberedElement::Class(_) => {
+        ResolvedElement::Int32 => ValueKind::Int32,
+        ResolvedElement::Int64 => ValueKind::Int64,
+        ResolvedElement::Object | ResolvedElement::String | ResolvedElement::Class(_) => {
             ValueKind::Ref
         }
     }
 }
 
 /// The types of the locals; none where there is no code (ECMA-335 II.15.4.1.3).
-fn locals_of(kind: &ResolvedKind) -> &[NumberedType]
-    ensures { result.now ≡ numbered_locals kind.now }
+fn locals_of(kind: &ResolvedKind) -> &[ResolvedType]
+    ensures { result.now ≡ resolved_locals kind.now }
 {
     match kind {
         ResolvedKind::Static(body) => body.locals.as_slice(),
@@ -80,12 +80,12 @@ fn locals_of(kind: &ResolvedKind) -> &[NumberedType]
 }
 
 fn local_kinds(alloc: Global, kind: &ResolvedKind) -> Result<Vec<ValueKind>, NoMemory>
-    ensures { IfOk result (λ v. v.items ≡ map kind_of_numbered (numbered_locals kind.now)) }
+    ensures { IfOk result (λ v. v.items ≡ map kind_of_resolved (resolved_locals kind.now)) }
 {
     let types = locals_of(kind);
     let mut kinds = Vec::with_capacity(alloc, types.len())?;
     for numbered in types {
-        kinds.push(numbered_kind(*numbered))?;
+        kinds.push(resolved_kind(*numbered))?;
     }
     Ok(kinds)
 }
@@ -104,7 +104,7 @@ fn argument_count(method: &ResolvedMethod) -> usize
 impl TableMethod {
     /// What a call needs to know of the method with this number. The only error is out of memory.
     fn new(alloc: Global, member: MemberNumber, method: &ResolvedMethod) -> Result<Self, NoMemory>
-        ensures { IfOk result (λ entry. (tree : Tree) (c : ClassName) (m : Method) → method_at tree (member.class, member.place) ≡ Some (c, m) → IsResolvedMethod tree m method.now → IsTableMethod tree (c, m) entry) }
+        ensures { IfOk result (λ entry. (tree : Tree) (c : ClassName) (m : Method) → method_at tree (member.class, member.index) ≡ Some (c, m) → IsResolvedMethod tree m method.now → IsTableMethod tree (c, m) entry) }
     {
         Ok(TableMethod {
             member,
@@ -125,9 +125,9 @@ pub(crate) fn class_methods(
     ensures { IfOk result (λ v. (tree : Tree) (e : ClassName × Declaration) → slice_get (declarations tree) class ≡ Some e → AllAlike (IsResolvedMethod tree) e.1.methods methods.now → AllAlike (IsTableMethod tree) (owned_methods e) v.items) }
 {
     let mut entries = Vec::with_capacity(alloc, methods.len())?;
-    for place in 0..methods.len() {
-        let member = MemberNumber { class, place };
-        entries.push(TableMethod::new(alloc, member, &methods[place])?)?;
+    for index in 0..methods.len() {
+        let member = MemberNumber { class, index };
+        entries.push(TableMethod::new(alloc, member, &methods[index])?)?;
     }
     Ok(entries)
 }

@@ -10,7 +10,7 @@ ghost use Rattle.loaded_program.specs.Operands.{array_held, class_in, element_he
 
 use name_tables::lookups::MemberNumber;
 use object_memory::{Addr, ArrayElement, ElementType};
-use resolved_code::types::{NumberedElement, NumberedType};
+use resolved_code::types::{ResolvedElement, ResolvedType};
 
 /// How many literals have addresses.
 const MOST_LITERALS: u32 = 2_147_483_648;
@@ -65,21 +65,21 @@ pub(crate) fn literal_address(number: usize) -> Addr
 }
 
 /// What an array of these elements is made by. Any where the number of a class has more than 16 bits.
-fn element_type(element: NumberedElement) -> ElementType
+fn element_type(element: ResolvedElement) -> ElementType
     ensures { (held : AnyType) → element_held element ≡ Some held → result ≡ held }
 {
     match element {
-        NumberedElement::Int32 => ElementType::Int32,
-        NumberedElement::Int64 => ElementType::Int64,
-        NumberedElement::Object => ElementType::Object,
-        NumberedElement::String => ElementType::String,
-        NumberedElement::Class(class) => ElementType::Class(in_16_bits(class)),
+        ResolvedElement::Int32 => ElementType::Int32,
+        ResolvedElement::Int64 => ElementType::Int64,
+        ResolvedElement::Object => ElementType::Object,
+        ResolvedElement::String => ElementType::String,
+        ResolvedElement::Class(class) => ElementType::Class(in_16_bits(class)),
     }
 }
 
 /// What an array of these is made by. Any where the number of a class or of brackets is too large.
-pub(crate) fn array_element(held: NumberedType) -> ArrayElement
-    ensures { (wanted : AnyElement) → array_held held ≡ Some wanted → result ≡ wanted }
+pub(crate) fn array_element(held: ResolvedType) -> ArrayElement
+    ensures { (required : AnyElement) → array_held held ≡ Some required → result ≡ required }
 {
     ArrayElement {
         element: element_type(held.element),

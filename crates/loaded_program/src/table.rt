@@ -27,7 +27,7 @@ pub(crate) struct MethodTable {
 }
 
 /// The flat number that follows the given number of methods from one on.
-fn number_behind(first: u32, count: usize) -> u32
+fn number_after(first: u32, count: usize) -> u32
     requires { first + count < 2 ^ 32 }
     ensures { result ≡ first + count }
 {
@@ -43,7 +43,7 @@ fn first_numbers(alloc: Global, classes: &[ResolvedClass]) -> Result<Vec<u32>, N
     let mut next = 0;
     for class in classes {
         first.push(next)?;
-        next = number_behind(next, class.methods.as_slice().len());
+        next = number_after(next, class.methods.as_slice().len());
     }
     Ok(first)
 }
@@ -60,12 +60,12 @@ fn all_methods(alloc: Global, classes: &[ResolvedClass]) -> Result<Vec<TableMeth
     Ok(methods)
 }
 
-/// The flat number the given number of places after another.
-fn number_from(first: u32, place: usize) -> u32
-    ensures { first + place < 2 ^ 32 → result ≡ first + place }
+/// The flat number that comes the given number of methods after another.
+fn number_from(first: u32, index: usize) -> u32
+    ensures { first + index < 2 ^ 32 → result ≡ first + index }
 {
-    match u32::try_from(place) {
-        Ok(place) => first.saturating_add(place),
+    match u32::try_from(index) {
+        Ok(index) => first.saturating_add(index),
         Err(_) => u32::MAX,
     }
 }
@@ -96,15 +96,15 @@ impl MethodTable {
         Ok(MethodTable { methods, first })
     }
 
-    /// The flat number of a method, by its class and its place there. Where no method is there, any number. Takes constant time, and
+    /// The flat number of a method, by its class and its index in it. Where there is no such method, any number. Takes constant time, and
     /// no memory.
     pub fn number(&self, member: MemberNumber) -> u32
-        ensures counted { (tree : Tree) → IsMethodTable tree self.now → (c : ClassName) (m : Method) → method_at tree (member.class, member.place) ≡ Some (c, m) → result ≡ flat_number tree member.class member.place }
-        ensures found { (tree : Tree) → IsMethodTable tree self.now → (c : ClassName) (m : Method) → method_at tree (member.class, member.place) ≡ Some (c, m) → slice_get (all_methods tree) result ≡ Some (c, m) }
+        ensures counted { (tree : Tree) → IsMethodTable tree self.now → (c : ClassName) (m : Method) → method_at tree (member.class, member.index) ≡ Some (c, m) → result ≡ flat_number tree member.class member.index }
+        ensures found { (tree : Tree) → IsMethodTable tree self.now → (c : ClassName) (m : Method) → method_at tree (member.class, member.index) ≡ Some (c, m) → slice_get (all_methods tree) result ≡ Some (c, m) }
     {
         match first_at(self.first.as_slice(), member.class) {
             None => u32::MAX,
-            Some(first) => number_from(first, member.place),
+            Some(first) => number_from(first, member.index),
         }
     }
 

@@ -1,4 +1,4 @@
-//! Compares the machine with the test interpreter `cil_plain`, after each event of a run.
+//! Compares the machine with the test interpreter `cil_oracle`, after each event of a run.
 //!
 //! `difference` compares them on the run of a command, `difference_by_chance` on a generated schedule, `difference_by_moves` on the
 //! schedules that result from one by moving an event, `try_schedules` on all short schedules of one program, `try_insertions` on a cycle at

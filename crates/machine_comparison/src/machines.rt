@@ -9,7 +9,7 @@ use cil_model::limits::{Limits, MOST_THREADS};
 use cil_model::memory::NoMemory;
 use cil_model::reports::{End, Fault, Report};
 use cil_model::trees::Tree;
-use cil_plain::{PlainMachine, PlainNames};
+use cil_oracle::{OracleMachine, OracleNames};
 use ilasm_reader::read;
 use name_tables::built_in::BuiltInClass;
 use name_tables::lookups::NameTables;
@@ -20,7 +20,7 @@ use std::iter::repeat_n;
 
 /// What the machine reported and printed in a run, up to the first event after which the test interpreter differs.
 #[derive(Drop)]
-pub struct Trial {
+pub struct Comparison {
     pub reports: Vec<Report>,
     pub printed: Vec<u8>,
     /// The outcome of the last event on both machines, where they differ.
@@ -40,15 +40,22 @@ pub fn difference(
 }
 
 /// The difference that a comparison found. Where the source, the limits or the schedule are refused there was none to find.
-pub(crate) fn difference_in(trial: Result<Trial, Failure>) -> Result<Option<String>, Failure> {
-    match trial {
-        Ok(trial) => Ok(trial.difference),
+pub(crate) fn difference_in(
+    comparison: Result<Comparison, Failure>,
+) -> Result<Option<String>, Failure> {
+    match comparison {
+        Ok(comparison) => Ok(comparison.difference),
         Err(Failure::Refused(_)) | Err(Failure::OutOfRange(_)) => Ok(None),
         Err(failure) => Err(failure),
     }
 }
 
-fn compare_by(alloc: Global, source: &[u8], limits: Limits, text: &[u8]) -> Result<Trial, Failure> {
+fn compare_by(
+    alloc: Global,
+    source: &[u8],
+    limits: Limits,
+    text: &[u8],
+) -> Result<Comparison, Failure> {
     let items = read_schedule(alloc, text)?;
     compare(alloc, source, limits, items.as_slice())
 }
@@ -62,7 +69,7 @@ pub fn compare(
     source: &[u8],
     limits: Limits,
     items: &[Item],
-) -> Result<Trial, Failure> {
+) -> Result<Comparison, Failure> {
     let mut machine = Machine::new(alloc, accept(alloc, source)?, limits)?;
     compare_source(alloc, &mut machine, source, limits, items)
 }
@@ -74,7 +81,7 @@ fn compare_source(
     source: &[u8],
     limits: Limits,
     items: &[Item],
-) -> Result<Trial, Failure> {
+) -> Result<Comparison, Failure> {
     // The source is accepted, so reading it fails only if memory runs out.
     let tree = read(alloc, source).map_err(|_| Failure::Memory)?;
     compare_tree(alloc, machine, &tree, limits, items)
@@ -87,7 +94,7 @@ fn compare_tree(
     tree: &Tree,
     limits: Limits,
     items: &[Item],
-) -> Result<Trial, Failure> {
+) -> Result<Comparison, Failure> {
     let built_ins = BuiltInClass::all(alloc)?;
     compare_classes(alloc, machine, tree, built_ins.as_slice(), limits, items)
 }
@@ -100,7 +107,7 @@ fn compare_classes(
     classes: &[BuiltInClass],
     limits: Limits,
     items: &[Item],
-) -> Result<Trial, Failure>
+) -> Result<Comparison, Failure>
     requires { map built_in_entry classes.now ≡ built_ins }
 {
     let names = NameTables::new(alloc, tree, classes)?;
@@ -114,23 +121,23 @@ fn compare_with(
     names: &NameTables,
     limits: Limits,
     items: &[Item],
-) -> Result<Trial, Failure> {
-    let names = PlainNames::new(alloc, &*names)?;
-    let opened = PlainMachine::new(alloc, &names, limits)?;
+) -> Result<Comparison, Failure> {
+    let names = OracleNames::new(alloc, &*names)?;
+    let opened = OracleMachine::new(alloc, &names, limits)?;
     match opened {
         None => no_entry_point(alloc),
-        Some(mut plain) => Ok(run(alloc, machine, &mut plain, items)?),
+        Some(mut oracle) => Ok(run(alloc, machine, &mut oracle, items)?),
     }
 }
 
 /// What is reported where the test interpreter finds no entry point in a source that the machine accepts.
-fn no_entry_point(alloc: Global) -> Result<Trial, Failure> {
-    Ok(Trial {
+fn no_entry_point(alloc: Global) -> Result<Comparison, Failure> {
+    Ok(Comparison {
         reports: Vec::new(alloc),
         printed: Vec::new(alloc),
         difference: Some(String::from_str(
             alloc,
-            "no event: the plain machine finds no entry point",
+            "no event: the test interpreter finds no entry point",
         )?),
     })
 }
@@ -139,24 +146,24 @@ fn no_entry_point(alloc: Global) -> Result<Trial, Failure> {
 fn run(
     alloc: Global,
     machine: &mut Machine,
-    plain: &mut PlainMachine,
+    oracle: &mut OracleMachine,
     items: &[Item],
-) -> Result<Trial, NoMemory> {
+) -> Result<Comparison, NoMemory> {
     let mut reports = Vec::new(alloc);
     let mut difference = None;
     for event in items
         .iter()
         .flat_map(|item| repeat_n(item.event, item.count))
     {
-        let came = machine.step(alloc, event)?;
-        reports.push(came)?;
-        let wanted = expected(plain, event, came)?;
-        if wanted != Some(came) || !are_alike(machine, plain) {
-            difference = Some(told(alloc, reports.len(), came, wanted, plain)?);
+        let actual = machine.step(alloc, event)?;
+        reports.push(actual)?;
+        let expected = expected_report(oracle, event, actual)?;
+        if expected != Some(actual) || !are_alike(machine, oracle) {
+            difference = Some(report_of(alloc, reports.len(), actual, expected, oracle)?);
             break;
         }
     }
-    Ok(Trial {
+    Ok(Comparison {
         reports,
         printed: Vec::from_slice(alloc, machine.console())?,
         difference,
@@ -164,20 +171,20 @@ fn run(
 }
 
 /// The outcome of an event. Where both reports are the same, the machines differ in what was printed or in the states of the threads.
-fn told(
+fn report_of(
     alloc: Global,
     number: usize,
-    came: Report,
-    wanted: Option<Report>,
-    plain: &PlainMachine,
+    actual: Report,
+    expected: Option<Report>,
+    oracle: &OracleMachine,
 ) -> Result<String, NoMemory> {
-    Ok(match wanted {
+    Ok(match expected {
         None => format!(in alloc;
-            "event {number}: {came:?}, and the plain machine is stuck\n{plain}"
+            "event {number}: {actual:?}, and the test interpreter is stuck\n{oracle}"
         )?,
-        Some(wanted) => {
+        Some(expected) => {
             format!(in alloc;
-                "event {number}: {came:?}, and {wanted:?} of the plain machine\n{plain}"
+                "event {number}: {actual:?}, and {expected:?} of the test interpreter\n{oracle}"
             )?
         }
     })
@@ -188,34 +195,34 @@ const REFUSED_BIRTH: Report = Report::Ended(End::Fault(Fault::OutOfMemory));
 
 /// What the test interpreter expects of an event: a step's report. It has no collector, so of any other event it expects the machine's
 /// report, if it is one that the event can have.
-fn expected(
-    plain: &mut PlainMachine,
+fn expected_report(
+    oracle: &mut OracleMachine,
     event: Event,
-    came: Report,
+    actual: Report,
 ) -> Result<Option<Report>, NoMemory> {
     match event {
-        Event::Step(thread) => plain.step(thread, came == REFUSED_BIRTH),
-        Event::Ack(thread) if plain.is_live(thread) => {
-            Ok(Some(one_of(came, Report::Acked, Report::NothingPosted)))
+        Event::Step(thread) => oracle.step(thread, actual == REFUSED_BIRTH),
+        Event::Ack(thread) if oracle.is_live(thread) => {
+            Ok(Some(one_of(actual, Report::Acked, Report::NothingPosted)))
         }
         Event::Ack(_) => Ok(Some(Report::Absent)),
-        Event::Gc if came == Report::CycleDone => Ok(Some(came)),
-        Event::Gc => Ok(Some(one_of(came, Report::Worked, Report::Waiting))),
+        Event::Gc if actual == Report::CycleDone => Ok(Some(actual)),
+        Event::Gc => Ok(Some(one_of(actual, Report::Worked, Report::Waiting))),
     }
 }
 
 /// The machine's report, where it is one of these two; otherwise the first of them.
-fn one_of(came: Report, first: Report, second: Report) -> Report {
-    if came == second { came } else { first }
+fn one_of(actual: Report, first: Report, second: Report) -> Report {
+    if actual == second { actual } else { first }
 }
 
 /// Whether both agree on what was printed and on the threads.
-fn are_alike(machine: &Machine, plain: &PlainMachine) -> bool {
-    machine.console() == plain.console()
-        && machine.live() == plain.live()
-        && machine.started() == plain.started()
+fn are_alike(machine: &Machine, oracle: &OracleMachine) -> bool {
+    machine.console() == oracle.console()
+        && machine.live() == oracle.live()
+        && machine.started() == oracle.started()
         && (0..MOST_THREADS as u8).all(|thread| {
-            machine.end_of(thread) == plain.end_of(thread)
-                && machine.is_live(thread) == plain.is_live(thread)
+            machine.end_of(thread) == oracle.end_of(thread)
+                && machine.is_live(thread) == oracle.is_live(thread)
         })
 }

@@ -1,6 +1,6 @@
 //! Generated programs, each run by a generated schedule.
 
-use crate::machines::{Trial, compare, difference_in};
+use crate::machines::{Comparison, compare, difference_in};
 use crate::made_up_sources::{Grammar, source_of};
 use crate::random::Random;
 use cil_model::events::Event;
@@ -45,20 +45,21 @@ struct Tally {
 }
 
 impl Tally {
-    fn add(&mut self, trial: &Trial) -> Result<(), AllocError> {
-        self.reports.extend_from_slice(trial.reports.as_slice())?;
-        self.printed = self.printed.saturating_add(trial.printed.len());
-        if trial.difference.is_some() {
+    fn add(&mut self, comparison: &Comparison) -> Result<(), AllocError> {
+        self.reports
+            .extend_from_slice(comparison.reports.as_slice())?;
+        self.printed = self.printed.saturating_add(comparison.printed.len());
+        if comparison.difference.is_some() {
             self.differing = self.differing.saturating_add(1);
         }
         Ok(())
     }
 
     /// How often this was reported.
-    fn count(&self, wanted: Report) -> usize {
+    fn count(&self, required: Report) -> usize {
         self.reports
             .iter()
-            .filter(|report| **report == wanted)
+            .filter(|report| **report == required)
             .count()
     }
 }
@@ -75,7 +76,7 @@ pub fn try_programs(rt: &HostRuntime) -> Result<usize, Failure> {
     for number in 0..PROGRAMS {
         try_program(rt, &grammar, number, &mut tally)?;
     }
-    tell(rt, &tally)?;
+    write_report(rt, &tally)?;
     Ok(tally.differing)
 }
 
@@ -101,9 +102,9 @@ fn try_program(
     let limits = limits_among(&mut random);
     let items = items_among(rt.alloc(), &mut random)?;
     match compare(rt.alloc(), source.as_bytes(), limits, items.as_slice()) {
-        Ok(trial) => {
-            tally.add(&trial)?;
-            if let Some(difference) = &trial.difference {
+        Ok(comparison) => {
+            tally.add(&comparison)?;
+            if let Some(difference) = &comparison.difference {
                 println!(rt; "program {number} differs at {difference}\n{limits:?}\n{source}")?;
             }
             Ok(())
@@ -149,7 +150,7 @@ fn event_among(random: &mut Random) -> Event {
 }
 
 /// Prints the outcomes of the programs in one line.
-fn tell(rt: &HostRuntime, tally: &Tally) -> io::Result<()> {
+fn write_report(rt: &HostRuntime, tally: &Tally) -> io::Result<()> {
     let events = tally.reports.len();
     let ran = tally.count(Report::Ran);
     let blocked = tally.count(Report::Blocked);

@@ -78,12 +78,12 @@ impl<'g> Grammar<'g> {
     }
 
     /// The words of one of those.
-    fn words(&self, name: &str, chance: Chance, place: usize) -> Option<&'g str> {
+    fn words(&self, name: &str, chance: Chance, index: usize) -> Option<&'g str> {
         let rule = self
             .rules
             .iter()
             .filter(|rule| rule.name == name && rule.chance == chance)
-            .nth(place)?;
+            .nth(index)?;
         Some(rule.words)
     }
 }
@@ -133,8 +133,8 @@ impl<'g> Draft<'g> {
         Ok(())
     }
 
-    fn put_number(&mut self, before: &str, number: i64, behind: &str) -> Result<(), NoMemory> {
-        write!(self.text, "{before}{number}{behind} ")?;
+    fn put_number(&mut self, before: &str, number: i64, following: &str) -> Result<(), NoMemory> {
+        write!(self.text, "{before}{number}{following} ")?;
         Ok(())
     }
 
@@ -239,8 +239,8 @@ impl<'g> Draft<'g> {
             _ => Chance::Simple,
         };
         let count = self.grammar.count(name, chance);
-        let place = self.random.place(count);
-        let words = self.grammar.words(name, chance, place).unwrap_or("");
+        let index = self.random.index(count);
+        let words = self.grammar.words(name, chance, index).unwrap_or("");
         match words.split_once(" | ") {
             None => words,
             Some((_, method)) if self.is_method => method,
@@ -250,8 +250,8 @@ impl<'g> Draft<'g> {
 
     /// Writes the fixed rules of that name, each with a probability of `times` in a hundred.
     fn write_fixed(&mut self, name: &str, times: u32) -> Result<(), NoMemory> {
-        for place in 0..self.grammar.count(name, Chance::Fixed) {
-            let words = self.grammar.words(name, Chance::Fixed, place).unwrap_or("");
+        for index in 0..self.grammar.count(name, Chance::Fixed) {
+            let words = self.grammar.words(name, Chance::Fixed, index).unwrap_or("");
             if times == 100 || self.random.happens(times) {
                 self.write(words, 0)?;
             }

@@ -1,6 +1,6 @@
 //! Schedules of which one event is moved, and a cycle of the collector at each index of the schedule of the program that prints a sum.
 
-use crate::machines::{Trial, compare, difference_in};
+use crate::machines::{Comparison, compare, difference_in};
 use cil_model::events::Event;
 use cil_model::limits::Limits;
 use cil_model::reports::Report;
@@ -22,7 +22,7 @@ const CYCLE: &[u8] = b"g a0 g*2 a0 g a0 g a0 g a0 g a0 g a0 g a0 g";
 /// The events of the collector in that cycle that do work.
 const WORKING: usize = 10;
 
-/// Compares both machines on each schedule that results from a schedule's text by moving one event: by one place, or, where it is a step that
+/// Compares both machines on each schedule that results from a schedule's text by moving one event: by one position, or, where it is a step that
 /// starts a thread, to just before or just after an acknowledgement. Returns the first difference; none where the machines agree, or the
 /// schedule is longer than 200 events.
 pub fn difference_by_moves(
@@ -59,7 +59,7 @@ fn single_events(alloc: Global, items: &[Item]) -> Result<Vec<Item>, AllocError>
 }
 
 /// The events with the one at an index moved: `to` counts among the others.
-fn moved(
+fn move_event(
     alloc: Global,
     events: &[Item],
     from: usize,
@@ -91,7 +91,7 @@ fn is_repeated(events: &[Item], index: usize) -> bool {
     }
 }
 
-/// Compares on each schedule with two different neighbors exchanged: one of them is then one place earlier, and the other one later.
+/// Compares on each schedule with two different neighbors exchanged: one of them is then one position earlier, and the other one position later.
 fn difference_by_neighbors(
     alloc: Global,
     source: &[u8],
@@ -102,7 +102,7 @@ fn difference_by_neighbors(
         if is_repeated(events, index) {
             continue;
         }
-        let schedule = moved(alloc, events, index, index.saturating_sub(1))?;
+        let schedule = move_event(alloc, events, index, index.saturating_sub(1))?;
         let found = difference_in(compare(alloc, source, limits, schedule.as_slice()))?;
         if found.is_some() {
             return Ok(found);
@@ -165,12 +165,12 @@ fn difference_at(
     start: usize,
     before: usize,
 ) -> Result<Option<String>, Failure> {
-    let earlier = moved(alloc, events, start, before)?;
+    let earlier = move_event(alloc, events, start, before)?;
     let found = difference_in(compare(alloc, source, limits, earlier.as_slice()))?;
     if found.is_some() {
         return Ok(found);
     }
-    let later = moved(alloc, events, start, before.saturating_add(1))?;
+    let later = move_event(alloc, events, start, before.saturating_add(1))?;
     difference_in(compare(alloc, source, limits, later.as_slice()))
 }
 
@@ -205,8 +205,8 @@ pub fn try_insertions(rt: &HostRuntime) -> Result<usize, Failure> {
     let cycle = read_schedule(rt.alloc(), CYCLE)?;
     let mut differing = 0usize;
     for index in 0..=STEPS {
-        let trial = trial_with_cycle(rt.alloc(), source.as_slice(), cycle.as_slice(), index)?;
-        if !is_sum_beside_cycle(&trial) {
+        let comparison = test_with_cycle(rt.alloc(), source.as_slice(), cycle.as_slice(), index)?;
+        if !is_sum_beside_cycle(&comparison) {
             println!(rt; "a cycle at index {index}: differs")?;
             differing = differing.saturating_add(1);
         }
@@ -219,12 +219,12 @@ pub fn try_insertions(rt: &HostRuntime) -> Result<usize, Failure> {
 }
 
 /// The run of the sum with a cycle at an index.
-fn trial_with_cycle(
+fn test_with_cycle(
     alloc: Global,
     source: &[u8],
     cycle: &[Item],
     index: usize,
-) -> Result<Trial, Failure> {
+) -> Result<Comparison, Failure> {
     let limits = Limits {
         words: 64,
         max_words: 64,
@@ -240,13 +240,13 @@ fn trial_with_cycle(
 }
 
 /// Whether a run printed the sum, and the collector did its whole cycle, with no difference between the machines.
-fn is_sum_beside_cycle(trial: &Trial) -> bool {
-    let working = trial
+fn is_sum_beside_cycle(comparison: &Comparison) -> bool {
+    let working = comparison
         .reports
         .iter()
         .filter(|report| **report == Report::Worked || **report == Report::CycleDone)
         .count();
-    trial.printed.as_slice() == b"5\n".as_slice()
+    comparison.printed.as_slice() == b"5\n".as_slice()
         && working == WORKING
-        && trial.difference.is_none()
+        && comparison.difference.is_none()
 }

@@ -34,13 +34,13 @@ impl Random {
         self.below(100) < times
     }
 
-    /// One of `count` places.
-    pub fn place(&mut self, count: usize) -> usize {
+    /// An index below `count`.
+    pub fn index(&mut self, count: usize) -> usize {
         self.below(u32::try_from(count).unwrap_or(u32::MAX)) as usize
     }
 
     /// One of these; none where there is none.
     pub fn one_of<'a, T>(&mut self, items: &'a [T]) -> Option<&'a T> {
-        items.get(self.place(items.len()))
+        items.get(self.index(items.len()))
     }
 }

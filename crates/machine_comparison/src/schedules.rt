@@ -70,11 +70,11 @@ fn try_schedule(
         depth: 1,
     };
     let items = items_of(number);
-    let trial = compare(rt.alloc(), source, limits, items.as_slice())?;
-    if trial.printed.as_slice() == b"5\n".as_slice() {
+    let comparison = compare(rt.alloc(), source, limits, items.as_slice())?;
+    if comparison.printed.as_slice() == b"5\n".as_slice() {
         count.printing = count.printing.saturating_add(1);
     }
-    if let Some(difference) = &trial.difference {
+    if let Some(difference) = &comparison.difference {
         println!(rt; "schedule {number} differs at {difference}")?;
         count.differing = count.differing.saturating_add(1);
     }

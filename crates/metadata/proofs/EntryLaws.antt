@@ -68,10 +68,10 @@ one_entry tree =
 -- ---- the first that passes, and those after it
 
 -- a count and a test of a list by the first item that passes
-record IsFirst {X : Type 0} (p q : X → Bool) (xs : List X) (place : ℕ) : Type 0 where
-  within : place < length xs
-  count : count_by p xs ≡ 1 + count_by p (drop (suc place) xs)
-  any : (x : X) → slice_get xs place ≡ Some x → list_any (λ y. p y && q y) xs ≡ q x || list_any (λ y. p y && q y) (drop (suc place) xs)
+record IsFirst {X : Type 0} (p q : X → Bool) (xs : List X) (index : ℕ) : Type 0 where
+  within : index < length xs
+  count : count_by p xs ≡ 1 + count_by p (drop (suc index) xs)
+  any : (x : X) → slice_get xs index ≡ Some x → list_any (λ y. p y && q y) xs ≡ q x || list_any (λ y. p y && q y) (drop (suc index) xs)
 
 module _ {X : Type 0} (p q : X → Bool) where
   abbrev both : X → Bool
@@ -123,15 +123,15 @@ module _ {X : Type 0} (p q : X → Bool) where
             },
           )
 
-  first_place : (xs : List X) (n : ℕ) → position_from p 0 xs ≡ Some n → IsFirst p q xs n
-  first_place xs n e =
+  first_index : (xs : List X) (n : ℕ) → position_from p 0 xs ≡ Some n → IsFirst p q xs n
+  first_index xs n e =
       let f : (i : ℕ) × (n ≡ 0 + i) × IsFirst p q xs i = first_passes xs 0 n e in
       let number : n ≡ 0 + f.0 = f.1 in
       let same : f.0 ≡ n = omega (arith, number) in
       subst (IsFirst p q xs) same f.2
 
   pub is_within : (xs : List X) (n : ℕ) → position_from p 0 xs ≡ Some n → n < length xs
-  is_within xs n e = (first_place xs n e).within
+  is_within xs n e = (first_index xs n e).within
 
   pub none_fits : (xs : List X) → position_from p 0 xs ≡ None → (count_by p xs == 1) && list_any both xs ≡ false
   none_fits xs e = ap (λ n. (n == 1) && list_any both xs) (none_passes xs 0 e).0
@@ -139,7 +139,7 @@ module _ {X : Type 0} (p q : X → Bool) where
   pub one_fits : (xs : List X) (n : ℕ) (x : X) → position_from p 0 xs ≡ Some n → slice_get xs n ≡ Some x → position_from p 0 (drop (n + 1) xs) ≡ None → (count_by p xs == 1) && list_any both xs ≡ q x
   one_fits xs n x e g f =
       let k : suc n ≡ n + 1 = omega arith in
-      let first : IsFirst p q xs n = first_place xs n e in
+      let first : IsFirst p q xs n = first_index xs n e in
       let others : (count_by p (drop (suc n) xs) ≡ 0) × (list_any both (drop (suc n) xs) ≡ false) = none_passes (drop (suc n) xs) 0 (ap (λ i. position_from p 0 (drop i xs)) k ∙ f) in
       ap (λ m. (m == 1) && list_any both xs) (first.count ∙ ap (λ m. 1 + m) others.0) ∙ first.any x g ∙ ap (λ b. q x || b) others.1 ∙ or_nothing (q x)
     where
@@ -151,7 +151,7 @@ module _ {X : Type 0} (p q : X → Bool) where
   two_pass xs n m e f =
       let k : suc n ≡ n + 1 = omega arith in
       let rest = drop (suc n) xs in
-      let one : count_by p xs ≡ 1 + count_by p rest = (first_place xs n e).count in
-      let other : count_by p rest ≡ 1 + count_by p (drop (suc m) rest) = (first_place rest m (ap (λ i. position_from p 0 (drop i xs)) k ∙ f)).count in
+      let one : count_by p xs ≡ 1 + count_by p rest = (first_index xs n e).count in
+      let other : count_by p rest ≡ 1 + count_by p (drop (suc m) rest) = (first_index rest m (ap (λ i. position_from p 0 (drop i xs)) k ∙ f)).count in
       let more : count_by p xs ≡ suc (suc (count_by p (drop (suc m) rest))) = omega (arith, one, other) in
       ap (λ i. (i == 1) && list_any both xs) more ∙ ap (λ b. b && list_any both xs) (more_than_one (count_by p (drop (suc m) rest)))

@@ -1,4 +1,4 @@
--- The nearest methods along a line of classes, found by their places.
+-- The nearest methods along a chain of classes, found by their indices.
 use Rattle.std.proofs.Common.{◌≡◌, ◌<◌, ◌-◌, ℕ, zero, suc, Bool, true, false, cond, not, ◌&&◌, ◌||◌, List, [], ◌∷◌, ◌++◌, length, map, replicate, Option, Some, None, is_some, option_map, option_and_then, slice_get, slice_index_or, slice_set, refl, sym, ap, ◌∙◌, arith}
 use Rattle.std.specs.Prelude.{find, filter}
 use Rattle.std.specs.List.{list_any, position_from}
@@ -15,14 +15,14 @@ use Rattle.inheritance.specs.Marked.{is_marked}
 use Rattle.inheritance.proofs.LineLaws.{line_of_none, line_step, line_of_base}
 use Rattle.name_tables.specs.declared.lookups.MemberNumber.{MemberNumber}
 use Rattle.name_tables.specs.Members.{base_numbers}
-use Rattle.name_tables.specs.Methods.{method_place, has_virtual, virtuals_of, virtual_place, line_of, methods_at}
+use Rattle.name_tables.specs.Methods.{method_index, has_virtual, virtuals_of, virtual_index, line_of, methods_at}
 use Rattle.name_tables.specs.Numbers.{declarations, class_number, nearest_number, method_found}
 use Rattle.name_tables.specs.Sameness.{MethodIdentity, same_identity, identity_of}
 use Rattle.name_tables.specs.SamenessLaws.{same_identity_equal}
-use Rattle.name_tables.proofs.FirstPlaces.{is_some-position_from}
-use Rattle.name_tables.proofs.NumberLaws.{found_none, found_some, found_passes, found_at_place}
+use Rattle.name_tables.proofs.FirstIndices.{is_some-position_from}
+use Rattle.name_tables.proofs.NumberLaws.{found_none, found_some, found_passes, found_at_index}
 use Rattle.resolved_code.proofs.Numbers.Classes.{FoundAt, found_at}
-use Rattle.resolved_code.specs.Found.{is_virtual_found, is_override, top_open, hidden_open, plain_numbered}
+use Rattle.resolved_code.specs.Found.{is_virtual_found, is_override, top_open, hidden_open, concrete_by_id}
 use Rattle.resolved_code.proofs.ListLaws.Tests.{and_false}
 use Rattle.metadata.specs.Open.{hides_one, AreClear}
 
@@ -74,11 +74,11 @@ pub any_next : (p : ℕ → Bool) (bases : List (Option ℕ)) (left : ℕ) (next
 any_next p bases left next class e h = ap (λ o. list_any p (line_within bases left o)) e ∙ ap (list_any p) (line_step bases left class h)
 
 pub plain_next : (tree : Tree) (k : MethodIdentity) (bases : List (Option ℕ)) (left : ℕ) (next : Option ℕ) (class : ℕ) → next ≡ Some class → 0 < left →
-    plain_numbered tree k (line_within bases left next) ≡ option_map_or (λ (m : Method). not (is_virtual m.kind)) (method_found tree k class) (plain_numbered tree k (line_within bases (left - 1) (base_in bases class)))
-plain_next tree k bases left next class e h = ap (λ o. plain_numbered tree k (line_within bases left o)) e ∙ ap (plain_numbered tree k) (line_step bases left class h)
+    concrete_by_id tree k (line_within bases left next) ≡ option_map_or (λ (m : Method). not (is_virtual m.kind)) (method_found tree k class) (concrete_by_id tree k (line_within bases (left - 1) (base_in bases class)))
+plain_next tree k bases left next class e h = ap (λ o. concrete_by_id tree k (line_within bases left o)) e ∙ ap (concrete_by_id tree k) (line_step bases left class h)
 
--- the test of a class that is found, by its number and place
-pub of_pair : (g : ℕ → Bool) (o : Option MemberNumber) → option_map_or (λ m. g m.class) o false ≡ option_map_or (λ (p : ℕ × ℕ). g p.0) (option_map (λ m. (m.class, m.place)) o) false
+-- the test of a class that is found, by its number and index
+pub of_pair : (g : ℕ → Bool) (o : Option MemberNumber) → option_map_or (λ m. g m.class) o false ≡ option_map_or (λ (p : ℕ × ℕ). g p.0) (option_map (λ m. (m.class, m.index)) o) false
 of_pair g None = refl
 of_pair g (Some m) = refl
 
@@ -92,17 +92,17 @@ module _ (tree : Tree) (k : MethodIdentity) where
   abbrev is_it : Method → Bool
   is_it m = same_identity k (identity_of m)
 
-  -- ---- a method is found where it has a place
+  -- ---- a method is found where it has an index
 
-  found_without : (n : ℕ) → method_place tree k n ≡ None → method_found tree k n ≡ None
+  found_without : (n : ℕ) → method_index tree k n ≡ None → method_found tree k n ≡ None
   found_without n e = by_entry (slice_get (declarations tree) n) e
     where
       by_entry : (o : Option (ClassName × Declaration)) → option_and_then (λ (x : ClassName × Declaration). position_from is_it 0 x.1.methods) o ≡ None → option_and_then (λ (x : ClassName × Declaration). find is_it x.1.methods) o ≡ None
       by_entry None h = refl
       by_entry (Some x) h = found_none is_it x.1.methods h
 
-  -- the class, and the method at the place
-  found_with : (n p : ℕ) → method_place tree k n ≡ Some p → (e : ClassName × Declaration) × (m : Method) × (slice_get (declarations tree) n ≡ Some e) × (slice_get e.1.methods p ≡ Some m) × (method_found tree k n ≡ Some m)
+  -- the class, and the method at the index
+  found_with : (n p : ℕ) → method_index tree k n ≡ Some p → (e : ClassName × Declaration) × (m : Method) × (slice_get (declarations tree) n ≡ Some e) × (slice_get e.1.methods p ≡ Some m) × (method_found tree k n ≡ Some m)
   found_with n p h = by_entry (slice_get (declarations tree) n) refl h
     where
       lost : (e : ClassName × Declaration) → option_map Some (find is_it e.1.methods) ≡ Some (slice_get e.1.methods p) → find is_it e.1.methods ≡ None → ⊥
@@ -110,7 +110,7 @@ module _ (tree : Tree) (k : MethodIdentity) where
 
       by_find : (e : ClassName × Declaration) → slice_get (declarations tree) n ≡ Some e → position_from is_it 0 e.1.methods ≡ Some p → (o : Option Method) → find is_it e.1.methods ≡ o →
           (e : ClassName × Declaration) × (m : Method) × (slice_get (declarations tree) n ≡ Some e) × (slice_get e.1.methods p ≡ Some m) × (method_found tree k n ≡ Some m)
-      by_find e q g None r = absurd (lost e (sym (found_at_place is_it e.1.methods) ∙ ap (option_map (slice_get e.1.methods)) g) r)
+      by_find e q g None r = absurd (lost e (sym (found_at_index is_it e.1.methods) ∙ ap (option_map (slice_get e.1.methods)) g) r)
       by_find e q g (Some m) r = (e, m, q, found_some is_it e.1.methods p g ∙ r, ap (option_and_then (λ (x : ClassName × Declaration). find is_it x.1.methods)) q ∙ r)
 
       by_entry : (o : Option (ClassName × Declaration)) → slice_get (declarations tree) n ≡ o → option_and_then (λ (x : ClassName × Declaration). position_from is_it 0 x.1.methods) o ≡ Some p →
@@ -125,31 +125,31 @@ module _ (tree : Tree) (k : MethodIdentity) where
     nearest_passes [] = false
     nearest_passes (n ∷ ns) = option_map_or t (method_found tree k n) (nearest_passes ns)
 
-    pub tested : (ns : List ℕ) → nearest_passes ns ≡ option_map_or (λ (p : ℕ × ℕ). option_map_or t (method_found tree k p.0) false) (nearest_number (method_place tree k) ns) false
+    pub tested : (ns : List ℕ) → nearest_passes ns ≡ option_map_or (λ (p : ℕ × ℕ). option_map_or t (method_found tree k p.0) false) (nearest_number (method_index tree k) ns) false
     tested [] = refl
-    tested (n ∷ ns) = by_place (tested ns) (method_place tree k n) refl
+    tested (n ∷ ns) = by_index (tested ns) (method_index tree k n) refl
       where
-        by_place : nearest_passes ns ≡ option_map_or (λ (p : ℕ × ℕ). option_map_or t (method_found tree k p.0) false) (nearest_number (method_place tree k) ns) false → (o : Option ℕ) → method_place tree k n ≡ o →
-            option_map_or t (method_found tree k n) (nearest_passes ns) ≡ option_map_or (λ (p : ℕ × ℕ). option_map_or t (method_found tree k p.0) false) (option_map_or (λ p. Some (n, p)) o (nearest_number (method_place tree k) ns)) false
-        by_place further None e = ap (λ f. option_map_or t f (nearest_passes ns)) (found_without n e) ∙ further
-        by_place further (Some p) e =
+        by_index : nearest_passes ns ≡ option_map_or (λ (p : ℕ × ℕ). option_map_or t (method_found tree k p.0) false) (nearest_number (method_index tree k) ns) false → (o : Option ℕ) → method_index tree k n ≡ o →
+            option_map_or t (method_found tree k n) (nearest_passes ns) ≡ option_map_or (λ (p : ℕ × ℕ). option_map_or t (method_found tree k p.0) false) (option_map_or (λ p. Some (n, p)) o (nearest_number (method_index tree k) ns)) false
+        by_index further None e = ap (λ f. option_map_or t f (nearest_passes ns)) (found_without n e) ∙ further
+        by_index further (Some p) e =
             let found = found_with n p e in
             ap (λ f. option_map_or t f (nearest_passes ns)) found.4 ∙ sym (ap (λ f. option_map_or t f false) found.4)
 
     -- the marks of methods that pass
-    pub marked : (ns : List ℕ) → is_marked (map (λ (e : ClassName × Declaration). map t e.1.methods) (declarations tree)) (nearest_number (method_place tree k) ns) ≡ nearest_passes ns
+    pub marked : (ns : List ℕ) → is_marked (map (λ (e : ClassName × Declaration). map t e.1.methods) (declarations tree)) (nearest_number (method_index tree k) ns) ≡ nearest_passes ns
     marked [] = refl
-    marked (n ∷ ns) = by_place (marked ns) (method_place tree k n) refl
+    marked (n ∷ ns) = by_index (marked ns) (method_index tree k n) refl
       where
-        by_place : is_marked (map (λ (e : ClassName × Declaration). map t e.1.methods) (declarations tree)) (nearest_number (method_place tree k) ns) ≡ nearest_passes ns → (o : Option ℕ) → method_place tree k n ≡ o →
-            is_marked (map (λ (e : ClassName × Declaration). map t e.1.methods) (declarations tree)) (option_map_or (λ p. Some (n, p)) o (nearest_number (method_place tree k) ns)) ≡ option_map_or t (method_found tree k n) (nearest_passes ns)
-        by_place further None e = further ∙ sym (ap (λ f. option_map_or t f (nearest_passes ns)) (found_without n e))
-        by_place further (Some p) e =
+        by_index : is_marked (map (λ (e : ClassName × Declaration). map t e.1.methods) (declarations tree)) (nearest_number (method_index tree k) ns) ≡ nearest_passes ns → (o : Option ℕ) → method_index tree k n ≡ o →
+            is_marked (map (λ (e : ClassName × Declaration). map t e.1.methods) (declarations tree)) (option_map_or (λ p. Some (n, p)) o (nearest_number (method_index tree k) ns)) ≡ option_map_or t (method_found tree k n) (nearest_passes ns)
+        by_index further None e = further ∙ sym (ap (λ f. option_map_or t f (nearest_passes ns)) (found_without n e))
+        by_index further (Some p) e =
             let found = found_with n p e in
             let row : slice_index_or (map (λ (x : ClassName × Declaration). map t x.1.methods) (declarations tree)) n [] ≡ map t found.0.1.methods = index_got (λ (x : ClassName × Declaration). map t x.1.methods) (declarations tree) n found.0 [] found.2 in
             ap (λ r. slice_index_or r p false) row ∙ index_got t found.0.1.methods p found.1 false found.3 ∙ sym (ap (λ f. option_map_or t f (nearest_passes ns)) found.4)
 
-  pub plain_tested : (ns : List ℕ) → plain_numbered tree k ns ≡ nearest_passes (λ (m : Method). not (is_virtual m.kind)) ns
+  pub plain_tested : (ns : List ℕ) → concrete_by_id tree k ns ≡ nearest_passes (λ (m : Method). not (is_virtual m.kind)) ns
   plain_tested [] = refl
   plain_tested (n ∷ ns) = ap (option_map_or (λ (m : Method). not (is_virtual m.kind)) (method_found tree k n)) (plain_tested ns)
 
@@ -192,7 +192,7 @@ module _ (tree : Tree) (k : MethodIdentity) where
       by_find None = refl
       by_find (Some m) = refl
 
-  virtual_here : (n : ℕ) → is_some (virtual_place tree k n) ≡ is_virtual_found tree k n
+  virtual_here : (n : ℕ) → is_some (virtual_index tree k n) ≡ is_virtual_found tree k n
   virtual_here n = by_entry (slice_get (declarations tree) n)
     where
       by_entry : (o : Option (ClassName × Declaration)) → is_some (option_and_then (λ (e : ClassName × Declaration). position_from (same_identity k) 0 (virtuals_of e.1)) o) ≡
@@ -200,13 +200,13 @@ module _ (tree : Tree) (k : MethodIdentity) where
       by_entry None = refl
       by_entry (Some e) = virtual_declared e.1
 
-  pub virtual_on_line : (ns : List ℕ) → is_some (nearest_number (virtual_place tree k) ns) ≡ list_any (is_virtual_found tree k) ns
+  pub virtual_on_line : (ns : List ℕ) → is_some (nearest_number (virtual_index tree k) ns) ≡ list_any (is_virtual_found tree k) ns
   virtual_on_line [] = refl
-  virtual_on_line (n ∷ ns) = by_place (virtual_place tree k n) ∙ ap (λ b. b || is_some (nearest_number (virtual_place tree k) ns)) (virtual_here n) ∙ ap (λ b. is_virtual_found tree k n || b) (virtual_on_line ns)
+  virtual_on_line (n ∷ ns) = by_index (virtual_index tree k n) ∙ ap (λ b. b || is_some (nearest_number (virtual_index tree k) ns)) (virtual_here n) ∙ ap (λ b. is_virtual_found tree k n || b) (virtual_on_line ns)
     where
-      by_place : (o : Option ℕ) → is_some (option_map_or (λ p. Some (n, p)) o (nearest_number (virtual_place tree k) ns)) ≡ is_some o || is_some (nearest_number (virtual_place tree k) ns)
-      by_place None = refl
-      by_place (Some p) = refl
+      by_index : (o : Option ℕ) → is_some (option_map_or (λ p. Some (n, p)) o (nearest_number (virtual_index tree k) ns)) ≡ is_some o || is_some (nearest_number (virtual_index tree k) ns)
+      by_index None = refl
+      by_index (Some p) = refl
 
   -- ---- hidden methods
 

@@ -11,7 +11,7 @@ use Rattle.cil_model.specs.Declarations.{Declaration}
 use Rattle.cil_model.specs.Chains.{is_virtual, is_new_slot_method, is_abstract_method}
 use Rattle.name_tables.specs.Sameness.{MethodIdentity, identity_of}
 use Rattle.name_tables.specs.Numbers.{declarations, chain_numbers, method_found}
-use Rattle.resolved_code.specs.Found.{slot_filled_at, slot_numbered, open_numbered, is_left_open, class_leaves_open, is_override, top_open, hidden_open, stays_open, IsSettled}
+use Rattle.resolved_code.specs.Found.{slot_filled_at, slot_by_id, open_by_id, is_left_open, class_leaves_open, is_override, top_open, hidden_open, stays_open, IsDecided}
 use Rattle.resolved_code.proofs.ListLaws.Tests.{and_false}
 
 abbrev is_abstract : Method → Bool
@@ -65,11 +65,11 @@ module _ (tree : Tree) where
     over_found n (Some m) s o hidden top rest p q = over_method n m s o hidden top rest q (option_map_or (λ x. x == slot) (slot_filled_at n s m) false) refl p
 
     -- where none is hidden, the nearest is abstract, and fills the slot
-    shown : (ns : List ℕ) → open_numbered tree k slot ns ≡ true → hidden_open tree k ns ≡ false → (top_open tree k ns ≡ true) × (slot_numbered tree k ns ≡ Some slot)
+    shown : (ns : List ℕ) → open_by_id tree k slot ns ≡ true → hidden_open tree k ns ≡ false → (top_open tree k ns ≡ true) × (slot_by_id tree k ns ≡ Some slot)
     shown [] p q = absurd (not_both (sym p))
-    shown (n ∷ ns) p q = over_found n (method_found tree k n) (slot_numbered tree k ns) (open_numbered tree k slot ns) (hidden_open tree k ns) (top_open tree k ns) (shown ns) p q
+    shown (n ∷ ns) p q = over_found n (method_found tree k n) (slot_by_id tree k ns) (open_by_id tree k slot ns) (hidden_open tree k ns) (top_open tree k ns) (shown ns) p q
 
-    open_stays : (ns : List ℕ) → open_numbered tree k slot ns ≡ true → stays_open tree k ns ≡ true
+    open_stays : (ns : List ℕ) → open_by_id tree k slot ns ≡ true → stays_open tree k ns ≡ true
     open_stays ns p = by_hidden (hidden_open tree k ns) refl
       where
         by_hidden : (b : Bool) → hidden_open tree k ns ≡ b → b || top_open tree k ns ≡ true
@@ -78,18 +78,18 @@ module _ (tree : Tree) where
 
   -- ---- whole chains
 
-  never_left : (k : MethodIdentity) (chain ms : List ℕ) → IsSettled tree chain → is_left_open tree k chain ms ≡ false
-  never_left k chain ms h = by_slot (slot_numbered tree k ms)
+  never_left : (k : MethodIdentity) (chain ms : List ℕ) → IsDecided tree chain → is_left_open tree k chain ms ≡ false
+  never_left k chain ms h = by_slot (slot_by_id tree k ms)
     where
-      by_open : (slot : ℕ) (b : Bool) → open_numbered tree k slot chain ≡ b → open_numbered tree k slot chain ≡ false
+      by_open : (slot : ℕ) (b : Bool) → open_by_id tree k slot chain ≡ b → open_by_id tree k slot chain ≡ false
       by_open slot false e = e
       by_open slot true e = absurd (not_both (sym (open_stays k slot chain e) ∙ h k))
 
-      by_slot : (o : Option ℕ) → option_map_or (λ slot. open_numbered tree k slot chain) o false ≡ false
+      by_slot : (o : Option ℕ) → option_map_or (λ slot. open_by_id tree k slot chain) o false ≡ false
       by_slot None = refl
-      by_slot (Some slot) = by_open slot (open_numbered tree k slot chain) refl
+      by_slot (Some slot) = by_open slot (open_by_id tree k slot chain) refl
 
-  class_leaves_none : (chain : List ℕ) → IsSettled tree chain → (n : ℕ) → class_leaves_open tree chain n ≡ false
+  class_leaves_none : (chain : List ℕ) → IsDecided tree chain → (n : ℕ) → class_leaves_open tree chain n ≡ false
   class_leaves_none chain h n = by_entry (slice_get (declarations tree) n)
     where
       by_entry : (o : Option (ClassName × Declaration)) → option_map_or (λ (e : ClassName × Declaration). list_any (λ (m : Method). is_virtual m.kind && is_left_open tree (identity_of m) chain (chain_numbers tree e.0)) e.1.methods) o false ≡ false
@@ -97,5 +97,5 @@ module _ (tree : Tree) where
       by_entry (Some e) =
           none_passes (λ (m : Method). is_virtual m.kind && is_left_open tree (identity_of m) chain (chain_numbers tree e.0)) (λ m. ap (λ b. is_virtual m.kind && b) (never_left (identity_of m) chain (chain_numbers tree e.0) h) ∙ and_false (is_virtual m.kind)) e.1.methods
 
-  pub none_left_open : (chain ms : List ℕ) → IsSettled tree chain → list_any (class_leaves_open tree chain) ms ≡ false
+  pub none_left_open : (chain ms : List ℕ) → IsDecided tree chain → list_any (class_leaves_open tree chain) ms ≡ false
   none_left_open chain ms h = none_passes (class_leaves_open tree chain) (class_leaves_none chain h) ms

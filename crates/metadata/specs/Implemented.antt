@@ -17,8 +17,8 @@ abbrev pub IsTable : Tree → ℕ → List Bool → Type 0
 IsTable tree interface table = (class : ℕ) → slice_get table class ≡ Some false → has_all tree (Some class) interface ≡ true
 
 -- the table of an interface says of a class that it lacks nothing
-abbrev pub IsTold : List (Vec Bool Global) → ℕ → ℕ → Type 0
-IsTold tables class interface = (table : Vec Bool Global) × (slice_get tables interface ≡ Some table) × (slice_get table.items class ≡ Some false)
+abbrev pub IsReported : List (Vec Bool Global) → ℕ → ℕ → Type 0
+IsReported tables class interface = (table : Vec Bool Global) × (slice_get tables interface ≡ Some table) × (slice_get table.items class ≡ Some false)
 
 -- the tables of interfaces
 abbrev pub AreTables : Tree → List (Vec Bool Global) → Type 0

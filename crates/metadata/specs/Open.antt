@@ -8,7 +8,7 @@ use Rattle.cil_model.specs.Chains.{is_abstract_method}
 use Rattle.name_tables.specs.Methods.{line_of}
 use Rattle.name_tables.specs.Numbers.{declarations}
 use Rattle.name_tables.specs.Sameness.{MethodIdentity, identity_of}
-use Rattle.resolved_code.specs.Found.{is_override, top_open, hidden_open, IsSettled}
+use Rattle.resolved_code.specs.Found.{is_override, top_open, hidden_open, IsDecided}
 
 -- whether each method of each class is abstract (II.15.4.2)
 abbrev pub marks_in : Tree → List (List Bool)
@@ -23,5 +23,5 @@ abbrev pub AreClear : Tree → List Bool → Type 0
 AreClear tree may_hide = (class : ℕ) (k : MethodIdentity) → slice_get may_hide class ≡ Some false → hidden_open tree k (line_of tree (Some class)) ≡ false
 
 -- of each class that is marked true, each abstract method along its bases is overridden
-abbrev pub AreSettled : Tree → List Bool → Type 0
-AreSettled tree settled = (class : ℕ) → slice_get settled class ≡ Some true → IsSettled tree (line_of tree (Some class))
+abbrev pub AreDecided : Tree → List Bool → Type 0
+AreDecided tree decided = (class : ℕ) → slice_get decided class ≡ Some true → IsDecided tree (line_of tree (Some class))

@@ -1,11 +1,11 @@
 -- The numbers of the rules of legality (this profile).
 use Rattle.std.specs.Prelude.{ℕ, Bool, List, [], ◌∷◌}
 use Rattle.cil_model.specs.declared.trees.Tree.{Tree}
-use Rattle.cil_model.specs.Legality.{doubles_name, lacks_name, has_cycle, lacks_implementation, misfits_kind, lacks_entry, passes_limit}
+use Rattle.cil_model.specs.Legality.{doubles_name, lacks_name, has_cycle, lacks_implementation, has_kind_mismatch, lacks_entry, passes_limit}
 use Rattle.metadata.specs.declared.program.MetaError.{MetaError}
 use Rattle.metadata.specs.declared.program.MetaError.TheVariants.{Broken, OutOfMemory}
 use Rattle.metadata.specs.declared.violations.Violation.{Violation}
-use Rattle.metadata.specs.declared.violations.Violation.TheVariants.{Doubled, Unknown, OwnBase, NotImplemented, Misfit, BadEntry, Passed}
+use Rattle.metadata.specs.declared.violations.Violation.TheVariants.{Duplicate, Unknown, OwnBase, NotImplemented, KindMismatch, BadEntry, Passed}
 use Rattle.metadata.specs.declared.rules.Rule.{Rule}
 use Rattle.metadata.specs.declared.rules.Rule.TheVariants.{NamesStandOnce, NamesAreKnown, BasesEnd, InterfacesAreImplemented, KindsFit, OneEntryPoint, LimitsAreKept}
 
@@ -21,11 +21,11 @@ rule_number LimitsAreKept = 207
 
 -- the rule that is broken
 abbrev pub rule_of : Violation → Rule
-rule_of (Doubled name) = NamesStandOnce
+rule_of (Duplicate name) = NamesStandOnce
 rule_of (Unknown name) = NamesAreKnown
 rule_of (OwnBase class) = BasesEnd
 rule_of (NotImplemented absent) = InterfacesAreImplemented
-rule_of (Misfit misfit) = KindsFit
+rule_of (KindMismatch kind_mismatch) = KindsFit
 rule_of (BadEntry entry) = OneEntryPoint
 rule_of (Passed limit) = LimitsAreKept
 
@@ -43,4 +43,4 @@ abbrev pub rules_of_names : Tree → List (ℕ × Bool)
 rules_of_names tree = (201, doubles_name tree) ∷ (202, lacks_name tree) ∷ (203, has_cycle tree) ∷ []
 
 abbrev pub rules_of_methods : Tree → List (ℕ × Bool)
-rules_of_methods tree = (204, lacks_implementation tree) ∷ (205, misfits_kind tree) ∷ (206, lacks_entry tree) ∷ (207, passes_limit tree) ∷ []
+rules_of_methods tree = (204, lacks_implementation tree) ∷ (205, has_kind_mismatch tree) ∷ (206, lacks_entry tree) ∷ (207, passes_limit tree) ∷ []

@@ -14,8 +14,8 @@ use name_tables::lookups::NameTables;
 use std::alloc::Global;
 
 /// Whether a class is met from another one on along its bases.
-fn is_along(names: &NameTables, first: Option<usize>, wanted: usize) -> bool
-    ensures { result ≡ list_any (λ n. n == wanted) (line_of names.now.classes.tree.now first) }
+fn is_along(names: &NameTables, first: Option<usize>, required: usize) -> bool
+    ensures { result ≡ list_any (λ n. n == required) (line_of names.now.classes.tree.now first) }
 {
     let mut next = first;
     let mut left = names.classes.longest_chain();
@@ -23,7 +23,7 @@ fn is_along(names: &NameTables, first: Option<usize>, wanted: usize) -> bool
         let Some(class) = next else {
             return false;
         };
-        if class == wanted {
+        if class == required {
             return true;
         }
         next = names.base(class);
@@ -45,7 +45,7 @@ fn is_own_base(names: &NameTables, class: &Class) -> bool
     is_along(names, names.base(number), number)
 }
 
-/// The place in the source of the least class that bases seem to lead back to. The only error is out of memory.
+/// The index in the source of the first class that bases seem to lead back to. The only error is out of memory.
 fn suspect(alloc: Global, names: &NameTables) -> Result<Option<usize>, NoMemory> {
     let sources = names.classes.tree.classes.as_slice().len();
     let built_in = names.classes.names().len().saturating_sub(sources);

@@ -11,7 +11,7 @@ use cil_model::memory::NoMemory;
 use cil_model::trees::{Class, Member, Method, Tree};
 use name_tables::kinds::is_static;
 use name_tables::trees::methods_of_tree;
-use resolved_code::entries::entry_place;
+use resolved_code::entries::entry_index;
 use std::alloc::Global;
 
 fn count_methods(class: &Class) -> usize {
@@ -24,18 +24,18 @@ fn count_methods(class: &Class) -> usize {
     count
 }
 
-/// The class and the place of the method that has this number among all methods of the source.
+/// The class and the index of the method that has this number among all methods of the source.
 fn site_of(tree: &Tree, number: usize) -> SourceMember {
-    let mut place = number;
+    let mut index = number;
     for (class, declared) in tree.classes.as_slice().iter().enumerate() {
         let count = count_methods(declared);
-        if place < count {
-            return SourceMember { class, place };
+        if index < count {
+            return SourceMember { class, index };
         }
-        place -= count;
+        index -= count;
     }
     let class = tree.classes.as_slice().len();
-    SourceMember { class, place }
+    SourceMember { class, index }
 }
 
 /// Why a method may not have an entry point; none where it is static and void, without parameters.
@@ -54,19 +54,19 @@ fn fault_of(site: SourceMember, method: &Method) -> Option<BadEntry>
     Some(BadEntry::Takes(site))
 }
 
-/// Why the first entry point, which is at this place among the methods of a source, is not fit or not the only one; none where it is.
+/// Why the first entry point, which is at this index among the methods of a source, is not fit or not the only one; none where it is.
 fn first_fault(tree: &Tree, methods: &[&Method], first: usize) -> Option<BadEntry>
     requires within { first < length methods.now }
     requires first { position_from is_entry_point 0 (map (λ m. m.now) methods.now) ≡ Some first }
     ensures { is_none result ≡ (count_by is_entry_point (map (λ m. m.now) methods.now) == 1) && list_any (λ m. is_entry_point m && is_entry_method m) (map (λ m. m.now) methods.now) }
 {
     let site = site_of(tree, first);
-    let behind = first + 1;
-    match entry_place(&methods[behind..]) {
+    let following = first + 1;
+    match entry_index(&methods[following..]) {
         None => fault_of(site, methods[first]),
         Some(further) => Some(BadEntry::Second {
             first: site,
-            second: site_of(tree, behind + further),
+            second: site_of(tree, following + further),
         }),
     }
 }
@@ -75,7 +75,7 @@ fn first_fault(tree: &Tree, methods: &[&Method], first: usize) -> Option<BadEntr
 fn entry_fault(tree: &Tree, methods: &[&Method]) -> Option<BadEntry>
     ensures { is_none result ≡ (count_by is_entry_point (map (λ m. m.now) methods.now) == 1) && list_any (λ m. is_entry_point m && is_entry_method m) (map (λ m. m.now) methods.now) }
 {
-    match entry_place(methods) {
+    match entry_index(methods) {
         None => Some(BadEntry::Absent),
         Some(first) => first_fault(tree, methods, first),
     }

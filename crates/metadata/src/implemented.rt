@@ -10,13 +10,13 @@ ghost use Rattle.name_tables.specs.Keys.{method_of_key};
 ghost use Rattle.name_tables.specs.Methods.{line_of, methods_at};
 ghost use Rattle.name_tables.specs.Sameness.{identity_of};
 
-use crate::doubled::interfaces_named;
-use crate::lacking::{is_told, lacking_tables};
+use crate::duplicates::interfaces_named;
+use crate::lacking::{is_reported, lacking_tables};
 use crate::violations::{ListedMethod, NotImplemented};
 use cil_model::memory::NoMemory;
 use cil_model::trees::{Class, Method};
 use cil_model::types::ClassName;
-use inheritance::Endless;
+use inheritance::Cyclic;
 use name_tables::keys::{ClassKey, MethodKey};
 use name_tables::kinds::is_virtual;
 use name_tables::lookups::NameTables;
@@ -62,18 +62,22 @@ fn implements_method(methods: &MethodTables, class: Option<usize>, key: MethodKe
     };
     match methods.has_virtual(class, key) {
         Ok(found) => found,
-        Err(Endless) => has_virtual_along(methods.names, class, key),
+        Err(Cyclic) => has_virtual_along(methods.names, class, key),
     }
 }
 
 /// The first of these methods for which no class from one on has a virtual one.
-fn absent_method(methods: &MethodTables, class: Option<usize>, wanted: &[&Method]) -> Option<usize>
-    ensures { is_none result ≡ list_all (λ m. list_any (is_virtual_found methods.now.names.now.classes.tree.now (identity_of m)) (line_of methods.now.names.now.classes.tree.now class)) (map (λ m. m.now) wanted.now) }
+fn absent_method(
+    methods: &MethodTables,
+    class: Option<usize>,
+    required: &[&Method],
+) -> Option<usize>
+    ensures { is_none result ≡ list_all (λ m. list_any (is_virtual_found methods.now.names.now.classes.tree.now (identity_of m)) (line_of methods.now.names.now.classes.tree.now class)) (map (λ m. m.now) required.now) }
 {
-    for (place, method) in wanted.iter().enumerate() {
+    for (index, method) in required.iter().enumerate() {
         let key = MethodKey::new(&method.name, &method.signature);
         if !implements_method(methods, class, key) {
-            return Some(place);
+            return Some(index);
         }
     }
     None
@@ -97,8 +101,8 @@ fn absent_at(methods: &MethodTables, class: Option<usize>, interface: usize) -> 
         return absent_by_name(methods, class, interface);
     };
     match methods.first_absent(interface, number) {
-        Ok(place) => place,
-        Err(Endless) => absent_by_name(methods, class, interface),
+        Ok(index) => index,
+        Err(Cyclic) => absent_by_name(methods, class, interface),
     }
 }
 
@@ -113,7 +117,7 @@ fn absent_from(
     ensures { is_none result ≡ has_all methods.now.names.now.classes.tree.now class interface }
 {
     match class {
-        Some(number) if is_told(tables, number, interface) => None,
+        Some(number) if is_reported(tables, number, interface) => None,
         _ => absent_at(methods, class, interface),
     }
 }

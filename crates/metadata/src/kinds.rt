@@ -5,18 +5,18 @@ ghost use Rattle.std.specs.List.{list_any, list_all};
 ghost use Rattle.std.specs.Option.{option_map_or};
 ghost use Rattle.cil_model.specs.Chains.{base_of, is_virtual, is_abstract_method};
 ghost use Rattle.cil_model.specs.Declarations.{source_name};
-ghost use Rattle.cil_model.specs.Legality.{is_interface_method, has_abstract_slot, overrides_no_virtual, kinds_fit, misfits_kind};
-ghost use Rattle.resolved_code.specs.Found.{slot_filled_at, slot_over, slot_numbered, open_over, open_numbered, is_left_open, method_leaves_open, class_leaves_open, plain_numbered};
+ghost use Rattle.cil_model.specs.Legality.{is_interface_method, has_abstract_slot, overrides_no_virtual, kinds_fit, has_kind_mismatch};
+ghost use Rattle.resolved_code.specs.Found.{slot_filled_at, slot_over, slot_by_id, open_over, open_by_id, is_left_open, method_leaves_open, class_leaves_open, concrete_by_id};
 ghost use Rattle.name_tables.specs.Keys.{class_of_key, method_of_key};
 ghost use Rattle.name_tables.specs.Methods.{line_of};
 ghost use Rattle.name_tables.specs.Numbers.{class_number, method_found};
 ghost use Rattle.name_tables.specs.Sameness.{identity_of};
 
 use crate::open_slots::OpenSlots;
-use crate::violations::{KindFault, Misfit};
+use crate::violations::{KindFault, KindMismatch};
 use cil_model::memory::NoMemory;
 use cil_model::trees::{Class, ClassKind, Method};
-use inheritance::Endless;
+use inheritance::Cyclic;
 use name_tables::classes::method_members;
 use name_tables::keys::{ClassKey, MethodKey};
 use name_tables::kinds::{is_abstract_method, is_new_slot_method, is_virtual};
@@ -56,21 +56,21 @@ fn slot_over(
 
 /// The slot that the nearest method of this name and signature along a chain fills.
 fn slot_along(names: &NameTables, key: MethodKey, chain: &[usize]) -> Option<usize>
-    ensures { result ≡ slot_numbered names.now.classes.tree.now (method_of_key key.entry) chain.now }
+    ensures { result ≡ slot_by_id names.now.classes.tree.now (method_of_key key.entry) chain.now }
 {
     let mut slot = None;
-    for place in (0..chain.len()).rev() {
-        slot = slot_over(names, key, chain[place], slot);
+    for index in (0..chain.len()).rev() {
+        slot = slot_over(names, key, chain[index], slot);
     }
     slot
 }
 
-fn is_slot(slot: Option<usize>, wanted: usize) -> bool
-    ensures { result ≡ option_map_or (λ n. n == wanted) slot false }
+fn is_slot(slot: Option<usize>, required: usize) -> bool
+    ensures { result ≡ option_map_or (λ n. n == required) slot false }
 {
     match slot {
         None => false,
-        Some(number) => number == wanted,
+        Some(number) => number == required,
     }
 }
 
@@ -89,14 +89,14 @@ fn open_over(names: &NameTables, key: MethodKey, class: usize, fills: bool, is_o
 }
 
 /// Whether the nearest method along a chain that fills a slot is abstract.
-fn is_open(names: &NameTables, key: MethodKey, chain: &[usize], wanted: usize) -> bool
-    ensures { result ≡ open_numbered names.now.classes.tree.now (method_of_key key.entry) wanted chain.now }
+fn is_open(names: &NameTables, key: MethodKey, chain: &[usize], required: usize) -> bool
+    ensures { result ≡ open_by_id names.now.classes.tree.now (method_of_key key.entry) required chain.now }
 {
     let mut slot = None;
     let mut is_open = false;
-    for place in (0..chain.len()).rev() {
-        slot = slot_over(names, key, chain[place], slot);
-        is_open = open_over(names, key, chain[place], is_slot(slot, wanted), is_open);
+    for index in (0..chain.len()).rev() {
+        slot = slot_over(names, key, chain[index], slot);
+        is_open = open_over(names, key, chain[index], is_slot(slot, required), is_open);
     }
     is_open
 }
@@ -135,9 +135,9 @@ fn method_left_open(
 ) -> Option<usize>
     ensures { is_some result ≡ list_any (method_leaves_open names.now.classes.tree.now chain.now introduced.now) (map (λ m. m.now) methods.now) }
 {
-    for (place, method) in methods.iter().enumerate() {
+    for (index, method) in methods.iter().enumerate() {
         if method_leaves_open(names, chain, introduced, method) {
-            return Some(place);
+            return Some(index);
         }
     }
     None
@@ -159,7 +159,7 @@ fn left_open_by(
     let methods = declared.methods.as_slice();
     match method_left_open(names, chain, introduced.as_slice(), methods) {
         None => Ok(None),
-        Some(place) => Ok(Some(MemberNumber { class, place })),
+        Some(index) => Ok(Some(MemberNumber { class, index })),
     }
 }
 
@@ -252,7 +252,7 @@ fn abstract_slot(
     let Some(number) = slots.methods.names.classes.number(class) else {
         return Ok(None);
     };
-    if slots.is_settled(number) {
+    if slots.is_decided(number) {
         return Ok(None);
     }
     slot_left_open(alloc, slots, number)
@@ -282,7 +282,7 @@ fn unless_virtual(class: usize, method: &Method) -> Option<usize>
 
 /// The class from one on along its bases with the nearest method of this name and signature, where that is not virtual.
 fn plain_along(names: &NameTables, key: MethodKey, first: usize) -> Option<usize>
-    ensures { is_some result ≡ plain_numbered names.now.classes.tree.now (method_of_key key.entry) (line_of names.now.classes.tree.now (Some first)) }
+    ensures { is_some result ≡ concrete_by_id names.now.classes.tree.now (method_of_key key.entry) (line_of names.now.classes.tree.now (Some first)) }
 {
     let mut next = Some(first);
     let mut left = names.classes.longest_chain();
@@ -322,14 +322,14 @@ fn plain_found(names: &NameTables, key: MethodKey, found: Option<MemberNumber>) 
 /// The class from one on along its bases with the nearest method of this name and signature, where that is not virtual. Only where the
 /// bases do not end are they followed.
 fn plain_base(methods: &MethodTables, key: MethodKey, base: Option<usize>) -> Option<usize>
-    ensures { is_some result ≡ plain_numbered methods.now.names.now.classes.tree.now (method_of_key key.entry) (line_of methods.now.names.now.classes.tree.now base) }
+    ensures { is_some result ≡ concrete_by_id methods.now.names.now.classes.tree.now (method_of_key key.entry) (line_of methods.now.names.now.classes.tree.now base) }
 {
     let Some(base) = base else {
         return None;
     };
     match methods.nearest(base, key) {
         Ok(found) => plain_found(methods.names, key, found),
-        Err(Endless) => plain_along(methods.names, key, base),
+        Err(Cyclic) => plain_along(methods.names, key, base),
     }
 }
 
@@ -445,16 +445,16 @@ fn kind_fault(
 }
 
 /// The first of these classes that has a method whose kind does not fit.
-fn first_misfit(
+fn first_kind_mismatch(
     alloc: Global,
     slots: &OpenSlots,
     classes: &[Class],
-) -> Result<Option<Misfit>, NoMemory>
+) -> Result<Option<KindMismatch>, NoMemory>
     ensures { IfOk result (λ m. is_none m ≡ list_all (kinds_fit slots.now.methods.now.names.now.classes.tree.now) classes.now) }
 {
     for (class, declared) in classes.iter().enumerate() {
         if let Some(fault) = kind_fault(alloc, slots, declared)? {
-            return Ok(Some(Misfit { class, fault }));
+            return Ok(Some(KindMismatch { class, fault }));
         }
     }
     Ok(None)
@@ -462,10 +462,13 @@ fn first_misfit(
 
 /// The first method whose kind does not fit its class or what that inherits; none where there is none (number 205). The only error
 /// is out of memory.
-pub fn misfit<'a>(alloc: Global, methods: &'a MethodTables<'a>) -> Result<Option<Misfit>, NoMemory>
-    ensures { IfOk result (λ m. is_some m ≡ misfits_kind methods.now.names.now.classes.tree.now) }
+pub fn kind_mismatch<'a>(
+    alloc: Global,
+    methods: &'a MethodTables<'a>,
+) -> Result<Option<KindMismatch>, NoMemory>
+    ensures { IfOk result (λ m. is_some m ≡ has_kind_mismatch methods.now.names.now.classes.tree.now) }
 {
     let slots = OpenSlots::new(alloc, methods)?;
     let names = methods.names;
-    first_misfit(alloc, &slots, names.classes.tree.classes.as_slice())
+    first_kind_mismatch(alloc, &slots, names.classes.tree.classes.as_slice())
 }

@@ -1,9 +1,9 @@
 //! The classes that lack a method of an interface, found for all classes at once where many list it.
 
 ghost use Rattle.std.specs.Prelude.{◌≡◌, IfOk, Some, true, false, slice_get};
-ghost use Rattle.metadata.specs.Implemented.{IsTable, IsTold, AreTables};
+ghost use Rattle.metadata.specs.Implemented.{IsTable, IsReported, AreTables};
 
-use crate::doubled::interfaces_named;
+use crate::duplicates::interfaces_named;
 use cil_model::memory::NoMemory;
 use cil_model::types::ClassName;
 use name_tables::classes::DeclaredClass;
@@ -119,8 +119,8 @@ fn is_false(table: &[bool], class: usize) -> bool
 }
 
 /// Whether the table of an interface says of a class that it lacks none of the methods.
-pub(crate) fn is_told(tables: &[Vec<bool>], class: usize, interface: usize) -> bool
-    ensures { result ≡ true → IsTold tables.now class interface }
+pub(crate) fn is_reported(tables: &[Vec<bool>], class: usize, interface: usize) -> bool
+    ensures { result ≡ true → IsReported tables.now class interface }
 {
     match tables.get(interface) {
         None => false,

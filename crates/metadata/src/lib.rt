@@ -15,7 +15,7 @@
 #![tactic(auto)]
 
 mod cycles;
-mod doubled;
+mod duplicates;
 mod entry;
 mod implemented;
 mod kinds;

@@ -80,7 +80,7 @@ fn passed_by_code(method: &Method) -> Option<MethodLimit>
     }
 }
 
-/// Whether a method has as many arguments as it may have, `this` counted.
+/// Whether a method has no more arguments than it may have, including `this`.
 fn has_few_arguments(method: &Method) -> bool
     ensures { (o : ClassName) → result ≡ nat_le (length (argument_types method.now o)) MOST_ARGUMENTS }
 {
@@ -108,9 +108,9 @@ fn passed_by_method(method: &Method) -> Option<MethodLimit>
 fn passed_by_methods(class: usize, methods: &[&Method]) -> Option<Passed>
     ensures { (o : ClassName) → is_none result ≡ list_all (is_small_method o) (map (λ m. m.now) methods.now) }
 {
-    for (place, declared) in methods.iter().enumerate() {
+    for (index, declared) in methods.iter().enumerate() {
         if let Some(limit) = passed_by_method(declared) {
-            let method = SourceMember { class, place };
+            let method = SourceMember { class, index };
             return Some(Passed::Method { method, limit });
         }
     }
@@ -184,7 +184,7 @@ fn static_field_beyond(names: &NameTables, classes: &[Class]) -> Option<Passed>
     for (class, declared) in classes.iter().enumerate() {
         let own = count_static_fields(names, declared);
         if own > left {
-            return Some(Passed::StaticFields { class, place: left });
+            return Some(Passed::StaticFields { class, index: left });
         }
         left -= own;
     }

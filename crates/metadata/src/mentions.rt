@@ -87,13 +87,13 @@ impl<'a> NamedTypes<'a> {
     fn add_to(self, types: &mut Vec<SitedType<'a>>, part: TypesPart) -> Result<(), NoMemory>
         ensures { IfOk result (λ _. map (λ t. t.declared.now) types.new.items ≡ map (λ t. t.declared.now) types.old.items ++ types_named self.entry) }
     {
-        for (place, declared) in self.parameters.iter().enumerate() {
-            let site = TypeSite { part, place };
+        for (index, declared) in self.parameters.iter().enumerate() {
+            let site = TypeSite { part, index };
             types.push(SitedType { declared, site })?;
         }
         if let Some(declared) = self.last {
-            let place = self.parameters.len();
-            let site = TypeSite { part, place };
+            let index = self.parameters.len();
+            let site = TypeSite { part, index };
             types.push(SitedType { declared, site })?;
         }
         Ok(())
@@ -161,8 +161,8 @@ fn add_types_of_methods<'a>(
     ensures { IfOk result (λ _. map (λ t. t.declared.now) types.new.items ≡ map (λ t. t.declared.now) types.old.items ++ flat_map types_of_method (method_members declared.now)) }
 {
     let methods = method_members(alloc, declared)?;
-    for (place, method) in methods.as_slice().iter().enumerate() {
-        add_types_of_method(types, SourceMember { class, place }, method)?;
+    for (index, method) in methods.as_slice().iter().enumerate() {
+        add_types_of_method(types, SourceMember { class, index }, method)?;
     }
     Ok(())
 }
@@ -177,9 +177,9 @@ fn add_types_of_fields<'a>(
     ensures { IfOk result (λ _. map (λ t. t.declared.now) types.new.items ≡ map (λ t. t.declared.now) types.old.items ++ map (λ f. f.field_type) (field_members declared.now)) }
 {
     let fields = field_members(alloc, declared)?;
-    for (place, field) in fields.as_slice().iter().enumerate() {
+    for (index, field) in fields.as_slice().iter().enumerate() {
         let field_type = NamedTypes::one(&field.field_type);
-        field_type.add_to(types, TypesPart::Field(SourceMember { class, place }))?;
+        field_type.add_to(types, TypesPart::Field(SourceMember { class, index }))?;
     }
     Ok(())
 }

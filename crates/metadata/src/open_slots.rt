@@ -8,12 +8,12 @@ ghost use Rattle.name_tables.specs.Keys.{method_of_key};
 ghost use Rattle.name_tables.specs.Methods.{line_of};
 ghost use Rattle.name_tables.specs.Numbers.{method_found};
 ghost use Rattle.name_tables.specs.Sameness.{MethodIdentity};
-ghost use Rattle.resolved_code.specs.Found.{top_open, hidden_open, is_override, IsSettled};
-ghost use Rattle.metadata.specs.Open.{marks_in, hides_one, AreClear, AreSettled};
+ghost use Rattle.resolved_code.specs.Found.{top_open, hidden_open, is_override, IsDecided};
+ghost use Rattle.metadata.specs.Open.{marks_in, hides_one, AreClear, AreDecided};
 
 use cil_model::memory::NoMemory;
 use cil_model::trees::Method;
-use inheritance::{Endless, classes_behind_bases};
+use inheritance::{Cyclic, classes_in_topological_order};
 use name_tables::keys::MethodKey;
 use name_tables::kinds::{is_abstract_method, is_new_slot_method, is_virtual};
 use name_tables::lookups::{MemberNumber, NameTables};
@@ -24,8 +24,8 @@ use std::alloc::Global;
 #[derive(Drop)]
 pub struct OpenSlots<'a> {
     pub methods: &'a MethodTables<'a>,
-    settled: Vec<bool>,
-    ghost are_settled: { AreSettled methods.now.names.now.classes.tree.now settled.items },
+    decided: Vec<bool>,
+    ghost are_decided: { AreDecided methods.now.names.now.classes.tree.now decided.items },
 }
 
 /// Whether a virtual method is without newslot, so that it fills the slot of the next virtual one after it (ECMA-335 II.10.3.1).
@@ -86,7 +86,7 @@ fn may_be_top(methods: &MethodTables, class: Option<usize>, key: MethodKey) -> b
     };
     match methods.nearest(class, key) {
         Ok(found) => is_abstract_found(methods.names, key, found),
-        Err(Endless) => true,
+        Err(Cyclic) => true,
     }
 }
 
@@ -106,10 +106,10 @@ fn may_hide_one(methods: &MethodTables, base: Option<usize>, own: &[&Method]) ->
 }
 
 /// Whether a class is marked false.
-fn is_told_false(told: &[bool], class: usize) -> bool
-    ensures { result ≡ true → slice_get told.now class ≡ Some false }
+fn is_reported_false(reported: &[bool], class: usize) -> bool
+    ensures { result ≡ true → slice_get reported.now class ≡ Some false }
 {
-    match told.get(class) {
+    match reported.get(class) {
         None => false,
         Some(answer) => !*answer,
     }
@@ -121,7 +121,7 @@ fn is_clear(may_hide: &[bool], class: Option<usize>) -> bool
 {
     match class {
         None => true,
-        Some(class) => is_told_false(may_hide, class),
+        Some(class) => is_reported_false(may_hide, class),
     }
 }
 
@@ -149,11 +149,11 @@ fn hiding_classes(alloc: Global, methods: &MethodTables) -> Result<Vec<bool>, No
     ensures { IfOk result (λ v. AreClear methods.now.names.now.classes.tree.now v.items) }
 {
     let bases = methods.names.bases();
-    let classes = classes_behind_bases(alloc, bases)?;
+    let classes = classes_in_topological_order(alloc, bases)?;
     let count = bases.len();
     let mut may_hide = vec![in alloc; true; count]?;
-    for place in 0..classes.len() {
-        let class = classes[place];
+    for index in 0..classes.len() {
+        let class = classes[index];
         if class >= may_hide.len() {
             continue;
         }
@@ -170,21 +170,21 @@ fn is_neither(first: &[bool], second: &[bool], class: usize) -> bool
     ensures first { result ≡ true → slice_get first.now class ≡ Some false }
     ensures second { result ≡ true → slice_get second.now class ≡ Some false }
 {
-    is_told_false(first, class) && is_told_false(second, class)
+    is_reported_false(first, class) && is_reported_false(second, class)
 }
 
 /// Of each class, whether it is known that no slot is left open along its bases. The only error is out of memory.
-fn settled_classes(alloc: Global, methods: &MethodTables) -> Result<Vec<bool>, NoMemory>
-    ensures { IfOk result (λ v. AreSettled methods.now.names.now.classes.tree.now v.items) }
+fn decided_classes(alloc: Global, methods: &MethodTables) -> Result<Vec<bool>, NoMemory>
+    ensures { IfOk result (λ v. AreDecided methods.now.names.now.classes.tree.now v.items) }
 {
     let marks = abstract_marks(alloc, methods.names)?;
     let may_stay = methods.finds_marked(alloc, marks.as_slice())?;
     let may_hide = hiding_classes(alloc, methods)?;
-    let mut settled = Vec::new(alloc);
+    let mut decided = Vec::new(alloc);
     for class in 0..may_stay.len() {
-        settled.push(is_neither(may_stay.as_slice(), may_hide.as_slice(), class))?;
+        decided.push(is_neither(may_stay.as_slice(), may_hide.as_slice(), class))?;
     }
-    Ok(settled)
+    Ok(decided)
 }
 
 impl<'a> OpenSlots<'a> {
@@ -192,17 +192,17 @@ impl<'a> OpenSlots<'a> {
     pub fn new(alloc: Global, methods: &'a MethodTables<'a>) -> Result<Self, NoMemory>
         ensures { IfOk result (λ s. s.methods.now.names.now.classes.tree.now ≡ methods.now.names.now.classes.tree.now) }
     {
-        let settled = settled_classes(alloc, methods)?;
-        Ok(OpenSlots { methods, settled })
+        let decided = decided_classes(alloc, methods)?;
+        Ok(OpenSlots { methods, decided })
     }
 
     /// Whether it is known that a class leaves no slot open along its bases.
-    pub fn is_settled(&self, class: usize) -> bool
-        ensures { result ≡ true → IsSettled self.now.methods.now.names.now.classes.tree.now (line_of self.now.methods.now.names.now.classes.tree.now (Some class)) }
+    pub fn is_decided(&self, class: usize) -> bool
+        ensures { result ≡ true → IsDecided self.now.methods.now.names.now.classes.tree.now (line_of self.now.methods.now.names.now.classes.tree.now (Some class)) }
     {
-        match self.settled.get(class) {
+        match self.decided.get(class) {
             None => false,
-            Some(settled) => *settled,
+            Some(decided) => *decided,
         }
     }
 
@@ -246,7 +246,7 @@ impl<'a> OpenSlots<'a> {
     }
 
     /// The class of an abstract method that a method of a class hides, where there is one.
-    fn hidden_behind(&self, class: usize) -> Option<usize> {
+    fn hidden_after(&self, class: usize) -> Option<usize> {
         let names = self.methods.names;
         let declared = names.classes.class(class)?;
         let base = names.base(class)?;
@@ -272,7 +272,7 @@ impl<'a> OpenSlots<'a> {
     /// The class of the nearest abstract method along these classes that is hidden.
     fn first_hidden(&self, chain: &[usize]) -> Option<usize> {
         for class in chain {
-            if let Some(hidden) = self.hidden_behind(*class) {
+            if let Some(hidden) = self.hidden_after(*class) {
                 return Some(hidden);
             }
         }

@@ -60,7 +60,7 @@ fn contents_of(alloc: Global, names: &NameTables) -> Result<Contents, MetaError>
 }
 
 /// The same of a tree, with the built-in classes.
-fn checked(alloc: Global, tree: &Tree, table: &[BuiltInClass]) -> Result<Contents, MetaError>
+fn check(alloc: Global, tree: &Tree, table: &[BuiltInClass]) -> Result<Contents, MetaError>
     requires { map built_in_entry table.now ≡ built_ins }
     ensures legal { IfOk result (λ c. IsLegal tree.now × IsContents tree.now c) }
     ensures broken { IfErr result (λ e. e ≢ OutOfMemory → least_broken tree.now ≡ Some (number_of e)) }
@@ -76,7 +76,7 @@ pub fn contents(alloc: Global, tree: &Tree) -> Result<Contents, MetaError>
     ensures broken { IfErr result (λ e. e ≢ OutOfMemory → least_broken tree.now ≡ Some (number_of e)) }
 {
     let table = BuiltInClass::all(alloc)?;
-    checked(alloc, tree, table.as_slice())
+    check(alloc, tree, table.as_slice())
 }
 
 /// The program of a legal tree. Another tree is dropped, and the error has the least number of a rule that it breaks. Out of

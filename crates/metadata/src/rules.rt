@@ -5,10 +5,10 @@ ghost use Rattle.cil_model.specs.Legality.{first_broken, least_broken};
 ghost use Rattle.metadata.specs.RuleNumbers.{rule_number, violation_number, rules_of_names, rules_of_methods};
 
 use crate::cycles::own_base;
-use crate::doubled::doubled_name;
+use crate::duplicates::duplicate_name;
 use crate::entry::bad_entry;
 use crate::implemented::not_implemented;
-use crate::kinds::misfit;
+use crate::kinds::kind_mismatch;
 use crate::limits::passed_limit;
 use crate::unknown::unknown_name;
 use crate::violations::Violation;
@@ -75,8 +75,8 @@ impl fmt::Display for Rule {
 fn broken_by_names(alloc: Global, names: &NameTables) -> Result<Option<Violation>, NoMemory>
     ensures { IfOk result (λ v. option_map violation_number v ≡ first_broken (rules_of_names names.now.classes.tree.now)) }
 {
-    if let Some(doubled) = doubled_name(alloc, names.classes.tree)? {
-        return Ok(Some(Violation::Doubled(doubled)));
+    if let Some(duplicates) = duplicate_name(alloc, names.classes.tree)? {
+        return Ok(Some(Violation::Duplicate(duplicates)));
     }
     if let Some(unknown) = unknown_name(alloc, names)? {
         return Ok(Some(Violation::Unknown(unknown)));
@@ -94,8 +94,8 @@ fn broken_by_methods(alloc: Global, methods: &MethodTables) -> Result<Option<Vio
     if let Some(absent) = not_implemented(alloc, methods)? {
         return Ok(Some(Violation::NotImplemented(absent)));
     }
-    if let Some(misfit) = misfit(alloc, methods)? {
-        return Ok(Some(Violation::Misfit(misfit)));
+    if let Some(kind_mismatch) = kind_mismatch(alloc, methods)? {
+        return Ok(Some(Violation::KindMismatch(kind_mismatch)));
     }
     let names = methods.names;
     if let Some(entry) = bad_entry(alloc, names.classes.tree)? {

@@ -12,7 +12,7 @@ ghost use Rattle.cil_model.specs.Legality.{is_known_extern, is_resolved, is_sour
 ghost use Rattle.metadata.specs.Named.{knows_names};
 ghost use Rattle.name_tables.specs.Keys.{text_of_key};
 
-use crate::doubled::interfaces_named;
+use crate::duplicates::interfaces_named;
 use crate::mentions::{SitedType, labels_of, owner_of_instruction, types_of_tree};
 use crate::violations::{ClassFault, HeadingName, SourceMember, Unknown};
 use cil_model::instructions::{FieldReference, Instruction, MethodReference};
@@ -22,9 +22,9 @@ use cil_model::trees::{Class, ClassKind, Line, Method};
 use cil_model::types::{ClassName, DeclaredType, Element, Signature};
 use name_tables::bodies::{label_keys, lines_of};
 use name_tables::classes::method_members;
+use name_tables::key_indices::KeyIndices;
 use name_tables::keys::{ClassKey, TextKey};
 use name_tables::lookups::NameTables;
-use name_tables::places::Places;
 use std::alloc::Global;
 
 // ---- names of assemblies and classes
@@ -272,17 +272,17 @@ fn unknown_among_types(names: &NameTables, types: &[SitedType]) -> Option<Unknow
 
 // ---- labels
 
-fn is_placed<'a>(labels: &Places<TextKey<'a>>, label: &'a Text) -> bool
+fn is_placed<'a>(labels: &KeyIndices<TextKey<'a>>, label: &'a Text) -> bool
     ensures { result ≡ list_any (same_text label.now) (map text_of_key labels.now) }
 {
     labels.first(TextKey { text: label }).is_some()
 }
 
 /// The first label of these that the method does not have.
-fn missing_label<'a>(labels: &Places<TextKey<'a>>, wanted: &'a [Text]) -> Option<usize>
-    ensures { is_none result ≡ list_all (λ w. list_any (same_text w) (map text_of_key labels.now)) wanted.now }
+fn missing_label<'a>(labels: &KeyIndices<TextKey<'a>>, required: &'a [Text]) -> Option<usize>
+    ensures { is_none result ≡ list_all (λ w. list_any (same_text w) (map text_of_key labels.now)) required.now }
 {
-    for (target, label) in wanted.iter().enumerate() {
+    for (target, label) in required.iter().enumerate() {
         if !is_placed(labels, label) {
             return Some(target);
         }
@@ -395,7 +395,7 @@ fn unknown_member(names: &NameTables, at: LineSite, instruction: &Instruction) -
 /// What an instruction names that is not there: the owner of a member, the member, or a label.
 fn unknown_by_line<'a>(
     names: &NameTables,
-    labels: &Places<TextKey<'a>>,
+    labels: &KeyIndices<TextKey<'a>>,
     at: LineSite,
     instruction: &'a Instruction,
 ) -> Option<Unknown>
@@ -417,7 +417,7 @@ fn unknown_by_line<'a>(
 
 fn unknown_by_lines<'a>(
     names: &NameTables,
-    labels: &Places<TextKey<'a>>,
+    labels: &KeyIndices<TextKey<'a>>,
     method: SourceMember,
     lines: &'a [Line],
 ) -> Option<Unknown>
@@ -441,7 +441,7 @@ fn unknown_by_method(
 ) -> Result<Option<Unknown>, NoMemory>
     ensures { IfOk result (λ u. is_none u ≡ knows_names names.now.classes.tree.now declared.now) }
 {
-    let labels = Places::new(alloc, label_keys(alloc, declared)?)?;
+    let labels = KeyIndices::new(alloc, label_keys(alloc, declared)?)?;
     Ok(unknown_by_lines(names, &labels, method, lines_of(declared)))
 }
 
@@ -454,8 +454,8 @@ fn unknown_in_methods(
 ) -> Result<Option<Unknown>, NoMemory>
     ensures { IfOk result (λ u. is_none u ≡ list_all (knows_names names.now.classes.tree.now) (map (λ m. m.now) methods.now)) }
 {
-    for (place, method) in methods.iter().enumerate() {
-        let site = SourceMember { class, place };
+    for (index, method) in methods.iter().enumerate() {
+        let site = SourceMember { class, index };
         if let Some(unknown) = unknown_by_method(alloc, names, site, method)? {
             return Ok(Some(unknown));
         }

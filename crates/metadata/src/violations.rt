@@ -10,10 +10,10 @@ use std::fmt;
 pub struct SourceMember {
     pub class: usize,
     /// Among the fields, or among the methods, of the class.
-    pub place: usize,
+    pub index: usize,
 }
 
-/// Two places of a list that have the same name.
+/// Two indices of a list that have the same name.
 #[derive(Clone, Copy)]
 pub struct Repeat {
     pub first: usize,
@@ -22,18 +22,18 @@ pub struct Repeat {
 
 /// A name that occurs twice where it must occur once (number 201).
 #[derive(Clone, Copy)]
-pub enum Doubled {
+pub enum Duplicate {
     Externs(Repeat),
     Classes(Repeat),
     InClass {
         class: usize,
-        doubled: DoubledInClass,
+        duplicates: DuplicateInClass,
     },
 }
 
 /// A name that occurs twice in a class.
 #[derive(Clone, Copy)]
-pub enum DoubledInClass {
+pub enum DuplicateInClass {
     /// Among its fields.
     Fields(Repeat),
     /// Among its methods, with the signature.
@@ -64,7 +64,7 @@ pub enum ClassFault {
 pub enum HeadingName {
     /// After `extends`.
     Base,
-    /// After `implements`, by its place in the list.
+    /// After `implements`, by its index in the list.
     Interface(usize),
 }
 
@@ -82,7 +82,7 @@ pub enum TypesPart {
 pub struct TypeSite {
     pub part: TypesPart,
     /// Among the types of that part: parameters or locals from 0, and a result or another type after them.
-    pub place: usize,
+    pub index: usize,
 }
 
 /// A name that refers to nothing of the kind needed (number 202).
@@ -101,7 +101,7 @@ pub enum Unknown {
         site: TypeSite,
         fault: ClassFault,
     },
-    /// A label that no instruction of the method has, by its place among those to which the line's instruction may go.
+    /// A label that no instruction of the method has, by its index among those to which the line's instruction may go.
     Label {
         method: SourceMember,
         line: usize,
@@ -123,7 +123,7 @@ pub enum Unknown {
 /// A method of an interface that a class lists.
 #[derive(Clone, Copy)]
 pub struct ListedMethod {
-    /// By its place in the list.
+    /// By its index in the list.
     pub interface: usize,
     /// Among the methods of the interface.
     pub method: usize,
@@ -151,7 +151,7 @@ pub enum KindFault {
 
 /// A method whose kind does not fit its class or what that inherits (number 205).
 #[derive(Clone, Copy)]
-pub struct Misfit {
+pub struct KindMismatch {
     pub class: usize,
     pub fault: KindFault,
 }
@@ -189,10 +189,10 @@ pub enum MethodLimit {
 pub enum Passed {
     Classes,
     Methods,
-    /// The first static field that is too many, by its place among the static fields of its class.
+    /// The first static field that is too many, by its index among the static fields of its class.
     StaticFields {
         class: usize,
-        place: usize,
+        index: usize,
     },
     /// Of a type.
     Brackets(TypeSite),
@@ -209,12 +209,12 @@ pub enum Passed {
 /// What breaks a rule of legality.
 #[derive(Clone, Copy)]
 pub enum Violation {
-    Doubled(Doubled),
+    Duplicate(Duplicate),
     Unknown(Unknown),
     /// The class that is in the chain of its base (number 203).
     OwnBase { class: usize },
     NotImplemented(NotImplemented),
-    Misfit(Misfit),
+    KindMismatch(KindMismatch),
     BadEntry(BadEntry),
     Passed(Passed),
 }
@@ -228,11 +228,11 @@ impl Violation {
         ensures { result ≡ rule_of self.now }
     {
         match self {
-            Violation::Doubled(_) => Rule::NamesStandOnce,
+            Violation::Duplicate(_) => Rule::NamesStandOnce,
             Violation::Unknown(_) => Rule::NamesAreKnown,
             Violation::OwnBase { .. } => Rule::BasesEnd,
             Violation::NotImplemented(_) => Rule::InterfacesAreImplemented,
-            Violation::Misfit(_) => Rule::KindsFit,
+            Violation::KindMismatch(_) => Rule::KindsFit,
             Violation::BadEntry(_) => Rule::OneEntryPoint,
             Violation::Passed(_) => Rule::LimitsAreKept,
         }

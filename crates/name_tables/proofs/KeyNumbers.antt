@@ -9,16 +9,16 @@ use Rattle.std.proofs.lemmas.List.{length-map}
 use Rattle.std.proofs.lemmas.List.Folds.{list_any-append}
 use Rattle.std.proofs.lemmas.Option.{none-some, slice_get_within}
 use Rattle.cil_model.proofs.SameLaws.{both_first, both_second}
-use Rattle.inheritance.specs.Lines.{place_in}
-use Rattle.name_tables.specs.Inherited.{number_in, AreNumbered}
-use Rattle.name_tables.proofs.FirstPlaces.{is_some-position_from, position_from-congr}
-use Rattle.name_tables.proofs.NumberLaws.{none_is_some, position_from-map, found_at_place, found_passes}
+use Rattle.inheritance.specs.Lines.{index_in}
+use Rattle.name_tables.specs.Inherited.{number_in, HaveIds}
+use Rattle.name_tables.proofs.FirstIndices.{is_some-position_from, position_from-congr}
+use Rattle.name_tables.proofs.NumberLaws.{none_is_some, position_from-map, found_at_index, found_passes}
 
 lost : true ≡ false → ⊥
 lost e = cc
 
 found_item : {X : Type 0} (test : X → Bool) (xs : List X) (i : ℕ) → position_from test 0 xs ≡ Some i → (y : X) × (slice_get xs i ≡ Some y) × (test y ≡ true)
-found_item {X} test xs i e = by_find (find test xs) refl (sym (ap (option_map (slice_get xs)) e) ∙ found_at_place test xs)
+found_item {X} test xs i e = by_find (find test xs) refl (sym (ap (option_map (slice_get xs)) e) ∙ found_at_index test xs)
   where
     by_find : (o : Option X) → find test xs ≡ o → Some (slice_get xs i) ≡ option_map Some o → (y : X) × (slice_get xs i ≡ Some y) × (test y ≡ true)
     by_find None k h = absurd (none_is_some (slice_get xs i) (sym h))
@@ -59,25 +59,25 @@ module _ {K : Type 0} (same : K → K → Bool) (laws : IsEquivalence same) wher
     same_numbers : (q x : K) → same q x ≡ true → (number q == number x) ≡ true
     same_numbers q x h = eq-eqb (number q) (number x) (ap (λ o. unwrap_or o (length keys)) (position_from-congr (same q) (same x) (λ z. laws.congr q x z h) 0 keys))
 
-    place_of_known : (x : K) → is_known keys x ≡ true → (o : Option ℕ) → position_from (same x) 0 keys ≡ o → (j : ℕ) × (position_from (same x) 0 keys ≡ Some j)
-    place_of_known x h (Some j) e = (j, e)
-    place_of_known x h None e = absurd (lost (sym (is_some-position_from (same x) 0 keys ∙ h) ∙ ap is_some e))
+    index_of_known : (x : K) → is_known keys x ≡ true → (o : Option ℕ) → position_from (same x) 0 keys ≡ o → (j : ℕ) × (position_from (same x) 0 keys ≡ Some j)
+    index_of_known x h (Some j) e = (j, e)
+    index_of_known x h None e = absurd (lost (sym (is_some-position_from (same x) 0 keys ∙ h) ∙ ap is_some e))
 
     other_numbers : (q x : K) → is_known keys x ≡ true → same q x ≡ false → (number q == number x) ≡ false
-    other_numbers q x known h = by_place (position_from (same q) 0 keys) refl (eqb_tells (number q) (number x))
+    other_numbers q x known h = by_index (position_from (same q) 0 keys) refl (eqb_tells (number q) (number x))
       where
         at : (j : ℕ) × (position_from (same x) 0 keys ≡ Some j)
-        at = place_of_known x known (position_from (same x) 0 keys) refl
+        at = index_of_known x known (position_from (same x) 0 keys) refl
 
-        by_place : (o : Option ℕ) → position_from (same q) 0 keys ≡ o → ((number q == number x) ≡ true) × (number q ≡ number x) ⊎ ((number q == number x) ≡ false) × (number q ≢ number x) → (number q == number x) ≡ false
-        by_place o e (inr k) = k.0
-        by_place None e (inl k) =
+        by_index : (o : Option ℕ) → position_from (same q) 0 keys ≡ o → ((number q == number x) ≡ true) × (number q ≡ number x) ⊎ ((number q == number x) ≡ false) × (number q ≢ number x) → (number q == number x) ≡ false
+        by_index o e (inr k) = k.0
+        by_index None e (inl k) =
             let item = found_item (same x) keys at.0 at.1 in
             let inside : at.0 < length keys = slice_get_within keys at.0 item.0 item.1 in
             let there : number x ≡ at.0 = ap (λ p. unwrap_or p (length keys)) at.1 in
             let past : number q ≡ length keys = ap (λ p. unwrap_or p (length keys)) e in
             absurd (omega (arith, inside, there, past, k.1))
-        by_place (Some i) e (inl k) =
+        by_index (Some i) e (inl k) =
             let there : number x ≡ at.0 = ap (λ p. unwrap_or p (length keys)) at.1 in
             let here : number q ≡ i = ap (λ p. unwrap_or p (length keys)) e in
             let one : i ≡ at.0 = omega (arith, there, here, k.1) in
@@ -95,26 +95,26 @@ module _ {K : Type 0} (same : K → K → Bool) (laws : IsEquivalence same) wher
         by_test true h = same_numbers q x h
         by_test false h = other_numbers q x known h
 
-    pub place_by_number : (q : K) (row : List K) (i : ℕ) → list_all (is_known keys) row ≡ true → position_from (λ k. number q == k) i (map number row) ≡ position_from (same q) i row
-    place_by_number q [] i h = refl
-    place_by_number q (x ∷ xs) i h =
+    pub index_by_number : (q : K) (row : List K) (i : ℕ) → list_all (is_known keys) row ≡ true → position_from (λ k. number q == k) i (map number row) ≡ position_from (same q) i row
+    index_by_number q [] i h = refl
+    index_by_number q (x ∷ xs) i h =
         ap (λ b. cond b (Some i) (position_from (λ k. number q == k) (i + 1) (map number xs))) (number_tells q x (both_first _ _ h)) ∙
-        ap (λ o. cond (same q x) (Some i) o) (place_by_number q xs (i + 1) (both_second _ _ h))
+        ap (λ o. cond (same q x) (Some i) o) (index_by_number q xs (i + 1) (both_second _ _ h))
 
-    -- the key at the place that is its number has that number again
+    -- the key at the index that is its number has that number again
     number_again : (x : K) → is_known keys x ≡ true → option_map number (slice_get keys (number x)) ≡ Some (number x)
     number_again x known =
-        let at = place_of_known x known (position_from (same x) 0 keys) refl in
+        let at = index_of_known x known (position_from (same x) 0 keys) refl in
         let item = found_item (same x) keys at.0 at.1 in
         let there : number x ≡ at.0 = ap (λ p. unwrap_or p (length keys)) at.1 in
         let again : number item.0 ≡ number x = ap (λ o. unwrap_or o (length keys)) (position_from-congr (same item.0) (same x) (λ z. sym (laws.congr x item.0 z item.2)) 0 keys) in
         ap (λ n. option_map number (slice_get keys n)) there ∙ ap (option_map number) item.1 ∙ ap Some again
 
-    numbered_in_row : (row : List K) → list_all (is_known keys) row ≡ true → (n i place : ℕ) → position_from (λ k. n == k) i (map number row) ≡ Some place → option_map number (slice_get keys n) ≡ Some n
-    numbered_in_row [] known n i place e = absurd (none-some place e)
-    numbered_in_row (x ∷ xs) known n i place e = by_test (numbered_in_row xs (both_second _ _ known) n (i + 1) place) (eqb_tells n (number x))
+    numbered_in_row : (row : List K) → list_all (is_known keys) row ≡ true → (n i index : ℕ) → position_from (λ k. n == k) i (map number row) ≡ Some index → option_map number (slice_get keys n) ≡ Some n
+    numbered_in_row [] known n i index e = absurd (none-some index e)
+    numbered_in_row (x ∷ xs) known n i index e = by_test (numbered_in_row xs (both_second _ _ known) n (i + 1) index) (eqb_tells n (number x))
       where
-        by_test : (position_from (λ k. n == k) (i + 1) (map number xs) ≡ Some place → option_map number (slice_get keys n) ≡ Some n) → ((n == number x) ≡ true) × (n ≡ number x) ⊎ ((n == number x) ≡ false) × (n ≢ number x) → option_map number (slice_get keys n) ≡ Some n
+        by_test : (position_from (λ k. n == k) (i + 1) (map number xs) ≡ Some index → option_map number (slice_get keys n) ≡ Some n) → ((n == number x) ≡ true) × (n ≡ number x) ⊎ ((n == number x) ≡ false) × (n ≢ number x) → option_map number (slice_get keys n) ≡ Some n
         by_test further (inl h) = subst (λ m. option_map number (slice_get keys m) ≡ Some m) (sym h.1) (number_again x (both_first _ _ known))
         by_test further (inr h) = further (sym (ap (λ b. cond b (Some i) (position_from (λ k. n == k) (i + 1) (map number xs))) h.0) ∙ e)
 
@@ -123,25 +123,25 @@ module _ {K : Type 0} (same : K → K → Bool) (laws : IsEquivalence same) wher
   row_at row_in number (r ∷ rs) zero = refl
   row_at row_in number (r ∷ rs) (suc n) = row_at row_in number rs n
 
-  -- where all declared keys are listed, the place by numbers is that by keys
-  pub place_in_rows : {R : Type 0} (row_in : R → List K) (rows : List R) (keys : List K) (declared : List (List ℕ)) → keys ≡ flat_map row_in rows → declared ≡ map (λ r. map (number_in same keys) (row_in r)) rows →
-      (q : K) (n : ℕ) → place_in declared (number_in same keys q) n ≡ position_from (same q) 0 (slice_index_or (map row_in rows) n [])
-  place_in_rows row_in rows keys declared e d q n =
+  -- where all declared keys are listed, the index by numbers is that by keys
+  pub index_in_rows : {R : Type 0} (row_in : R → List K) (rows : List R) (keys : List K) (declared : List (List ℕ)) → keys ≡ flat_map row_in rows → declared ≡ map (λ r. map (number_in same keys) (row_in r)) rows →
+      (q : K) (n : ℕ) → index_in declared (number_in same keys q) n ≡ position_from (same q) 0 (slice_index_or (map row_in rows) n [])
+  index_in_rows row_in rows keys declared e d q n =
       ap (λ ds. position_from (λ k. number_in same keys q == k) 0 (slice_index_or ds n [])) d ∙
       ap (position_from (λ k. number_in same keys q == k) 0) (row_at row_in (number_in same keys) rows n) ∙
-      place_by_number keys q (slice_index_or (map row_in rows) n []) 0 (ap (λ ks. list_all (is_known ks) (slice_index_or (map row_in rows) n [])) e ∙ known_in_rows row_in rows n)
+      index_by_number keys q (slice_index_or (map row_in rows) n []) 0 (ap (λ ks. list_all (is_known ks) (slice_index_or (map row_in rows) n [])) e ∙ known_in_rows row_in rows n)
 
-  pub numbered_in_rows : {R : Type 0} (row_in : R → List K) (rows : List R) (keys : List K) (declared : List (List ℕ)) → keys ≡ flat_map row_in rows → declared ≡ map (λ r. map (number_in same keys) (row_in r)) rows → AreNumbered same keys declared
-  numbered_in_rows row_in rows keys declared e d = λ n class place found.
-      numbered_in_row keys (slice_index_or (map row_in rows) class []) (ap (λ ks. list_all (is_known ks) (slice_index_or (map row_in rows) class [])) e ∙ known_in_rows row_in rows class) n 0 place
+  pub numbered_in_rows : {R : Type 0} (row_in : R → List K) (rows : List R) (keys : List K) (declared : List (List ℕ)) → keys ≡ flat_map row_in rows → declared ≡ map (λ r. map (number_in same keys) (row_in r)) rows → HaveIds same keys declared
+  numbered_in_rows row_in rows keys declared e d = λ n class index found.
+      numbered_in_row keys (slice_index_or (map row_in rows) class []) (ap (λ ks. list_all (is_known ks) (slice_index_or (map row_in rows) class [])) e ∙ known_in_rows row_in rows class) n 0 index
       (sym (ap (λ ds. position_from (λ k. n == k) 0 (slice_index_or ds class [])) d ∙ ap (position_from (λ k. n == k) 0) (row_at row_in (number_in same keys) rows class)) ∙ found)
 
 pub number_within : {K : Type 0} (same : K → K → Bool) (keys : List K) (q : K) → number_in same keys q < length keys + 1
-number_within same keys q = by_place (position_from (same q) 0 keys) refl
+number_within same keys q = by_index (position_from (same q) 0 keys) refl
   where
-    by_place : (o : Option ℕ) → position_from (same q) 0 keys ≡ o → unwrap_or o (length keys) < length keys + 1
-    by_place None e = omega arith
-    by_place (Some i) e =
+    by_index : (o : Option ℕ) → position_from (same q) 0 keys ≡ o → unwrap_or o (length keys) < length keys + 1
+    by_index None e = omega arith
+    by_index (Some i) e =
         let item = found_item (same q) keys i e in
         let inside : i < length keys = slice_get_within keys i item.0 item.1 in
         omega (arith, inside)

@@ -2,6 +2,6 @@ pub mod MemberLaws
 mod KeyNumbers
 mod MethodNumbers
 mod VirtualNumbers
-pub mod FirstPlaces
+pub mod FirstIndices
 pub mod Lists
 pub mod NumberLaws

@@ -22,13 +22,13 @@ map-take_more f xs i x l e = ap (map f) (take_more xs i x l) ∙ map-append f (t
 pub flat_map-take_more : {X Y : Type 0} (f : X → List Y) (xs : List X) (i : ℕ) (x : X) → i < length xs → x ≡ get_or xs i x → flat_map f (take (i + 1) xs) ≡ flat_map f (take i xs) ++ f x
 flat_map-take_more f xs i x l e = ap (flat_map f) (take_one_more xs i x l e) ∙ flat_map-append f (take i xs) (x ∷ []) ∙ ap (λ ys. flat_map f (take i xs) ++ ys) (append-nil (f x))
 
--- the lists that are left, one after the other, begin with that at its place
+-- the lists that are left, one after the other, begin with that at its index
 pub flat_map-left : {X Y : Type 0} (f : X → List Y) (xs : List X) (i : ℕ) (x : X) → i < length xs → x ≡ get_or xs i x → flat_map f (drop i xs) ≡ f x ++ flat_map f (drop (i + 1) xs)
 flat_map-left f xs i x l e =
     let next : suc i ≡ i + 1 = omega arith in
     ap (flat_map f) (drop-cons xs i x l) ∙ ap (λ y. f y ++ flat_map f (drop (suc i) xs)) (sym e) ∙ ap (λ n. f x ++ flat_map f (drop n xs)) next
 
--- of what all lists that are left represent, that of the list at its place, and that of the others
+-- of what all lists that are left represent, that of the list at its index, and that of the others
 module _ {X Y Z : Type 0} (f : X → List Y) (view : Y → Z) (xs : List X) (i : ℕ) (x : X) (rest : List Z) (l : i < length xs) (e : x ≡ get_or xs i x) (h : rest ≡ map view (flat_map f (drop i xs))) where
   abbrev pub own : List Z
   own = map view (f x)
@@ -45,8 +45,8 @@ module _ {X Y Z : Type 0} (f : X → List Y) (view : Y → Z) (xs : List X) (i :
   pub own_first : take (length (f x)) rest ≡ own
   own_first = ap (λ n. take n rest) (sym (length-map (f x) view)) ∙ ap (take (length own)) parts ∙ take-append_seam own others
 
-  pub others_behind : drop (length (f x)) rest ≡ others
-  others_behind = ap (λ n. drop n rest) (sym (length-map (f x) view)) ∙ ap (drop (length own)) parts ∙ drop-append_seam own others
+  pub others_after : drop (length (f x)) rest ≡ others
+  others_after = ap (λ n. drop n rest) (sym (length-map (f x) view)) ∙ ap (drop (length own)) parts ∙ drop-append_seam own others
 
 -- an item that fails decides a test of all that are left
 pub all_fail : {X : Type 0} (test : X → Bool) (xs : List X) (i : ℕ) (d : X) → i < length xs → test (get_or xs i d) ≡ false → list_all test (drop i xs) ≡ false
@@ -58,7 +58,7 @@ all_after test xs i d l h =
     let next : i + 1 ≡ suc i = omega arith in
     ap (λ n. list_all test (drop n xs)) next ∙ sym (ap (list_all test) (drop-cons xs i d l) ∙ ap (λ b. b && list_all test (drop (suc i) xs)) h)
 
--- as many of the first items as there are: all
+-- a prefix of the full length is the whole list
 pub at_end : {X Y : Type 0} (f : List X → Y) (xs : List X) (i : ℕ) {y : Y} → length xs ≤ i → y ≡ f (take i xs) → y ≡ f xs
 at_end f xs i past h = h ∙ ap f (take_all i xs past)
 
@@ -70,17 +70,17 @@ pub option_map_of_map : {X Y Z : Type 0} (f : X → Y) (g : Y → Z) (o : Option
 option_map_of_map f g None = refl
 option_map_of_map f g (Some x) = refl
 
--- where two maps make the same list, there are as many items
-pub as_many : {X Y Z : Type 0} (f : X → Z) (g : Y → Z) (xs : List X) (ys : List Y) → map f xs ≡ map g ys → length xs ≡ length ys
-as_many f g xs ys e = sym (length-map xs f) ∙ ap length e ∙ length-map ys g
+-- where two maps make the same list, both lists have the same length
+pub same_count : {X Y Z : Type 0} (f : X → Z) (g : Y → Z) (xs : List X) (ys : List Y) → map f xs ≡ map g ys → length xs ≡ length ys
+same_count f g xs ys e = sym (length-map xs f) ∙ ap length e ∙ length-map ys g
 
--- where two maps make the same list, what they make of the items at one place
+-- where two maps make the same list, what they make of the items at one index
 pub alike_at : {X Y Z : Type 0} (f : X → Z) (g : Y → Z) (xs : List X) (ys : List Y) (i : ℕ) (x : X) (y : Y) → map f xs ≡ map g ys → i < length ys → x ≡ get_or xs i x → y ≡ get_or ys i y → f x ≡ g y
 alike_at f g xs ys i x y e l h k =
     let inside : i < length xs = omega (arith, l, length-map xs f, length-map ys g, ap length e) in
     ap f h ∙ sym (get_or-map f xs i x (f x) inside) ∙ ap (λ zs. get_or zs i (f x)) e ∙ get_or-map g ys i y (f x) l ∙ ap g (sym k)
 
--- what the item at a place represents
+-- what the item at an index represents
 pub row_of : {X Y : Type 0} (f : X → Y) (xs : List X) (i : ℕ) (x : X) (d : Y) → i < length xs → x ≡ get_or xs i x → get_or (map f xs) i d ≡ f x
 row_of f xs i x d l e = get_or-map f xs i x d l ∙ ap f (sym e)
 

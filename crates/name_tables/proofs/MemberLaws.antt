@@ -26,16 +26,16 @@ map_at f [] n = refl
 map_at f (r ∷ rs) zero = refl
 map_at f (r ∷ rs) (suc n) = map_at f rs n
 
-pub place_at : {X Y : Type 0} (part : X → List Y) (test : Y → Bool) (xs : List X) (n : ℕ) → position_from test 0 (slice_index_or (map part xs) n []) ≡ option_and_then (λ x. position_from test 0 (part x)) (slice_get xs n)
-place_at part test [] n = refl
-place_at part test (x ∷ xs) zero = refl
-place_at part test (x ∷ xs) (suc n) = place_at part test xs n
+pub index_at : {X Y : Type 0} (part : X → List Y) (test : Y → Bool) (xs : List X) (n : ℕ) → position_from test 0 (slice_index_or (map part xs) n []) ≡ option_and_then (λ x. position_from test 0 (part x)) (slice_get xs n)
+index_at part test [] n = refl
+index_at part test (x ∷ xs) zero = refl
+index_at part test (x ∷ xs) (suc n) = index_at part test xs n
 
--- the place of a key in a class is that of what it represents
-pub place_of_row : {K X Y : Type 0} (view : K → X) (part : Y → List X) (test : X → Bool) (rows : List (List K)) (ys : List Y) → map (map view) rows ≡ map part ys → (n : ℕ) →
+-- the index of a key in a class is that of what it represents
+pub index_of_row : {K X Y : Type 0} (view : K → X) (part : Y → List X) (test : X → Bool) (rows : List (List K)) (ys : List Y) → map (map view) rows ≡ map part ys → (n : ℕ) →
     position_from (λ k. test (view k)) 0 (slice_index_or rows n []) ≡ option_and_then (λ y. position_from test 0 (part y)) (slice_get ys n)
-place_of_row view part test rows ys e n =
-    sym (position_from-map view test 0 (slice_index_or rows n [])) ∙ ap (position_from test 0) (map_at view rows n ∙ ap (λ rs. slice_index_or rs n []) e) ∙ place_at part test ys n
+index_of_row view part test rows ys e n =
+    sym (position_from-map view test 0 (slice_index_or rows n [])) ∙ ap (position_from test 0) (map_at view rows n ∙ ap (λ rs. slice_index_or rs n []) e) ∙ index_at part test ys n
 
 -- ---- bases
 
@@ -80,42 +80,42 @@ module _ (tree : Tree) where
   pub line_of_class : (c : ClassName) (n : ℕ) → class_number tree c ≡ Some n → lines.line_within (base_numbers tree) (longest_chain tree) (Some n) ≡ chain_numbers tree c
   line_of_class c n e = ap (lines.line_within (base_numbers tree) (longest_chain tree)) (sym e) ∙ line_is_chain (longest_chain tree) (Some c)
 
-  nearest_same : (place other : ℕ → Option ℕ) → ((n : ℕ) → place n ≡ other n) → (ns : List ℕ) → lines.nearest place ns ≡ nearest_number other ns
-  nearest_same place other same [] = refl
-  nearest_same place other same (n ∷ ns) = ap (λ o. option_map_or (λ p. Some (n, p)) o (lines.nearest place ns)) (same n) ∙ ap (option_map_or (λ p. Some (n, p)) (other n)) (nearest_same place other same ns)
+  nearest_same : (index other : ℕ → Option ℕ) → ((n : ℕ) → index n ≡ other n) → (ns : List ℕ) → lines.nearest index ns ≡ nearest_number other ns
+  nearest_same index other same [] = refl
+  nearest_same index other same (n ∷ ns) = ap (λ o. option_map_or (λ p. Some (n, p)) o (lines.nearest index ns)) (same n) ∙ ap (option_map_or (λ p. Some (n, p)) (other n)) (nearest_same index other same ns)
 
   -- from a class of a number on
-  pub nearest_on_line : {K : Type 0} (forest : Forest) (number : K → ℕ) (place : K → ℕ → Option ℕ) → IsMemberTable tree forest number place → (key : K) (n : ℕ) →
-      nearest_from forest (number key) forest.most (Some n) ≡ nearest_number (place key) (lines.line_within (base_numbers tree) (longest_chain tree) (Some n))
-  nearest_on_line forest number place t key n =
-      nearest_same (lines.place_in (map (λ r. r.items) forest.declared.items) (number key)) (place key) (t.places key) (lines.line_within forest.bases.items forest.most (Some n)) ∙
-      ap (nearest_number (place key)) (ap (λ bs. lines.line_within bs forest.most (Some n)) t.bases ∙ ap (λ m. lines.line_within (base_numbers tree) m (Some n)) t.most)
+  pub nearest_on_line : {K : Type 0} (forest : Forest) (number : K → ℕ) (index : K → ℕ → Option ℕ) → IsMemberTable tree forest number index → (key : K) (n : ℕ) →
+      nearest_from forest (number key) forest.most (Some n) ≡ nearest_number (index key) (lines.line_within (base_numbers tree) (longest_chain tree) (Some n))
+  nearest_on_line forest number index t key n =
+      nearest_same (lines.index_in (map (λ r. r.items) forest.declared.items) (number key)) (index key) (t.indices key) (lines.line_within forest.bases.items forest.most (Some n)) ∙
+      ap (nearest_number (index key)) (ap (λ bs. lines.line_within bs forest.most (Some n)) t.bases ∙ ap (λ m. lines.line_within (base_numbers tree) m (Some n)) t.most)
 
-  pub nearest_in_table : {K : Type 0} (forest : Forest) (number : K → ℕ) (place : K → ℕ → Option ℕ) → IsMemberTable tree forest number place → (key : K) (c : ClassName) (n : ℕ) → class_number tree c ≡ Some n →
-      nearest_from forest (number key) forest.most (Some n) ≡ nearest_number (place key) (chain_numbers tree c)
-  nearest_in_table forest number place t key c n e = nearest_on_line forest number place t key n ∙ ap (nearest_number (place key)) (line_of_class c n e)
+  pub nearest_in_table : {K : Type 0} (forest : Forest) (number : K → ℕ) (index : K → ℕ → Option ℕ) → IsMemberTable tree forest number index → (key : K) (c : ClassName) (n : ℕ) → class_number tree c ≡ Some n →
+      nearest_from forest (number key) forest.most (Some n) ≡ nearest_number (index key) (chain_numbers tree c)
+  nearest_in_table forest number index t key c n e = nearest_on_line forest number index t key n ∙ ap (nearest_number (index key)) (line_of_class c n e)
 
   -- what is said of the forest's bases is said of the tree's
-  pub of_tree : {K : Type 0} (forest : Forest) (number : K → ℕ) (place : K → ℕ → Option ℕ) → IsMemberTable tree forest number place → (P : List (Option ℕ) → ℕ → Type 0) → P forest.bases.items forest.most → P (base_numbers tree) (longest_chain tree)
-  of_tree forest number place t P h = subst (P (base_numbers tree)) t.most (subst (λ bs. P bs forest.most) t.bases h)
+  pub of_tree : {K : Type 0} (forest : Forest) (number : K → ℕ) (index : K → ℕ → Option ℕ) → IsMemberTable tree forest number index → (P : List (Option ℕ) → ℕ → Type 0) → P forest.bases.items forest.most → P (base_numbers tree) (longest_chain tree)
+  of_tree forest number index t P h = subst (P (base_numbers tree)) t.most (subst (λ bs. P bs forest.most) t.bases h)
 
--- ---- what is found has a place
+-- ---- what is found has an index
 
-nearest_place : (at : ℕ → Option ℕ) (ns : List ℕ) (p : ℕ × ℕ) → lines.nearest at ns ≡ Some p → at p.0 ≡ Some p.1
-nearest_place at [] p e = absurd (none-some p e)
-nearest_place at (n ∷ ns) p e = by_place (nearest_place at ns p) (at n) refl e
+nearest_index : (at : ℕ → Option ℕ) (ns : List ℕ) (p : ℕ × ℕ) → lines.nearest at ns ≡ Some p → at p.0 ≡ Some p.1
+nearest_index at [] p e = absurd (none-some p e)
+nearest_index at (n ∷ ns) p e = by_index (nearest_index at ns p) (at n) refl e
   where
-    by_place : (lines.nearest at ns ≡ Some p → at p.0 ≡ Some p.1) → (o : Option ℕ) → at n ≡ o → option_map_or (λ q. Some (n, q)) o (lines.nearest at ns) ≡ Some p → at p.0 ≡ Some p.1
-    by_place further None h k = further k
-    by_place further (Some q) h k = let same : (n, q) ≡ p = same_Some (n, q) p k in subst (λ (r : ℕ × ℕ). at r.0 ≡ Some r.1) same h
+    by_index : (lines.nearest at ns ≡ Some p → at p.0 ≡ Some p.1) → (o : Option ℕ) → at n ≡ o → option_map_or (λ q. Some (n, q)) o (lines.nearest at ns) ≡ Some p → at p.0 ≡ Some p.1
+    by_index further None h k = further k
+    by_index further (Some q) h k = let same : (n, q) ≡ p = same_Some (n, q) p k in subst (λ (r : ℕ × ℕ). at r.0 ≡ Some r.1) same h
 
-pub marked_place : (marks : List (List Bool)) (forest : Forest) (key class : ℕ) → is_marked marks (nearest_from forest key forest.most (Some class)) ≡ true →
-    (p : ℕ × ℕ) × (lines.place_in (map (λ r. r.items) forest.declared.items) key p.0 ≡ Some p.1)
-marked_place marks forest key class e = by_found (nearest_from forest key forest.most (Some class)) refl e
+pub marked_index : (marks : List (List Bool)) (forest : Forest) (key class : ℕ) → is_marked marks (nearest_from forest key forest.most (Some class)) ≡ true →
+    (p : ℕ × ℕ) × (lines.index_in (map (λ r. r.items) forest.declared.items) key p.0 ≡ Some p.1)
+marked_index marks forest key class e = by_found (nearest_from forest key forest.most (Some class)) refl e
   where
-    by_found : (o : Option (ℕ × ℕ)) → nearest_from forest key forest.most (Some class) ≡ o → is_marked marks o ≡ true → (p : ℕ × ℕ) × (lines.place_in (map (λ r. r.items) forest.declared.items) key p.0 ≡ Some p.1)
+    by_found : (o : Option (ℕ × ℕ)) → nearest_from forest key forest.most (Some class) ≡ o → is_marked marks o ≡ true → (p : ℕ × ℕ) × (lines.index_in (map (λ r. r.items) forest.declared.items) key p.0 ≡ Some p.1)
     by_found None h k = absurd (true≢false (sym k))
-    by_found (Some p) h k = (p, nearest_place (lines.place_in (map (λ r. r.items) forest.declared.items) key) (lines.line_within forest.bases.items forest.most (Some class)) p h)
+    by_found (Some p) h k = (p, nearest_index (lines.index_in (map (λ r. r.items) forest.declared.items) key) (lines.line_within forest.bases.items forest.most (Some class)) p h)
 
 -- what a map gives comes from something
 pub mapped_from : {X Y : Type 0} (f : X → Y) (o : Option X) (y : Y) → option_map f o ≡ Some y → (x : X) × (f x ≡ y)
@@ -141,26 +141,26 @@ all_at test (x ∷ xs) (suc i) d h e = all_at test xs i d (omega (arith, h)) (bo
 -- ---- what a class itself declares
 
 found_first : (at : ℕ → Option ℕ) (n q : ℕ) (ns : List ℕ) → at n ≡ Some q → nearest_number at (n ∷ ns) ≡ Some (n, q)
-found_first at n q ns e = ap (λ o. option_map_or (λ place. Some (n, place)) o (nearest_number at ns)) e
+found_first at n q ns e = ap (λ o. option_map_or (λ index. Some (n, index)) o (nearest_number at ns)) e
 
 absent_first : (at : ℕ → Option ℕ) (n : ℕ) (ns : List ℕ) → at n ≡ None → nearest_number at (n ∷ ns) ≡ nearest_number at ns
-absent_first at n ns e = ap (λ o. option_map_or (λ place. Some (n, place)) o (nearest_number at ns)) e
+absent_first at n ns e = ap (λ o. option_map_or (λ index. Some (n, index)) o (nearest_number at ns)) e
 
-number_place : (at : ℕ → Option ℕ) (ns : List ℕ) (p : ℕ × ℕ) → nearest_number at ns ≡ Some p → at p.0 ≡ Some p.1
-number_place at ns p e = nearest_place at ns p (same at ns ∙ e)
+number_index : (at : ℕ → Option ℕ) (ns : List ℕ) (p : ℕ × ℕ) → nearest_number at ns ≡ Some p → at p.0 ≡ Some p.1
+number_index at ns p e = nearest_index at ns p (same at ns ∙ e)
   where
     same : (f : ℕ → Option ℕ) (xs : List ℕ) → lines.nearest f xs ≡ nearest_number f xs
     same f [] = refl
-    same f (x ∷ xs) = ap (λ o. option_map_or (λ place. Some (x, place)) (f x) o) (same f xs)
+    same f (x ∷ xs) = ap (λ o. option_map_or (λ index. Some (x, index)) (f x) o) (same f xs)
 
 -- what is found along a line in its first class is found in that class alone
 pub found_in_own : (at : ℕ → Option ℕ) (n : ℕ) (ns : List ℕ) (p : ℕ × ℕ) → nearest_number at (n ∷ ns) ≡ Some p → p.0 ≡ n → Some p ≡ nearest_number at (n ∷ [])
-found_in_own at n ns p e own = sym (found_first at n p.1 [] (ap at (sym own) ∙ number_place at (n ∷ ns) p e) ∙ ap (λ x. Some (x, p.1)) (sym own))
+found_in_own at n ns p e own = sym (found_first at n p.1 [] (ap at (sym own) ∙ number_index at (n ∷ ns) p e) ∙ ap (λ x. Some (x, p.1)) (sym own))
 
 -- what is found elsewhere, or not at all, is not in the first class
 pub not_in_own : (at : ℕ → Option ℕ) (n : ℕ) (ns : List ℕ) → ((q : ℕ) → nearest_number at (n ∷ ns) ≢ Some (n, q)) → None ≡ nearest_number at (n ∷ [])
-not_in_own at n ns other = by_place (at n) refl
+not_in_own at n ns other = by_index (at n) refl
   where
-    by_place : (o : Option ℕ) → at n ≡ o → None ≡ nearest_number at (n ∷ [])
-    by_place None e = sym (absent_first at n [] e)
-    by_place (Some q) e = absurd (other q (found_first at n q ns e))
+    by_index : (o : Option ℕ) → at n ≡ o → None ≡ nearest_number at (n ∷ [])
+    by_index None e = sym (absent_first at n [] e)
+    by_index (Some q) e = absurd (other q (found_first at n q ns e))

@@ -18,13 +18,13 @@ use Rattle.name_tables.specs.declared.keys.CallNumber.{CallNumber}
 use Rattle.name_tables.specs.Entries.{declaration_in, entry_of}
 use Rattle.name_tables.specs.Inherited.{number_in}
 use Rattle.name_tables.specs.Keys.{method_of_key}
-use Rattle.name_tables.specs.Methods.{identity_number, method_place, has_virtual, virtuals_of, virtual_place, call_of, call_place, AreNumbers}
+use Rattle.name_tables.specs.Methods.{identity_number, method_index, has_virtual, virtuals_of, virtual_index, call_of, call_index, AreNumbers}
 use Rattle.name_tables.specs.Numbers.{declarations}
 use Rattle.name_tables.specs.Sameness.{MethodIdentity, same_identity, identity_of, same_called, called_of, same_call}
 use Rattle.name_tables.specs.SamenessLaws.{identity_equivalence}
-use Rattle.name_tables.proofs.KeyNumbers.{is_known, known_in_rows, number_tells, place_by_number, row_at, number_of_view}
+use Rattle.name_tables.proofs.KeyNumbers.{is_known, known_in_rows, number_tells, index_by_number, row_at, number_of_view}
 use Rattle.name_tables.proofs.Lists.{map_of_map}
-use Rattle.name_tables.proofs.MemberLaws.{place_at}
+use Rattle.name_tables.proofs.MemberLaws.{index_at}
 use Rattle.name_tables.proofs.NumberLaws.{position_from-map}
 
 -- lists of lists that are the same part by part
@@ -86,56 +86,56 @@ module _ (tree : Tree) (keys : List MethodKey) (known : map method_of_key keys �
       of (e ∷ es) zero h = all_filtered known_to_all (has_virtual e.1) (identities e) h
       of (e ∷ es) (suc n) h = of es n h
 
-  -- where a part of each class is known, the place by numbers is that by names and signatures
-  places_by_numbers : (part : ClassName × Declaration → List MethodIdentity) → ((class : ℕ) → list_all known_to_all (slice_index_or (map part (declarations tree)) class []) ≡ true) →
+  -- where a part of each class is known, the index by numbers is that by names and signatures
+  indices_by_numbers : (part : ClassName × Declaration → List MethodIdentity) → ((class : ℕ) → list_all known_to_all (slice_index_or (map part (declarations tree)) class []) ≡ true) →
       (rows : List (List ℕ)) → rows ≡ map (λ e. map number (part e)) (declarations tree) → (k : MethodIdentity) (class : ℕ) →
-      lines.place_in rows (number k) class ≡ option_and_then (λ e. position_from (same_identity k) 0 (part e)) (slice_get (declarations tree) class)
-  places_by_numbers part inside rows are k class =
+      lines.index_in rows (number k) class ≡ option_and_then (λ e. position_from (same_identity k) 0 (part e)) (slice_get (declarations tree) class)
+  indices_by_numbers part inside rows are k class =
       ap (λ rs. position_from (λ n. number k == n) 0 (slice_index_or rs class [])) are ∙
       ap (position_from (λ n. number k == n) 0) (row_at same_identity identity_equivalence part number (declarations tree) class) ∙
-      place_by_number same_identity identity_equivalence all k (slice_index_or (map part (declarations tree)) class []) 0 (inside class) ∙
-      place_at part (same_identity k) (declarations tree) class
+      index_by_number same_identity identity_equivalence all k (slice_index_or (map part (declarations tree)) class []) 0 (inside class) ∙
+      index_at part (same_identity k) (declarations tree) class
 
-  pub methods_by_numbers : (rows : List (List ℕ)) → AreNumbers tree number rows → (k : MethodIdentity) (class : ℕ) → lines.place_in rows (number k) class ≡ method_place tree k class
+  pub methods_by_numbers : (rows : List (List ℕ)) → AreNumbers tree number rows → (k : MethodIdentity) (class : ℕ) → lines.index_in rows (number k) class ≡ method_index tree k class
   methods_by_numbers rows are k class =
-      places_by_numbers identities known_methods rows (are ∙ split_numbers number (declarations tree)) k class ∙ of (slice_get (declarations tree) class)
+      indices_by_numbers identities known_methods rows (are ∙ split_numbers number (declarations tree)) k class ∙ of (slice_get (declarations tree) class)
     where
       of : (o : Option (ClassName × Declaration)) → option_and_then (λ e. position_from (same_identity k) 0 (identities e)) o ≡ option_and_then (λ (e : ClassName × Declaration). position_from (λ m. same_identity k (identity_of m)) 0 e.1.methods) o
       of None = refl
       of (Some e) = position_from-map identity_of (same_identity k) 0 e.1.methods
 
-  pub virtuals_by_numbers : (rows : List (List ℕ)) → rows ≡ map (λ (e : ClassName × Declaration). map number (virtuals_of e.1)) (declarations tree) → (k : MethodIdentity) (class : ℕ) → lines.place_in rows (number k) class ≡ virtual_place tree k class
-  virtuals_by_numbers rows are k class = places_by_numbers (λ (e : ClassName × Declaration). virtuals_of e.1) known_virtuals rows are k class
+  pub virtuals_by_numbers : (rows : List (List ℕ)) → rows ≡ map (λ (e : ClassName × Declaration). map number (virtuals_of e.1)) (declarations tree) → (k : MethodIdentity) (class : ℕ) → lines.index_in rows (number k) class ≡ virtual_index tree k class
+  virtuals_by_numbers rows are k class = indices_by_numbers (λ (e : ClassName × Declaration). virtuals_of e.1) known_virtuals rows are k class
 
   call_tells : (k : MethodIdentity × Bool) (m : Method) → known_to_all (identity_of m) ≡ true → same_call (call_of number k) (call_of number (called_of m)) ≡ same_called k (called_of m)
   call_tells k m h = ap (λ b. b && same_flag k.1 (called_of m).1) (number_tells same_identity identity_equivalence all k.0 (identity_of m) h)
 
-  call_places : (k : MethodIdentity × Bool) (ms : List Method) (i : ℕ) → list_all known_to_all (map identity_of ms) ≡ true →
+  call_indices : (k : MethodIdentity × Bool) (ms : List Method) (i : ℕ) → list_all known_to_all (map identity_of ms) ≡ true →
       position_from (same_call (call_of number k)) i (map (λ (m : Method). call_of number (called_of m)) ms) ≡ position_from (λ m. same_called k (called_of m)) i ms
-  call_places k [] i h = refl
-  call_places k (m ∷ ms) i h =
+  call_indices k [] i h = refl
+  call_indices k (m ∷ ms) i h =
       ap (λ b. cond b (Some i) (position_from (same_call (call_of number k)) (i + 1) (map (λ (x : Method). call_of number (called_of x)) ms))) (call_tells k m (both_first _ _ h)) ∙
-      ap (λ o. cond (same_called k (called_of m)) (Some i) o) (call_places k ms (i + 1) (both_second _ _ h))
+      ap (λ o. cond (same_called k (called_of m)) (Some i) o) (call_indices k ms (i + 1) (both_second _ _ h))
 
   pub calls_by_numbers : (rows : List (List CallNumber)) → rows ≡ map (λ (e : ClassName × Declaration). map (λ (m : Method). call_of number (called_of m)) e.1.methods) (declarations tree) → (k : MethodIdentity × Bool) (class : ℕ) →
-      position_from (same_call (call_of number k)) 0 (slice_index_or rows class []) ≡ call_place tree k class
+      position_from (same_call (call_of number k)) 0 (slice_index_or rows class []) ≡ call_index tree k class
   calls_by_numbers rows are k class = ap (λ rs. position_from (same_call (call_of number k)) 0 (slice_index_or rs class [])) are ∙ of (declarations tree) class (known_methods class)
     where
       of : (es : List (ClassName × Declaration)) (n : ℕ) → list_all known_to_all (slice_index_or (map identities es) n []) ≡ true →
           position_from (same_call (call_of number k)) 0 (slice_index_or (map (λ (e : ClassName × Declaration). map (λ (m : Method). call_of number (called_of m)) e.1.methods) es) n []) ≡
           option_and_then (λ (e : ClassName × Declaration). position_from (λ m. same_called k (called_of m)) 0 e.1.methods) (slice_get es n)
       of [] n h = refl
-      of (e ∷ es) zero h = call_places k e.1.methods 0 h
+      of (e ∷ es) zero h = call_indices k e.1.methods 0 h
       of (e ∷ es) (suc n) h = of es n h
 
 -- what is said of all classes is said of their tables
 pub of_tables : {X : Type 0} (tables : List ClassTable) (tree : Tree) (part : ClassName × Declaration → X) → map (λ (t : ClassTable). entry_of t.class) tables ≡ declarations tree → map part (declarations tree) ≡ map (λ (t : ClassTable). part (entry_of t.class)) tables
 of_tables tables tree part e = ap (map part) (sym e) ∙ map_of_map (λ (t : ClassTable). entry_of t.class) part tables
 
--- there are as many numbers of methods as methods
-pub as_many : (tables : List ClassTable) (numbers : List (Vec ℕ Global)) (number : MethodIdentity → ℕ) → map (λ (r : Vec ℕ Global). r.items) numbers ≡ map (λ (t : ClassTable). map (λ (m : Method). number (identity_of m)) (declaration_in t.class).methods) tables →
+-- the number of method numbers is that of the methods
+pub same_count : (tables : List ClassTable) (numbers : List (Vec ℕ Global)) (number : MethodIdentity → ℕ) → map (λ (r : Vec ℕ Global). r.items) numbers ≡ map (λ (t : ClassTable). map (λ (m : Method). number (identity_of m)) (declaration_in t.class).methods) tables →
     map (λ (r : Vec ℕ Global). length r.items) numbers ≡ map (λ (t : ClassTable). length (declaration_in t.class).methods) tables
-as_many tables numbers number e =
+same_count tables numbers number e =
     sym (map_of_map (λ (r : Vec ℕ Global). r.items) length numbers) ∙ ap (map length) e ∙ map_of_map (λ (t : ClassTable). map (λ (m : Method). number (identity_of m)) (declaration_in t.class).methods) length tables ∙ lengths tables
   where
     lengths : (ts : List ClassTable) → map (λ (t : ClassTable). length (map (λ (m : Method). number (identity_of m)) (declaration_in t.class).methods)) ts ≡ map (λ (t : ClassTable). length (declaration_in t.class).methods) ts

@@ -13,7 +13,7 @@ use Rattle.cil_model.specs.declared.instructions.MethodReference.{MethodReferenc
 use Rattle.cil_model.specs.declared.trees.Field.{Field}
 use Rattle.cil_model.specs.Chains.{nearest, listed_by, base_of, chain_within, chain_of, classes_searched, find_field, find_method}
 use Rattle.name_tables.specs.Sameness.{MethodIdentity, same_field, same_called, called_of}
-use Rattle.name_tables.specs.Numbers.{declarations, class_number, chain_numbers, source_entry, nearest_number, member_at, place_in, field_at, method_at, field_number, method_number}
+use Rattle.name_tables.specs.Numbers.{declarations, class_number, chain_numbers, source_entry, nearest_number, member_at, index_in, field_at, method_at, field_number, method_number}
 use Rattle.std.proofs.lemmas.Option.{slice_get-map}
 use Rattle.name_tables.proofs.Lists.{option_map_of_map}
 use Rattle.cil_model.proofs.SameLaws.{class_equivalence, same_class_equal}
@@ -22,7 +22,7 @@ use Rattle.name_tables.specs.SamenessLaws.{field_equivalence, called_equivalence
 pub none_is_some : {X : Type 0} (x : X) → None ≡ Some x → ⊥
 none_is_some x e = cc
 
--- ---- places in lists
+-- ---- indices in lists
 
 pub position_from-suc : {X : Type 0} (test : X → Bool) (i : ℕ) (xs : List X) → position_from test (suc i) xs ≡ option_map suc (position_from test i xs)
 position_from-suc test i [] = refl
@@ -30,10 +30,10 @@ position_from-suc test i (x ∷ xs) =
     let s : suc i + 1 ≡ suc (i + 1) = omega arith in
     elim (test x) as (λ b. cond b (Some (suc i)) (position_from test (suc i + 1) xs) ≡ option_map suc (cond b (Some i) (position_from test (i + 1) xs))) [ true ↦ refl | false ↦ ap (λ n. position_from test n xs) s ∙ position_from-suc test (i + 1) xs ]
 
--- the item at the place that is found
-pub found_at_place : {X : Type 0} (test : X → Bool) (xs : List X) → option_map (slice_get xs) (position_from test 0 xs) ≡ option_map Some (find test xs)
-found_at_place test [] = refl
-found_at_place {X} test (x ∷ xs) = elim (test x) as (λ b. option_map (slice_get (x ∷ xs)) (cond b (Some 0) (position_from test 1 xs)) ≡ option_map Some (cond b (Some x) (find test xs))) [ true ↦ refl | false ↦ later (found_at_place test xs) ]
+-- the item at the index that is found
+pub found_at_index : {X : Type 0} (test : X → Bool) (xs : List X) → option_map (slice_get xs) (position_from test 0 xs) ≡ option_map Some (find test xs)
+found_at_index test [] = refl
+found_at_index {X} test (x ∷ xs) = elim (test x) as (λ b. option_map (slice_get (x ∷ xs)) (cond b (Some 0) (position_from test 1 xs)) ≡ option_map Some (cond b (Some x) (find test xs))) [ true ↦ refl | false ↦ later (found_at_index test xs) ]
   where
     moved : (o : Option ℕ) → option_map (slice_get (x ∷ xs)) (option_map suc o) ≡ option_map (slice_get xs) o
     moved None = refl
@@ -42,17 +42,17 @@ found_at_place {X} test (x ∷ xs) = elim (test x) as (λ b. option_map (slice_g
     later : option_map (slice_get xs) (position_from test 0 xs) ≡ option_map Some (find test xs) → option_map (slice_get (x ∷ xs)) (position_from test 1 xs) ≡ option_map Some (find test xs)
     later further = ap (option_map (slice_get (x ∷ xs))) (position_from-suc test 0 xs) ∙ moved (position_from test 0 xs) ∙ further
 
--- nothing is found where no place is
+-- nothing is found where no index is
 pub found_none : {X : Type 0} (test : X → Bool) (xs : List X) → position_from test 0 xs ≡ None → find test xs ≡ None
-found_none {X} test xs e = by_find (find test xs) (sym (ap (option_map (slice_get xs)) e) ∙ found_at_place test xs)
+found_none {X} test xs e = by_find (find test xs) (sym (ap (option_map (slice_get xs)) e) ∙ found_at_index test xs)
   where
     by_find : (o : Option X) → None ≡ option_map Some o → o ≡ None
     by_find None h = refl
     by_find (Some x) h = absurd (none_is_some (Some x) h)
 
--- what is found is at the place
+-- what is found is at the index
 pub found_some : {X : Type 0} (test : X → Bool) (xs : List X) (p : ℕ) → position_from test 0 xs ≡ Some p → slice_get xs p ≡ find test xs
-found_some {X} test xs p e = by_find (find test xs) (sym (ap (option_map (slice_get xs)) e) ∙ found_at_place test xs)
+found_some {X} test xs p e = by_find (find test xs) (sym (ap (option_map (slice_get xs)) e) ∙ found_at_index test xs)
   where
     by_find : (o : Option X) → Some (slice_get xs p) ≡ option_map Some o → slice_get xs p ≡ o
     by_find None h = absurd (none_is_some (slice_get xs p) (sym h))
@@ -120,61 +120,61 @@ module _ (tree : Tree) where
       declared_at c.assembly c.name
 
   -- the class of a number, as its name finds it
-  abbrev pub IsNumbered : ClassName → Option ℕ → Type 0
-  IsNumbered c None = declaration_of tree c ≡ None
-  IsNumbered c (Some n) = (d : Declaration) × (declaration_of tree c ≡ Some d) × (slice_get (declarations tree) n ≡ Some (c, d))
+  abbrev pub HasId : ClassName → Option ℕ → Type 0
+  HasId c None = declaration_of tree c ≡ None
+  HasId c (Some n) = (d : Declaration) × (declaration_of tree c ≡ Some d) × (slice_get (declarations tree) n ≡ Some (c, d))
 
-  pub numbered : (c : ClassName) → IsNumbered c (class_number tree c)
-  numbered c = by_place (class_number tree c) (find (entry_named c) (declarations tree)) refl refl (found_at_place (entry_named c) (declarations tree))
+  pub numbered : (c : ClassName) → HasId c (class_number tree c)
+  numbered c = by_index (class_number tree c) (find (entry_named c) (declarations tree)) refl refl (found_at_index (entry_named c) (declarations tree))
     where
       named_itself : (e : ClassName × Declaration) → IsTrue (entry_named c e) → e ≡ (c, e.1)
       named_itself e h = λ i. (sym (same_class_equal c e.0 h) i, e.1)
 
-      by_place : (o : Option ℕ) (f : Option (ClassName × Declaration)) → class_number tree c ≡ o → find (entry_named c) (declarations tree) ≡ f →
-          option_map (slice_get (declarations tree)) o ≡ option_map Some f → IsNumbered c o
-      by_place None None p q e = sym (find_declared c) ∙ ap (option_map (λ (e : ClassName × Declaration). e.1)) q
-      by_place (Some n) (Some d) p q e =
+      by_index : (o : Option ℕ) (f : Option (ClassName × Declaration)) → class_number tree c ≡ o → find (entry_named c) (declarations tree) ≡ f →
+          option_map (slice_get (declarations tree)) o ≡ option_map Some f → HasId c o
+      by_index None None p q e = sym (find_declared c) ∙ ap (option_map (λ (e : ClassName × Declaration). e.1)) q
+      by_index (Some n) (Some d) p q e =
           let at : slice_get (declarations tree) n ≡ Some d = cc in
           (d.1, sym (find_declared c) ∙ ap (option_map (λ (e : ClassName × Declaration). e.1)) q, at ∙ ap Some (named_itself d (found_passes (entry_named c) (declarations tree) d q)))
-      by_place None (Some d) p q e = absurd (lost e)
+      by_index None (Some d) p q e = absurd (lost e)
         where
           lost : None ≡ Some (Some d) → ⊥
           lost h = cc
-      by_place (Some n) None p q e = absurd (lost e)
+      by_index (Some n) None p q e = absurd (lost e)
         where
           lost : Some (slice_get (declarations tree) n) ≡ None → ⊥
           lost h = cc
 
   pub declared_at_none : (c : ClassName) → class_number tree c ≡ None → declaration_of tree c ≡ None
-  declared_at_none c e = subst (IsNumbered c) e (numbered c)
+  declared_at_none c e = subst (HasId c) e (numbered c)
 
   pub declared_at_number : (c : ClassName) (n : ℕ) → class_number tree c ≡ Some n → option_map (λ (e : ClassName × Declaration). e.1) (slice_get (declarations tree) n) ≡ declaration_of tree c
   declared_at_number c n e =
-      let found : (d : Declaration) × (declaration_of tree c ≡ Some d) × (slice_get (declarations tree) n ≡ Some (c, d)) = subst (IsNumbered c) e (numbered c) in
+      let found : (d : Declaration) × (declaration_of tree c ≡ Some d) × (slice_get (declarations tree) n ≡ Some (c, d)) = subst (HasId c) e (numbered c) in
       ap (option_map (λ (e : ClassName × Declaration). e.1)) found.2 ∙ sym found.1
 
   -- ---- along a chain
 
-  module _ {X : Type 0} (at : ClassName → Option X) (place : ℕ → Option ℕ) (member : ℕ × ℕ → Option (ClassName × X))
+  module _ {X : Type 0} (at : ClassName → Option X) (index : ℕ → Option ℕ) (member : ℕ × ℕ → Option (ClassName × X))
       (absent : (c : ClassName) → declaration_of tree c ≡ None → at c ≡ None)
-      (present : (c : ClassName) (d : Declaration) (n : ℕ) → declaration_of tree c ≡ Some d → slice_get (declarations tree) n ≡ Some (c, d) → option_map (λ p. member (n, p)) (place n) ≡ option_map (λ x. Some (c, x)) (at c)) where
-    pub nearest_is_numbered : (cs : List ClassName) → option_map member (nearest_number place (filter_map (class_number tree) cs)) ≡ option_map Some (nearest at cs)
+      (present : (c : ClassName) (d : Declaration) (n : ℕ) → declaration_of tree c ≡ Some d → slice_get (declarations tree) n ≡ Some (c, d) → option_map (λ p. member (n, p)) (index n) ≡ option_map (λ x. Some (c, x)) (at c)) where
+    pub nearest_is_numbered : (cs : List ClassName) → option_map member (nearest_number index (filter_map (class_number tree) cs)) ≡ option_map Some (nearest at cs)
     nearest_is_numbered [] = refl
     nearest_is_numbered (c ∷ cs) = by_number (nearest_is_numbered cs) (class_number tree c) (numbered c)
       where
-        by_found : option_map member (nearest_number place (filter_map (class_number tree) cs)) ≡ option_map Some (nearest at cs) → (n : ℕ) (o : Option ℕ) (f : Option X) → option_map (λ p. member (n, p)) o ≡ option_map (λ x. Some (c, x)) f →
-            option_map member (option_map_or (λ p. Some (n, p)) o (nearest_number place (filter_map (class_number tree) cs))) ≡ option_map Some (option_map_or (λ x. Some (c, x)) f (nearest at cs))
+        by_found : option_map member (nearest_number index (filter_map (class_number tree) cs)) ≡ option_map Some (nearest at cs) → (n : ℕ) (o : Option ℕ) (f : Option X) → option_map (λ p. member (n, p)) o ≡ option_map (λ x. Some (c, x)) f →
+            option_map member (option_map_or (λ p. Some (n, p)) o (nearest_number index (filter_map (class_number tree) cs))) ≡ option_map Some (option_map_or (λ x. Some (c, x)) f (nearest at cs))
         by_found further n None None e = further
         by_found further n (Some p) (Some x) e = e
         by_found further n None (Some x) e = absurd (none_is_some _ e)
         by_found further n (Some p) None e = absurd (none_is_some _ (sym e))
 
-        by_number : option_map member (nearest_number place (filter_map (class_number tree) cs)) ≡ option_map Some (nearest at cs) → (o : Option ℕ) → IsNumbered c o →
-            option_map member (nearest_number place (cons_option o (filter_map (class_number tree) cs))) ≡ option_map Some (nearest at (c ∷ cs))
+        by_number : option_map member (nearest_number index (filter_map (class_number tree) cs)) ≡ option_map Some (nearest at cs) → (o : Option ℕ) → HasId c o →
+            option_map member (nearest_number index (cons_option o (filter_map (class_number tree) cs))) ≡ option_map Some (nearest at (c ∷ cs))
         by_number further None e = further ∙ sym (ap (λ f. option_map Some (option_map_or (λ x. Some (c, x)) f (nearest at cs))) (absent c e))
-        by_number further (Some n) (d, e, k) = by_found further n (place n) (at c) (present c d n e k)
+        by_number further (Some n) (d, e, k) = by_found further n (index n) (at c) (present c d n e k)
 
-  -- a class's member at the place that its key finds
+  -- a class's member at the index that its key finds
   module _ {X : Type 0} (part : Declaration → List X) (own test : X → Bool) (same : (x : X) → own x ≡ test x) where
     abbrev in_class : ClassName → Option X
     in_class c = find test (listed_by part (declaration_of tree c))
@@ -183,12 +183,12 @@ module _ (tree : Tree) where
     in_absent c e = ap (λ d. find test (listed_by part d)) e
 
     pub in_present : (c : ClassName) (d : Declaration) (n : ℕ) → declaration_of tree c ≡ Some d → slice_get (declarations tree) n ≡ Some (c, d) →
-        option_map (λ p. member_at part tree (n, p)) (place_in part own tree n) ≡ option_map (λ x. Some (c, x)) (in_class c)
+        option_map (λ p. member_at part tree (n, p)) (index_in part own tree n) ≡ option_map (λ x. Some (c, x)) (in_class c)
     in_present c d n e k =
         let named : X → ClassName × X = λ x. (c, x) in
-        let placed : option_map (λ p. member_at part tree (n, p)) (place_in part own tree n) ≡ option_map (λ p. option_map named (slice_get (part d) p)) (position_from own 0 (part d)) =
+        let placed : option_map (λ p. member_at part tree (n, p)) (index_in part own tree n) ≡ option_map (λ p. option_map named (slice_get (part d) p)) (position_from own 0 (part d)) =
         ap (λ (z : Option (ClassName × Declaration)). option_map (λ p. option_and_then (λ (y : ClassName × Declaration). option_map (λ x. (y.0, x)) (slice_get (part y.1) p)) z) (option_and_then (λ (y : ClassName × Declaration). position_from own 0 (part y.1)) z)) k in
-        placed ∙ sym (option_map_of_map (slice_get (part d)) (option_map named) (position_from own 0 (part d))) ∙ ap (option_map (option_map named)) (found_at_place own (part d)) ∙
+        placed ∙ sym (option_map_of_map (slice_get (part d)) (option_map named) (position_from own 0 (part d))) ∙ ap (option_map (option_map named)) (found_at_index own (part d)) ∙
         option_map_of_map Some (option_map named) (find own (part d)) ∙ ap (option_map (λ x. Some (named x))) (find_congr own test same (part d)) ∙
         sym (ap (λ z. option_map (λ x. Some (named x)) (find test (listed_by part z))) e)
 
@@ -197,14 +197,14 @@ module _ (tree : Tree) where
   pub field_is_numbered : (is_static : Bool) (r : FieldReference) → option_map (field_at tree) (field_number tree is_static r) ≡ option_map Some (find_field tree is_static r)
   field_is_numbered is_static r =
       let f : Field = record { is_static = is_static; field_type = r.field_type; name = r.name } in
-      nearest_is_numbered _ (place_in (λ d. d.fields) (same_field f) tree) (field_at tree)
+      nearest_is_numbered _ (index_in (λ d. d.fields) (same_field f) tree) (field_at tree)
       (in_absent (λ d. d.fields) (same_field f) (λ g. same_field g f) (λ g. field_equivalence.symm f g))
       (in_present (λ d. d.fields) (same_field f) (λ g. same_field g f) (λ g. field_equivalence.symm f g)) (chain_of tree r.owner)
 
   pub method_is_numbered : (is_instance : Bool) (r : MethodReference) → option_map (method_at tree) (method_number tree is_instance r) ≡ option_map Some (find_method tree is_instance r)
   method_is_numbered is_instance r =
       let k : MethodIdentity × Bool = (record { name = r.name; signature = r.signature }, not is_instance) in
-      nearest_is_numbered _ (place_in (λ d. d.methods) (λ m. same_called k (called_of m)) tree) (method_at tree)
+      nearest_is_numbered _ (index_in (λ d. d.methods) (λ m. same_called k (called_of m)) tree) (method_at tree)
       (in_absent (λ d. d.methods) (λ m. same_called k (called_of m)) (λ m. same_called (called_of m) k) (λ m. called_equivalence.symm k (called_of m)))
       (in_present (λ d. d.methods) (λ m. same_called k (called_of m)) (λ m. same_called (called_of m) k) (λ m. called_equivalence.symm k (called_of m))) (classes_searched tree r.name r.owner)
 
@@ -220,7 +220,7 @@ module _ (tree : Tree) where
   pub numbers_of_unknown : (m : ℕ) (c : ClassName) → class_number tree c ≡ None → numbers_within m (Some c) ≡ []
   numbers_of_unknown zero c e = refl
   numbers_of_unknown (suc m) c e =
-      let absent : declaration_of tree c ≡ None = subst (IsNumbered c) e (numbered c) in
+      let absent : declaration_of tree c ≡ None = subst (HasId c) e (numbered c) in
       ap (λ o. cons_option o (numbers_within m (base_of tree c))) e ∙ ap (λ d. numbers_within m (option_and_then (λ (x : Declaration). x.base) d)) absent ∙ numbers_of_none m
 
   abbrev pub base_at : ℕ → Option ClassName
@@ -229,12 +229,12 @@ module _ (tree : Tree) where
   pub numbers_of_known : (m : ℕ) (c : ClassName) (n : ℕ) → 0 < m → class_number tree c ≡ Some n → numbers_within m (Some c) ≡ n ∷ numbers_within (m - 1) (base_at n)
   numbers_of_known zero c n h e = absurd (omega (arith, h))
   numbers_of_known (suc m) c n h e =
-      let found : (d : Declaration) × (declaration_of tree c ≡ Some d) × (slice_get (declarations tree) n ≡ Some (c, d)) = subst (IsNumbered c) e (numbered c) in
+      let found : (d : Declaration) × (declaration_of tree c ≡ Some d) × (slice_get (declarations tree) n ≡ Some (c, d)) = subst (HasId c) e (numbered c) in
       let base : base_of tree c ≡ base_at n = ap (option_and_then (λ (d : Declaration). d.base)) found.1 ∙ sym (ap (option_and_then (λ (y : ClassName × Declaration). y.1.base)) found.2) in
       let k : suc m - 1 ≡ m = omega arith in
       ap (λ o. cons_option o (numbers_within m (base_of tree c))) e ∙ ap (λ b. n ∷ numbers_within m b) base ∙ ap (λ x. n ∷ numbers_within x (base_at n)) (sym k)
 
   pub chain_at_number : (c : ClassName) (n : ℕ) → class_number tree c ≡ Some n → slice_get (map (λ (e : ClassName × Declaration). chain_numbers tree e.0) (declarations tree)) n ≡ Some (chain_numbers tree c)
   chain_at_number c n e =
-      let found : (d : Declaration) × (declaration_of tree c ≡ Some d) × (slice_get (declarations tree) n ≡ Some (c, d)) = subst (IsNumbered c) e (numbered c) in
+      let found : (d : Declaration) × (declaration_of tree c ≡ Some d) × (slice_get (declarations tree) n ≡ Some (c, d)) = subst (HasId c) e (numbered c) in
       slice_get-map (λ (e : ClassName × Declaration). chain_numbers tree e.0) (declarations tree) n ∙ ap (option_map (λ (e : ClassName × Declaration). chain_numbers tree e.0)) found.2

@@ -10,7 +10,7 @@ use Rattle.cil_model.specs.Declarations.{Declaration}
 use Rattle.inheritance.specs.declared.forests.Forest.{Forest}
 use Rattle.inheritance.specs.Ledgers.{nearest_from}
 use Rattle.name_tables.specs.Members.{IsMemberTable}
-use Rattle.name_tables.specs.Methods.{virtual_place, line_of, methods_at, AreNumbers}
+use Rattle.name_tables.specs.Methods.{virtual_index, line_of, methods_at, AreNumbers}
 use Rattle.name_tables.specs.Numbers.{declarations, nearest_number}
 use Rattle.name_tables.specs.Sameness.{MethodIdentity, identity_of}
 use Rattle.name_tables.proofs.MemberLaws.{nearest_on_line}
@@ -49,9 +49,9 @@ module _ (tree : Tree) (number : MethodIdentity → ℕ) (rows : List (List ℕ)
       of (e ∷ es) (suc n) = of es n
 
   -- all virtual methods that an interface declares are found by the numbers of these numbers
-  pub found_by_numbers : (again : ℕ → ℕ) (forest : Forest) → IsMemberTable tree forest (λ k. again (number k)) (virtual_place tree) → (interface class : ℕ) →
-      list_all (λ n. is_some (nearest_from forest (again n) forest.most (Some class))) (slice_index_or rows interface []) ≡ list_all (λ (m : Method). is_some (nearest_number (virtual_place tree (identity_of m)) (line_of tree (Some class)))) (methods_at tree interface)
+  pub found_by_numbers : (again : ℕ → ℕ) (forest : Forest) → IsMemberTable tree forest (λ k. again (number k)) (virtual_index tree) → (interface class : ℕ) →
+      list_all (λ n. is_some (nearest_from forest (again n) forest.most (Some class))) (slice_index_or rows interface []) ≡ list_all (λ (m : Method). is_some (nearest_number (virtual_index tree (identity_of m)) (line_of tree (Some class)))) (methods_at tree interface)
   found_by_numbers again forest table interface class =
       said_of_numbers (λ n. is_some (nearest_from forest (again n) forest.most (Some class))) interface ∙
-      all_alike (λ (m : Method). is_some (nearest_from forest (again (number (identity_of m))) forest.most (Some class))) (λ (m : Method). is_some (nearest_number (virtual_place tree (identity_of m)) (line_of tree (Some class))))
-      (λ m. ap is_some (nearest_on_line tree forest (λ k. again (number k)) (virtual_place tree) table (identity_of m) class)) (methods_at tree interface)
+      all_alike (λ (m : Method). is_some (nearest_from forest (again (number (identity_of m))) forest.most (Some class))) (λ (m : Method). is_some (nearest_number (virtual_index tree (identity_of m)) (line_of tree (Some class))))
+      (λ m. ap is_some (nearest_on_line tree forest (λ k. again (number k)) (virtual_index tree) table (identity_of m) class)) (methods_at tree interface)

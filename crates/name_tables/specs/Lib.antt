@@ -4,7 +4,7 @@ pub mod Keys
 pub mod BuiltInTable
 pub mod Entries
 pub mod Numbers
-pub mod FirstPlaces
+pub mod FirstIndices
 pub mod Inherited
 pub mod Members
 pub mod Hashes

@@ -14,16 +14,16 @@ use Rattle.name_tables.specs.declared.keys.CallNumber.{CallNumber}
 use Rattle.name_tables.specs.Inherited.{number_in}
 use Rattle.name_tables.specs.Keys.{method_of_key}
 use Rattle.name_tables.specs.Members.{base_numbers, IsMemberTable}
-use Rattle.name_tables.specs.Numbers.{declarations, place_in}
+use Rattle.name_tables.specs.Numbers.{declarations, index_in}
 use Rattle.name_tables.specs.Sameness.{MethodIdentity, same_identity, identity_of, same_called, called_of, same_call}
 
 -- the number of a name and signature among those of all declared methods
 abbrev pub identity_number : List MethodKey → MethodIdentity → ℕ
 identity_number keys k = number_in same_identity (map method_of_key keys) k
 
--- the place of a method in a class, by its name and signature
-abbrev pub method_place : Tree → MethodIdentity → ℕ → Option ℕ
-method_place tree k class = place_in (λ d. d.methods) (λ m. same_identity k (identity_of m)) tree class
+-- the index of a method in a class, by its name and signature
+abbrev pub method_index : Tree → MethodIdentity → ℕ → Option ℕ
+method_index tree k class = index_in (λ d. d.methods) (λ m. same_identity k (identity_of m)) tree class
 
 -- whether the method that a class declares with this name and signature is virtual
 abbrev pub has_virtual : Declaration → MethodIdentity → Bool
@@ -33,9 +33,9 @@ has_virtual d k = option_map_or (λ (m : Method). is_virtual m.kind) (find (λ m
 abbrev pub virtuals_of : Declaration → List MethodIdentity
 virtuals_of d = filter (has_virtual d) (map identity_of d.methods)
 
--- the place of a virtual method among those of a class
-abbrev pub virtual_place : Tree → MethodIdentity → ℕ → Option ℕ
-virtual_place tree k class = option_and_then (λ (e : ClassName × Declaration). position_from (same_identity k) 0 (virtuals_of e.1)) (slice_get (declarations tree) class)
+-- the index of a virtual method among those of a class
+abbrev pub virtual_index : Tree → MethodIdentity → ℕ → Option ℕ
+virtual_index tree k class = option_and_then (λ (e : ClassName × Declaration). position_from (same_identity k) 0 (virtuals_of e.1)) (slice_get (declarations tree) class)
 
 -- a class and those along its bases, by numbers
 abbrev pub line_of : Tree → Option ℕ → List ℕ
@@ -51,7 +51,7 @@ AreNumbers tree number rows = rows ≡ map (λ (e : ClassName × Declaration). m
 
 -- the methods of all classes, with a number for each name and signature
 pub record IsMethodTable (tree : Tree) (keys : List MethodKey) (forest : Forest) : Type 0 where
-  pub table : IsMemberTable tree forest (identity_number keys) (method_place tree)
+  pub table : IsMemberTable tree forest (identity_number keys) (method_index tree)
   pub known : map method_of_key keys ≡ flat_map (λ (e : ClassName × Declaration). map identity_of e.1.methods) (declarations tree)
   pub numbers : AreNumbers tree (identity_number keys) (map (λ r. r.items) forest.declared.items)
 
@@ -66,6 +66,6 @@ call_of number k = record { number = number k.0; is_static = k.1 }
 abbrev pub call_number : List MethodKey → List CallNumber → MethodIdentity × Bool → ℕ
 call_number keys calls k = number_in same_call calls (call_of (identity_number keys) k)
 
--- the place of a method in a class, by its name, signature and staticness
-abbrev pub call_place : Tree → MethodIdentity × Bool → ℕ → Option ℕ
-call_place tree k class = place_in (λ d. d.methods) (λ m. same_called k (called_of m)) tree class
+-- the index of a method in a class, by its name, signature and staticness
+abbrev pub call_index : Tree → MethodIdentity × Bool → ℕ → Option ℕ
+call_index tree k class = index_in (λ d. d.methods) (λ m. same_called k (called_of m)) tree class

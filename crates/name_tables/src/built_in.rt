@@ -197,8 +197,8 @@ fn methods_of(alloc: Global, table: &[BuiltInMethod]) -> Result<Vec<Method>, NoM
     ensures { IfOk result (λ v. v.items ≡ map method_of table.now) }
 {
     let mut methods = Vec::new(alloc);
-    for place in 0..table.len() {
-        methods.push(table[place].method(alloc)?)?;
+    for index in 0..table.len() {
+        methods.push(table[index].method(alloc)?)?;
     }
     Ok(methods)
 }
@@ -218,8 +218,8 @@ fn classes_of(alloc: Global, table: &[BuiltInRow]) -> Result<Sequence<BuiltInCla
     ensures { IfOk result (λ b. map built_in_entry b ≡ map row_entry table.now) }
 {
     let mut classes = Vec::new(alloc);
-    for place in 0..table.len() {
-        classes.push(BuiltInClass::of_row(alloc, &table[place])?)?;
+    for index in 0..table.len() {
+        classes.push(BuiltInClass::of_row(alloc, &table[index])?)?;
     }
     Ok(Sequence::new(classes))
 }

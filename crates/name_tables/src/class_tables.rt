@@ -7,9 +7,9 @@ ghost use Rattle.name_tables.specs.Methods.{has_virtual};
 ghost use Rattle.name_tables.specs.Sameness.{same_identity, identity_of};
 
 use crate::classes::DeclaredClass;
+use crate::key_indices::KeyIndices;
 use crate::keys::MethodKey;
 use crate::kinds::is_virtual;
-use crate::places::Places;
 use cil_model::memory::NoMemory;
 use cil_model::trees::Method;
 use std::alloc::Global;
@@ -18,7 +18,7 @@ use std::alloc::Global;
 #[derive(Drop)]
 pub struct ClassTable<'a> {
     pub class: DeclaredClass<'a>,
-    methods: Places<MethodKey<'a>>,
+    methods: KeyIndices<MethodKey<'a>>,
     ghost methods_are: { map method_of_key methods ≡ map identity_of (declaration_in class).methods },
 }
 
@@ -36,27 +36,27 @@ pub fn method_keys<'a>(
     Ok(keys)
 }
 
-fn method_at<'a>(methods: &[&'a Method], place: usize) -> Option<&'a Method>
-    ensures { result ≡ slice_get methods.now place }
+fn method_at<'a>(methods: &[&'a Method], index: usize) -> Option<&'a Method>
+    ensures { result ≡ slice_get methods.now index }
 {
-    methods.get(place).copied()
+    methods.get(index).copied()
 }
 
 impl<'a> ClassTable<'a> {
-    /// Notes the first place of each method of a class. The only error is out of memory.
+    /// Notes the first index of each method of a class. The only error is out of memory.
     pub fn new(alloc: Global, class: DeclaredClass<'a>) -> Result<Self, NoMemory>
         ensures { IfOk result (λ t. t.class ≡ class.entry) }
     {
-        let methods = Places::new(alloc, method_keys(alloc, class.methods.as_slice())?)?;
+        let methods = KeyIndices::new(alloc, method_keys(alloc, class.methods.as_slice())?)?;
         Ok(ClassTable { class, methods })
     }
 
-    /// Whether the first method of the name and signature of the one at a place is virtual.
-    pub(crate) fn is_virtual_at(&self, place: usize) -> bool
-        requires { place < length (declaration_in self.now.class).methods }
-        ensures { option_map (λ m. has_virtual (declaration_in self.now.class) (identity_of m)) (slice_get (declaration_in self.now.class).methods place) ≡ Some result }
+    /// Whether the first method of the name and signature of the one at an index is virtual.
+    pub(crate) fn is_virtual_at(&self, index: usize) -> bool
+        requires { index < length (declaration_in self.now.class).methods }
+        ensures { option_map (λ m. has_virtual (declaration_in self.now.class) (identity_of m)) (slice_get (declaration_in self.now.class).methods index) ≡ Some result }
     {
-        match method_at(self.class.methods.as_slice(), self.methods.numbers()[place]) {
+        match method_at(self.class.methods.as_slice(), self.methods.numbers()[index]) {
             None => false,
             Some(method) => is_virtual(&method.kind),
         }
@@ -68,7 +68,7 @@ impl<'a> ClassTable<'a> {
     {
         match self.methods.first(key) {
             None => None,
-            Some(place) => method_at(self.class.methods.as_slice(), place),
+            Some(index) => method_at(self.class.methods.as_slice(), index),
         }
     }
 }

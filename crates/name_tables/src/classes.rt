@@ -51,7 +51,7 @@ pub fn method_members(alloc: Global, class: &Class) -> Result<Vec<&Method>, NoMe
 }
 
 /// The methods by reference, in their order.
-fn referenced(alloc: Global, methods: &[Method]) -> Result<Vec<&Method>, NoMemory>
+fn references_to(alloc: Global, methods: &[Method]) -> Result<Vec<&Method>, NoMemory>
     ensures { IfOk result (λ v. map (λ m. m.now) v.items ≡ methods.now) }
 {
     Ok(methods.iter().collect(alloc)?)
@@ -98,7 +98,7 @@ impl<'a> DeclaredClass<'a> {
     pub fn of_built_in(alloc: Global, class: &'a BuiltInClass) -> Result<Self, NoMemory>
         ensures { IfOk result (λ d. entry_of d ≡ built_in_entry class.now) }
     {
-        let methods = referenced(alloc, class.methods.as_slice())?;
+        let methods = references_to(alloc, class.methods.as_slice())?;
         Ok(DeclaredClass {
             name: ClassKey::of(&class.name),
             is_interface: false,

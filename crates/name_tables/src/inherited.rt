@@ -3,30 +3,30 @@
 ghost use Rattle.std.specs.Prelude.{◌≡◌, ◌+◌, ◌<◌, ℕ, Some, IfOk, OnErr, OnOk, length, map, flat_map, option_map, slice_index_or, []};
 ghost use Rattle.std.specs.List.{position_from};
 ghost use Rattle.std.specs.Option.{ForSome};
-ghost use Rattle.inheritance.specs.Lines.{place_in, Ends};
+ghost use Rattle.inheritance.specs.Lines.{index_in, Ends};
 ghost use Rattle.inheritance.specs.Ledgers.{pair_of, nearest_from};
 ghost use Rattle.inheritance.specs.CutCycles.{IsCut};
-ghost use Rattle.name_tables.specs.Inherited.{number_in, AreNumbered};
+ghost use Rattle.name_tables.specs.Inherited.{number_in, HaveIds};
 
-use crate::places::Places;
+use crate::key_indices::KeyIndices;
 use cil_model::memory::NoMemory;
-use inheritance::{CutCycles, Declared, Endless, Forest, Inheritance};
+use inheritance::{CutCycles, Cyclic, Declared, Forest, Inheritance};
 use std::alloc::Global;
 use std::cmp::Eq;
 use std::hash::Hash;
 
-/// The nearest declaration of each key along the bases of each class. A key's number is the place of the first equal one among all
+/// The nearest declaration of each key along the bases of each class. A key's number is the index of the first equal one among all
 /// that are declared; another key's number is the one after them.
 pub(crate) struct Inherited<K: Eq + Hash + Copy + Drop> {
-    pub keys: Places<K>,
+    pub keys: KeyIndices<K>,
     pub inheritance: Inheritance,
     cycles: Option<CutCycles>,
     ghost cut: { ForSome cycles (λ c. IsCut inheritance.forest c.cut.forest) },
     ghost within: { inheritance.forest.keys ≡ length keys + 1 },
-    ghost numbered: { AreNumbered K.eq keys (map (λ r. r.items) inheritance.forest.declared.items) },
+    ghost numbered: { HaveIds K.eq keys (map (λ r. r.items) inheritance.forest.declared.items) },
 }
 
-/// Each part gives back its own.
+/// Each part is dropped.
 impl<K: Eq + Hash + Copy + Drop> Drop for Inherited<K> {
     fn drop(self) {
         let Inherited {
@@ -37,24 +37,24 @@ impl<K: Eq + Hash + Copy + Drop> Drop for Inherited<K> {
     }
 }
 
-/// The keys of all rows, with the first place of each.
+/// The keys of all rows, with the first index of each.
 fn all_keys<K: Eq + Hash + Copy + Drop>(
     alloc: Global,
     rows: &[Vec<K>],
-) -> Result<Places<K>, NoMemory>
+) -> Result<KeyIndices<K>, NoMemory>
     ensures { IfOk result (λ keys. keys ≡ flat_map (λ row. row.items) rows.now) }
 {
     let mut keys = Vec::new(alloc);
     for row in rows {
         keys.extend_from_slice(row.as_slice())?;
     }
-    Places::new(alloc, keys)
+    KeyIndices::new(alloc, keys)
 }
 
 /// The numbers of all keys, row by row.
 fn own_numbers<K: Eq + Hash + Copy + Drop>(
     alloc: Global,
-    keys: &Places<K>,
+    keys: &KeyIndices<K>,
     rows: &[Vec<K>],
 ) -> Result<Vec<Vec<usize>>, NoMemory>
     requires { keys.now ≡ flat_map (λ row. row.items) rows.now }
@@ -70,32 +70,32 @@ fn own_numbers<K: Eq + Hash + Copy + Drop>(
     Ok(numbers)
 }
 
-pub(crate) fn number_of<K: Eq + Hash + Copy + Drop>(keys: &Places<K>, key: K) -> usize
+pub(crate) fn number_of<K: Eq + Hash + Copy + Drop>(keys: &KeyIndices<K>, key: K) -> usize
     ensures { result ≡ number_in K.eq keys.now key }
 {
     match keys.first(key) {
         None => keys.keys().len(),
-        Some(place) => place,
+        Some(index) => index,
     }
 }
 
 /// The numbers of the keys of a row.
 pub(crate) fn row_numbers<K: Eq + Hash + Copy + Drop>(
     alloc: Global,
-    keys: &Places<K>,
+    keys: &KeyIndices<K>,
     row: &[K],
 ) -> Result<Vec<usize>, NoMemory>
     ensures { IfOk result (λ v. v.items ≡ map (number_in K.eq keys.now) row.now) }
 {
     let mut numbers = Vec::new(alloc);
-    for place in 0..row.len() {
-        numbers.push(number_of(keys, row[place]))?;
+    for index in 0..row.len() {
+        numbers.push(number_of(keys, row[index]))?;
     }
     Ok(numbers)
 }
 
 /// The bases once more.
-fn copied(alloc: Global, bases: &[Option<usize>]) -> Result<Vec<Option<usize>>, NoMemory>
+fn copy_of(alloc: Global, bases: &[Option<usize>]) -> Result<Vec<Option<usize>>, NoMemory>
     ensures { IfOk result (λ v. v.items ≡ bases.now) }
 {
     let mut copies = Vec::with_capacity(alloc, bases.len())?;
@@ -104,10 +104,10 @@ fn copied(alloc: Global, bases: &[Option<usize>]) -> Result<Vec<Option<usize>>, 
 }
 
 /// The classes with their bases and the numbers of the keys that each declares.
-fn numbered<K: Eq + Hash + Copy + Drop>(
+fn with_numbers<K: Eq + Hash + Copy + Drop>(
     alloc: Global,
     bases: &[Option<usize>],
-    keys: &Places<K>,
+    keys: &KeyIndices<K>,
     rows: &[Vec<K>],
     most: usize,
 ) -> Result<Forest, NoMemory>
@@ -120,7 +120,7 @@ fn numbered<K: Eq + Hash + Copy + Drop>(
     let Some(count) = keys.keys().len().checked_add(1) else {
         return Err(NoMemory);
     };
-    let bases = copied(alloc, bases)?;
+    let bases = copy_of(alloc, bases)?;
     Ok(Forest {
         bases,
         declared: own_numbers(alloc, keys, rows)?,
@@ -142,10 +142,10 @@ impl<K: Eq + Hash + Copy + Drop> Inherited<K> {
         ensures most { IfOk result (λ t. t.inheritance.forest.most ≡ most) }
         ensures keys { IfOk result (λ t. t.keys ≡ flat_map (λ row. row.items) rows.now) }
         ensures declared { IfOk result (λ t. map (λ r. r.items) t.inheritance.forest.declared.items ≡ map (λ row. map (number_in K.eq t.keys) row.items) rows.now) }
-        ensures places { IfOk result (λ t. (key : K) (class : ℕ) → place_in (map (λ r. r.items) t.inheritance.forest.declared.items) (number_in K.eq t.keys key) class ≡ position_from (K.eq key) 0 (slice_index_or (map (λ row. row.items) rows.now) class [])) }
+        ensures indices { IfOk result (λ t. (key : K) (class : ℕ) → index_in (map (λ r. r.items) t.inheritance.forest.declared.items) (number_in K.eq t.keys key) class ≡ position_from (K.eq key) 0 (slice_index_or (map (λ row. row.items) rows.now) class [])) }
     {
         let keys = all_keys(alloc, rows)?;
-        let forest = numbered(alloc, bases, &keys, rows, most)?;
+        let forest = with_numbers(alloc, bases, &keys, rows, most)?;
         let cycles = CutCycles::new(alloc, &forest)?;
         let inheritance = Inheritance::new(alloc, forest)?;
         Ok(Inherited {
@@ -156,10 +156,10 @@ impl<K: Eq + Hash + Copy + Drop> Inherited<K> {
     }
 
     /// The nearest declaration of a key, from a class on. An error exactly where the class's bases do not end.
-    pub fn nearest(&self, class: usize, key: K) -> Result<Option<Declared>, Endless>
-        ensures found { IfOk result (λ found. option_map (λ d. (d.class, d.place)) found ≡ nearest_from self.now.inheritance.forest (number_in K.eq self.now.keys key) self.now.inheritance.forest.most (Some class)) }
+    pub fn nearest(&self, class: usize, key: K) -> Result<Option<Declared>, Cyclic>
+        ensures found { IfOk result (λ found. option_map (λ d. (d.class, d.index)) found ≡ nearest_from self.now.inheritance.forest (number_in K.eq self.now.keys key) self.now.inheritance.forest.most (Some class)) }
         ensures ended { OnOk result (Ends self.now.inheritance.forest.bases.items self.now.inheritance.forest.most class) }
-        ensures endless { OnErr result (¬ Ends self.now.inheritance.forest.bases.items self.now.inheritance.forest.most class) }
+        ensures cyclic { OnErr result (¬ Ends self.now.inheritance.forest.bases.items self.now.inheritance.forest.most class) }
     {
         self.inheritance.nearest(class, number_of(&self.keys, key))
     }
@@ -177,11 +177,11 @@ impl<K: Eq + Hash + Copy + Drop> Inherited<K> {
 
     /// The same for each class.
     pub fn find(&self, class: usize, key: K) -> Option<Declared>
-        ensures { option_map (λ d. (d.class, d.place)) result ≡ nearest_from self.now.inheritance.forest (number_in K.eq self.now.keys key) self.now.inheritance.forest.most (Some class) }
+        ensures { option_map (λ d. (d.class, d.index)) result ≡ nearest_from self.now.inheritance.forest (number_in K.eq self.now.keys key) self.now.inheritance.forest.most (Some class) }
     {
         match self.nearest(class, key) {
             Ok(found) => found,
-            Err(Endless) => self.nearest_round(class, number_of(&self.keys, key)),
+            Err(Cyclic) => self.nearest_round(class, number_of(&self.keys, key)),
         }
     }
 }

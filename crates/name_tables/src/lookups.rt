@@ -9,9 +9,9 @@ ghost use Rattle.inheritance.specs.Ledgers.{pair_of};
 ghost use Rattle.name_tables.specs.BuiltInTable.{built_in_entry};
 ghost use Rattle.cil_model.specs.Declarations.{built_ins};
 ghost use Rattle.name_tables.specs.Keys.{class_of_key, field_of_key, called_of_key, reference_of_keys};
-ghost use Rattle.name_tables.specs.Members.{base_numbers, field_key_number, field_place, EndsIn, IsMemberTable};
-ghost use Rattle.name_tables.specs.Methods.{call_number, call_of, call_place, identity_number, line_of, IsMethodTable};
-ghost use Rattle.name_tables.specs.Numbers.{chain_numbers, nearest_number, place_in, field_at, method_at, field_number, method_number, class_number};
+ghost use Rattle.name_tables.specs.Members.{base_numbers, field_key_number, field_index, EndsIn, IsMemberTable};
+ghost use Rattle.name_tables.specs.Methods.{call_number, call_of, call_index, identity_number, line_of, IsMethodTable};
+ghost use Rattle.name_tables.specs.Numbers.{chain_numbers, nearest_number, index_in, field_at, method_at, field_number, method_number, class_number};
 ghost use Rattle.name_tables.specs.Sameness.{same_field, same_called, called_of};
 
 use crate::built_in::BuiltInClass;
@@ -27,11 +27,11 @@ use cil_model::types::{ClassName, DeclaredType, Signature};
 use inheritance::Declared;
 use std::alloc::Global;
 
-/// Where a member is: the number of its class, and its place among the fields or the methods of that class.
+/// Where a member is: the number of its class, and its index among the fields or the methods of that class.
 #[derive(Clone, Copy, PartialEq, Eq)]
 pub struct MemberNumber {
     pub class: usize,
-    pub place: usize,
+    pub index: usize,
 }
 
 /// The tables of a tree, with what each class inherits.
@@ -40,12 +40,12 @@ pub struct NameTables<'a> {
     fields: Inherited<FieldKey<'a>>,
     pub(crate) methods: Inherited<MethodKey<'a>>,
     calls: Inherited<CallNumber>,
-    ghost fields_are: { IsMemberTable classes.tree.now fields.inheritance.forest (field_key_number fields.keys) (field_place classes.tree.now) },
+    ghost fields_are: { IsMemberTable classes.tree.now fields.inheritance.forest (field_key_number fields.keys) (field_index classes.tree.now) },
     ghost methods_are: { IsMethodTable classes.tree.now methods.keys methods.inheritance.forest },
-    ghost calls_are: { IsMemberTable classes.tree.now calls.inheritance.forest (call_number methods.keys calls.keys) (call_place classes.tree.now) },
+    ghost calls_are: { IsMemberTable classes.tree.now calls.inheritance.forest (call_number methods.keys calls.keys) (call_index classes.tree.now) },
 }
 
-/// Each part gives back its own.
+/// Each part is dropped.
 impl Drop for NameTables<'_> {
     fn drop(self) {
         let NameTables {
@@ -59,13 +59,13 @@ impl Drop for NameTables<'_> {
 
 /// A declaration as a member.
 pub(crate) fn member_number(found: Option<Declared>) -> Option<MemberNumber>
-    ensures { option_map (λ m. (m.class, m.place)) result ≡ pair_of found }
+    ensures { option_map (λ m. (m.class, m.index)) result ≡ pair_of found }
 {
     match found {
         None => None,
         Some(declared) => Some(MemberNumber {
             class: declared.class,
-            place: declared.place,
+            index: declared.index,
         }),
     }
 }
@@ -143,7 +143,7 @@ impl<'a> NameTables<'a> {
 
     /// The nearest field of a class's chain.
     fn nearest_field(&self, owner: ClassKey, key: FieldKey) -> Option<MemberNumber>
-        ensures { option_map (λ m. (m.class, m.place)) result ≡ nearest_number (field_place self.now.classes.tree.now key.entry) (chain_numbers self.now.classes.tree.now (class_of_key owner.entry)) }
+        ensures { option_map (λ m. (m.class, m.index)) result ≡ nearest_number (field_index self.now.classes.tree.now key.entry) (chain_numbers self.now.classes.tree.now (class_of_key owner.entry)) }
     {
         let Some(class) = self.classes.number(owner) else {
             return None;
@@ -163,14 +163,14 @@ impl<'a> NameTables<'a> {
 
     /// The nearest method from the class of a number on.
     fn call_from(&self, class: usize, key: CallKey) -> Option<MemberNumber>
-        ensures { option_map (λ m. (m.class, m.place)) result ≡ nearest_number (call_place self.now.classes.tree.now (called_of_key key.entry)) (line_of self.now.classes.tree.now (Some class)) }
+        ensures { option_map (λ m. (m.class, m.index)) result ≡ nearest_number (call_index self.now.classes.tree.now (called_of_key key.entry)) (line_of self.now.classes.tree.now (Some class)) }
     {
         member_number(self.calls.find(class, self.call_number(key)))
     }
 
     /// The nearest method of a class's chain.
     fn nearest_call(&self, owner: ClassKey, key: CallKey) -> Option<MemberNumber>
-        ensures { option_map (λ m. (m.class, m.place)) result ≡ nearest_number (call_place self.now.classes.tree.now (called_of_key key.entry)) (chain_numbers self.now.classes.tree.now (class_of_key owner.entry)) }
+        ensures { option_map (λ m. (m.class, m.index)) result ≡ nearest_number (call_index self.now.classes.tree.now (called_of_key key.entry)) (chain_numbers self.now.classes.tree.now (class_of_key owner.entry)) }
     {
         let Some(class) = self.classes.number(owner) else {
             return None;
@@ -180,7 +180,7 @@ impl<'a> NameTables<'a> {
 
     /// The method that the class of a number itself declares.
     fn own_call_of(&self, class: usize, key: CallKey) -> Option<MemberNumber>
-        ensures { option_map (λ m. (m.class, m.place)) result ≡ nearest_number (call_place self.now.classes.tree.now (called_of_key key.entry)) (class ∷ []) }
+        ensures { option_map (λ m. (m.class, m.index)) result ≡ nearest_number (call_index self.now.classes.tree.now (called_of_key key.entry)) (class ∷ []) }
     {
         match self.call_from(class, key) {
             None => None,
@@ -196,7 +196,7 @@ impl<'a> NameTables<'a> {
 
     /// The method that a class itself declares.
     fn own_call(&self, owner: ClassKey, key: CallKey) -> Option<MemberNumber>
-        ensures { option_map (λ m. (m.class, m.place)) result ≡ nearest_number (place_in (λ d. d.methods) (λ m. same_called (called_of_key key.entry) (called_of m)) self.now.classes.tree.now) (cons_option (class_number self.now.classes.tree.now (class_of_key owner.entry)) []) }
+        ensures { option_map (λ m. (m.class, m.index)) result ≡ nearest_number (index_in (λ d. d.methods) (λ m. same_called (called_of_key key.entry) (called_of m)) self.now.classes.tree.now) (cons_option (class_number self.now.classes.tree.now (class_of_key owner.entry)) []) }
     {
         match self.classes.number(owner) {
             None => None,
@@ -206,8 +206,8 @@ impl<'a> NameTables<'a> {
 
     /// The field of this name, type and staticness in the nearest class of the owner's chain (ECMA-335 II.16, this profile).
     pub fn find_field(&self, is_static: bool, reference: &FieldReference) -> Option<MemberNumber>
-        ensures number { option_map (λ m. (m.class, m.place)) result ≡ field_number self.now.classes.tree.now is_static reference.now }
-        ensures member { option_map (λ m. field_at self.now.classes.tree.now (m.class, m.place)) result ≡ option_map Some (find_field self.now.classes.tree.now is_static reference.now) }
+        ensures number { option_map (λ m. (m.class, m.index)) result ≡ field_number self.now.classes.tree.now is_static reference.now }
+        ensures member { option_map (λ m. field_at self.now.classes.tree.now (m.class, m.index)) result ≡ option_map Some (find_field self.now.classes.tree.now is_static reference.now) }
     {
         let key = FieldKey {
             is_static,
@@ -225,8 +225,8 @@ impl<'a> NameTables<'a> {
         method: MethodKey,
         is_instance: bool,
     ) -> Option<MemberNumber>
-        ensures number { option_map (λ m. (m.class, m.place)) result ≡ method_number self.now.classes.tree.now is_instance (reference_of_keys owner.entry method.entry) }
-        ensures member { option_map (λ m. method_at self.now.classes.tree.now (m.class, m.place)) result ≡ option_map Some (find_method self.now.classes.tree.now is_instance (reference_of_keys owner.entry method.entry)) }
+        ensures number { option_map (λ m. (m.class, m.index)) result ≡ method_number self.now.classes.tree.now is_instance (reference_of_keys owner.entry method.entry) }
+        ensures member { option_map (λ m. method_at self.now.classes.tree.now (m.class, m.index)) result ≡ option_map Some (find_method self.now.classes.tree.now is_instance (reference_of_keys owner.entry method.entry)) }
     {
         let key = CallKey {
             method,
@@ -245,8 +245,8 @@ impl<'a> NameTables<'a> {
         is_instance: bool,
         reference: &MethodReference,
     ) -> Option<MemberNumber>
-        ensures number { option_map (λ m. (m.class, m.place)) result ≡ method_number self.now.classes.tree.now is_instance reference.now }
-        ensures member { option_map (λ m. method_at self.now.classes.tree.now (m.class, m.place)) result ≡ option_map Some (find_method self.now.classes.tree.now is_instance reference.now) }
+        ensures number { option_map (λ m. (m.class, m.index)) result ≡ method_number self.now.classes.tree.now is_instance reference.now }
+        ensures member { option_map (λ m. method_at self.now.classes.tree.now (m.class, m.index)) result ≡ option_map Some (find_method self.now.classes.tree.now is_instance reference.now) }
     {
         let owner = ClassKey::of(&reference.owner);
         let method = MethodKey::new(&reference.name, &reference.signature);
@@ -260,8 +260,8 @@ impl<'a> NameTables<'a> {
         name: &Text,
         signature: &Signature,
     ) -> Option<MemberNumber>
-        ensures number { option_map (λ m. (m.class, m.place)) result ≡ method_number self.now.classes.tree.now true (virtual_reference owner.now name.now signature.now) }
-        ensures member { option_map (λ m. method_at self.now.classes.tree.now (m.class, m.place)) result ≡ option_map Some (find_method self.now.classes.tree.now true (virtual_reference owner.now name.now signature.now)) }
+        ensures number { option_map (λ m. (m.class, m.index)) result ≡ method_number self.now.classes.tree.now true (virtual_reference owner.now name.now signature.now) }
+        ensures member { option_map (λ m. method_at self.now.classes.tree.now (m.class, m.index)) result ≡ option_map Some (find_method self.now.classes.tree.now true (virtual_reference owner.now name.now signature.now)) }
     {
         self.find_call(ClassKey::of(owner), MethodKey::named(name, signature), true)
     }
@@ -272,8 +272,8 @@ impl<'a> NameTables<'a> {
         class: &ClassName,
         parameters: &[DeclaredType],
     ) -> Option<MemberNumber>
-        ensures number { option_map (λ m. (m.class, m.place)) result ≡ method_number self.now.classes.tree.now true (constructor_reference class.now parameters.now) }
-        ensures member { option_map (λ m. method_at self.now.classes.tree.now (m.class, m.place)) result ≡ option_map Some (find_method self.now.classes.tree.now true (constructor_reference class.now parameters.now)) }
+        ensures number { option_map (λ m. (m.class, m.index)) result ≡ method_number self.now.classes.tree.now true (constructor_reference class.now parameters.now) }
+        ensures member { option_map (λ m. method_at self.now.classes.tree.now (m.class, m.index)) result ≡ option_map Some (find_method self.now.classes.tree.now true (constructor_reference class.now parameters.now)) }
     {
         self.find_call(
             ClassKey::of(class),

@@ -3,8 +3,8 @@
 ghost use Rattle.std.specs.Prelude.{◌≡◌, ℕ, IfOk, length, map, option_map};
 ghost use Rattle.name_tables.specs.Entries.{declaration_in};
 ghost use Rattle.name_tables.specs.Keys.{field_of_key, method_of_key};
-ghost use Rattle.name_tables.specs.Members.{base_numbers, field_key_number, field_place, IsMemberTable};
-ghost use Rattle.name_tables.specs.Methods.{call_number, call_of, call_place, IsMethodTable};
+ghost use Rattle.name_tables.specs.Members.{base_numbers, field_key_number, field_index, IsMemberTable};
+ghost use Rattle.name_tables.specs.Methods.{call_number, call_of, call_index, IsMethodTable};
 ghost use Rattle.name_tables.specs.Sameness.{MethodIdentity, identity_of, called_of};
 
 use crate::class_tables::{ClassTable, method_keys};
@@ -50,10 +50,10 @@ fn call_numbers(
     ensures { IfOk result (λ v. (number : MethodIdentity → ℕ) → numbers.now ≡ map (λ m. number (identity_of m.now)) methods.now → v.items ≡ map (λ m. call_of number (called_of m.now)) methods.now) }
 {
     let mut keys = Vec::with_capacity(alloc, methods.len())?;
-    for place in 0..methods.len() {
+    for index in 0..methods.len() {
         keys.push(CallNumber {
-            number: numbers[place],
-            is_static: is_static(&methods[place].kind),
+            number: numbers[index],
+            is_static: is_static(&methods[index].kind),
         })?;
     }
     Ok(keys)
@@ -81,9 +81,9 @@ fn call_rows(
     ensures { IfOk result (λ v. (number : MethodIdentity → ℕ) → map (λ r. r.items) numbers.now ≡ map (λ t. map (λ m. number (identity_of m)) (declaration_in t.class).methods) tables.now → map (λ r. r.items) v.items ≡ map (λ t. map (λ m. call_of number (called_of m)) (declaration_in t.class).methods) tables.now) }
 {
     let mut rows = Vec::with_capacity(alloc, tables.len())?;
-    for place in 0..tables.len() {
-        let methods = tables[place].class.methods.as_slice();
-        rows.push(call_numbers(alloc, methods, numbers[place].as_slice())?)?;
+    for index in 0..tables.len() {
+        let methods = tables[index].class.methods.as_slice();
+        rows.push(call_numbers(alloc, methods, numbers[index].as_slice())?)?;
     }
     Ok(rows)
 }
@@ -95,7 +95,7 @@ pub(crate) fn all_fields<'a>(
     bases: &[Option<usize>],
 ) -> Result<Inherited<FieldKey<'a>>, NoMemory>
     requires { bases.now ≡ base_numbers classes.now.tree.now }
-    ensures { IfOk result (λ t. IsMemberTable classes.now.tree.now t.inheritance.forest (field_key_number t.keys) (field_place classes.now.tree.now)) }
+    ensures { IfOk result (λ t. IsMemberTable classes.now.tree.now t.inheritance.forest (field_key_number t.keys) (field_index classes.now.tree.now)) }
 {
     let rows = field_rows(alloc, classes.all())?;
     Inherited::new(alloc, bases, rows.as_slice(), classes.longest_chain())
@@ -136,7 +136,7 @@ pub(crate) fn all_calls(
 ) -> Result<Inherited<CallNumber>, NoMemory>
     requires bases { bases.now ≡ base_numbers classes.now.tree.now }
     requires methods { IsMethodTable classes.now.tree.now methods.now.keys methods.now.inheritance.forest }
-    ensures { IfOk result (λ t. IsMemberTable classes.now.tree.now t.inheritance.forest (call_number methods.now.keys t.keys) (call_place classes.now.tree.now)) }
+    ensures { IfOk result (λ t. IsMemberTable classes.now.tree.now t.inheritance.forest (call_number methods.now.keys t.keys) (call_index classes.now.tree.now)) }
 {
     let numbers = methods.inheritance.forest.declared.as_slice();
     let rows = call_rows(alloc, classes.all(), numbers)?;

@@ -9,7 +9,7 @@ ghost use Rattle.name_tables.specs.Entries.{declaration_in};
 ghost use Rattle.name_tables.specs.Inherited.{number_in};
 ghost use Rattle.name_tables.specs.Keys.{method_of_key};
 ghost use Rattle.name_tables.specs.Members.{base_numbers, EndsIn, IsMemberTable};
-ghost use Rattle.name_tables.specs.Methods.{method_place, virtual_place, virtual_number, virtuals_of, line_of, methods_at};
+ghost use Rattle.name_tables.specs.Methods.{method_index, virtual_index, virtual_number, virtuals_of, line_of, methods_at};
 ghost use Rattle.name_tables.specs.Numbers.{nearest_number};
 ghost use Rattle.name_tables.specs.Sameness.{MethodIdentity, identity_of};
 
@@ -18,7 +18,7 @@ use crate::inherited::{Inherited, number_of, row_numbers};
 use crate::keys::MethodKey;
 use crate::lookups::{MemberNumber, NameTables, member_number};
 use cil_model::memory::NoMemory;
-use inheritance::Endless;
+use inheritance::Cyclic;
 use std::alloc::Global;
 
 /// The methods of a tree by name and signature, and the virtual ones by the numbers of these.
@@ -26,7 +26,7 @@ use std::alloc::Global;
 pub struct MethodTables<'a> {
     pub names: &'a NameTables<'a>,
     overridable: Inherited<usize>,
-    ghost overridable_are: { IsMemberTable names.now.classes.tree.now overridable.inheritance.forest (virtual_number names.now.methods.keys overridable.keys) (virtual_place names.now.classes.tree.now) },
+    ghost overridable_are: { IsMemberTable names.now.classes.tree.now overridable.inheritance.forest (virtual_number names.now.methods.keys overridable.keys) (virtual_index names.now.classes.tree.now) },
 }
 
 /// Of the numbers of a class's methods those of the virtual ones.
@@ -39,9 +39,9 @@ fn virtual_numbers(
     ensures { IfOk result (λ v. (number : MethodIdentity → ℕ) → numbers.now ≡ map (λ m. number (identity_of m)) (declaration_in table.now.class).methods → v.items ≡ map number (virtuals_of (declaration_in table.now.class))) }
 {
     let mut chosen = Vec::new(alloc);
-    for place in 0..numbers.len() {
-        if table.is_virtual_at(place) {
-            chosen.push(numbers[place])?;
+    for index in 0..numbers.len() {
+        if table.is_virtual_at(index) {
+            chosen.push(numbers[index])?;
         }
     }
     Ok(chosen)
@@ -56,16 +56,16 @@ fn virtual_rows(
     ensures { IfOk result (λ v. (number : MethodIdentity → ℕ) → map (λ r. r.items) numbers.now ≡ map (λ t. map (λ m. number (identity_of m)) (declaration_in t.class).methods) tables.now → map (λ r. r.items) v.items ≡ map (λ t. map number (virtuals_of (declaration_in t.class))) tables.now) }
 {
     let mut rows = Vec::with_capacity(alloc, tables.len())?;
-    for place in 0..tables.len() {
-        let own = numbers[place].as_slice();
-        rows.push(virtual_numbers(alloc, &tables[place], own)?)?;
+    for index in 0..tables.len() {
+        let own = numbers[index].as_slice();
+        rows.push(virtual_numbers(alloc, &tables[index], own)?)?;
     }
     Ok(rows)
 }
 
 /// The virtual methods of all classes by the numbers of their names and signatures.
 fn all_virtual(alloc: Global, names: &NameTables) -> Result<Inherited<usize>, NoMemory>
-    ensures { IfOk result (λ t. IsMemberTable names.now.classes.tree.now t.inheritance.forest (virtual_number names.now.methods.keys t.keys) (virtual_place names.now.classes.tree.now)) }
+    ensures { IfOk result (λ t. IsMemberTable names.now.classes.tree.now t.inheritance.forest (virtual_number names.now.methods.keys t.keys) (virtual_index names.now.classes.tree.now)) }
 {
     let numbers = names.methods.inheritance.forest.declared.as_slice();
     let rows = virtual_rows(alloc, names.classes.all(), numbers)?;
@@ -74,14 +74,14 @@ fn all_virtual(alloc: Global, names: &NameTables) -> Result<Inherited<usize>, No
 }
 
 /// Whether a class from one on declares a virtual method of this number. An error exactly where its bases do not end.
-fn finds(overridable: &Inherited<usize>, class: usize, number: usize) -> Result<bool, Endless>
+fn finds(overridable: &Inherited<usize>, class: usize, number: usize) -> Result<bool, Cyclic>
     ensures found { IfOk result (λ found. found ≡ is_some (nearest_from overridable.now.inheritance.forest (number_in (λ a b. a == b) overridable.now.keys number) overridable.now.inheritance.forest.most (Some class))) }
     ensures ended { OnOk result (Ends overridable.now.inheritance.forest.bases.items overridable.now.inheritance.forest.most class) }
-    ensures endless { OnErr result (¬ Ends overridable.now.inheritance.forest.bases.items overridable.now.inheritance.forest.most class) }
+    ensures cyclic { OnErr result (¬ Ends overridable.now.inheritance.forest.bases.items overridable.now.inheritance.forest.most class) }
 {
     match overridable.nearest(class, number) {
         Ok(found) => Ok(found.is_some()),
-        Err(Endless) => Err(Endless),
+        Err(Cyclic) => Err(Cyclic),
     }
 }
 
@@ -91,14 +91,14 @@ fn first_missing(
     overridable: &Inherited<usize>,
     class: usize,
     numbers: &[usize],
-) -> Result<Option<usize>, Endless>
-    ensures found { IfOk result (λ place. is_none place ≡ list_all (λ n. is_some (nearest_from overridable.now.inheritance.forest (number_in (λ a b. a == b) overridable.now.keys n) overridable.now.inheritance.forest.most (Some class))) numbers.now) }
+) -> Result<Option<usize>, Cyclic>
+    ensures found { IfOk result (λ index. is_none index ≡ list_all (λ n. is_some (nearest_from overridable.now.inheritance.forest (number_in (λ a b. a == b) overridable.now.keys n) overridable.now.inheritance.forest.most (Some class))) numbers.now) }
     ensures ended { OnOk result (0 < length numbers.now → Ends overridable.now.inheritance.forest.bases.items overridable.now.inheritance.forest.most class) }
-    ensures endless { OnErr result (¬ Ends overridable.now.inheritance.forest.bases.items overridable.now.inheritance.forest.most class) }
+    ensures cyclic { OnErr result (¬ Ends overridable.now.inheritance.forest.bases.items overridable.now.inheritance.forest.most class) }
 {
-    for place in 0..numbers.len() {
-        if !finds(overridable, class, numbers[place])? {
-            return Ok(Some(place));
+    for index in 0..numbers.len() {
+        if !finds(overridable, class, numbers[index])? {
+            return Ok(Some(index));
         }
     }
     Ok(None)
@@ -114,30 +114,30 @@ impl<'a> MethodTables<'a> {
     }
 
     /// The nearest method of this name and signature, from a class on through its bases. An error exactly where they do not end.
-    pub fn nearest(&self, class: usize, key: MethodKey) -> Result<Option<MemberNumber>, Endless>
-        ensures found { IfOk result (λ found. option_map (λ m. (m.class, m.place)) found ≡ nearest_number (method_place self.now.names.now.classes.tree.now (method_of_key key.entry)) (line_of self.now.names.now.classes.tree.now (Some class))) }
+    pub fn nearest(&self, class: usize, key: MethodKey) -> Result<Option<MemberNumber>, Cyclic>
+        ensures found { IfOk result (λ found. option_map (λ m. (m.class, m.index)) found ≡ nearest_number (method_index self.now.names.now.classes.tree.now (method_of_key key.entry)) (line_of self.now.names.now.classes.tree.now (Some class))) }
         ensures ended { OnOk result (EndsIn self.now.names.now.classes.tree.now class) }
-        ensures endless { OnErr result (¬ EndsIn self.now.names.now.classes.tree.now class) }
+        ensures cyclic { OnErr result (¬ EndsIn self.now.names.now.classes.tree.now class) }
     {
         match self.names.methods.nearest(class, key) {
             Ok(found) => Ok(member_number(found)),
-            Err(Endless) => Err(Endless),
+            Err(Cyclic) => Err(Cyclic),
         }
     }
 
     /// Whether a class, or one of its bases, declares a virtual method of this name and signature. An error exactly where its bases
     /// do not end.
-    pub fn has_virtual(&self, class: usize, key: MethodKey) -> Result<bool, Endless>
-        ensures found { IfOk result (λ found. found ≡ is_some (nearest_number (virtual_place self.now.names.now.classes.tree.now (method_of_key key.entry)) (line_of self.now.names.now.classes.tree.now (Some class)))) }
+    pub fn has_virtual(&self, class: usize, key: MethodKey) -> Result<bool, Cyclic>
+        ensures found { IfOk result (λ found. found ≡ is_some (nearest_number (virtual_index self.now.names.now.classes.tree.now (method_of_key key.entry)) (line_of self.now.names.now.classes.tree.now (Some class)))) }
         ensures ended { OnOk result (EndsIn self.now.names.now.classes.tree.now class) }
-        ensures endless { OnErr result (¬ EndsIn self.now.names.now.classes.tree.now class) }
+        ensures cyclic { OnErr result (¬ EndsIn self.now.names.now.classes.tree.now class) }
     {
         match self
             .overridable
             .nearest(class, number_of(&self.names.methods.keys, key))
         {
             Ok(found) => Ok(member_number(found).is_some()),
-            Err(Endless) => Err(Endless),
+            Err(Cyclic) => Err(Cyclic),
         }
     }
 
@@ -151,17 +151,17 @@ impl<'a> MethodTables<'a> {
         }
     }
 
-    /// The place of the first method of an interface of whose name and signature no class from one on declares a virtual method. An
+    /// The index of the first method of an interface of whose name and signature no class from one on declares a virtual method. An
     /// error exactly where the class's bases do not end and the interface declares a method.
-    pub fn first_absent(&self, interface: usize, class: usize) -> Result<Option<usize>, Endless>
-        ensures found { IfOk result (λ place. is_none place ≡ list_all (λ m. is_some (nearest_number (virtual_place self.now.names.now.classes.tree.now (identity_of m)) (line_of self.now.names.now.classes.tree.now (Some class)))) (methods_at self.now.names.now.classes.tree.now interface)) }
+    pub fn first_absent(&self, interface: usize, class: usize) -> Result<Option<usize>, Cyclic>
+        ensures found { IfOk result (λ index. is_none index ≡ list_all (λ m. is_some (nearest_number (virtual_index self.now.names.now.classes.tree.now (identity_of m)) (line_of self.now.names.now.classes.tree.now (Some class)))) (methods_at self.now.names.now.classes.tree.now interface)) }
         ensures ended { OnOk result (methods_at self.now.names.now.classes.tree.now interface ≢ [] → EndsIn self.now.names.now.classes.tree.now class) }
-        ensures endless { OnErr result (¬ EndsIn self.now.names.now.classes.tree.now class) }
+        ensures cyclic { OnErr result (¬ EndsIn self.now.names.now.classes.tree.now class) }
     {
         let numbers = self.numbers_at(interface);
         match first_missing(&self.overridable, class, numbers) {
-            Ok(place) => Ok(place),
-            Err(Endless) => Err(Endless),
+            Ok(index) => Ok(index),
+            Err(Cyclic) => Err(Cyclic),
         }
     }
 
@@ -170,7 +170,7 @@ impl<'a> MethodTables<'a> {
     /// declarations of these, where all bases end. The only error is out of memory.
     pub fn lacks_some(&self, alloc: Global, interface: usize) -> Result<Vec<bool>, NoMemory>
         ensures width { IfOk result (λ lacking. length lacking.items ≡ length (base_numbers self.now.names.now.classes.tree.now)) }
-        ensures told { IfOk result (λ lacking. (class : ℕ) (b : Bool) → slice_get lacking.items class ≡ Some b → EndsIn self.now.names.now.classes.tree.now class → b ≡ not (list_all (λ m. is_some (nearest_number (virtual_place self.now.names.now.classes.tree.now (identity_of m)) (line_of self.now.names.now.classes.tree.now (Some class)))) (methods_at self.now.names.now.classes.tree.now interface))) }
+        ensures reported { IfOk result (λ lacking. (class : ℕ) (b : Bool) → slice_get lacking.items class ≡ Some b → EndsIn self.now.names.now.classes.tree.now class → b ≡ not (list_all (λ m. is_some (nearest_number (virtual_index self.now.names.now.classes.tree.now (identity_of m)) (line_of self.now.names.now.classes.tree.now (Some class)))) (methods_at self.now.names.now.classes.tree.now interface))) }
         ensures ended { IfOk result (λ lacking. (class : ℕ) → slice_get lacking.items class ≡ Some false → EndsIn self.now.names.now.classes.tree.now class) }
     {
         let numbers = row_numbers(alloc, &self.overridable.keys, self.numbers_at(interface))?;
@@ -179,12 +179,12 @@ impl<'a> MethodTables<'a> {
             .finds_nothing(alloc, numbers.as_slice())
     }
 
-    /// Of each class, whether the nearest method of some name and signature is marked, by its class and place; the result is also true where
+    /// Of each class, whether the nearest method of some name and signature is marked, by its class and index; the result is also true where
     /// the class's bases do not end. The only error is out of memory.
     pub fn finds_marked(&self, alloc: Global, marks: &[Vec<bool>]) -> Result<Vec<bool>, NoMemory>
         ensures width { IfOk result (λ found. length found.items ≡ length (base_numbers self.now.names.now.classes.tree.now)) }
-        ensures marked { IfOk result (λ found. (class : ℕ) → slice_get found.items class ≡ Some true → EndsIn self.now.names.now.classes.tree.now class → (k : MethodIdentity) × (is_marked (map (λ v. v.items) marks.now) (nearest_number (method_place self.now.names.now.classes.tree.now k) (line_of self.now.names.now.classes.tree.now (Some class))) ≡ true)) }
-        ensures unmarked { IfOk result (λ found. (class : ℕ) (k : MethodIdentity) → slice_get found.items class ≡ Some false → is_marked (map (λ v. v.items) marks.now) (nearest_number (method_place self.now.names.now.classes.tree.now k) (line_of self.now.names.now.classes.tree.now (Some class))) ≡ false) }
+        ensures marked { IfOk result (λ found. (class : ℕ) → slice_get found.items class ≡ Some true → EndsIn self.now.names.now.classes.tree.now class → (k : MethodIdentity) × (is_marked (map (λ v. v.items) marks.now) (nearest_number (method_index self.now.names.now.classes.tree.now k) (line_of self.now.names.now.classes.tree.now (Some class))) ≡ true)) }
+        ensures unmarked { IfOk result (λ found. (class : ℕ) (k : MethodIdentity) → slice_get found.items class ≡ Some false → is_marked (map (λ v. v.items) marks.now) (nearest_number (method_index self.now.names.now.classes.tree.now k) (line_of self.now.names.now.classes.tree.now (Some class))) ≡ false) }
         ensures ended { IfOk result (λ found. (class : ℕ) → slice_get found.items class ≡ Some false → EndsIn self.now.names.now.classes.tree.now class) }
     {
         self.names.methods.inheritance.finds_marked(alloc, marks)

@@ -11,23 +11,23 @@ ghost use Rattle.name_tables.specs.Numbers.{source_entry, declarations, class_nu
 use crate::built_in::BuiltInClass;
 use crate::class_tables::ClassTable;
 use crate::classes::DeclaredClass;
+use crate::key_indices::KeyIndices;
 use crate::keys::{ClassKey, MethodKey};
-use crate::places::Places;
 use cil_model::memory::NoMemory;
 use cil_model::trees::{Method, Tree};
 use std::alloc::Global;
 
 /// Every class that a name may refer to: the built-in ones, then those of the source, in order. A class's number is its
-/// place here.
+/// index in this list.
 pub struct ClassTables<'a> {
     pub tree: &'a Tree,
     classes: Vec<ClassTable<'a>>,
-    names: Places<ClassKey<'a>>,
+    names: KeyIndices<ClassKey<'a>>,
     ghost classes_are: { map (λ t. entry_of t.class) classes.items ≡ declarations tree.now },
     ghost names_are: { map class_of_key names ≡ map (λ e. e.0) (declarations tree.now) },
 }
 
-/// Each part gives back its own.
+/// Each part is dropped.
 impl Drop for ClassTables<'_> {
     fn drop(self) {
         let ClassTables {
@@ -89,7 +89,7 @@ impl<'a> ClassTables<'a> {
         ensures { IfOk result (λ t. t.tree.now ≡ tree.now) }
     {
         let classes = class_tables(alloc, tree, table)?;
-        let names = Places::new(alloc, class_keys(alloc, classes.as_slice())?)?;
+        let names = KeyIndices::new(alloc, class_keys(alloc, classes.as_slice())?)?;
         Ok(ClassTables {
             tree,
             classes,

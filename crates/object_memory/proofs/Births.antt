@@ -1,4 +1,4 @@
--- Births by place: what lies where afterwards, and that there is room for what may come.
+-- Births by their space: what lies where afterwards, and that there is room for what may be born later.
 use Rattle.std.proofs.Common.{◌≡◌, ◌≢◌, ◌⊎◌, inl, inr, ℕ, ◌+◌, ◌-◌, ◌<◌, ◌≤◌, Bool, true, false, refl, sym, ap, subst, ◌∙◌, arith}
 use Rattle.std.specs.Prelude.{nat_le, nat_lt, replicate, if◌then◌else◌, Option, Some, None, IfSome}
 use Rattle.std.proofs.lemmas.Bool.Decides.{nat_tests}
@@ -7,7 +7,7 @@ use Rattle.object_memory.specs.declared.addresses.Addr.{Addr}
 use Rattle.object_memory.specs.declared.addresses.TheConstants.{FIRST_LITERAL}
 use Rattle.object_memory.specs.declared.kinds.Kind.{Kind}
 use Rattle.object_memory.specs.Cells.{Cell, Cells, size, used_words, free_words, next_address, literal_number, cell_in, empty_cell}
-use Rattle.object_memory.specs.Spaces.{Spaces, IsSpace, AreSpaces, cell_at, forward, with_old, BirthSpace, InOld, Listed, InBoth, InNew, room_at, address_at, born, birth_at, HasShellRoom, HasGreyRoom}
+use Rattle.object_memory.specs.Spaces.{Spaces, IsSpace, AreSpaces, cell_at, forward, with_old, BirthSpace, InOld, Listed, InBoth, InNew, room_at, address_at, give_birth, birth_at, HasShellRoom, HasGreyRoom}
 use Rattle.object_memory.proofs.Blocks.{kept_in, was_in, last_in}
 use Rattle.object_memory.proofs.TwoBlocks.{either, AreSpaces-with_old, AreSpaces-with_new, old_is_cell, new_is_cell}
 use Rattle.object_memory.proofs.Rooms.{size-empty, HasShellRoom-with_old, HasShellRoom-with_both, HasGreyRoom-listed, HasGreyRoom-born}
@@ -29,7 +29,7 @@ module _ (m : Spaces) (h : AreSpaces m) (k : Kind) (n : ℕ) where
   fits : (s : Cells) (b : Bool) (o : Option Addr) → 3 + n ≤ free_words s → size (empty_cell k n b o) ≤ free_words s
   fits s b o room = omega (arith, size-empty k n b o, room)
 
-  pub AreSpaces-born : (p : BirthSpace) → 3 + n ≤ room_at p m → AreSpaces (born p m k n)
+  pub AreSpaces-born : (p : BirthSpace) → 3 + n ≤ room_at p m → AreSpaces (give_birth p m k n)
   AreSpaces-born InOld room = AreSpaces-with_old m (empty_cell k n false None) h (fits m.old false None room)
   AreSpaces-born Listed room =
       let g = AreSpaces-with_old m (empty_cell k n true None) h (fits m.old true None room) in
@@ -43,33 +43,33 @@ module _ (m : Spaces) (h : AreSpaces m) (k : Kind) (n : ℕ) where
   AreSpaces-born InNew room = AreSpaces-with_new m (empty_cell k n false None) h (fits m.new false None room)
 
   -- all cells of before stay, each in its block
-  pub born-kept_old : (p : BirthSpace) (a : Addr) (c : Cell) → cell_in m.old a ≡ Some c → cell_in (born p m k n).old a ≡ Some c
+  pub born-kept_old : (p : BirthSpace) (a : Addr) (c : Cell) → cell_in m.old a ≡ Some c → cell_in (give_birth p m k n).old a ≡ Some c
   born-kept_old InOld a c e = kept_in m.old (empty_cell k n false None) a c e
   born-kept_old Listed a c e = kept_in m.old (empty_cell k n true None) a c e
   born-kept_old InBoth a c e = kept_in m.old (empty_cell k n true (Some (next_address m.new))) a c e
   born-kept_old InNew a c e = e
 
-  pub born-kept_new : (p : BirthSpace) (a : Addr) (c : Cell) → cell_in m.new a ≡ Some c → cell_in (born p m k n).new a ≡ Some c
+  pub born-kept_new : (p : BirthSpace) (a : Addr) (c : Cell) → cell_in m.new a ≡ Some c → cell_in (give_birth p m k n).new a ≡ Some c
   born-kept_new InOld a c e = e
   born-kept_new Listed a c e = e
   born-kept_new InBoth a c e = kept_in m.new (empty_cell k n true (Some (next_address m.old))) a c e
   born-kept_new InNew a c e = kept_in m.new (empty_cell k n false None) a c e
 
-  pub born-kept : (p : BirthSpace) → 3 + n ≤ room_at p m → (a : Addr) (c : Cell) → cell_at m a ≡ Some c → cell_at (born p m k n) a ≡ Some c
+  pub born-kept : (p : BirthSpace) → 3 + n ≤ room_at p m → (a : Addr) (c : Cell) → cell_at m a ≡ Some c → cell_at (give_birth p m k n) a ≡ Some c
   born-kept p room a c e = elim (either m a c e) [
-    | inl old ↦ old_is_cell (born p m k n) a c (born-kept_old p a c old)
-    | inr new ↦ new_is_cell (born p m k n) (AreSpaces-born p room) a c (born-kept_new p a c new)
+    | inl old ↦ old_is_cell (give_birth p m k n) a c (born-kept_old p a c old)
+    | inr new ↦ new_is_cell (give_birth p m k n) (AreSpaces-born p room) a c (born-kept_new p a c new)
   ]
 
   -- and no other cells come but the parts of what is born
-  pub born-was_old : (p : BirthSpace) (a : Addr) (d : Cell) → cell_in (born p m k n).old a ≡ Some d
+  pub born-was_old : (p : BirthSpace) (a : Addr) (d : Cell) → cell_in (give_birth p m k n).old a ≡ Some d
       → (cell_in m.old a ≡ Some d) ⊎ ((a.number ≡ (next_address m.old).number) × (old_part p m k n ≡ Some d))
   born-was_old InOld a d e = elim (was_in m.old (empty_cell k n false None) a d e) [ inl was ↦ inl was | inr here ↦ inr (here.0, ap Some (sym here.1)) ]
   born-was_old Listed a d e = elim (was_in m.old (empty_cell k n true None) a d e) [ inl was ↦ inl was | inr here ↦ inr (here.0, ap Some (sym here.1)) ]
   born-was_old InBoth a d e = elim (was_in m.old (empty_cell k n true (Some (next_address m.new))) a d e) [ inl was ↦ inl was | inr here ↦ inr (here.0, ap Some (sym here.1)) ]
   born-was_old InNew a d e = inl e
 
-  pub born-was_new : (p : BirthSpace) (a : Addr) (d : Cell) → cell_in (born p m k n).new a ≡ Some d
+  pub born-was_new : (p : BirthSpace) (a : Addr) (d : Cell) → cell_in (give_birth p m k n).new a ≡ Some d
       → (cell_in m.new a ≡ Some d) ⊎ ((a.number ≡ (next_address m.new).number) × (new_part p m k n ≡ Some d))
   born-was_new InOld a d e = inl e
   born-was_new Listed a d e = inl e
@@ -77,21 +77,21 @@ module _ (m : Spaces) (h : AreSpaces m) (k : Kind) (n : ℕ) where
   born-was_new InNew a d e = elim (was_in m.new (empty_cell k n false None) a d e) [ inl was ↦ inl was | inr here ↦ inr (here.0, ap Some (sym here.1)) ]
 
   -- the parts lie at the ends
-  pub born-old_last : (p : BirthSpace) (c : Cell) → old_part p m k n ≡ Some c → cell_in (born p m k n).old (next_address m.old) ≡ Some c
+  pub born-old_last : (p : BirthSpace) (c : Cell) → old_part p m k n ≡ Some c → cell_in (give_birth p m k n).old (next_address m.old) ≡ Some c
   born-old_last InOld c e = last_in m.old (empty_cell k n false None) ∙ e
   born-old_last Listed c e = last_in m.old (empty_cell k n true None) ∙ e
   born-old_last InBoth c e = last_in m.old (empty_cell k n true (Some (next_address m.new))) ∙ e
   born-old_last InNew c e = absurd cc
 
-  pub born-new_last : (p : BirthSpace) (c : Cell) → new_part p m k n ≡ Some c → cell_in (born p m k n).new (next_address m.new) ≡ Some c
+  pub born-new_last : (p : BirthSpace) (c : Cell) → new_part p m k n ≡ Some c → cell_in (give_birth p m k n).new (next_address m.new) ≡ Some c
   born-new_last InOld c e = absurd cc
   born-new_last Listed c e = absurd cc
   born-new_last InBoth c e = last_in m.new (empty_cell k n true (Some (next_address m.old))) ∙ e
   born-new_last InNew c e = last_in m.new (empty_cell k n false None) ∙ e
 
   -- forwards of what was there stay
-  forward_stays : (p : BirthSpace) (a : Addr) (o o' : Option Cell) → cell_in m.old a ≡ o → cell_in (born p m k n).old a ≡ o' → a.number ≢ (next_address m.old).number
-      → forward (born p m k n) a ≡ forward m a
+  forward_stays : (p : BirthSpace) (a : Addr) (o o' : Option Cell) → cell_in m.old a ≡ o → cell_in (give_birth p m k n).old a ≡ o' → a.number ≢ (next_address m.old).number
+      → forward (give_birth p m k n) a ≡ forward m a
   forward_stays p a (Some c) o' e e' ne = rw (born-kept_old p a c e, e) refl
   forward_stays p a None None e e' ne = rw (e', e) refl
   forward_stays p a None (Some d) e e' ne = elim (born-was_old p a d e') [
@@ -99,13 +99,13 @@ module _ (m : Spaces) (h : AreSpaces m) (k : Kind) (n : ℕ) where
     | inr here ↦ elim (ne here.0) [ ]
   ]
 
-  pub forward-born : (p : BirthSpace) (a : Addr) → a.number ≢ (next_address m.old).number → forward (born p m k n) a ≡ forward m a
-  forward-born p a ne = forward_stays p a (cell_in m.old a) (cell_in (born p m k n).old a) refl refl ne
+  pub forward-born : (p : BirthSpace) (a : Addr) → a.number ≢ (next_address m.old).number → forward (give_birth p m k n) a ≡ forward m a
+  forward-born p a ne = forward_stays p a (cell_in m.old a) (cell_in (give_birth p m k n).old a) refl refl ne
 
   -- ---- room
 
   -- a birth in the new block alone takes room from the copies: it comes only when all are made
-  pub HasShellRoom-born : (p : BirthSpace) → p ≢ InNew → HasShellRoom m → HasShellRoom (born p m k n)
+  pub HasShellRoom-born : (p : BirthSpace) → p ≢ InNew → HasShellRoom m → HasShellRoom (give_birth p m k n)
   HasShellRoom-born InOld ne room = HasShellRoom-with_old m h room (empty_cell k n false None)
   HasShellRoom-born Listed ne room =
       let r = HasShellRoom-with_old m h room (empty_cell k n true None) in
@@ -123,7 +123,7 @@ module _ (m : Spaces) (h : AreSpaces m) (k : Kind) (n : ℕ) where
   listed InBoth = 0
   listed InNew = 0
 
-  pub HasGreyRoom-at : (p : BirthSpace) (spare : ℕ) → 3 + n ≤ room_at p m → HasGreyRoom m.old spare → HasGreyRoom (born p m k n).old (spare - listed p)
+  pub HasGreyRoom-at : (p : BirthSpace) (spare : ℕ) → 3 + n ≤ room_at p m → HasGreyRoom m.old spare → HasGreyRoom (give_birth p m k n).old (spare - listed p)
   HasGreyRoom-at InOld spare room g = omega (arith, HasGreyRoom-born m.old spare g (empty_cell k n false None) (fits m.old false None room))
   HasGreyRoom-at Listed spare room g = HasGreyRoom-listed m.old spare g (empty_cell k n true None) refl (fits m.old true None room)
   HasGreyRoom-at InBoth spare room g =
@@ -133,7 +133,7 @@ module _ (m : Spaces) (h : AreSpaces m) (k : Kind) (n : ℕ) where
 
   -- whatever was there is there after a birth, a refused one too, and a granted one keeps what a heap is
   abbrev pub outcome : BirthSpace → Bool → Spaces × Option Addr
-  outcome p t = if t then (born p m k n, Some (address_at p m)) else (m, None)
+  outcome p t = if t then (give_birth p m k n, Some (address_at p m)) else (m, None)
 
   kept_by : (p : BirthSpace) (t : Bool) → nat_le (3 + n) (room_at p m) ≡ t → (a : Addr) (c : Cell) → cell_at m a ≡ Some c
       → cell_at (outcome p t).0 a ≡ Some c
@@ -151,17 +151,17 @@ module _ (m : Spaces) (h : AreSpaces m) (k : Kind) (n : ℕ) where
   AreSpaces-birth_at p = spaces_by p (nat_le (3 + n) (room_at p m)) refl
 
   -- what is born has no literal's address
-  place_is : (s : Cells) → IsSpace s → 3 + n ≤ free_words s → literal_number (next_address s) ≡ None
-  place_is s space room =
+  offset_is : (s : Cells) → IsSpace s → 3 + n ≤ free_words s → literal_number (next_address s) ≡ None
+  offset_is s space room =
       let low : s.start + used_words s.cells < FIRST_LITERAL = elim space.start [ inl start ↦ omega (arith, start, room, space.few) | inr start ↦ omega (arith, start, room, space.few) ] in
       let test : nat_lt (s.start + used_words s.cells) FIRST_LITERAL ≡ true = grind (arith, nat_tests) in
       rw test refl
 
   pub born-no_literal : (p : BirthSpace) → 3 + n ≤ room_at p m → literal_number (address_at p m) ≡ None
-  born-no_literal InOld room = place_is m.old h.old room
-  born-no_literal Listed room = place_is m.old h.old room
-  born-no_literal InBoth room = place_is m.old h.old (omega (arith, room))
-  born-no_literal InNew room = place_is m.new h.new room
+  born-no_literal InOld room = offset_is m.old h.old room
+  born-no_literal Listed room = offset_is m.old h.old room
+  born-no_literal InBoth room = offset_is m.old h.old (omega (arith, room))
+  born-no_literal InNew room = offset_is m.new h.new room
 
   no_literal_by : (p : BirthSpace) (t : Bool) → nat_le (3 + n) (room_at p m) ≡ t → IfSome (outcome p t).1 (λ a. literal_number a ≡ None)
   no_literal_by p true test = born-no_literal p (grind (arith, nat_tests))
@@ -171,20 +171,20 @@ module _ (m : Spaces) (h : AreSpaces m) (k : Kind) (n : ℕ) where
   birth_at-no_literal p = no_literal_by p (nat_le (3 + n) (room_at p m)) refl
 
   -- the address is that of what is born
-  here_is : (p : BirthSpace) → 3 + n ≤ room_at p m → (c : Cell) × (cell_at (born p m k n) (address_at p m) ≡ Some c) × (c.kind ≡ k) × (c.slots ≡ replicate n 0)
-  here_is InOld room = (empty_cell k n false None, old_is_cell (born InOld m k n) (next_address m.old) (empty_cell k n false None) (born-old_last InOld (empty_cell k n false None) refl), refl, refl)
-  here_is Listed room = (empty_cell k n true None, old_is_cell (born Listed m k n) (next_address m.old) (empty_cell k n true None) (born-old_last Listed (empty_cell k n true None) refl), refl, refl)
+  here_is : (p : BirthSpace) → 3 + n ≤ room_at p m → (c : Cell) × (cell_at (give_birth p m k n) (address_at p m) ≡ Some c) × (c.kind ≡ k) × (c.slots ≡ replicate n 0)
+  here_is InOld room = (empty_cell k n false None, old_is_cell (give_birth InOld m k n) (next_address m.old) (empty_cell k n false None) (born-old_last InOld (empty_cell k n false None) refl), refl, refl)
+  here_is Listed room = (empty_cell k n true None, old_is_cell (give_birth Listed m k n) (next_address m.old) (empty_cell k n true None) (born-old_last Listed (empty_cell k n true None) refl), refl, refl)
   here_is InBoth room =
       let c = empty_cell k n true (Some (next_address m.new)) in
-      (c, old_is_cell (born InBoth m k n) (next_address m.old) c (born-old_last InBoth c refl), refl, refl)
+      (c, old_is_cell (give_birth InBoth m k n) (next_address m.old) c (born-old_last InBoth c refl), refl, refl)
   here_is InNew room =
       let c = empty_cell k n false None in
-      (c, new_is_cell (born InNew m k n) (AreSpaces-born InNew room) (next_address m.new) c (born-new_last InNew c refl), refl, refl)
+      (c, new_is_cell (give_birth InNew m k n) (AreSpaces-born InNew room) (next_address m.new) c (born-new_last InNew c refl), refl, refl)
 
   here_by : (p : BirthSpace) (t : Bool) → nat_le (3 + n) (room_at p m) ≡ t → (a : Addr) → (outcome p t).1 ≡ Some a
       → (c : Cell) × (cell_at (outcome p t).0 a ≡ Some c) × (c.kind ≡ k) × (c.slots ≡ replicate n 0)
   here_by p true test a e =
-      subst (λ (x : Addr). (c : Cell) × (cell_at (born p m k n) x ≡ Some c) × (c.kind ≡ k) × (c.slots ≡ replicate n 0)) (same_Some (address_at p m) a e)
+      subst (λ (x : Addr). (c : Cell) × (cell_at (give_birth p m k n) x ≡ Some c) × (c.kind ≡ k) × (c.slots ≡ replicate n 0)) (same_Some (address_at p m) a e)
       (here_is p (grind (arith, nat_tests)))
   here_by p false test a e = absurd cc
 

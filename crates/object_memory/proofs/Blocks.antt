@@ -48,8 +48,8 @@ last_from at [] c = let test : (at + 0 == at) ≡ true = grind (arith, nat_tests
 last_from at (d ∷ cs) c =
     let more = sum_by-cons size d cs in
     let test : (at + used_words (d ∷ cs) == at) ≡ false = grind (arith, nat_tests) in
-    let place : at + used_words (d ∷ cs) ≡ at + size d + used_words cs = omega (arith, more) in
-    rw (test, place) (last_from (at + size d) cs c)
+    let offset : at + used_words (d ∷ cs) ≡ at + size d + used_words cs = omega (arith, more) in
+    rw (test, offset) (last_from (at + size d) cs c)
 
 kept_from : (at : ℕ) (cs : List Cell) (c d : Cell) (a : ℕ) → cell_from at cs a ≡ Some d → cell_from at (cs ++ c ∷ []) a ≡ Some d
 kept_from at [] c d a e = absurd cc
@@ -109,8 +109,8 @@ module _ (f : Cell → Cell) where
   changed_last at (d ∷ cs) c =
       let more = sum_by-cons size d cs in
       let test : (at + used_words (d ∷ cs) == at) ≡ false = grind (arith, nat_tests) in
-      let place : at + used_words (d ∷ cs) ≡ at + size d + used_words cs = omega (arith, more) in
-      rw (test, place) (ap (λ xs. d ∷ xs) (changed_last (at + size d) cs c))
+      let offset : at + used_words (d ∷ cs) ≡ at + size d + used_words cs = omega (arith, more) in
+      rw (test, offset) (ap (λ xs. d ∷ xs) (changed_last (at + size d) cs c))
 
   -- where no cell lies nothing changes
   none_from : (at : ℕ) (cs : List Cell) (a : ℕ) → cell_from at cs a ≡ None → change_from f at cs a ≡ cs

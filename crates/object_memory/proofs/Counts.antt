@@ -60,8 +60,8 @@ module _ (f : Cell → Cell) (keeps : (c : Cell) → length (f c).slots ≡ leng
       (counted m.old.start m.old.cells a.number b.number) (counted m.new.start m.new.cells a.number b.number) some
 
 -- the words of a cell, by the number of its slots
-pub size_told : (s : Cells) (a : Addr) (n : ℕ) → IsSome (cell_in s a) → n ≡ length (slots_in s a) → option_map size (cell_in s a) ≡ Some (3 + n)
-size_told s a n some is = by_cell (cell_in s a) some is
+pub size_decoded : (s : Cells) (a : Addr) (n : ℕ) → IsSome (cell_in s a) → n ≡ length (slots_in s a) → option_map size (cell_in s a) ≡ Some (3 + n)
+size_decoded s a n some is = by_cell (cell_in s a) some is
   where
     by_cell : (o : Option Cell) → IsSome o → n ≡ length (unwrap_or (option_map (λ (c : Cell). c.slots) o) []) → option_map size o ≡ Some (3 + n)
     by_cell None there e = absurd cc

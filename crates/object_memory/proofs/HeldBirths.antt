@@ -69,10 +69,10 @@ module _ (old : Cells) (cycle : Option Cycle) (c : Cycle) (h : IsHeld old cycle)
 
   module _ (x : Cell) (is : cell_in old a ≡ Some x) where
     kind_is : x.kind ≡ k
-    kind_is = let told = rw is at kind in cc
+    kind_is = let decoded = rw is at kind in cc
 
     marked_is : x.marked ≡ t
-    marked_is = let told = rw is at marked in cc
+    marked_is = let decoded = rw is at marked in cc
 
     slots_are : n ≡ length x.slots
     slots_are = rw is at slots
@@ -105,7 +105,7 @@ module _ (old : Cells) (cycle : Option Cycle) (c : Cycle) (h : IsHeld old cycle)
         rw (e, alone, noted_is, made_is) refl
 
   shell_held_by : (o : Option Cell) → cell_in old a ≡ o → IsHeld noted (Some (record c { to = made }))
-  shell_held_by None is = let told = rw is at kind in absurd cc
+  shell_held_by None is = let decoded = rw is at kind in absurd cc
   shell_held_by (Some x) is = shell_held_at x is
 
   pub shell_held : IsHeld noted (Some (record c { to = made }))
@@ -152,8 +152,8 @@ listed_in_cycle Reclaim true e = absurd cc
 listed_in_cycle Reclaim false e = absurd cc
 
 -- what is born has no literal's address
-pub born_told : (o p : Objects) → AreSpaces o.spaces → o ≡ p → (place : BirthSpace) (k : Kind) (n : ℕ) (after : Objects) (r : Option Addr) → ◌≡◌ {A = Objects × Option Addr} (after, r) (with_birth_at place p k n)
+pub born_decoded : (o p : Objects) → AreSpaces o.spaces → o ≡ p → (offset : BirthSpace) (k : Kind) (n : ℕ) (after : Objects) (r : Option Addr) → ◌≡◌ {A = Objects × Option Addr} (after, r) (with_birth_at offset p k n)
     → IfSome r (λ a. literal_number a ≡ None)
-born_told o p h same place k n after r e =
+born_decoded o p h same offset k n after r e =
     let spaces = subst (λ (x : Objects). AreSpaces x.spaces) same h in
-    subst (λ (x : Option Addr). IfSome x (λ a. literal_number a ≡ None)) (sym (ap (λ (x : Objects × Option Addr). x.1) e)) (birth_at-no_literal p.spaces spaces k n place)
+    subst (λ (x : Option Addr). IfSome x (λ a. literal_number a ≡ None)) (sym (ap (λ (x : Objects × Option Addr). x.1) e)) (birth_at-no_literal p.spaces spaces k n offset)

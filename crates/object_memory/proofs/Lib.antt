@@ -5,7 +5,7 @@ pub mod TwoBlocks
 pub mod Rooms
 pub mod Births
 pub mod TwoCopies
-pub mod Places
+pub mod Offsets
 pub mod TwoHeld
 pub mod HeldBirths
 pub mod MonitorsAt

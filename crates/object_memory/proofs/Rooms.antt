@@ -6,7 +6,7 @@ use Rattle.std.proofs.lemmas.List.Sums.{sum_by-cons, sum_by-le-sum_by}
 use Rattle.object_memory.specs.declared.addresses.Addr.{Addr}
 use Rattle.object_memory.specs.declared.kinds.Kind.{Kind}
 use Rattle.object_memory.specs.Cells.{Cell, Cells, size, used_words, free_words, next_address, cell_in, change_in, with_last, empty_cell}
-use Rattle.object_memory.specs.Spaces.{Spaces, AreSpaces, change_at, with_old, with_new, with_shell, shell_of, set_mark, set_other, opened, bare, bare_words, white, whites, HasShellRoom, HasGreyRoom}
+use Rattle.object_memory.specs.Spaces.{Spaces, AreSpaces, change_at, with_old, with_new, with_shell, shell_of, set_mark, set_other, open_cycle, bare, bare_words, white, whites, HasShellRoom, HasGreyRoom}
 use Rattle.object_memory.proofs.Blocks.{part_in, used_last, sum_last, sum_in, used_in, unchanged_in}
 use Rattle.object_memory.proofs.TwoBlocks.{not_new, AreSpaces-with_new}
 
@@ -85,7 +85,7 @@ module _ (m : Spaces) (h : AreSpaces m) (room : HasShellRoom m) where
           omega (arith, same, bare_more m.old f a c e)
 
 -- it holds where a cycle opens, whose new block is at least as long
-pub HasShellRoom-opened : (m : Spaces) (words : ℕ) → m.old.words ≤ words → HasShellRoom (opened m words)
+pub HasShellRoom-opened : (m : Spaces) (words : ℕ) → m.old.words ≤ words → HasShellRoom (open_cycle m words)
 HasShellRoom-opened m words long = record { words = omega (arith, bare-le-used m.old); long = long }
 
 -- ---- the grey list has room

@@ -78,7 +78,7 @@ module _ (o : Objects) (k : Kind) (count : ℕ) where
         let room : 3 + count ≤ free_space o = grind (arith, nat_tests) in
         let slots = length-replicate {A = ℕ} count 0 in
         let fits : size (new_cell k count) ≤ free_space o = omega (arith, slots, room) in
-        let low : (0 < m.old.start + used_words m.old.cells) × (m.old.start + used_words m.old.cells < FIRST_LITERAL) = place_is room in
+        let low : (0 < m.old.start + used_words m.old.cells) × (m.old.start + used_words m.old.cells < FIRST_LITERAL) = offset_is room in
         record {
           inside = AreSpaces-with_old m (new_cell k count) h fits;
           used = omega (arith, used_last m.old (new_cell k count), slots);
@@ -91,8 +91,8 @@ module _ (o : Objects) (k : Kind) (count : ℕ) where
           literals = refl;
         }
       where
-        place_is : 3 + count ≤ free_space o → (0 < o.spaces.old.start + used_words o.spaces.old.cells) × (o.spaces.old.start + used_words o.spaces.old.cells < FIRST_LITERAL)
-        place_is room = elim h.old.start [
+        offset_is : 3 + count ≤ free_space o → (0 < o.spaces.old.start + used_words o.spaces.old.cells) × (o.spaces.old.start + used_words o.spaces.old.cells < FIRST_LITERAL)
+        offset_is room = elim h.old.start [
           | inl start ↦ (omega (arith, start), omega (arith, start, room, h.old.few))
           | inr start ↦ (omega (arith, start), omega (arith, start, room, h.old.few))
         ]
@@ -110,8 +110,8 @@ module _ (o : Objects) (k : Kind) (count : ℕ) where
       where
         by_room : (t : Bool) → nat_le (3 + count) (free_space o) ≡ t → ◌≡◌ {A = Objects × Option Addr} (answer t) (born, Some a) → IsBorn o k count born a
         by_room true test same =
-            let place : next_address o.spaces.old ≡ a = same_Some (next_address o.spaces.old) a (ap (λ (x : Objects × Option Addr). x.1) same) in
-            subst (λ x. IsBorn o k count x a) (ap (λ (x : Objects × Option Addr). x.0) same) (subst (λ x. IsBorn o k count after x) place (granted test))
+            let offset : next_address o.spaces.old ≡ a = same_Some (next_address o.spaces.old) a (ap (λ (x : Objects × Option Addr). x.1) same) in
+            subst (λ x. IsBorn o k count x a) (ap (λ (x : Objects × Option Addr). x.0) same) (subst (λ x. IsBorn o k count after x) offset (granted test))
         by_room false test same = none_is_some a (ap (λ (x : Objects × Option Addr). x.1) same)
 
 -- ---- changes

@@ -1,4 +1,4 @@
--- Two blocks: which cell lies where after each change, for those above, who need nothing of sizes and places.
+-- Two blocks: which cell lies where after each change, for those above, who need nothing of sizes and offsets.
 use Rattle.std.proofs.Common.{◌≡◌, ◌≢◌, ◌⊎◌, inl, inr, ℕ, ◌+◌, ◌<◌, ◌≤◌, Bool, true, false, [], refl, sym, ap, subst, ◌∙◌, arith}
 use Rattle.std.specs.Prelude.{◌==◌, nat_lt, Option, Some, None, IsSome, unwrap_or}
 use Rattle.std.proofs.Math.ListN.{length-set}
@@ -7,7 +7,7 @@ use Rattle.cil_model.specs.declared.limits.TheConstants.{MOST_WORDS}
 use Rattle.object_memory.specs.declared.addresses.Addr.{Addr}
 use Rattle.object_memory.specs.declared.addresses.TheConstants.{FIRST_LITERAL}
 use Rattle.object_memory.specs.Cells.{Cell, Cells, size, used_words, free_words, first, next_address, null, literal_number, store_slot, cell_in, change_in, with_last}
-use Rattle.object_memory.specs.Spaces.{Spaces, second, other_start, first_of, cell_at, change_at, IsSpace, AreSpaces, with_old, with_new, other_of, forward, opened, closed}
+use Rattle.object_memory.specs.Spaces.{Spaces, second, other_start, first_of, cell_at, change_at, IsSpace, AreSpaces, with_old, with_new, other_of, forward, open_cycle, close_cycle}
 use Rattle.object_memory.proofs.Blocks.{range_in, last_in, kept_in, used_last, own_in, other_in, used_in, unchanged_in}
 
 -- ---- where cells lie
@@ -68,8 +68,8 @@ either_by (Some d) y c e = inl e
 pub either : (m : Spaces) (a : Addr) (c : Cell) → cell_at m a ≡ Some c → (cell_in m.old a ≡ Some c) ⊎ (cell_in m.new a ≡ Some c)
 either m a c e = either_by (cell_in m.old a) (cell_in m.new a) c e
 
-pub told_apart : (m : Spaces) → AreSpaces m → (a : Addr) (c : Cell) → cell_at m a ≡ Some c → (0 < a.number) × (a.number < FIRST_LITERAL)
-told_apart m h a c e = elim (either m a c e) [
+pub are_distinct : (m : Spaces) → AreSpaces m → (a : Addr) (c : Cell) → cell_at m a ≡ Some c → (0 < a.number) × (a.number < FIRST_LITERAL)
+are_distinct m h a c e = elim (either m a c e) [
   | inl old ↦ in_space m h m.old h.old a c old
   | inr new ↦ in_space m h m.new h.new a c new
 ]
@@ -79,11 +79,11 @@ null_no_cell m h = by_cell (cell_at m null) refl
   where
     by_cell : (o : Option Cell) → cell_at m null ≡ o → cell_at m null ≡ None
     by_cell None e = e
-    by_cell (Some c) e = absurd (omega (arith, (told_apart m h null c e).0))
+    by_cell (Some c) e = absurd (omega (arith, (are_distinct m h null c e).0))
 
 pub no_literal : (m : Spaces) → AreSpaces m → (a : Addr) (c : Cell) → cell_at m a ≡ Some c → literal_number a ≡ None
 no_literal m h a c e =
-    let low = (told_apart m h a c e).1 in
+    let low = (are_distinct m h a c e).1 in
     let test : nat_lt a.number FIRST_LITERAL ≡ true = grind (arith, nat_tests) in
     rw test refl
 
@@ -92,7 +92,7 @@ pub not_at_null : (m : Spaces) → AreSpaces m → (a : Addr) → IsSome (cell_a
 not_at_null m h a some e =
     let c = some_cell (cell_at m a) some in
     let zero = ap (λ (x : Addr). x.number) e in
-    absurd (omega (arith, zero, (told_apart m h a c.0 c.1).0))
+    absurd (omega (arith, zero, (are_distinct m h a c.0 c.1).0))
 
 pub not_at_literals : (m : Spaces) → AreSpaces m → (a : Addr) → IsSome (cell_at m a) → literal_number a ≡ None
 not_at_literals m h a some = let c = some_cell (cell_at m a) some in no_literal m h a c.0 c.1
@@ -270,7 +270,7 @@ forward-with_old m x a c h room e = elim (either m a c e) [
 -- ---- cycles
 
 module _ (m : Spaces) (h : AreSpaces m) where
-  pub AreSpaces-opened : (words : ℕ) → words ≤ MOST_WORDS → AreSpaces (opened m words)
+  pub AreSpaces-opened : (words : ℕ) → words ≤ MOST_WORDS → AreSpaces (open_cycle m words)
   AreSpaces-opened words few = record {
     old = h.old;
     new = record { start = start; fits = omega arith; few = few };
@@ -280,21 +280,21 @@ module _ (m : Spaces) (h : AreSpaces m) where
       start : (other_start m.old.start ≡ first) ⊎ (other_start m.old.start ≡ second)
       start = elim h.old.start [ inl s ↦ inr (omega (arith, s)) | inr s ↦ inl (omega (arith, s)) ]
 
-  pub AreSpaces-closed : AreSpaces (closed m)
+  pub AreSpaces-closed : AreSpaces (close_cycle m)
   AreSpaces-closed = record { old = h.new; new = record { start = h.old.start; fits = omega arith; few = omega arith }; apart = omega (arith, h.apart) }
 
   -- the old cells go, and the new ones lie where they lay
-  pub closed-new : (a : Addr) (c : Cell) → cell_in m.new a ≡ Some c → cell_at (closed m) a ≡ Some c
-  closed-new a c e = old_is_cell (closed m) a c e
+  pub closed-new : (a : Addr) (c : Cell) → cell_in m.new a ≡ Some c → cell_at (close_cycle m) a ≡ Some c
+  closed-new a c e = old_is_cell (close_cycle m) a c e
 
   closed-was_by : (a : Addr) (c : Cell) (o : Option Cell) → first_of o None ≡ Some c → o ≡ Some c
   closed-was_by a c None e = absurd cc
   closed-was_by a c (Some d) e = e
 
-  pub closed-was : (a : Addr) (c : Cell) → cell_at (closed m) a ≡ Some c → cell_in m.new a ≡ Some c
+  pub closed-was : (a : Addr) (c : Cell) → cell_at (close_cycle m) a ≡ Some c → cell_in m.new a ≡ Some c
   closed-was a c e = closed-was_by a c (cell_in m.new a) e
 
-  pub closed-slots : (a : Addr) (c : Cell) → cell_in m.new a ≡ Some c → cell_at (closed m) a ≡ cell_at m a
+  pub closed-slots : (a : Addr) (c : Cell) → cell_in m.new a ≡ Some c → cell_at (close_cycle m) a ≡ cell_at m a
   closed-slots a c e = closed-new a c e ∙ sym (new_is_cell m h a c e)
 
 opened-same_by : (o p : Option Cell) → p ≡ None → first_of o None ≡ first_of o p
@@ -302,5 +302,5 @@ opened-same_by None p e = sym e
 opened-same_by (Some c) p e = refl
 
 -- nothing is lost or won where a cycle opens
-pub opened-same : (m : Spaces) (words : ℕ) → m.new.cells ≡ [] → (a : Addr) → cell_at (opened m words) a ≡ cell_at m a
+pub opened-same : (m : Spaces) (words : ℕ) → m.new.cells ≡ [] → (a : Addr) → cell_at (open_cycle m words) a ≡ cell_at m a
 opened-same m words e a = opened-same_by (cell_in m.old a) (cell_in m.new a) (rw e refl)

@@ -189,19 +189,19 @@ module _ (old : Cells) (cycle : Option Cycle) (c : Cycle) (h : IsHeld old cycle)
       rw (white, e, inside, as_mark) refl
 
 -- in the terms of the methods
-told_cell : (o : Option Cell) (t : Bool) (r : Option Addr) → option_map (λ (c : Cell). c.marked) o ≡ Some t → option_map (λ (c : Cell). c.other) o ≡ Some r
+decoded_cell : (o : Option Cell) (t : Bool) (r : Option Addr) → option_map (λ (c : Cell). c.marked) o ≡ Some t → option_map (λ (c : Cell). c.other) o ≡ Some r
     → (x : Cell) × (o ≡ Some x) × (x.marked ≡ t) × (x.other ≡ r)
-told_cell None t r e e' = absurd cc
-told_cell (Some x) t r e e' = let marked : x.marked ≡ t = cc in let other : x.other ≡ r = cc in (x, refl, marked, other)
+decoded_cell None t r e e' = absurd cc
+decoded_cell (Some x) t r e e' = let marked : x.marked ≡ t = cc in let other : x.other ≡ r = cc in (x, refl, marked, other)
 
 module _ (old : Cells) (cycle : Option Cycle) (c : Cycle) (h : IsHeld old cycle) (e : cycle ≡ Some c) (a : Addr) (t : Bool) (r : Option Addr)
     (marked : option_map (λ (x : Cell). x.marked) (cell_in old a) ≡ Some t) (unmarked : t ≡ false) (other : option_map (λ (x : Cell). x.other) (cell_in old a) ≡ Some r) where
   pub mark_push : 0 < c.grey.spare
-  mark_push = let x = told_cell (cell_in old a) t r marked other in push_fits old cycle c h e a x.0 x.1 (x.2 ∙ unmarked)
+  mark_push = let x = decoded_cell (cell_in old a) t r marked other in push_fits old cycle c h e a x.0 x.1 (x.2 ∙ unmarked)
 
   pub mark_held : IsHeld (change_in (store_copies true r) old a) (Some (record c { grey = record { waiting = c.grey.waiting ++ a ∷ []; spare = c.grey.spare - 1 }; has_marked = true }))
   mark_held =
-      let x = told_cell (cell_in old a) t r marked other in
+      let x = decoded_cell (cell_in old a) t r marked other in
       subst (λ o. IsHeld (change_in (store_copies true o) old a) (Some (record c { grey = record { waiting = c.grey.waiting ++ a ∷ []; spare = c.grey.spare - 1 }; has_marked = true }))) x.3
       (held_marked old cycle c h e a x.0 x.1 (x.2 ∙ unmarked))
 
@@ -210,7 +210,7 @@ module _ (old : Cells) (cycle : Option Cycle) (c : Cycle) (h : IsHeld old cycle)
       (record { spaces = spaces_of (change_in (store_copies true r) old a) (Some (record c { grey = record { waiting = c.grey.waiting ++ a ∷ []; spare = c.grey.spare - 1 }; has_marked = true })); literals = literals }, true)
       (with_mark (record { spaces = spaces_of old cycle; literals = literals }) a)
   mark_is literals =
-      let x = told_cell (cell_in old a) t r marked other in
+      let x = decoded_cell (cell_in old a) t r marked other in
       subst
       (λ o. ◌≡◌ {A = Objects × Bool}
       (record { spaces = spaces_of (change_in (store_copies true o) old a) (Some (record c { grey = record { waiting = c.grey.waiting ++ a ∷ []; spare = c.grey.spare - 1 }; has_marked = true })); literals = literals }, true)

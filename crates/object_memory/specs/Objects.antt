@@ -10,7 +10,7 @@ use Rattle.object_memory.specs.declared.heap.Cycle.{Cycle}
 use Rattle.object_memory.specs.Cells.{Cell, Cells, used_words, free_words, no_cells, literal_number, store_slot, store_monitor}
 use Rattle.object_memory.specs.Spaces.{Spaces, AreSpaces, HasGreyRoom, other_start, cell_at, slots_at, change_at, BirthSpace, birth_at, birth, mark}
 
--- the cells, and the monitor of each literal in the place of the literal's number
+-- the cells, and the monitor of each literal in place of the literal's number
 pub record Objects : Type 0 where
   pub spaces : Spaces
   pub literals : List Monitor
@@ -68,7 +68,7 @@ free_space o = free_words o.spaces.old
 
 -- ---- births, marks and stores
 
--- a birth in a place
+-- a birth in a space
 abbrev pub with_birth_at : BirthSpace → Objects → Kind → ℕ → Objects × Option Addr
 with_birth_at p o k n = (record o { spaces = (birth_at p o.spaces k n).0 }, (birth_at p o.spaces k n).1)
 
@@ -79,7 +79,7 @@ with_birth f o k n = (record o { spaces = (birth f o.spaces k n).0 }, (birth f o
 abbrev pub with_mark : Objects → Addr → Objects × Bool
 with_mark o a = (record o { spaces = (mark o.spaces a).0 }, (mark o.spaces a).1)
 
--- another cell in the place of the one at an address
+-- another cell in place of the one at an address
 abbrev pub with_cell : (Cell → Cell) → Objects → Addr → Objects
 with_cell f o a = record o { spaces = change_at f o.spaces a }
 

@@ -40,7 +40,7 @@ cell_at m a = first_of (cell_in m.old a) (cell_in m.new a)
 abbrev pub slots_at : Spaces → Addr → List ℕ
 slots_at m a = unwrap_or (option_map (λ (c : Cell). c.slots) (cell_at m a)) []
 
--- another cell in the place of the one at an address
+-- another cell in place of the one at an address
 abbrev pub change_at : (Cell → Cell) → Spaces → Addr → Spaces
 change_at f m a = record m { old = change_in f m.old a; new = change_in f m.new a }
 
@@ -116,16 +116,16 @@ address_at Listed m = next_address m.old
 address_at InBoth m = next_address m.old
 address_at InNew m = next_address m.new
 
-abbrev pub born : BirthSpace → Spaces → Kind → ℕ → Spaces
-born InOld m k n = with_old m (empty_cell k n false None)
-born Listed m k n = with_grey (with_old m (empty_cell k n true None)) (next_address m.old)
-born InBoth m k n =
+abbrev pub give_birth : BirthSpace → Spaces → Kind → ℕ → Spaces
+give_birth InOld m k n = with_old m (empty_cell k n false None)
+give_birth Listed m k n = with_grey (with_old m (empty_cell k n true None)) (next_address m.old)
+give_birth InBoth m k n =
     with_new (with_old m (empty_cell k n true (Some (next_address m.new)))) (empty_cell k n true (Some (next_address m.old)))
-born InNew m k n = with_new m (empty_cell k n false None)
+give_birth InNew m k n = with_new m (empty_cell k n false None)
 
 -- a birth is refused exactly where the cell exceeds the room
 abbrev pub birth_at : BirthSpace → Spaces → Kind → ℕ → Spaces × Option Addr
-birth_at p m k n = if nat_le (3 + n) (room_at p m) then (born p m k n, Some (address_at p m)) else (m, None)
+birth_at p m k n = if nat_le (3 + n) (room_at p m) then (give_birth p m k n, Some (address_at p m)) else (m, None)
 
 -- by the own phase of the thread
 abbrev pub birth : Phase → Spaces → Kind → ℕ → Spaces × Option Addr
@@ -177,12 +177,12 @@ clear m a = change_at (store_copies false None) m a
 -- ---- cycles
 
 -- a cycle begins with a second block of the given number of words
-abbrev pub opened : Spaces → ℕ → Spaces
-opened m words = record { old = m.old; new = record { start = other_start m.old.start; cells = []; words = words }; grey = []; has_marked = false; is_open = true }
+abbrev pub open_cycle : Spaces → ℕ → Spaces
+open_cycle m words = record { old = m.old; new = record { start = other_start m.old.start; cells = []; words = words }; grey = []; has_marked = false; is_open = true }
 
 -- it ends with the new block alone
-abbrev pub closed : Spaces → Spaces
-closed m = record { old = m.new; new = record { start = m.old.start; cells = []; words = 0 }; grey = []; has_marked = false; is_open = false }
+abbrev pub close_cycle : Spaces → Spaces
+close_cycle m = record { old = m.new; new = record { start = m.old.start; cells = []; words = 0 }; grey = []; has_marked = false; is_open = false }
 
 -- ---- room
 
@@ -220,14 +220,14 @@ HasGreyRoom s spare = whites s.cells + whites s.cells + whites s.cells + free_wo
 
 -- ---- walks
 
--- where a cell begins, or the end of all: cells and their places in the order of addresses
-pub record IsPlace (s : Cells) (p : ℕ) : Type 0 where
+-- where a cell begins, or the end of all: cells and their offsets in the order of addresses
+pub record IsOffset (s : Cells) (p : ℕ) : Type 0 where
   pub before : List Cell
   pub after : List Cell
   pub split : s.cells ≡ before ++ after
   pub at : p ≡ s.start + used_words before
 
--- the address of the first cell with a property, at a place or after it
+-- the address of the first cell with a property, at an offset or after it
 abbrev pub found_from : (Cell → Bool) → ℕ → List Cell → ℕ → Option ℕ
 found_from q at [] p = None
 found_from q at (c ∷ cs) p = if nat_lt at p then found_from q (at + size c) cs p else if q c then Some at else found_from q (at + size c) cs p

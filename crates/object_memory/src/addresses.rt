@@ -53,7 +53,7 @@ impl Addr {
     }
 
     /// Where the object's words begin in its block, whose first object has the address `start`.
-    pub(crate) fn place(self, start: u32) -> usize
+    pub(crate) fn offset(self, start: u32) -> usize
         requires { start ≤ self.number }
         ensures { result ≡ self.number - start }
     {

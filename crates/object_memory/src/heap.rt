@@ -37,7 +37,7 @@ pub struct Heap {
     literals: Vec<Monitor>,
 }
 
-/// Each part gives back its own.
+/// Each part is dropped.
 impl Drop for Heap {
     fn drop(self) {
         let Heap {
@@ -60,8 +60,8 @@ impl Model for Heap {
 
 impl Heap {
     ghost use Rattle.object_memory.specs.declared.addresses.Addr.{Addr};
-    ghost use Rattle.object_memory.specs.Cells.{null, literal_number, store_monitor, used_words, Cell, size, free_words, begins_behind, cell_in, slots_in};
-    ghost use Rattle.object_memory.specs.Spaces.{IsThere, IsPlace, cell_at, slots_at, is_old, forward, opened, closed, InOld, InBoth, Listed, InNew, is_within_cycle, room_at, room_for, with_shell, clear};
+    ghost use Rattle.object_memory.specs.Cells.{null, literal_number, store_monitor, used_words, Cell, size, free_words, begins_after, cell_in, slots_in};
+    ghost use Rattle.object_memory.specs.Spaces.{IsThere, IsOffset, cell_at, slots_at, is_old, forward, open_cycle, close_cycle, InOld, InBoth, Listed, InNew, is_within_cycle, room_at, room_for, with_shell, clear};
     ghost use Rattle.object_memory.specs.Objects.{no_objects, with_mark, with_birth_at, with_birth, with_cell, with_slot, monitor_at, with_monitor};
 
     /// A heap without objects, in a block of which no word is in use, beside that many literals, which no thread has entered.
@@ -82,7 +82,7 @@ impl Heap {
     }
 
     /// No object has the address of null or of a literal. It does nothing: its contract is the law.
-    pub fn objects_are_told_apart(&self)
+    pub fn objects_are_distinct(&self)
         ensures null { (a : Addr) → IsSome (cell_at self.now.spaces a) → a ≢ null }
         ensures literals { (a : Addr) → IsSome (cell_at self.now.spaces a) → literal_number a ≡ None }
     {
@@ -417,7 +417,7 @@ impl Heap {
         requires long { self.old.spaces.old.words ≤ length block.words }
         requires empty { grey.items ≡ [] }
         requires room { self.old.spaces.old.words ≤ 3 * vec_capacity grey + 2 }
-        ensures { self.new ≡ record self.old { spaces = opened self.old.spaces (length block.words) } }
+        ensures { self.new ≡ record self.old { spaces = open_cycle self.old.spaces (length block.words) } }
     {
         let start = self.from.other_start();
         self.cycle = Some(Cycle {
@@ -431,7 +431,7 @@ impl Heap {
     /// next cycle can be opened with them.
     pub fn close(&mut self) -> (Block, Vec<Addr>)
         requires { self.old.spaces.is_open ≡ true }
-        ensures heap { self.new ≡ record self.old { spaces = closed self.old.spaces } }
+        ensures heap { self.new ≡ record self.old { spaces = close_cycle self.old.spaces } }
         ensures block { result.0 ≡ blank self.old.spaces.old.words }
         ensures grey { result.1.items ≡ [] }
     {
@@ -555,23 +555,23 @@ impl Heap {
     }
 
     /// The object of the old block that begins after the given number of words of it. None where these are the words of all its
-    /// objects. A walk over all of them begins at place 0, and continues after each one's words. It takes as long for each
+    /// objects. A walk over all of them begins at offset 0, and continues after each one's words. It takes as long for each
     /// object.
-    pub fn old_at(&self, place: u32) -> Option<Addr>
-        requires { IsPlace self.now.spaces.old (self.now.spaces.old.start + place) }
-        ensures { result ≡ begins_behind self.now.spaces.old place }
+    pub fn old_at(&self, offset: u32) -> Option<Addr>
+        requires { IsOffset self.now.spaces.old (self.now.spaces.old.start + offset) }
+        ensures { result ≡ begins_after self.now.spaces.old offset }
     {
-        self.from.at(place)
+        self.from.at(offset)
     }
 
     /// The object of the new block that begins after the given number of words of it, in the same way. None while no cycle is open.
-    pub fn new_at(&self, place: u32) -> Option<Addr>
-        requires { IsPlace self.now.spaces.new (self.now.spaces.new.start + place) }
-        ensures { result ≡ begins_behind self.now.spaces.new place }
+    pub fn new_at(&self, offset: u32) -> Option<Addr>
+        requires { IsOffset self.now.spaces.new (self.now.spaces.new.start + offset) }
+        ensures { result ≡ begins_after self.now.spaces.new offset }
     {
         match &self.cycle {
             None => None,
-            Some(cycle) => cycle.to.at(place),
+            Some(cycle) => cycle.to.at(offset),
         }
     }
 }

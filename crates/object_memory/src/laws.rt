@@ -7,7 +7,7 @@ ghost use Rattle.object_memory.specs.declared.addresses.Addr.{Addr};
 ghost use Rattle.object_memory.specs.declared.kinds.Kind.{Kind};
 ghost use Rattle.object_memory.specs.declared.monitors.Monitor.{Monitor};
 ghost use Rattle.object_memory.specs.Cells.{Cell, Cells, size, used_words, free_words, cell_in, change_in, with_last, store_slot, store_monitor, null, literal, literal_number};
-ghost use Rattle.object_memory.specs.Spaces.{Spaces, AreSpaces, IsPlace, BirthSpace, InNew, cell_at, slots_at, change_at, birth_space_of, birth, forward, with_shell, opened, HasShellRoom};
+ghost use Rattle.object_memory.specs.Spaces.{Spaces, AreSpaces, IsOffset, BirthSpace, InNew, cell_at, slots_at, change_at, birth_space_of, birth, forward, with_shell, open_cycle, HasShellRoom};
 ghost use Rattle.object_memory.specs.Objects.{Objects, with_birth, with_slot, monitor_at, with_monitor};
 
 /// A birth's address is that of a new object, whose slots hold 0 or null. All other objects stay where they are, as they are.
@@ -34,20 +34,20 @@ pub fn stores_keep_counts()
     ensures monitor { (m : Spaces) (a b : Addr) (x : Monitor) → length (slots_at (change_at (store_monitor x) m a) b) ≡ length (slots_at m b) }
 {}
 
-/// A walk over a block goes from place to place: it begins at the first word, continues after each object, and ends after the last one.
-/// One object more leaves each place one, and so does a store.
-pub fn walks_go_from_place_to_place()
-    ensures start { (s : Cells) → IsPlace s s.start }
-    ensures behind { (s : Cells) (p : ℕ) (c : Cell) → IsPlace s p → cell_in s (record { number = p }) ≡ Some c → IsPlace s (p + size c) }
-    ensures end { (s : Cells) (p : ℕ) → IsPlace s p → cell_in s (record { number = p }) ≡ None → p ≡ s.start + used_words s.cells }
-    ensures birth { (s : Cells) (c : Cell) (p : ℕ) → IsPlace s p → IsPlace (with_last s c) p }
-    ensures slot { (s : Cells) (a : Addr) (i w p : ℕ) → IsPlace s p → IsPlace (change_in (store_slot i w) s a) p }
-    ensures monitor { (s : Cells) (a : Addr) (m : Monitor) (p : ℕ) → IsPlace s p → IsPlace (change_in (store_monitor m) s a) p }
+/// A walk over a block goes from offset to offset: it begins at the first word, continues after each object, and ends after the last one.
+/// Each offset stays an offset after a birth, and after a store.
+pub fn walks_go_from_offset_to_offset()
+    ensures start { (s : Cells) → IsOffset s s.start }
+    ensures following { (s : Cells) (p : ℕ) (c : Cell) → IsOffset s p → cell_in s (record { number = p }) ≡ Some c → IsOffset s (p + size c) }
+    ensures end { (s : Cells) (p : ℕ) → IsOffset s p → cell_in s (record { number = p }) ≡ None → p ≡ s.start + used_words s.cells }
+    ensures birth { (s : Cells) (c : Cell) (p : ℕ) → IsOffset s p → IsOffset (with_last s c) p }
+    ensures slot { (s : Cells) (a : Addr) (i w p : ℕ) → IsOffset s p → IsOffset (change_in (store_slot i w) s a) p }
+    ensures monitor { (s : Cells) (a : Addr) (m : Monitor) (p : ℕ) → IsOffset s p → IsOffset (change_in (store_monitor m) s a) p }
 {}
 
 /// Null and the literals have addresses of their own, each literal one, which determines its number.
 #[tactic(auto, using(crate::proofs::MonitorsAt::literal_number_of, crate::proofs::MonitorsAt::literal_same, crate::proofs::MonitorsAt::literal_not_null))]
-pub fn literals_are_told_apart()
+pub fn literals_are_distinct()
     ensures number { (n : ℕ) → literal_number (literal n) ≡ Some n }
     ensures own { (n m : ℕ) → literal n ≡ literal m → n ≡ m }
     ensures null { (n : ℕ) → literal n ≢ null }
@@ -66,7 +66,7 @@ pub fn monitors_stay_but_one()
 /// birth but one in the new block alone.
 pub fn shells_fit()
     ensures fits { (m : Spaces) (a : Addr) (c : Cell) → AreSpaces m → HasShellRoom m → cell_in m.old a ≡ Some c → c.other ≡ None → size c ≤ free_words m.new }
-    ensures opened { (m : Spaces) (words : ℕ) → m.old.words ≤ words → HasShellRoom (opened m words) }
+    ensures opened { (m : Spaces) (words : ℕ) → m.old.words ≤ words → HasShellRoom (open_cycle m words) }
     ensures shell { (m : Spaces) (a : Addr) (c : Cell) → AreSpaces m → HasShellRoom m → cell_in m.old a ≡ Some c → c.other ≡ None → HasShellRoom (with_shell m a c) }
     ensures birth { (m : Spaces) (phase : Phase) (k : Kind) (n : ℕ) → AreSpaces m → HasShellRoom m → birth_space_of phase m.is_open ≢ InNew → HasShellRoom (birth phase m k n).0 }
 {}

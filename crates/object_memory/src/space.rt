@@ -1,8 +1,8 @@
 //! The objects of one block.
 
 ghost use Rattle.cil_model.specs.declared.limits.TheConstants.{MOST_WORDS};
-ghost use Rattle.object_memory.specs.Cells.{first, size, free_words, used_words, begins_behind, cell_in, slots_in, change_in, new_cell, with_last, next_address, store_slot, store_monitor, store_copies};
-ghost use Rattle.object_memory.specs.Spaces.{second, other_start, IsPlace};
+ghost use Rattle.object_memory.specs.Cells.{first, size, free_words, used_words, begins_after, cell_in, slots_in, change_in, new_cell, with_last, next_address, store_slot, store_monitor, store_copies};
+ghost use Rattle.object_memory.specs.Spaces.{second, other_start, IsOffset};
 ghost use Rattle.space_block.specs.Rows.{blank};
 ghost use Rattle.std.specs.Prelude.{◌≡◌, ◌⊎◌, ℕ, ◌+◌, ◌<◌, ◌≤◌, length, slice_index, [], true, Some, IsSome, option_map};
 
@@ -72,8 +72,8 @@ impl Space {
 
     /// Adds the words of all cells to a digest.
     pub(crate) fn digest(&self, digest: &mut Digest) {
-        for place in 0..self.block.used() {
-            digest.add(self.block.read(place));
+        for offset in 0..self.block.used() {
+            digest.add(self.block.read(offset));
         }
     }
 
@@ -133,11 +133,11 @@ impl Space {
         ensures address { result ≡ next_address self.old }
     {
         let size = HEADER_WORDS + slots as usize;
-        let place = self.block.used();
+        let offset = self.block.used();
         self.block.extend(size);
-        self.block.write(place, kind.header(slots));
+        self.block.write(offset, kind.header(slots));
         Addr {
-            number: place as u32 + self.start,
+            number: offset as u32 + self.start,
         }
     }
 
@@ -150,15 +150,15 @@ impl Space {
     }
 
     /// The object that begins after the given number of words of the block. None where these are the words of all objects.
-    pub(crate) fn at(&self, place: u32) -> Option<Addr>
-        requires { IsPlace self.now (self.now.start + place) }
-        ensures { result ≡ begins_behind self.now place }
+    pub(crate) fn at(&self, offset: u32) -> Option<Addr>
+        requires { IsOffset self.now (self.now.start + offset) }
+        ensures { result ≡ begins_after self.now offset }
     {
-        if place as usize == self.block.used() {
+        if offset as usize == self.block.used() {
             return None;
         }
         Some(Addr {
-            number: self.start + place,
+            number: self.start + offset,
         })
     }
 
@@ -167,7 +167,7 @@ impl Space {
         requires { IsSome (cell_in self.now address) }
         ensures { option_map (λ c. c.kind) (cell_in self.now address) ≡ Some result }
     {
-        Kind::told(self.block.read(address.place(self.start)))
+        Kind::decoded(self.block.read(address.offset(self.start)))
     }
 
     /// The number of its fields or elements.
@@ -176,7 +176,7 @@ impl Space {
         ensures slots { result ≡ length (slots_in self.now address) }
         ensures few { result ≤ MOST_WORDS }
     {
-        Kind::slots_told(self.block.read(address.place(self.start)))
+        Kind::slots_decoded(self.block.read(address.offset(self.start)))
     }
 
     /// The words that it takes, its header counted.
@@ -193,7 +193,7 @@ impl Space {
         ensures { result ≡ slice_index (slots_in self.now address) index }
     {
         self.block
-            .read(address.place(self.start) + HEADER_WORDS + index as usize)
+            .read(address.offset(self.start) + HEADER_WORDS + index as usize)
     }
 
     /// Stores the word of a field or element. Nothing else changes.
@@ -202,7 +202,7 @@ impl Space {
         ensures { self.new ≡ change_in (store_slot index word) self.old address }
     {
         self.block.write(
-            address.place(self.start) + HEADER_WORDS + index as usize,
+            address.offset(self.start) + HEADER_WORDS + index as usize,
             word,
         );
     }
@@ -212,7 +212,7 @@ impl Space {
         requires { IsSome (cell_in self.now address) }
         ensures { option_map (λ c. c.marked) (cell_in self.now address) ≡ Some result }
     {
-        Copies::told(self.block.read(address.place(self.start) + COPIES_WORD)).marked
+        Copies::decoded(self.block.read(address.offset(self.start) + COPIES_WORD)).marked
     }
 
     /// The address of the object's other copy, where it has one.
@@ -220,7 +220,7 @@ impl Space {
         requires { IsSome (cell_in self.now address) }
         ensures { option_map (λ c. c.other) (cell_in self.now address) ≡ Some result }
     {
-        Copies::told(self.block.read(address.place(self.start) + COPIES_WORD)).other
+        Copies::decoded(self.block.read(address.offset(self.start) + COPIES_WORD)).other
     }
 
     /// Sets whether the object is marked, and what its other copy is. Nothing else changes.
@@ -230,7 +230,7 @@ impl Space {
     {
         let copies = Copies { marked, other };
         self.block
-            .write(address.place(self.start) + COPIES_WORD, copies.word());
+            .write(address.offset(self.start) + COPIES_WORD, copies.word());
     }
 
     /// The monitor of an object.
@@ -238,7 +238,7 @@ impl Space {
         requires { IsSome (cell_in self.now address) }
         ensures { option_map (λ c. c.monitor) (cell_in self.now address) ≡ Some result }
     {
-        Monitor::told(self.block.read(address.place(self.start) + MONITOR_WORD))
+        Monitor::decoded(self.block.read(address.offset(self.start) + MONITOR_WORD))
     }
 
     /// Sets the monitor of an object. Nothing else changes.
@@ -247,6 +247,6 @@ impl Space {
         ensures { self.new ≡ change_in (store_monitor monitor) self.old address }
     {
         self.block
-            .write(address.place(self.start) + MONITOR_WORD, monitor.word());
+            .write(address.offset(self.start) + MONITOR_WORD, monitor.word());
     }
 }

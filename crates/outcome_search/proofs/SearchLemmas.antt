@@ -4,12 +4,12 @@ use Rattle.cil_model.specs.Sources.{HasTree}
 use Rattle.cil_model.specs.declared.limits.Limits.{Limits}
 use Rattle.cil_model.specs.declared.trees.Tree.{Tree}
 use Rattle.exploration.specs.Begins.{Begins}
-use Rattle.exploration.specs.simulation.MachineContents.{Content}
-use Rattle.exploration.specs.simulation.Turns.{opening_content}
+use Rattle.exploration.specs.simulation.MachineStates.{MachineState}
+use Rattle.exploration.specs.simulation.Transitions.{initial_machine_state}
 
 pub same_tree : (t u : Tree) → HasTree t ≡ HasTree u → t ≡ u
 same_tree t u e = cc
 
 -- a machine of this program within these limits begins so
-pub begins_of : (tree : Tree) (limits : Limits) (m first : Content) → m.tree ≡ tree → m.limits ≡ limits → opening_content tree limits ≡ Some first → Begins m first
-begins_of tree limits m first same within opens = ap (λ (t : Tree). opening_content t m.limits) same ∙ (ap (λ (l : Limits). opening_content tree l) within ∙ opens)
+pub begins_of : (tree : Tree) (limits : Limits) (m first : MachineState) → m.tree ≡ tree → m.limits ≡ limits → initial_machine_state tree limits ≡ Some first → Begins m first
+begins_of tree limits m first same within opens = ap (λ (t : Tree). initial_machine_state t m.limits) same ∙ (ap (λ (l : Limits). initial_machine_state tree l) within ∙ opens)

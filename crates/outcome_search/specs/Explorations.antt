@@ -9,25 +9,25 @@ use Rattle.exploration.specs.Paths.{IsComplete, outcome_found}
 use Rattle.exploration.specs.Searches.{KeepBudgets}
 use Rattle.exploration.specs.Shown.{IsOver, IsTerminal, Outcome, outcome_of, outcome_shown}
 use Rattle.exploration.specs.declared.findings.Found.{Found}
-use Rattle.exploration.specs.simulation.MachineContents.{Content}
+use Rattle.exploration.specs.simulation.MachineStates.{MachineState}
 use Rattle.exploration.specs.simulation.Runs.{IsRunOf}
 use Rattle.exploration.specs.simulation.reference_machine.States.{State}
 
 -- some list of paths from the initial content leads to every reachable content, and these are the outcomes of those in which no thread can make a step
-abbrev pub IsOutcomeList : Content → List Outcome → Type 0
+abbrev pub IsOutcomeList : MachineState → List Outcome → Type 0
 IsOutcomeList first outcomes = (paths : List (List Event)) × IsComplete first paths outcomes
 
--- Each run of the program, with any events of the collector, in which no thread uses up its budget, has one of these outcomes once no thread can make a step: each has ended or is
--- blocked.
+-- Each run of the program, with any events of the collector, in which no thread uses up its budget, has one of these outcomes once no thread can make
+-- a step: each has ended or is blocked.
 abbrev pub HasAllOutcomes : List ℕ → Limits → List Outcome → Type 0
 HasAllOutcomes source limits outcomes =
     (tree : Tree) → IsAcceptedSource source tree → (events : List Event) (reports : List Report) (s : State) → IsRunOf tree limits events reports s → KeepBudgets reports → IsOver tree limits s → Contains outcomes (outcome_of s)
 
 -- no thread can make a step, and the machine shows the outcome
-pub record IsEnd (content : Content) (found : Found) : Type 0 where
-  pub ends : IsTerminal content
-  pub shows : outcome_shown content ≡ outcome_found found
+pub record IsEnd (machine_state : MachineState) (found : Found) : Type 0 where
+  pub ends : IsTerminal machine_state
+  pub shows : outcome_shown machine_state ≡ outcome_found found
 
 -- a machine that was made for the source has done the events of the schedule of an outcome, and shows it
 abbrev pub IsFoundIn : List ℕ → Limits → Found → Type 0
-IsFoundIn source limits found = (reports : List Report) × (content : Content) × HasRunTo source limits found.events.items reports content × IsEnd content found
+IsFoundIn source limits found = (reports : List Report) × (machine_state : MachineState) × HasRunTo source limits found.events.items reports machine_state × IsEnd machine_state found

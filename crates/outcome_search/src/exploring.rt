@@ -32,11 +32,11 @@ pub struct Exploration {
     pub stop: Option<Stop>,
 }
 
-/// Finds every outcome of a source over all schedules. Each outcome is that of a run by the events of its schedule, after which no thread can make a step: each has ended or is
-/// blocked.
+/// Finds every outcome of a source over all schedules. Each outcome is that of a run by the events of its schedule, after which no thread can make a
+/// step: each has ended or is blocked.
 ///
-/// If `is_complete` is true, there are no others: every run in which no thread uses up its budget, with any events of the collector, has one of these outcomes once no thread can
-/// make a step.
+/// If `is_complete` is true, there are no others: every run in which no thread uses up its budget, with any events of the collector, has one of these
+/// outcomes once no thread can make a step.
 ///
 /// Faults are looked for in this order: the source (as `accept` does), the limits (`OutOfRange(401)`); `Memory` if memory runs out.
 pub fn explore(
@@ -60,9 +60,9 @@ pub fn explore(
 /// The size of the block of `keep_freed_memory`: more than the frames of all threads of two machines.
 const KEPT_WORDS: usize = 524_288;
 
-/// Allocates a block of 4 MiB and gives it back. This is for the allocator of the GNU C library alone: once a block of that size is given back, it no longer maps blocks up to that size
-/// one by one, and it no longer returns less than twice as much to the system. So each replay finds the memory that the one before has freed. With another allocator it does nothing,
-/// and a search may be slower; no result depends on it.
+/// Allocates a block of 4 MiB and gives it back. This is for the allocator of the GNU C library alone: once a block of that size is given back, it no
+/// longer maps blocks up to that size one by one, and it no longer returns less than twice as much to the system. So each replay finds the memory
+/// that the one before has freed. With another allocator it does nothing, and a search may be slower; no result depends on it.
 fn keep_freed_memory(alloc: Global) -> Result<(), NoMemory> {
     let _block: Vec<u64> = Vec::with_capacity(alloc, KEPT_WORDS)?;
     Ok(())
@@ -102,7 +102,8 @@ fn explore_machines<M: First>(
     })
 }
 
-/// Whether the search did not stop early, and the check confirms that there are no other outcomes. True only if there are none. It fails only if memory runs out.
+/// Whether the search did not stop early, and the check confirms that there are no other outcomes. True only if there are none. It fails only if
+/// memory runs out.
 fn has_found_all<M: First>(
     replayer: &mut Replayer<M>,
     other: &mut Replayer<M>,

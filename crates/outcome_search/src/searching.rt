@@ -29,8 +29,8 @@ struct Searching {
     stop: Option<Stop>,
 }
 
-/// Searches for all states of a program, by schedules with the fewest preemptions first, and of those with the fewest steps first. The machine is left in any state. It fails
-/// only if memory runs out.
+/// Searches for all states of a program, by schedules with the fewest preemptions first, and of those with the fewest steps first. The machine is
+/// left in any state. It fails only if memory runs out.
 pub fn search<M: First>(
     replayer: &mut Replayer<M>,
     alloc: Global,

@@ -30,8 +30,8 @@ struct Edges {
     threads: u8,
 }
 
-/// A state: the first node that was visited with it, its edges, and the threads after whose moves it was visited. It is found once it is the initial state or an edge of a visited
-/// state leads to it.
+/// A state: the first node that was visited with it, its edges, and the threads after whose moves it was visited. It is found once it is the initial
+/// state or an edge of a visited state leads to it.
 #[derive(Clone, Copy)]
 struct State {
     node: Option<u32>,
@@ -159,8 +159,8 @@ impl States {
         Ok(())
     }
 
-    /// The place of the edge of a thread from a state among all edges. None if the state has no edges, or there is no such thread.
-    fn place(&self, index: u32, thread: u8) -> Option<usize> {
+    /// The index of the edge of a thread from a state among all edges. None if the state has no edges, or there is no such thread.
+    fn edge_index(&self, index: u32, thread: u8) -> Option<usize> {
         let edges = self.edges_of(index)?;
         if thread >= edges.threads {
             return None;
@@ -170,15 +170,15 @@ impl States {
 
     /// The edge of a thread from a state. None if the state has no edges, or there is no such thread.
     pub fn edge(&self, index: u32, thread: u8) -> Option<Edge> {
-        self.edges.get(self.place(index, thread)?).copied()
+        self.edges.get(self.edge_index(index, thread)?).copied()
     }
 
     /// Replaces the edge of a thread from a state.
     pub fn set_edge(&mut self, index: u32, thread: u8, edge: Edge) {
-        let Some(place) = self.place(index, thread) else {
+        let Some(index) = self.edge_index(index, thread) else {
             return;
         };
-        if let Some(old) = self.edges.get_mut(place) {
+        if let Some(old) = self.edges.get_mut(index) {
             *old = edge;
         }
     }

@@ -24,7 +24,7 @@ pub struct Walks<'a> {
     pub start: u32,
     /// The thread that made the last move before it.
     pub last: u8,
-    /// If there are as many states, only the first move of a walk adds another one.
+    /// Once this number of states is reached, only the first move of a walk adds another one.
     pub most_states: usize,
 }
 
@@ -116,8 +116,8 @@ impl<'a> Walks<'a> {
         Ok(())
     }
 
-    /// Makes moves from the state, which is that of the machine, as long as the edge of a move is not known: with the same thread, if it can. So one replay finds the edges of many
-    /// states.
+    /// Makes moves from the state, which is that of the machine, as long as the edge of a move is not known: with the same thread, if it can. So one
+    /// replay finds the edges of many states.
     fn walk<M: First>(
         self,
         states: &mut States,
@@ -147,8 +147,8 @@ impl<'a> Walks<'a> {
         Ok(())
     }
 
-    /// Stores where a thread leads from a state, and returns the next state. None if it leads out, or if there are states enough. The remaining steps of a later state of a walk are not
-    /// those of its node: that a move leads out is found once such a state is visited.
+    /// Stores where a thread leads from a state, and returns the next state. None if it leads out, or if there are states enough. The remaining steps
+    /// of a later state of a walk are not those of its node: that a move leads out is found once such a state is visited.
     fn add_edge(
         self,
         states: &mut States,

@@ -11,7 +11,7 @@ use Rattle.cil_model.specs.declared.phases.Phase.TheVariants.{Idle, Mark, Alloca
 use Rattle.cil_model.proofs.Lists.{none_is_some, set_or_was}
 use Rattle.reference_machine.specs.Cycles.{phase_after}
 use Rattle.phase_handshake.specs.declared.posts.Seat.{Seat}
-use Rattle.phase_handshake.specs.Handshakes.{Handshakes, AreClose, IsClose, acknowledged, all_seen, has_seen, is_open_to, is_phase, joined, phase_number, left, posted_next, posted_round, seat_after, seat_of, unanswered, without_round}
+use Rattle.phase_handshake.specs.Handshakes.{Handshakes, AreClose, IsClose, acknowledge_phase, all_seen, has_seen, is_open_to, is_phase, join_thread, phase_number, leave_handshakes, posted_next, posted_round, seat_after, seat_of, clear_answer, without_round}
 
 -- ---- phases
 
@@ -49,13 +49,13 @@ one_before Reclaim = refl
 pub late_is_close : (h : Handshakes) (s : Seat) → phase_after s.phase ≡ h.posted → IsClose h s
 late_is_close h s late = inr (late, ap (λ b. not b || (h.has_round && not s.answered)) (ap (is_phase s.phase) (sym late) ∙ one_before s.phase))
 
--- the seat at a place is there
+-- the seat at an index is there
 pub seat_there : (h : Handshakes) (t : ℕ) (s : Seat) → seat_of h t ≡ Some s → slice_get h.seats t ≡ Some (Some s)
-seat_there h t s e = by_place (slice_get h.seats t) refl
+seat_there h t s e = by_index (slice_get h.seats t) refl
   where
-    by_place : (o : Option (Option Seat)) → slice_get h.seats t ≡ o → o ≡ Some (Some s)
-    by_place None is = none_is_some s (sym (ap (option_and_then (λ (x : Option Seat). x)) is) ∙ e)
-    by_place (Some o) is = ap Some (sym (ap (option_and_then (λ (x : Option Seat). x)) is) ∙ e)
+    by_index : (o : Option (Option Seat)) → slice_get h.seats t ≡ o → o ≡ Some (Some s)
+    by_index None is = none_is_some s (sym (ap (option_and_then (λ (x : Option Seat). x)) is) ∙ e)
+    by_index (Some o) is = ap Some (sym (ap (option_and_then (λ (x : Option Seat). x)) is) ∙ e)
 
 pub seat_here : (h : Handshakes) (t : ℕ) (s : Seat) → slice_get h.seats t ≡ Some (Some s) → seat_of h t ≡ Some s
 seat_here h t s e = ap (option_and_then (λ (x : Option Seat). x)) e
@@ -63,27 +63,27 @@ seat_here h t s e = ap (option_and_then (λ (x : Option Seat). x)) e
 -- ---- other seats
 
 module _ (h : Handshakes) (are : AreClose h) where
-  -- a seat that is close in the place of one, or none
+  -- a seat that is close in place of one, or none
   with_seat : (t : ℕ) (o : Option Seat) → ((s : Seat) → o ≡ Some s → IsClose h s × (s.answered ≡ true → h.has_round ≡ true)) → AreClose (record h { seats = slice_set h.seats t o })
   with_seat t o fits = record {
-    places = length-set h.seats t o ∙ are.places;
+    indices = length-set h.seats t o ∙ are.indices;
     phases = λ u s e. (each u s e).0;
     answers = λ u s e. (each u s e).1;
   }
     where
       each : (u : ℕ) (s : Seat) → seat_of (record h { seats = slice_set h.seats t o }) u ≡ Some s → IsClose h s × (s.answered ≡ true → h.has_round ≡ true)
-      each u s e = by_place (set_or_was h.seats t u o (Some s) (seat_there (record h { seats = slice_set h.seats t o }) u s e))
+      each u s e = by_index (set_or_was h.seats t u o (Some s) (seat_there (record h { seats = slice_set h.seats t o }) u s e))
         where
-          by_place : (Some s ≡ o) ⊎ (slice_get h.seats u ≡ Some (Some s)) → IsClose h s × (s.answered ≡ true → h.has_round ≡ true)
-          by_place (inl new) = fits s (sym new)
-          by_place (inr old) = (are.phases u s (seat_here h u s old), are.answers u s (seat_here h u s old))
+          by_index : (Some s ≡ o) ⊎ (slice_get h.seats u ≡ Some (Some s)) → IsClose h s × (s.answered ≡ true → h.has_round ≡ true)
+          by_index (inl new) = fits s (sym new)
+          by_index (inr old) = (are.phases u s (seat_here h u s old), are.answers u s (seat_here h u s old))
 
   -- a thread leaves
-  pub left_close : (t : ℕ) → AreClose (left h t)
+  pub left_close : (t : ℕ) → AreClose (leave_handshakes h t)
   left_close t = with_seat t None (λ s e. none_is_some s e)
 
   -- a thread joins
-  pub joined_close : (t starter : ℕ) → AreClose (joined h t starter)
+  pub joined_close : (t starter : ℕ) → AreClose (join_thread h t starter)
   joined_close t starter = with_seat t (seat_of h starter) (λ s e. (are.phases starter s e, are.answers starter s e))
 
   -- the seat of a thread that acknowledges
@@ -103,7 +103,7 @@ module _ (h : Handshakes) (are : AreClose h) where
   answered_close t s here opened = with_seat t (Some (seat_after h.posted s)) (λ r e. subst (λ (x : Seat). IsClose h x × (x.answered ≡ true → h.has_round ≡ true)) (same_Some (seat_after h.posted s) r e) (after_fits s opened (are.answers t s here)))
 
   -- a thread acknowledges
-  pub acknowledged_close : (t : ℕ) → AreClose (acknowledged h t)
+  pub acknowledged_close : (t : ℕ) → AreClose (acknowledge_phase h t)
   acknowledged_close t = by_seat (seat_of h t) refl
     where
       after : Option Seat → Handshakes
@@ -120,19 +120,19 @@ module _ (h : Handshakes) (are : AreClose h) where
 -- ---- posts
 
 -- the seat of a thread without its answer, and with it
-seat_before : (h : Handshakes) (t : ℕ) (s : Seat) → slice_get (map unanswered h.seats) t ≡ Some (Some s) → (r : Seat) × (seat_of h t ≡ Some r) × (s ≡ record r { answered = false })
-seat_before h t s e = by_place (slice_get h.seats t) refl
+seat_before : (h : Handshakes) (t : ℕ) (s : Seat) → slice_get (map clear_answer h.seats) t ≡ Some (Some s) → (r : Seat) × (seat_of h t ≡ Some r) × (s ≡ record r { answered = false })
+seat_before h t s e = by_index (slice_get h.seats t) refl
   where
-    found : option_map unanswered (slice_get h.seats t) ≡ Some (Some s)
-    found = sym (slice_get-map unanswered h.seats t) ∙ e
+    found : option_map clear_answer (slice_get h.seats t) ≡ Some (Some s)
+    found = sym (slice_get-map clear_answer h.seats t) ∙ e
 
-    by_place : (o : Option (Option Seat)) → slice_get h.seats t ≡ o → (r : Seat) × (seat_of h t ≡ Some r) × (s ≡ record r { answered = false })
-    by_place None is = none_is_some (Some s) (sym (ap (option_map unanswered) is) ∙ found)
-    by_place (Some None) is = none_is_some s (same_Some None (Some s) (sym (ap (option_map unanswered) is) ∙ found))
-    by_place (Some (Some r)) is =
-        (r, seat_here h t r is, sym (same_Some (record r { answered = false }) s (same_Some (Some (record r { answered = false })) (Some s) (sym (ap (option_map unanswered) is) ∙ found))))
+    by_index : (o : Option (Option Seat)) → slice_get h.seats t ≡ o → (r : Seat) × (seat_of h t ≡ Some r) × (s ≡ record r { answered = false })
+    by_index None is = none_is_some (Some s) (sym (ap (option_map clear_answer) is) ∙ found)
+    by_index (Some None) is = none_is_some s (same_Some None (Some s) (sym (ap (option_map clear_answer) is) ∙ found))
+    by_index (Some (Some r)) is =
+        (r, seat_here h t r is, sym (same_Some (record r { answered = false }) s (same_Some (Some (record r { answered = false })) (Some s) (sym (ap (option_map clear_answer) is) ∙ found))))
 
--- a test that all seats pass, the one at a place passes
+-- the seat at an index passes a test that all seats pass
 pub passes_at : (test : Option Seat → Bool) (seats : List (Option Seat)) (t : ℕ) (s : Seat) → list_all test seats ≡ true → slice_get seats t ≡ Some (Some s) → test (Some s) ≡ true
 passes_at test [] t s all e = none_is_some (Some s) e
 passes_at test (o ∷ os) zero s all e = subst (λ x. test x ≡ true) (same_Some o (Some s) e) (and_parts _ _ all).0
@@ -142,7 +142,7 @@ module _ (h : Handshakes) (are : AreClose h) where
   -- a round is posted
   pub round_close : AreClose (posted_round h)
   round_close = record {
-    places = length-map h.seats unanswered ∙ are.places;
+    indices = length-map h.seats clear_answer ∙ are.indices;
     phases = λ t s e. close_still t s (seat_before h t s (seat_there (posted_round h) t s e));
     answers = λ t s e answered. refl;
   }
@@ -161,7 +161,7 @@ module _ (h : Handshakes) (are : AreClose h) where
 
     pub phase_close : AreClose (record h { posted = phase_after h.posted })
     phase_close = record {
-      places = are.places;
+      indices = are.indices;
       phases = λ t s e. late_is_close (record h { posted = phase_after h.posted }) s (ap phase_after (was_posted t s e));
       answers = are.answers;
     }
@@ -171,16 +171,16 @@ module _ (h : Handshakes) (are : AreClose h) where
 
     pub cycle_close : AreClose (record (without_round h) { posted = phase_after h.posted })
     cycle_close = record {
-      places = length-map h.seats unanswered ∙ are.places;
+      indices = length-map h.seats clear_answer ∙ are.indices;
       phases = λ t s e. close_still t s (seat_before h t s (seat_there cycle t s e));
-      answers = λ t s e answered. told_before t s answered (seat_before h t s (seat_there cycle t s e));
+      answers = λ t s e answered. decoded_before t s answered (seat_before h t s (seat_there cycle t s e));
     }
       where
         close_still : (t : ℕ) (s : Seat) → (r : Seat) × (seat_of h t ≡ Some r) × (s ≡ record r { answered = false }) → IsClose cycle s
         close_still t s (r, here, is) = late_is_close cycle s (ap (λ (x : Seat). phase_after x.phase) is ∙ ap phase_after (was_posted t r here))
 
-        told_before : (t : ℕ) (s : Seat) → s.answered ≡ true → (r : Seat) × (seat_of h t ≡ Some r) × (s ≡ record r { answered = false }) → false ≡ true
-        told_before t s answered (r, here, is) = sym (ap (λ (x : Seat). x.answered) is) ∙ answered
+        decoded_before : (t : ℕ) (s : Seat) → s.answered ≡ true → (r : Seat) × (seat_of h t ≡ Some r) × (s ≡ record r { answered = false }) → false ≡ true
+        decoded_before t s answered (r, here, is) = sym (ap (λ (x : Seat). x.answered) is) ∙ answered
 
     pub next_close : AreClose (posted_next h)
     next_close = by_test (is_phase (phase_after h.posted) Mark)

@@ -29,7 +29,7 @@ seat_of h t = option_and_then (λ (s : Option Seat). s) (slice_get h.seats t)
 
 -- ---- phases
 
--- the phases are numbered in the order in which they are posted
+-- the number of each phase, in the order in which they are posted
 abbrev pub phase_number : Phase → ℕ
 phase_number Idle = 0
 phase_number Mark = 1
@@ -68,13 +68,13 @@ all_answered h = list_all has_answered h.seats
 
 -- ---- posts
 
--- a round begins with no answer
-abbrev pub unanswered : Option Seat → Option Seat
-unanswered seat = option_map (λ (s : Seat). record s { answered = false }) seat
+-- a round begins without any answer
+abbrev pub clear_answer : Option Seat → Option Seat
+clear_answer seat = option_map (λ (s : Seat). record s { answered = false }) seat
 
 -- a cycle opens with no round
 abbrev pub without_round : Handshakes → Handshakes
-without_round h = record h { has_round = false; seats = map unanswered h.seats }
+without_round h = record h { has_round = false; seats = map clear_answer h.seats }
 
 -- the phase after the posted one; rounds are those of a cycle, and stay posted until the next one opens
 abbrev pub posted_next : Handshakes → Handshakes
@@ -82,7 +82,7 @@ posted_next h = record (if is_phase (phase_after h.posted) Mark then without_rou
 
 -- one more round
 abbrev pub posted_round : Handshakes → Handshakes
-posted_round h = record h { has_round = true; seats = map unanswered h.seats }
+posted_round h = record h { has_round = true; seats = map clear_answer h.seats }
 
 -- ---- acknowledgements
 
@@ -99,8 +99,8 @@ abbrev pub seat_after : Phase → Seat → Seat
 seat_after posted s = if is_phase s.phase posted then record s { answered = true } else record s { phase = posted }
 
 -- where nothing is open to it, nothing changes
-abbrev pub acknowledged : Handshakes → ℕ → Handshakes
-acknowledged h t =
+abbrev pub acknowledge_phase : Handshakes → ℕ → Handshakes
+acknowledge_phase h t =
     option_map_or
     (λ (s : Seat). if is_open_to h.posted h.has_round s then record h { seats = slice_set h.seats t (Some (seat_after h.posted s)) } else h)
     (seat_of h t)
@@ -109,12 +109,12 @@ acknowledged h t =
 -- ---- threads that come and go
 
 -- a new thread has seen and answered what its starter has
-abbrev pub joined : Handshakes → (thread starter : ℕ) → Handshakes
-joined h t starter = record h { seats = slice_set h.seats t (seat_of h starter) }
+abbrev pub join_thread : Handshakes → (thread starter : ℕ) → Handshakes
+join_thread h t starter = record h { seats = slice_set h.seats t (seat_of h starter) }
 
 -- an ended thread has no seat, so nothing is required of it
-abbrev pub left : Handshakes → ℕ → Handshakes
-left h t = record h { seats = slice_set h.seats t None }
+abbrev pub leave_handshakes : Handshakes → ℕ → Handshakes
+leave_handshakes h t = record h { seats = slice_set h.seats t None }
 
 -- ---- how far threads and collector are apart
 
@@ -122,9 +122,9 @@ left h t = record h { seats = slice_set h.seats t None }
 abbrev pub IsClose : Handshakes → Seat → Type 0
 IsClose h s = (s.phase ≡ h.posted) ⊎ ((phase_after s.phase ≡ h.posted) × (is_open_to h.posted h.has_round s ≡ true))
 
--- each live thread is close, and none has answered a round that is not posted; there is a place for the seat of each number
+-- each live thread is close, and none has answered a round that is not posted; the list of seats has an item for each thread number
 pub record AreClose (h : Handshakes) : Type 0 where
-  pub places : length h.seats ≡ MOST_THREADS
+  pub indices : length h.seats ≡ MOST_THREADS
   pub phases : (t : ℕ) (s : Seat) → seat_of h t ≡ Some s → IsClose h s
   pub answers : (t : ℕ) (s : Seat) → seat_of h t ≡ Some s → s.answered ≡ true → h.has_round ≡ true
 

@@ -3,7 +3,7 @@
 ghost use Rattle.std.specs.Prelude.{◌≡◌, map, true, IsTrue};
 ghost use Rattle.std.specs.List.{list_all};
 ghost use Rattle.reference_machine.specs.Cycles.{phase_after};
-ghost use Rattle.phase_handshake.specs.Handshakes.{AreClose, acknowledged, all_answered, all_seen, first_handshakes, has_answered, has_seen, is_open, joined, left, own_phase, posted_next, posted_round, seat_of, unanswered};
+ghost use Rattle.phase_handshake.specs.Handshakes.{AreClose, acknowledge_phase, all_answered, all_seen, first_handshakes, has_answered, has_seen, is_open, join_thread, leave_handshakes, own_phase, posted_next, posted_round, seat_of, clear_answer};
 
 use cil_model::limits::MOST_THREADS;
 use cil_model::phases::Phase;
@@ -144,7 +144,7 @@ impl Posts {
     /// was open to it, and where no thread of that number is live; nothing changes then.
     pub fn acknowledge(&mut self, thread: u8) -> bool
         ensures answer { result ≡ is_open self.old thread }
-        ensures after { self.new ≡ acknowledged self.old thread }
+        ensures after { self.new ≡ acknowledge_phase self.old thread }
     {
         let Some(seat) = self.seat(thread) else {
             return false;
@@ -160,7 +160,7 @@ impl Posts {
     /// Gives a thread that starts a seat like its starter's: it has acknowledged and answered what the starter has. A thread
     /// whose starter is not live has no seat. From number 16 on nothing changes.
     pub fn join(&mut self, thread: usize, starter: u8)
-        ensures { self.new ≡ joined self.old thread starter }
+        ensures { self.new ≡ join_thread self.old thread starter }
     {
         let seat = self.seat(starter);
         if thread < MOST_THREADS {
@@ -171,7 +171,7 @@ impl Posts {
 
     /// Takes the seat of a thread that has ended. Nothing is required of it any more.
     pub fn leave(&mut self, thread: u8)
-        ensures { self.new ≡ left self.old thread }
+        ensures { self.new ≡ leave_handshakes self.old thread }
     {
         if usize::from(thread) < MOST_THREADS {
             self.seats[usize::from(thread)] = None;
@@ -231,16 +231,16 @@ fn has_answered(seat: &Option<Seat>) -> bool
 
 /// Takes the answer of each live thread back.
 fn take_answers_back(seats: &mut [Option<Seat>])
-    ensures { seats.new ≡ map unanswered seats.old }
+    ensures { seats.new ≡ map clear_answer seats.old }
 {
     for seat in seats.iter_mut() {
-        *seat = unanswered(*seat);
+        *seat = clear_answer(*seat);
     }
 }
 
 /// The seat without its answer.
-fn unanswered(seat: Option<Seat>) -> Option<Seat>
-    ensures { result ≡ unanswered seat }
+fn clear_answer(seat: Option<Seat>) -> Option<Seat>
+    ensures { result ≡ clear_answer seat }
 {
     seat.map(|seat| Seat {
         answered: false,

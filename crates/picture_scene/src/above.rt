@@ -90,9 +90,9 @@ fn short_end(end: End) -> &'static [u8] {
     };
     let name = fault.name().as_bytes();
     let mut from = 0;
-    for (place, byte) in name.iter().enumerate() {
+    for (index, byte) in name.iter().enumerate() {
         if *byte == b'.' {
-            from = place + 1;
+            from = index + 1;
         }
     }
     part_of(name, from, name.len().saturating_sub(9))

@@ -63,7 +63,7 @@ fn add_arrow(page: &mut Content, class: &str, tip: &str, x: usize, from: usize, 
     page.shape(tip, INHERIT, x, to, commands);
 }
 
-/// The event by which threads came to be deadlocked, and who waits for whom.
+/// The event by which threads became deadlocked, and who waits for whom.
 fn add_deadlock(page: &mut Content, layout: &Layout, scene: &Scene) {
     if let Some(deadlock) = scene.deadlock {
         let x = layout.x(deadlock.at);

@@ -9,7 +9,7 @@ pub(crate) const OPEN: usize = usize::MAX;
 /// What a mark shows, and what its two numbers are, which are 0 where nothing is said.
 #[derive(Clone, Copy, PartialEq, Eq)]
 pub enum Kind {
-    /// The phase that a thread has acknowledged, or that the collector has posted, by its place in a cycle: 0 is none.
+    /// The phase that a thread has acknowledged, or that the collector has posted, by its index in a cycle: 0 is none.
     Phase,
     /// The words in use of the old or only space, and those of the new one.
     Words,

@@ -56,10 +56,10 @@ pub struct Field {
     pub is_shared: bool,
 }
 
-/// Threads none of which goes on any more.
+/// Threads none of which continues any more.
 #[derive(Clone, Copy)]
 pub struct Deadlock {
-    /// The event by which they came to be so.
+    /// The event by which they became deadlocked.
     pub at: usize,
     /// Who waits for whom.
     pub sentence: Part,
@@ -239,7 +239,7 @@ impl Scene {
             ended.end = Some(end);
             ended.to = at.saturating_add(1);
         }
-        self.go_on(lane, to);
+        self.advance(lane, to);
     }
 
     /// The step of a thread at this event is blocked. Returns whether the thread waits from this step on.
@@ -257,7 +257,7 @@ impl Scene {
     }
 
     /// A thread waits no longer from this event on.
-    pub fn go_on(&mut self, lane: usize, at: usize) {
+    pub fn advance(&mut self, lane: usize, at: usize) {
         if let Some(waiting) = self.lanes.as_mut_slice().get_mut(lane) {
             if waiting.is_waiting {
                 waiting.is_waiting = false;

@@ -52,8 +52,8 @@ pub(crate) fn color_of_monitor(monitor: usize) -> &'static str {
     COLORS[monitor % 6]
 }
 
-/// The class of a phase in the style, and the name of the phase, by its place in a cycle. Both are empty between cycles.
-pub(crate) fn phase_style(place: usize) -> (&'static str, &'static str) {
+/// The class of a phase in the style, and the name of the phase, by its index in a cycle. Both are empty between cycles.
+pub(crate) fn phase_style(index: usize) -> (&'static str, &'static str) {
     const PHASES: [(&str, &str); 8] = [
         ("", ""),
         ("p1", "mark"),
@@ -64,5 +64,5 @@ pub(crate) fn phase_style(place: usize) -> (&'static str, &'static str) {
         ("p6", "thread-flip"),
         ("p7", "reclaim"),
     ];
-    PHASES[place % 8]
+    PHASES[index % 8]
 }

@@ -1,4 +1,4 @@
-//! What a file is that is given in the place of another one.
+//! What a file is that is given in place of another one.
 
 use schedule_text::{ScheduleError, read_schedule};
 use source_positions::Named;

@@ -1,16 +1,16 @@
-//! What the grammar has at a place, in words.
+//! What the grammar has at a position, in words.
 
 use source_positions::cil_model::tokens::Symbol;
 use source_positions::ilasm_tokens::expected::Expected;
 use std::{fmt, str};
 
-/// What the grammar has at a place: `a name`, or a word or a mark in backquotes.
+/// What the grammar has at a position: `a name`, or a word or a mark in backquotes.
 #[derive(Clone, Copy)]
 pub(crate) struct ExpectedText(pub Expected);
 
 impl fmt::Display for ExpectedText {
     fn fmt<W: fmt::Write>(&self, f: &mut fmt::Formatter<W>) -> fmt::Result {
-        match quoted(self.0) {
+        match quoted_names(self.0) {
             None => f.write_str(words_of(self.0)),
             Some((before, quoted)) => write!(f, "{before}`{quoted}`"),
         }
@@ -18,7 +18,7 @@ impl fmt::Display for ExpectedText {
 }
 
 /// A word or a mark that is shown in backquotes, and what stands before it.
-fn quoted(expected: Expected) -> Option<(&'static str, &'static str)> {
+fn quoted_names(expected: Expected) -> Option<(&'static str, &'static str)> {
     match expected {
         Expected::Word(word) => Some(("", str::from_utf8(word).unwrap_or("?"))),
         Expected::Symbol(symbol) => Some(("", mark_of(symbol))),

@@ -1,7 +1,7 @@
-//! What to write in the place of what a source has.
+//! What to write in place of what a source has.
 
 use crate::left_out::{FOREIGN, INSTRUCTIONS, MARKS, NEEDLESS, WORDS};
-use crate::places::advice_at;
+use crate::locations::advice_at;
 use crate::spots::{Spot, is_name};
 use crate::tables::{Entry, advice_in, is_listed};
 use source_positions::Position;
@@ -10,7 +10,7 @@ use source_positions::ilasm_tokens::expected::Expected;
 use source_positions::ilasm_tokens::words::{WordUse, use_of};
 use std::fmt;
 
-/// What to write in the place of what a source has. It prints as one sentence without an end.
+/// What to write in place of what a source has. It prints as one sentence without an end.
 #[derive(Clone, Copy)]
 pub(crate) enum Instead<'a> {
     /// This sentence.
@@ -95,7 +95,7 @@ fn advice_of<'a>(table: &[Entry], word: &str) -> Option<Instead<'a>> {
     Some(Instead::Advice(advice_in(table, word)?))
 }
 
-/// What to write in the place of a word that goes without anything there.
+/// What to write in place of a word that is left out without a replacement.
 fn instead_of_needless(word: &str) -> Option<Instead<'_>> {
     if is_listed(NEEDLESS, word) {
         return Some(Instead::without(word));
@@ -103,7 +103,7 @@ fn instead_of_needless(word: &str) -> Option<Instead<'_>> {
     None
 }
 
-/// What to write in the place of a word outside of code; None where this profile has the word, or no one has it.
+/// What to write in place of a word outside of code; None where this profile has the word, or no one has it.
 fn instead_of_word(word: &str) -> Option<Instead<'_>> {
     instead_of_needless(word).or(advice_of(WORDS, word))
 }
@@ -122,8 +122,8 @@ const MOST_NAME_BYTES: usize = 16;
 /// The first bytes of a name in lower case, and zeros after them.
 fn lower_case_bytes(name: &[u8]) -> [u8; MOST_NAME_BYTES] {
     let mut bytes = [0u8; MOST_NAME_BYTES];
-    for (place, byte) in bytes.iter_mut().enumerate() {
-        *byte = name.get(place).copied().unwrap_or(0).to_ascii_lowercase();
+    for (index, byte) in bytes.iter_mut().enumerate() {
+        *byte = name.get(index).copied().unwrap_or(0).to_ascii_lowercase();
     }
     bytes
 }
@@ -138,17 +138,17 @@ fn instead_of_upper_case(name: &str) -> Option<Instead<'_>> {
 }
 
 /// The signed form of an instruction.
-fn signed(name: &str) -> Option<Instead<'_>> {
+fn signed_type(name: &str) -> Option<Instead<'_>> {
     instruction(name.strip_suffix(".un")?)
 }
 
-/// What to write in the place of a name of an instruction: for a short form the long one, for an unsigned form the signed one. None where
+/// What to write in place of a name of an instruction: for a short form the long one, for an unsigned form the signed one. None where
 /// no one has such an instruction.
 fn instead_of_instruction(name: &str) -> Option<Instead<'_>> {
     let long = name.strip_suffix(".s").unwrap_or(name);
     instruction(long)
         .or(advice_of(INSTRUCTIONS, long))
-        .or(signed(long))
+        .or(signed_type(long))
         .or(advice_of(FOREIGN, long))
         .or(instead_of_upper_case(name))
 }
@@ -168,13 +168,13 @@ fn advice_on_digits(digits: &str) -> Option<&'static str> {
     }
 }
 
-/// What to write in the place of what begins like a number.
+/// What to write in place of what begins like a number.
 fn instead_of_number(number: &str) -> Option<Instead<'_>> {
     let digits = number.strip_prefix("-").unwrap_or(number);
     Some(Instead::Advice(advice_on_digits(digits)?))
 }
 
-/// What to write in the place of bytes with which no token begins.
+/// What to write in place of bytes with which no token begins.
 pub(crate) fn instead_of_bytes(bytes: &str) -> Option<Instead<'_>> {
     let instead = instead_of_word(bytes);
     match bytes.as_bytes() {
@@ -184,7 +184,7 @@ pub(crate) fn instead_of_bytes(bytes: &str) -> Option<Instead<'_>> {
     }
 }
 
-/// What to write in the place of a member without `::` before it.
+/// What to write in place of a member without `::` before it.
 fn instead_of_member(name: &str) -> Instead<'_> {
     match name.rsplit_once('.') {
         Some((class, member)) => Instead::Member { class, member },
@@ -209,20 +209,20 @@ fn instead_by_token<'a>(expected: Expected, spot: Spot<'a>) -> Option<Instead<'a
     }
 }
 
-/// What the place of a token says, or the token before it.
-fn instead_by_place<'a>(expected: Expected, spot: Spot<'a>) -> Option<Instead<'a>> {
+/// Advice by the position of a token, or by the token before it.
+fn advice_by_position<'a>(expected: Expected, spot: Spot<'a>) -> Option<Instead<'a>> {
     match advice_at(expected, spot) {
         None => instead_by_token(expected, spot),
         Some(advice) => Some(Instead::Advice(advice)),
     }
 }
 
-/// What to write in the place of a token that the grammar does not have there; None where there is nothing to say. Of a label without its
+/// What to write in place of a token that the grammar does not have there; None where there is nothing to say. Of a label without its
 /// `:` the token is the label, since it is more likely meant as an instruction.
 pub(crate) fn instead_at<'a>(expected: Expected, spot: Spot<'a>) -> Option<Instead<'a>> {
     match expected {
         Expected::LabelColon => instead_of_instruction(spot.found),
         _ if spot.found.is_empty() => None,
-        _ => instead_of_word(spot.found).or(instead_by_place(expected, spot)),
+        _ => instead_of_word(spot.found).or(advice_by_position(expected, spot)),
     }
 }

@@ -2,7 +2,7 @@
 
 use crate::tables::Entry;
 
-/// Words of assemblies, classes, fields and methods that go without anything in their place.
+/// Words of assemblies, classes, fields and methods that are left out without a replacement.
 pub(crate) static NEEDLESS: &str =
     ".corflags .custom .data .emitbyte .export .file .imagebase .language .line .module \
     .mresource .pack .param .permission .permissionset .size .stackreserve .subsystem .vtentry \

@@ -1,5 +1,5 @@
 //! Explains why a text can't be read: why a source has no tree (numbers 101 to 104), and why a text is no schedule (501 to 503).
-//! The sentence says what stands at the place of the error and what the grammar has there, and the last line what to write instead, where that is
+//! The sentence says what is at the position of the error and what the grammar has there, and the last line what to write instead, where that is
 //! known by the token and those beside it. What the texts say is only tested.
 #![tactic(auto)]
 
@@ -7,7 +7,7 @@ mod file_kinds;
 mod hints;
 mod instead;
 mod left_out;
-mod places;
+mod locations;
 mod readings;
 mod schedules;
 mod spots;

@@ -66,7 +66,7 @@ fn kind_of(token: &[u8]) -> &'static str {
     }
 }
 
-/// What is wrong at a place of a source without a tree. It prints as one sentence without an end.
+/// What is wrong at a position of a source without a tree. It prints as one sentence without an end.
 #[derive(Clone, Copy)]
 enum Unread<'a> {
     /// So many bytes.
@@ -169,7 +169,7 @@ fn end_of_tokens(text: &[u8]) -> usize {
     text.len().saturating_sub(blanks)
 }
 
-/// What to write in the place of bytes above 127, with which a file begins that is saved with a byte-order mark.
+/// What to write in place of bytes above 127, with which a file begins that is saved with a byte-order mark.
 fn instead_of_mark(text: &[u8]) -> Option<Instead<'_>> {
     match text {
         [0xef, 0xbb, 0xbf, ..] | [0xfe, 0xff, ..] | [0xff, 0xfe, ..] => Some(Instead::Advice(
@@ -265,8 +265,8 @@ fn no_token(alloc: Global, named: Named, offset: usize) -> Result<String, NoMemo
     message_of(alloc, named, Some(offset), unread, instead)
 }
 
-/// Why a source has no tree: the file is of another kind, or the error at its place. The last line says what to write instead, where that
-/// is known by the token at fault and its place. Fails when out of memory alone, also where the tree was.
+/// Why a source has no tree: the file is of another kind, or the error at its position. The last line says what to write instead, where that
+/// is known by the token at fault and its position. Fails when out of memory alone, also where the tree was.
 pub fn explain_reading(alloc: Global, named: Named, error: ReadError) -> Result<String, NoMemory> {
     match explain_source_kind(alloc, named)? {
         None => explain_error(alloc, named, error),

@@ -111,11 +111,11 @@ pub fn explain_schedule(
             let sentence = error.to_string(alloc)?;
             named.message(alloc, None, sentence.as_str())
         }
-        Some(item) => told_item(alloc, named, error, item),
+        Some(item) => described_item(alloc, named, error, item),
     }
 }
 
-fn told_item(
+fn described_item(
     alloc: Global,
     named: Named,
     error: ScheduleError,

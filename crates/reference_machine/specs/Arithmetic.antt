@@ -33,8 +33,8 @@ abbrev pub exact : Width → ℤ → Result ℤ Fault
 exact w z = if is_in_range w z then Ok z else Err Overflow
 
 -- a result of a division (III.3.31, III.3.55; a remainder of least value by -1 faults too in this profile)
-abbrev pub divided : Width → ℤ → ℤ → ℤ → Result ℤ Fault
-divided w x y result =
+abbrev pub quotient : Width → ℤ → ℤ → ℤ → Result ℤ Fault
+quotient w x y result =
     if int_eq y (pos 0) then Err DivideByZero
     else if int_eq x (least w) && int_eq y (negsuc 0) then Err Arithmetic
     else Ok result
@@ -47,8 +47,8 @@ binary w Multiply x y = Ok (int_wrapping_mul w x y)
 binary w AddOverflow x y = exact w (x +ℤ y)
 binary w SubtractOverflow x y = exact w (x -ℤ y)
 binary w MultiplyOverflow x y = exact w (x *ℤ y)
-binary w Divide x y = divided w x y (int_div x y)
-binary w Remainder x y = divided w x y (int_rem x y)
+binary w Divide x y = quotient w x y (int_div x y)
+binary w Remainder x y = quotient w x y (int_rem x y)
 binary w And x y = Ok (int_bit_and w x y)
 binary w Or x y = Ok (int_bit_or w x y)
 binary w ExclusiveOr x y = Ok (int_bit_xor w x y)
@@ -59,20 +59,20 @@ unary w Negate x = int_wrapping_neg w x
 unary w Complement x = int_bit_not w x
 
 -- a shift by an amount of which the low five or six bits count (III.3.58 to III.3.60; the mask is this profile's)
-abbrev pub shifted : Width → ShiftOperation → ℤ → ℕ → ℤ
-shifted w Left x k = int_shl w x k
-shifted w Right x k = int_shr x k
-shifted w RightUnsigned x k = cast_signed w (cast_unsigned w x / 2 ^ k)
+abbrev pub shift_by : Width → ShiftOperation → ℤ → ℕ → ℤ
+shift_by w Left x k = int_shl w x k
+shift_by w Right x k = int_shr x k
+shift_by w RightUnsigned x k = cast_signed w (cast_unsigned w x / 2 ^ k)
 
 -- the amount counts as unsigned (this profile)
 abbrev pub shift : Width → ShiftOperation → ℤ → ℤ → ℤ
-shift w op x amount = shifted w op x (cast_unsigned w32 amount % bit_count w)
+shift w op x amount = shift_by w op x (cast_unsigned w32 amount % bit_count w)
 
 -- a comparison of two integers (III.1.5, table 4)
-abbrev pub compared : Comparison → ℤ → ℤ → Bool
-compared Equal x y = int_eq x y
-compared Greater x y = int_lt y x
-compared Less x y = int_lt x y
+abbrev pub comparison_holds : Comparison → ℤ → ℤ → Bool
+comparison_holds Equal x y = int_eq x y
+comparison_holds Greater x y = int_lt y x
+comparison_holds Less x y = int_lt x y
 
 -- ---- the same on operands of whatever values; none where one is of the wrong kind
 
@@ -83,7 +83,7 @@ pub data Operand : Type 0 where
   NativeInt : ℤ → Operand
   Object : (is_null : Bool) → Operand
 
--- a result with something else in its place, or the same fault
+-- a result with its value replaced, or the same fault
 abbrev pub result_as : {A B : Type 0} → (A → B) → Result A Fault → Result B Fault
 result_as kind (Ok z) = Ok (kind z)
 result_as kind (Err f) = Err f

@@ -36,8 +36,8 @@ abbrev pub HoldersWereStarted : State → Type 0
 HoldersWereStarted s = (n : ObjectName) (owner count : ℕ) → monitor_of s n ≡ Some (Held owner count) → (thread : Thread) × (slice_get s.threads owner ≡ Some thread)
 
 -- some live thread waits for nothing, or each live thread is in the set
-abbrev pub GoesOnUnlessAll : Tree → State → List Bool → Type 0
-GoesOnUnlessAll tree s set = ((t : ℕ) × (is_live s t ≡ true) × (wait_of tree s t ≡ None)) ⊎ ((t : ℕ) → is_live s t ≡ true → IsIn set t)
+abbrev pub ContinuesUnlessAll : Tree → State → List Bool → Type 0
+ContinuesUnlessAll tree s set = ((t : ℕ) × (is_live s t ≡ true) × (wait_of tree s t ≡ None)) ⊎ ((t : ℕ) → is_live s t ≡ true → IsIn set t)
 
 -- In these steps with their reports, each step of a thread of the set is blocked, up to the first that uses up the budget of one.
 abbrev pub StaysBlocked : List Bool → List StepRequest → List Report → Type 0

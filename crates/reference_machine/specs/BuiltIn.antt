@@ -75,7 +75,7 @@ module _ (here : Setting) (s : State) (f : Frame) (below : List Frame) where
       given run (λ found. given (code_of found.1.kind) (λ code.
       onward f below (with_thread n o (new_frame found.0 found.1 code (Reference n ∷ []) None)) rest))
 
-  -- started already, or 16 threads numbered already; otherwise a new thread runs the virtual target of Run
+  -- started already, or there are 16 threads already; otherwise a new thread runs the virtual target of Run
   abbrev pub start : ObjectName → List Value → HeapObject → Effect
   start n rest o =
       if is_some o.thread then Raises ThreadState

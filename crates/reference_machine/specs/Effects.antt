@@ -59,18 +59,18 @@ are_of_kinds (t ∷ ts) [] = false
 -- a frame at the beginning of a method; its locals are zero or null
 abbrev pub new_frame : ClassName → Method → Code → List Value → Option ObjectName → Frame
 new_frame owner method code arguments constructed =
-    record { owner = owner; method = method; place = 0; arguments = arguments; locals = map zero_of code.locals; stack = []; constructed = constructed }
+    record { owner = owner; method = method; pc = 0; arguments = arguments; locals = map zero_of code.locals; stack = []; constructed = constructed }
 
 -- the frame at its next instruction, with this stack
 abbrev pub after : Frame → List Value → Frame
-after f stack = record f { place = f.place + 1; stack = stack }
+after f stack = record f { pc = f.pc + 1; stack = stack }
 
 -- on to the next instruction with this stack, in this state
 abbrev pub onward : Frame → List Frame → State → List Value → Effect
 onward f below s stack = Goes (after f stack ∷ below) s
 
 -- the frames after a return, with the value that it leaves, if any (III.3.57)
-abbrev pub returned : Option Value → List Frame → List Frame
-returned v [] = []
-returned None (f ∷ fs) = f ∷ fs
-returned (Some v) (f ∷ fs) = record f { stack = v ∷ f.stack } ∷ fs
+abbrev pub return_value : Option Value → List Frame → List Frame
+return_value v [] = []
+return_value None (f ∷ fs) = f ∷ fs
+return_value (Some v) (f ∷ fs) = record f { stack = v ∷ f.stack } ∷ fs

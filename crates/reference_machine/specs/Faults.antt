@@ -23,7 +23,7 @@ faults_of_operation Divide = DivideByZero ∷ Arithmetic ∷ []
 faults_of_operation Remainder = DivideByZero ∷ Arithmetic ∷ []
 faults_of_operation _ = []
 
--- a call of a built-in member raises that member's faults in the place of a stack overflow
+-- a call of a built-in member raises that member's faults in place of a stack overflow
 abbrev pub faults_of : Instruction → List Fault
 faults_of (Binary op) = faults_of_operation op
 faults_of (LoadField r) = NullReference ∷ []
@@ -51,7 +51,7 @@ faults_of_action Exit = ArgumentNull ∷ SynchronizationLock ∷ []
 faults_of_action Start = NullReference ∷ ThreadState ∷ TooManyThreads ∷ []
 faults_of_action Join = NullReference ∷ ThreadState ∷ []
 
--- the method that a call may run: the one that it names, or what a class of the object has in its place
+-- the method that a call may run: the one that it names, or what the class of the object has in its place
 abbrev pub MayRun : Tree → Instruction → ClassName × Method → Type 0
 MayRun tree (Call is_instance r) chosen = find_method tree is_instance r ≡ Some chosen
 MayRun tree (CallVirtual owner name signature) chosen =

@@ -5,7 +5,7 @@ use Rattle.cil_model.specs.declared.trees.Tree.{Tree}
 use Rattle.cil_model.specs.declared.limits.Limits.{Limits}
 use Rattle.cil_model.specs.declared.reports.Report.{Report}
 use Rattle.reference_machine.specs.States.{State}
-use Rattle.reference_machine.specs.Runs.{StepRequest, Run, RunsTo, SticksAfter, opening, run}
+use Rattle.reference_machine.specs.Runs.{StepRequest, Run, RunsTo, SticksAfter, initial_state, run}
 
 -- the reports of the steps and all that was printed; or the reports before a step that is stuck; or there is no entry point
 pub data Showing : Type 0 where
@@ -19,5 +19,5 @@ showing_of (RunsTo reports s) = Shows reports s.printed
 showing_of (SticksAfter reports) = StuckAfter reports
 
 -- what the run of a program shows
-abbrev pub shown : Tree → Limits → List StepRequest → Showing
-shown tree limits requests = option_map_or (λ (s : State). showing_of (run tree limits s requests)) (opening tree limits) NeverBegins
+abbrev pub outputs_of : Tree → Limits → List StepRequest → Showing
+outputs_of tree limits requests = option_map_or (λ (s : State). showing_of (run tree limits s requests)) (initial_state tree limits) NeverBegins

@@ -1,4 +1,4 @@
--- The words that a collection owes its user: those of what was reachable when its cycle began, or was born since (this profile).
+-- The words that a collection must keep: those of what was reachable when its cycle began, or was born since (this profile).
 use Rattle.std.specs.Prelude.{◌≡◌, ◌↔◌, ◌≤◌, ◌⊎◌, ℕ, ◌+◌, List, length, sum_by, Option, Some, None, slice_get, Contains, nat_eq}
 use Rattle.std.specs.List.{IsDistinct}
 use Rattle.cil_model.specs.declared.trees.Tree.{Tree}

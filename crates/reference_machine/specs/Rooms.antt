@@ -19,7 +19,7 @@ abbrev pub words_of_all : Tree → List HeapObject → ℕ
 words_of_all tree objects = sum_by (λ (o : HeapObject). cell_words tree o.contents) objects
 
 -- The one space of a machine that collects nothing: it has the words of the limit, and those of all births so far are used. (A machine with
--- two spaces has its own in the place of this.)
+-- two spaces has its own in place of this.)
 abbrev pub spaces : Tree → Limits → State → Spaces
 spaces tree limits s = record { old = record { words = limits.words; used = words_of_all tree s.objects }; newer = None }
 

@@ -14,25 +14,25 @@ use Rattle.cil_model.specs.declared.reports.End.TheVariants.{Fault as ByFault}
 use Rattle.cil_model.specs.declared.reports.Report.{Report}
 use Rattle.cil_model.specs.declared.reports.Report.TheVariants.{Ended}
 use Rattle.cil_model.specs.Mentions.{literals_of}
-use Rattle.reference_machine.specs.States.{Free, State, zeroed}
+use Rattle.reference_machine.specs.States.{Free, State, zero_fields}
 use Rattle.reference_machine.specs.Effects.{new_frame}
 use Rattle.reference_machine.specs.Rooms.{RefusesBeyondRoom}
 use Rattle.reference_machine.specs.Steps.{Outcome, Answers, Stuck, step}
 
 -- the state in which thread 0 is at the beginning of the entry point, nothing was born or printed, and no monitor is held
-abbrev pub opening_at : Tree → Limits → ClassName × Method → Code → State
-opening_at tree limits entry code =
+abbrev pub initial_state_at : Tree → Limits → ClassName × Method → Code → State
+initial_state_at tree limits entry code =
     record {
       objects = [];
       literal_monitors = map (λ (characters : List ℕ). (characters, Free)) (literals_of tree);
-      statics = zeroed (static_fields tree);
+      statics = zero_fields (static_fields tree);
       threads = record { frames = new_frame entry.0 entry.1 code [] None ∷ []; steps_left = limits.budget; ended = None } ∷ [];
       printed = [];
     }
 
 -- the initial state of a tree with an entry point
-abbrev pub opening : Tree → Limits → Option State
-opening tree limits = option_and_then (λ (entry : ClassName × Method). option_map (opening_at tree limits entry) (code_of entry.1.kind)) (slice_get (entry_points tree) 0)
+abbrev pub initial_state : Tree → Limits → Option State
+initial_state tree limits = option_and_then (λ (entry : ClassName × Method). option_map (initial_state_at tree limits entry) (code_of entry.1.kind)) (slice_get (entry_points tree) 0)
 
 -- a step that the list requests: of which thread, and whether a birth is refused in it
 abbrev pub StepRequest : Type 0
@@ -87,6 +87,6 @@ step_reports events = filter_map (λ (e : Event × Report). report_of_step e.0 e
 -- births are refused exactly beyond the room of one space.
 pub record IsStateAfter (tree : Tree) (limits : Limits) (events : List (Event × Report)) (s : State) : Type 0 where
   pub first : State
-  pub begins : opening tree limits ≡ Some first
+  pub begins : initial_state tree limits ≡ Some first
   pub comes : run tree limits first (thread_part events) ≡ RunsTo (step_reports events) s
   pub refuses : RefusesBeyondRoom tree limits first (thread_part events)

@@ -30,12 +30,12 @@ pub record HeapObject : Type 0 where
   pub monitor : Monitor
   pub thread : Option ℕ
 
--- A method state (I.12.3.2): the method with the class that declares it, by which argument 0 has its type, the place of the
+-- A method state (I.12.3.2): the method with the class that declares it, by which argument 0 has its type, the pc of the
 -- next instruction, and the values. Of a constructor that newobj runs, the object to push at its end.
 pub record Frame : Type 0 where
   pub owner : ClassName
   pub method : Method
-  pub place : ℕ
+  pub pc : ℕ
   pub arguments : List Value
   pub locals : List Value
   pub stack : List Value
@@ -56,7 +56,7 @@ pub record State : Type 0 where
   pub threads : List Thread
   pub printed : List ℕ
 
--- whether a thread was numbered and has not ended
+-- whether a thread has not ended
 abbrev pub is_live_thread : Thread → Bool
 is_live_thread t = is_none t.ended
 
@@ -185,9 +185,9 @@ with_monitor s (Literal characters) m = record s { literal_monitors = with_entry
 -- ---- fields at first
 
 -- each field holds 0 or null at first (II.16)
-abbrev pub zeroed : List (FieldKey × DeclaredType) → List (FieldKey × Value)
-zeroed fields = map (λ (f : FieldKey × DeclaredType). (f.0, zero_of f.1)) fields
+abbrev pub zero_fields : List (FieldKey × DeclaredType) → List (FieldKey × Value)
+zero_fields fields = map (λ (f : FieldKey × DeclaredType). (f.0, zero_of f.1)) fields
 
 -- a new object of a class (III.4.21)
 abbrev pub new_instance : Tree → ClassName → Contents
-new_instance tree c = Instance c (zeroed (instance_fields tree c))
+new_instance tree c = Instance c (zero_fields (instance_fields tree c))

@@ -1,5 +1,5 @@
 -- One instruction of the reference machine (III.3, III.4), and one step of one thread.
-use Rattle.cil_model.specs.Bodies.{at_place, code_of, constructor_reference, virtual_reference, reference_operands, lines_of, place_of}
+use Rattle.cil_model.specs.Bodies.{at_index, code_of, constructor_reference, virtual_reference, reference_operands, lines_of, pc_of}
 use Rattle.cil_model.specs.Fields.{FieldKey, same_key}
 use Rattle.std.specs.Prelude.{ℕ, zero, suc, ◌-◌, ℤ, pos, negsuc, Bool, true, false, if◌then◌else◌, nat_le, List, [], ◌∷◌, length, replicate, Option, Some, None, is_some, slice_get, slice_set, option_map, option_and_then}
 use Rattle.std.specs.Int.{w32, cast_unsigned}
@@ -27,7 +27,7 @@ use Rattle.cil_model.specs.Assignable.{is_reference, is_assignable}
 use Rattle.reference_machine.specs.Values.{ObjectName, Literal, Value, Int32, Int64, Native, Null, Reference, zero_of, is_of_kind}
 use Rattle.reference_machine.specs.Arithmetic.{binary_value, unary_value, shift_value, compare_values, branch_values, is_set, convert_32, convert_64, as_index, one_or_zero, not_option}
 use Rattle.reference_machine.specs.States.{Contents, Array, Frame, Thread, State, is_live_thread, entry_at, replaced_entry, replaced_at, field_value, with_field, array_at, with_element, type_of, class_of, next_name, with_birth, new_instance}
-use Rattle.reference_machine.specs.Effects.{Setting, Effect, Goes, Blocks, Raises, Sticks, given, unless_fault, pop_many, not_null, are_of_kinds, new_frame, after, onward, returned}
+use Rattle.reference_machine.specs.Effects.{Setting, Effect, Goes, Blocks, Raises, Sticks, given, unless_fault, pop_many, not_null, are_of_kinds, new_frame, after, onward, return_value}
 use Rattle.cil_model.specs.Stacks.{take_one, take_two, take_three}
 use Rattle.reference_machine.specs.BuiltIn.{action_of, act}
 
@@ -42,7 +42,7 @@ module _ (here : Setting) (s : State) (f : Frame) (below : List Frame) where
 
   -- on to the instruction of a label
   abbrev pub jump : List ℕ → List Value → Effect
-  jump label stack = given (place_of label (lines_of f.method)) (λ place. Goes (record f { place = place; stack = stack } ∷ below) s)
+  jump label stack = given (pc_of label (lines_of f.method)) (λ pc. Goes (record f { pc = pc; stack = stack } ∷ below) s)
 
   -- there where the test holds, otherwise to the next instruction
   abbrev pub branch_if : Bool → List ℕ → List Value → Effect
@@ -60,12 +60,12 @@ module _ (here : Setting) (s : State) (f : Frame) (below : List Frame) where
   new_array t (negsuc n) rest = Raises Overflow
   new_array t (pos n) rest = birth (Array t (replicate n (zero_of t))) (λ name s'. onward f below s' (Reference name ∷ rest))
 
-  -- continues with a place and the element there
+  -- continues with an index and the element there
   abbrev pub in_range : (ℕ → Option Value) → (ℕ → Value → Effect) → ℤ → Effect
   in_range at go (negsuc n) = Raises IndexOutOfRange
   in_range at go (pos n) = option_map_or (go n) (at n) (Raises IndexOutOfRange)
 
-  -- a place of an array that is there, whose elements pass a test
+  -- an index of an array that exists and whose elements pass a test
   abbrev pub element : (DeclaredType → Bool) → Value → Value → (ObjectName → DeclaredType → ℕ → Value → Effect) → Effect
   element test array index go =
       not_null array NullReference (λ n.
@@ -87,7 +87,7 @@ module _ (here : Setting) (s : State) (f : Frame) (below : List Frame) where
   may_hold t (Reference n) = option_map (λ own. is_assignable here.tree own t) (type_of s n)
   may_hold t _ = None
 
-  -- stelem.ref (III.4.27): the place is looked at before the class
+  -- stelem.ref (III.4.27): the index is checked before the class
   abbrev pub store_reference : Effect
   store_reference = take_three Sticks f.stack (λ array index v rest. element is_reference array index (λ n t i old.
       given (may_hold t v) (λ holds. if holds then given (with_element s n i v) (λ s'. onward f below s' rest) else Raises ArrayTypeMismatch)))
@@ -102,7 +102,7 @@ module _ (here : Setting) (s : State) (f : Frame) (below : List Frame) where
   abbrev pub frame_for : ClassName → Method → List Value → Option ObjectName → State → List Value → Effect
   frame_for c m arguments constructed s' rest = given (code_of m.kind) (λ code. Goes (new_frame c m code arguments constructed ∷ after f rest ∷ below) s')
 
-  -- the thread has as many frames as it may have
+  -- the thread has the maximal number of frames
   abbrev pub is_too_deep : Bool
   is_too_deep = nat_le here.limits.depth (length (f ∷ below))
 
@@ -135,23 +135,23 @@ module _ (here : Setting) (s : State) (f : Frame) (below : List Frame) where
       else birth (new_instance here.tree c) (λ name s'. frame_for found.0 found.1 (Reference name ∷ arguments) (Some name) s' rest)
 
   -- back to the caller, with a value or without
-  abbrev pub leave : Option Value → Effect
-  leave v = Goes (returned v below) s
+  abbrev pub push_and_advance : Option Value → Effect
+  push_and_advance v = Goes (return_value v below) s
 
   -- a value of the kind that the method returns
-  abbrev pub leave_value : DeclaredType → Effect
-  leave_value t = take_one Sticks f.stack (λ v rest. if is_of_kind t v then leave (Some v) else Sticks)
+  abbrev pub push_and_advance_value : DeclaredType → Effect
+  push_and_advance_value t = take_one Sticks f.stack (λ v rest. if is_of_kind t v then push_and_advance (Some v) else Sticks)
 
   -- the end of a method: its value, or the object that it constructed (III.3.57)
   abbrev pub return_from : Effect
-  return_from = option_map_or (λ name. leave (Some (Reference name))) f.constructed (option_map_or leave_value f.method.signature.return_type (leave None))
+  return_from = option_map_or (λ name. push_and_advance (Some (Reference name))) f.constructed (option_map_or push_and_advance_value f.method.signature.return_type (push_and_advance None))
 
   -- ---- one instruction
 
-  -- another value at a signed place
-  abbrev pub stored : ℤ → Value → List Value → Option (List Value)
-  stored (pos n) v vs = replaced_at n v vs
-  stored (negsuc n) v vs = None
+  -- another value at a signed index
+  abbrev pub store_at : ℤ → Value → List Value → Option (List Value)
+  store_at (pos n) v vs = replaced_at n v vs
+  store_at (negsuc n) v vs = None
 
   -- to the label of that number, counted as unsigned, or on to the next instruction (III.3.66)
   abbrev pub to_label : Option (List ℕ) → List Value → Effect
@@ -170,10 +170,10 @@ module _ (here : Setting) (s : State) (f : Frame) (below : List Frame) where
   execute (LoadInt64 z) = next (Int64 z ∷ f.stack)
   execute LoadNull = next (Null ∷ f.stack)
   execute (LoadString characters) = next (Reference (Literal characters) ∷ f.stack)
-  execute (LoadArgument n) = given (at_place f.arguments n) (λ v. next (v ∷ f.stack))
-  execute (LoadLocal n) = given (at_place f.locals n) (λ v. next (v ∷ f.stack))
-  execute (StoreArgument n) = take_one Sticks f.stack (λ v rest. given (stored n v f.arguments) (λ arguments. Goes (after (record f { arguments = arguments }) rest ∷ below) s))
-  execute (StoreLocal n) = take_one Sticks f.stack (λ v rest. given (stored n v f.locals) (λ locals. Goes (after (record f { locals = locals }) rest ∷ below) s))
+  execute (LoadArgument n) = given (at_index f.arguments n) (λ v. next (v ∷ f.stack))
+  execute (LoadLocal n) = given (at_index f.locals n) (λ v. next (v ∷ f.stack))
+  execute (StoreArgument n) = take_one Sticks f.stack (λ v rest. given (store_at n v f.arguments) (λ arguments. Goes (after (record f { arguments = arguments }) rest ∷ below) s))
+  execute (StoreLocal n) = take_one Sticks f.stack (λ v rest. given (store_at n v f.locals) (λ locals. Goes (after (record f { locals = locals }) rest ∷ below) s))
   execute Duplicate = take_one Sticks f.stack (λ v rest. next (v ∷ v ∷ rest))
   execute Pop = take_one Sticks f.stack (λ v rest. next rest)
   execute (Binary op) = take_two Sticks f.stack (λ v w rest. given (binary_value op v w) (λ result. unless_fault result (λ u. next (u ∷ rest))))
@@ -220,7 +220,7 @@ pub data Outcome : Type 0 where
 
 -- the instruction that a frame is at
 abbrev pub instruction_at : Frame → Option Instruction
-instruction_at f = option_map (λ (l : Line). l.instruction) (slice_get (lines_of f.method) f.place)
+instruction_at f = option_map (λ (l : Line). l.instruction) (slice_get (lines_of f.method) f.pc)
 
 -- what the thread's frames do next
 abbrev pub effect_of : Setting → State → List Frame → Effect
@@ -236,22 +236,22 @@ abbrev pub ended_as : State → ℕ → ℕ → End → Outcome
 ended_as s t left e = Answers (Ended e) (with_thread_at s t (record { frames = []; steps_left = left; ended = Some e }))
 
 -- a live thread continues, unless its budget is used up
-abbrev pub goes_on : Report → State → ℕ → ℕ → List Frame → Outcome
-goes_on report s t zero frames = ended_as s t 0 Budget
-goes_on report s t (suc left) frames = Answers report (with_thread_at s t (record { frames = frames; steps_left = suc left; ended = None }))
+abbrev pub continues : Report → State → ℕ → ℕ → List Frame → Outcome
+continues report s t zero frames = ended_as s t 0 Budget
+continues report s t (suc left) frames = Answers report (with_thread_at s t (record { frames = frames; steps_left = suc left; ended = None }))
 
 -- the report, where this number of steps is left after this one
-abbrev pub settled : State → ℕ → ℕ → List Frame → Effect → Outcome
-settled s t left frames (Goes [] s') = ended_as s' t left Done
-settled s t left frames (Goes (f ∷ below) s') = goes_on Ran s' t left (f ∷ below)
-settled s t left frames Blocks = goes_on Blocked s t left frames
-settled s t left frames (Raises fault) = ended_as s t left (ByFault fault)
-settled s t left frames Sticks = Stuck
+abbrev pub charge : State → ℕ → ℕ → List Frame → Effect → Outcome
+charge s t left frames (Goes [] s') = ended_as s' t left Done
+charge s t left frames (Goes (f ∷ below) s') = continues Ran s' t left (f ∷ below)
+charge s t left frames Blocks = continues Blocked s t left frames
+charge s t left frames (Raises fault) = ended_as s t left (ByFault fault)
+charge s t left frames Sticks = Stuck
 
 -- a thread that has ended is absent; each step of a live one takes one from its budget
 abbrev pub step_of : Setting → State → Thread → Outcome
 step_of here s thread =
-    if is_live_thread thread then settled s here.thread (thread.steps_left - 1) thread.frames (effect_of here s thread.frames) else Answers Absent s
+    if is_live_thread thread then charge s here.thread (thread.steps_left - 1) thread.frames (effect_of here s thread.frames) else Answers Absent s
 
 -- one step of thread t, where it was started; `refused` counts where an allocation is due
 abbrev pub step : Tree → Limits → State → ℕ → Bool → Outcome

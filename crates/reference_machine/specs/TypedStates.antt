@@ -1,4 +1,4 @@
--- States of the reference machine in which each value is of the type that the program declares for its place (I.8.7, III.1.8).
+-- States of the reference machine in which each value is of the type that the program declares for its location (I.8.7, III.1.8).
 use Rattle.std.specs.Prelude.{◌≡◌, ◌≢◌, IsTrue, IsSome, ℕ, Bool, true, not, ◌&&◌, List, [], ◌∷◌, Option, Some, None, slice_get, Contains}
 use Rattle.cil_model.specs.declared.types.ClassName.{ClassName}
 use Rattle.cil_model.specs.declared.types.Element.TheVariants.{Int32 as Int32Element, Int64 as Int64Element}
@@ -42,7 +42,7 @@ HasStackType tree s (Native z) NativeInt = Unit {0}
 HasStackType tree s Null NullType = Unit {0}
 HasStackType tree s _ _ = ⊥
 
--- the values of a list, place by place
+-- the values of a list, index by index
 abbrev pub HaveTypes : Tree → State → List Value → List DeclaredType → Type 0
 HaveTypes tree s [] [] = Unit {0}
 HaveTypes tree s (v ∷ vs) (t ∷ ts) = HasType tree s v t × HaveTypes tree s vs ts
@@ -88,7 +88,7 @@ pub record IsConstructing (s : State) (f : Frame) (n : ObjectName) : Type 0 wher
   pub monitor : IsSome (monitor_of s n)
   pub nothing_returned : f.method.signature.return_type ≡ None
 
--- A frame of a method with a typing. Its stack is as the typing says at its place, once it has been given a value of the
+-- A frame of a method with a typing. Its stack is as the typing says at its pc, once it has been given a value of the
 -- type, if one is named.
 pub record IsTypedFrame (tree : Tree) (s : State) (given : Option DeclaredType) (f : Frame) : Type 0 where
   pub code : Code
@@ -100,7 +100,7 @@ pub record IsTypedFrame (tree : Tree) (s : State) (given : Option DeclaredType) 
   pub locals : HaveTypes tree s f.locals code.locals
   pub stack : List StackType
   pub values : HaveStackTypes tree s f.stack stack
-  pub reaches : Reaches tree typing (give given stack) f.place
+  pub reaches : Reaches tree typing (give given stack) f.pc
   pub constructs : (n : ObjectName) → f.constructed ≡ Some n → IsConstructing s f n
 
 -- the type of what a frame gives to the one below it: the object that it constructs, or what its method returns

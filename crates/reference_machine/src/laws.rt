@@ -25,7 +25,7 @@ ghost use Rattle.reference_machine.specs.Steps.{execute, step, Answers};
 ghost use Rattle.reference_machine.specs.Faults.{MayRaise};
 ghost use Rattle.reference_machine.specs.Growth.{Follows};
 ghost use Rattle.reference_machine.specs.Runs.{IsStateAfter, StepRequest, run, step_reports, RunsTo, SticksAfter};
-ghost use Rattle.reference_machine.specs.Outcomes.{shown, Shows};
+ghost use Rattle.reference_machine.specs.Outcomes.{outputs_of, Shows};
 ghost use Rattle.cil_model.specs.Typings.{Typing, IsTyping, IsAccepted};
 ghost use Rattle.cil_model.specs.Examples.{sum_program, usual_limits};
 
@@ -71,7 +71,7 @@ pub fn runs_join()
 {}
 
 /// An instruction raises `OutOfMemory` only where its birth is refused.
-pub fn memory_is_wanting_only_where_a_birth_is_refused()
+pub fn memory_runs_out_only_where_a_birth_is_refused()
     ensures { (here : Setting) (s : State) (f : Frame) (below : List Frame) (i : Instruction) → execute here s f below i ≡ Raises OutOfMemory → here.is_refused ≡ true }
 {}
 
@@ -84,5 +84,5 @@ pub fn the_run_is_one()
 
 /// The example prints the sum in five steps.
 pub fn example_runs()
-    ensures { shown sum_program usual_limits (replicate 5 (0, false)) ≡ Shows (Ran ∷ Ran ∷ Ran ∷ Ran ∷ Ended Done ∷ []) (codes "5\n") }
+    ensures { outputs_of sum_program usual_limits (replicate 5 (0, false)) ≡ Shows (Ran ∷ Ran ∷ Ran ∷ Ran ∷ Ended Done ∷ []) (codes "5\n") }
 {}

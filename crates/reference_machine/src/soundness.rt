@@ -8,14 +8,14 @@ ghost use Rattle.cil_model.specs.Typings.{IsAccepted};
 ghost use Rattle.reference_machine.specs.Values.{Born};
 ghost use Rattle.reference_machine.specs.States.{State};
 ghost use Rattle.reference_machine.specs.Steps.{step, Answers};
-ghost use Rattle.reference_machine.specs.Runs.{StepRequest, RunsTo, opening, run};
+ghost use Rattle.reference_machine.specs.Runs.{StepRequest, RunsTo, initial_state, run};
 ghost use Rattle.reference_machine.specs.Reachable.{IsReachable};
 ghost use Rattle.reference_machine.specs.OwedWords.{IsOwed};
 ghost use Rattle.reference_machine.specs.TypedStates.{IsTyped};
 
 /// An accepted program has an initial state, and it is typed.
-pub fn opening_states_are_typed()
-    ensures { (tree : Tree) (limits : Limits) → IsAccepted tree → (s : State) × (opening tree limits ≡ Some s) × IsTyped tree s }
+pub fn initial_states_are_typed()
+    ensures { (tree : Tree) (limits : Limits) → IsAccepted tree → (s : State) × (initial_state tree limits ≡ Some s) × IsTyped tree s }
 {}
 
 /// From a typed state of an accepted program no step is stuck, whichever thread makes it and whether or not a birth is refused
@@ -28,12 +28,12 @@ pub fn steps_keep_states_typed()
 /// No run of an accepted program is stuck: from its initial state each list of steps has its reports and reaches a typed state.
 pub fn accepted_programs_are_never_stuck()
     ensures { (tree : Tree) (limits : Limits) → IsAccepted tree → (requests : List StepRequest) →
-        (first : State) × (reports : List Report) × (s : State) × (opening tree limits ≡ Some first) × (run tree limits first requests ≡ RunsTo reports s) × IsTyped tree s }
+        (first : State) × (reports : List Report) × (s : State) × (initial_state tree limits ≡ Some first) × (run tree limits first requests ≡ RunsTo reports s) × IsTyped tree s }
 {}
 
 /// No step and no run makes an object reachable that was not, but those that are born in it: what is reachable afterwards was
 /// reachable before, or has a name that no object had before. In a typed state each object that is reachable is there. So what
-/// a collection owes its user has each object that is reachable in the typed state that it ends in.
+/// a collection must keep has each object that is reachable in the typed state that it ends in.
 pub fn what_is_reached_was_reached_or_is_new()
     ensures step { (tree : Tree) (limits : Limits) (s s' : State) (t : ℕ) (refused : Bool) (r : Report) →
         step tree limits s t refused ≡ Answers r s' → (n : ℕ) → IsReachable s' (Born n) → IsReachable s (Born n) ⊎ (length s.objects ≤ n) }

@@ -12,7 +12,7 @@ ghost use Rattle.reference_machine.specs.States.{State};
 ghost use Rattle.reference_machine.specs.Steps.{Answers, step};
 ghost use Rattle.reference_machine.specs.TypedStates.{IsTyped};
 ghost use Rattle.reference_machine.specs.Waits.{Wait, wait_of};
-ghost use Rattle.reference_machine.specs.Blocking.{AreDeadlocked, GoesOnUnlessAll, HoldersWereStarted, IsBlockedSet, IsIn, StaysBlocked};
+ghost use Rattle.reference_machine.specs.Blocking.{AreDeadlocked, ContinuesUnlessAll, HoldersWereStarted, IsBlockedSet, IsIn, StaysBlocked};
 
 /// In an accepted program the step of a thread that waits is blocked, or uses up the thread's budget; that of a thread that waits for
 /// nothing is never blocked.
@@ -33,6 +33,6 @@ pub fn a_deadlock_lasts()
 {}
 
 /// Where not all live threads are deadlocked, one of them waits for nothing.
-pub fn some_thread_goes_on_unless_all_are_deadlocked()
-    ensures { (tree : Tree) (s : State) → HoldersWereStarted s → (set : List Bool) → AreDeadlocked tree s set → GoesOnUnlessAll tree s set }
+pub fn some_thread_continues_unless_all_are_deadlocked()
+    ensures { (tree : Tree) (s : State) → HoldersWereStarted s → (set : List Bool) → AreDeadlocked tree s set → ContinuesUnlessAll tree s set }
 {}

@@ -1,4 +1,4 @@
--- An instruction represents one operation, and tests of numbered types represent tests of types.
+-- An instruction represents one operation, and tests of resolved types represent tests of types.
 pub mod ResolvedNames
 pub mod UniqueOperations
 pub mod InstructionsWithoutNames

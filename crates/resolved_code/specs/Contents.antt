@@ -18,20 +18,20 @@ use Rattle.resolved_code.specs.declared.contents.Contents.{Contents}
 
 -- the field that a number refers to, its type by number; none where the number refers to none (II.16)
 abbrev pub IsFieldOf : Tree → MemberNumber → Option ResolvedField → Type 0
-IsFieldOf tree number field = BothAlike (λ (named : ClassName × Field) resolved. IsResolvedField tree named.1 resolved) (field_at tree (number.class, number.place)) field
+IsFieldOf tree number field = BothAlike (λ (named : ClassName × Field) resolved. IsResolvedField tree named.1 resolved) (field_at tree (number.class, number.index)) field
 
 -- the method that a number refers to, by numbers; none where the number refers to none (II.15)
 abbrev pub IsMethodOf : Tree → MemberNumber → Option ResolvedMethod → Type 0
-IsMethodOf tree number method = BothAlike (λ (named : ClassName × Method) resolved. IsResolvedMethod tree named.1 resolved) (method_at tree (number.class, number.place)) method
+IsMethodOf tree number method = BothAlike (λ (named : ClassName × Method) resolved. IsResolvedMethod tree named.1 resolved) (method_at tree (number.class, number.index)) method
 
 -- the number of the one method with an entry point (II.15.4.1.2)
 abbrev pub IsEntryPoint : Tree → MemberNumber → Type 0
-IsEntryPoint tree number = entry_points tree ≡ option_to_list (method_at tree (number.class, number.place))
+IsEntryPoint tree number = entry_points tree ≡ option_to_list (method_at tree (number.class, number.index))
 
--- the class and the place of the first method with an entry point, where the first class has a number (II.15.4.1.2)
+-- the class and the index of the first method with an entry point, where the first class has a number (II.15.4.1.2)
 abbrev pub entry_from : ℕ → List (ClassName × Declaration) → Option (ℕ × ℕ)
 entry_from class [] = None
-entry_from class (e ∷ es) = option_map_or (λ place. Some (class, place)) (position_from is_entry_point 0 e.1.methods) (entry_from (suc class) es)
+entry_from class (e ∷ es) = option_map_or (λ index. Some (class, index)) (position_from is_entry_point 0 e.1.methods) (entry_from (suc class) es)
 
 -- the classes, the literals and the entry point of a tree
 pub record IsContents (tree : Tree) (contents : Contents) : Type 0 where

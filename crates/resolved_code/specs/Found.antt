@@ -23,22 +23,22 @@ abbrev pub slot_over : Tree → MethodIdentity → ℕ → Option ℕ → Option
 slot_over tree k n inherited = option_map_or (slot_filled_at n inherited) (method_found tree k n) inherited
 
 -- the slot that the nearest method of this name and signature along a chain fills (II.10.3)
-abbrev pub slot_numbered : Tree → MethodIdentity → List ℕ → Option ℕ
-slot_numbered tree k [] = None
-slot_numbered tree k (n ∷ ns) = slot_over tree k n (slot_numbered tree k ns)
+abbrev pub slot_by_id : Tree → MethodIdentity → List ℕ → Option ℕ
+slot_by_id tree k [] = None
+slot_by_id tree k (n ∷ ns) = slot_over tree k n (slot_by_id tree k ns)
 
 -- whether an abstract method fills a slot as seen from a class, by what holds as seen from its base (II.15.4.2)
 abbrev pub open_over : Tree → MethodIdentity → ℕ → Bool → Bool → Bool
 open_over tree k n fills is_open = if fills then option_map_or (λ (m : Method). is_abstract_method m.kind) (method_found tree k n) is_open else is_open
 
 -- whether the nearest method along a chain that fills the slot is abstract (II.15.4.2)
-abbrev pub open_numbered : Tree → MethodIdentity → ℕ → List ℕ → Bool
-open_numbered tree k slot [] = false
-open_numbered tree k slot (n ∷ ns) = open_over tree k n (option_map_or (λ s. s == slot) (slot_numbered tree k (n ∷ ns)) false) (open_numbered tree k slot ns)
+abbrev pub open_by_id : Tree → MethodIdentity → ℕ → List ℕ → Bool
+open_by_id tree k slot [] = false
+open_by_id tree k slot (n ∷ ns) = open_over tree k n (option_map_or (λ s. s == slot) (slot_by_id tree k (n ∷ ns)) false) (open_by_id tree k slot ns)
 
 -- whether the slot that is known along one chain is filled by an abstract method along another (II.15.4.2)
 abbrev pub is_left_open : Tree → MethodIdentity → List ℕ → List ℕ → Bool
-is_left_open tree k chain introduced = option_map_or (λ slot. open_numbered tree k slot chain) (slot_numbered tree k introduced) false
+is_left_open tree k chain introduced = option_map_or (λ slot. open_by_id tree k slot chain) (slot_by_id tree k introduced) false
 
 -- whether the slot of a virtual method, known along one chain, is filled by an abstract method along another (II.15.4.2)
 abbrev pub method_leaves_open : Tree → List ℕ → List ℕ → Method → Bool
@@ -85,10 +85,10 @@ class_stays_open tree chain n =
     option_map_or (λ (e : ClassName × Declaration). list_any (λ (m : Method). is_abstract_method m.kind && stays_open tree (identity_of m) chain) e.1.methods) (slice_get (declarations tree) n) false
 
 -- each abstract method along a chain is overridden by the next nearer one (II.15.4.2)
-abbrev pub IsSettled : Tree → List ℕ → Type 0
-IsSettled tree ns = (k : MethodIdentity) → stays_open tree k ns ≡ false
+abbrev pub IsDecided : Tree → List ℕ → Type 0
+IsDecided tree ns = (k : MethodIdentity) → stays_open tree k ns ≡ false
 
 -- whether the nearest method of this name and signature along a chain is not virtual (this profile)
-abbrev pub plain_numbered : Tree → MethodIdentity → List ℕ → Bool
-plain_numbered tree k [] = false
-plain_numbered tree k (n ∷ ns) = option_map_or (λ (m : Method). not (is_virtual m.kind)) (method_found tree k n) (plain_numbered tree k ns)
+abbrev pub concrete_by_id : Tree → MethodIdentity → List ℕ → Bool
+concrete_by_id tree k [] = false
+concrete_by_id tree k (n ∷ ns) = option_map_or (λ (m : Method). not (is_virtual m.kind)) (method_found tree k n) (concrete_by_id tree k ns)

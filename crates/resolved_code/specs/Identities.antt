@@ -11,6 +11,6 @@ use Rattle.name_tables.specs.Sameness.{MethodIdentity, identity_of, same_identit
 abbrev pub identities : Tree → List MethodIdentity
 identities tree = flat_map (λ (e : ClassName × Declaration). map identity_of e.1.methods) (declarations tree)
 
--- the number of a name and signature: the place of the first method that has them; the place after all where none has them
+-- the number of a name and signature: the index of the first method that has them; the number of all methods where none has them
 abbrev pub identity_number : Tree → MethodIdentity → ℕ
 identity_number tree k = number_in same_identity (identities tree) k

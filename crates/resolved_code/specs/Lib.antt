@@ -5,6 +5,6 @@ pub mod Identities
 pub mod Resolved
 pub mod Rules
 pub mod Outcomes
-pub mod LabelPlaces
+pub mod LabelIndices
 pub mod Found
 pub mod Contents

@@ -7,26 +7,26 @@ use Rattle.cil_model.specs.declared.types.DeclaredType.{DeclaredType}
 use Rattle.cil_model.specs.declared.trees.Tree.{Tree}
 use Rattle.cil_model.specs.Declarations.{Declaration}
 use Rattle.name_tables.specs.Numbers.{declarations}
-use Rattle.resolved_code.specs.declared.types.NumberedElement.{NumberedElement}
-use Rattle.resolved_code.specs.declared.types.NumberedElement.TheVariants.{Int32, Int64, Object, String, Class}
-use Rattle.resolved_code.specs.declared.types.NumberedType.{NumberedType}
+use Rattle.resolved_code.specs.declared.types.ResolvedElement.{ResolvedElement}
+use Rattle.resolved_code.specs.declared.types.ResolvedElement.TheVariants.{Int32, Int64, Object, String, Class}
+use Rattle.resolved_code.specs.declared.types.ResolvedType.{ResolvedType}
 
 -- the name of the class with this number: built-in classes come first, then those of the source (this profile)
 abbrev pub class_name : Tree → ℕ → Option ClassName
 class_name tree n = option_map (λ (e : ClassName × Declaration). e.0) (slice_get (declarations tree) n)
 
--- the type without brackets that a numbered one represents, where its number is a class's (II.7.1)
-abbrev pub element_at : Tree → NumberedElement → Option Element
+-- the type without brackets that a resolved one represents, where its number is a class's (II.7.1)
+abbrev pub element_at : Tree → ResolvedElement → Option Element
 element_at tree Int32 = Some Int32Element
 element_at tree Int64 = Some Int64Element
 element_at tree Object = Some ObjectElement
 element_at tree String = Some StringElement
 element_at tree (Class n) = option_map ClassElement (class_name tree n)
 
--- the type that a numbered one represents (II.7.1)
-abbrev pub type_at : Tree → NumberedType → Option DeclaredType
+-- the type that a resolved one represents (II.7.1)
+abbrev pub type_at : Tree → ResolvedType → Option DeclaredType
 type_at tree t = option_map (λ e. record { element = e; brackets = t.brackets }) (element_at tree t.element)
 
 -- the types that a list represents
-abbrev pub AreTypes : Tree → List NumberedType → List DeclaredType → Type 0
+abbrev pub AreTypes : Tree → List ResolvedType → List DeclaredType → Type 0
 AreTypes tree numbered types = map (type_at tree) numbered ≡ map Some types

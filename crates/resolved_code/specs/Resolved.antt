@@ -20,7 +20,7 @@ use Rattle.cil_model.specs.declared.trees.MethodKind.TheVariants as NamedKind
 use Rattle.cil_model.specs.declared.trees.Code.{Code}
 use Rattle.cil_model.specs.declared.trees.Line.{Line}
 use Rattle.cil_model.specs.Declarations.{Declaration}
-use Rattle.cil_model.specs.Bodies.{place_of, virtual_reference, constructor_reference}
+use Rattle.cil_model.specs.Bodies.{pc_of, virtual_reference, constructor_reference}
 use Rattle.cil_model.specs.Chains.{find_field, find_method}
 use Rattle.cil_model.specs.Mentions.{literals_of}
 use Rattle.name_tables.specs.declared.lookups.MemberNumber.{MemberNumber}
@@ -28,7 +28,7 @@ use Rattle.name_tables.specs.Numbers.{declarations, field_at, method_at}
 use Rattle.name_tables.specs.Sameness.{identity_of}
 use Rattle.resolved_code.specs.Identities.{identity_number}
 use Rattle.resolved_code.specs.Numbered.{class_name, type_at, AreTypes}
-use Rattle.resolved_code.specs.declared.types.NumberedType.{NumberedType}
+use Rattle.resolved_code.specs.declared.types.ResolvedType.{ResolvedType}
 use Rattle.resolved_code.specs.declared.operations.Operation.{Operation}
 use Rattle.resolved_code.specs.declared.operations.Operation.TheVariants as Resolved
 use Rattle.resolved_code.specs.declared.classes.ResolvedField.{ResolvedField}
@@ -38,7 +38,7 @@ use Rattle.resolved_code.specs.declared.classes.ResolvedMethod.{ResolvedMethod}
 use Rattle.resolved_code.specs.declared.classes.ResolvedClass.{ResolvedClass}
 use Rattle.resolved_code.specs.declared.classes.Body.{Body}
 
--- the items of two lists are related, place by place
+-- the items of two lists are related, index by index
 abbrev pub AllAlike : {X Y : Type 0} → (X → Y → Type 0) → List X → List Y → Type 0
 AllAlike R [] [] = Unit {0}
 AllAlike R (x ∷ xs) (y ∷ ys) = R x y × AllAlike R xs ys
@@ -59,14 +59,14 @@ pub record IsField (tree : Tree) (is_static : Bool) (r : FieldReference) (field 
   pub declared_in : ClassName
   pub found : Field
   pub finds : find_field tree is_static r ≡ Some (declared_in, found)
-  pub numbered : field_at tree (field.class, field.place) ≡ Some (declared_in, found)
+  pub numbered : field_at tree (field.class, field.index) ≡ Some (declared_in, found)
 
 -- the method that a reference finds (II.15.1.3)
 pub record IsMethod (tree : Tree) (is_instance : Bool) (r : MethodReference) (method : MemberNumber) : Type 0 where
   pub declared_in : ClassName
   pub found : Method
   pub finds : find_method tree is_instance r ≡ Some (declared_in, found)
-  pub numbered : method_at tree (method.class, method.place) ≡ Some (declared_in, found)
+  pub numbered : method_at tree (method.class, method.index) ≡ Some (declared_in, found)
 
 -- an instruction of a method with these lines, and what runs for it
 pub data IsOperation (tree : Tree) (lines : List Line) : Instruction → Operation → Type 0 where
@@ -89,14 +89,14 @@ pub data IsOperation (tree : Tree) (lines : List Line) : Instruction → Operati
   compare : (op : Comparison) → IsOperation tree lines (Named.Compare op) (Resolved.Compare op)
   convert_int32 : IsOperation tree lines Named.ConvertInt32 Resolved.ConvertInt32
   convert_int64 : IsOperation tree lines Named.ConvertInt64 Resolved.ConvertInt64
-  -- a label by the place that it is before (II.5.4)
-  branch : (label : List ℕ) (place : ℕ) → place_of label lines ≡ Some place → IsOperation tree lines (Named.Branch label) (Resolved.Branch place)
-  branch_true : (label : List ℕ) (place : ℕ) → place_of label lines ≡ Some place → IsOperation tree lines (Named.BranchTrue label) (Resolved.BranchTrue place)
-  branch_false : (label : List ℕ) (place : ℕ) → place_of label lines ≡ Some place → IsOperation tree lines (Named.BranchFalse label) (Resolved.BranchFalse place)
-  branch_compare : (op : BranchComparison) (label : List ℕ) (place : ℕ) → place_of label lines ≡ Some place →
-      IsOperation tree lines (Named.BranchCompare op label) (Resolved.BranchCompare op place)
-  switch : (labels : List (List ℕ)) (places : List ℕ) → map (λ label. place_of label lines) labels ≡ map Some places →
-      IsOperation tree lines (Named.Switch labels) (Resolved.Switch places)
+  -- a label by the index of the instruction that it is before (II.5.4)
+  branch : (label : List ℕ) (index : ℕ) → pc_of label lines ≡ Some index → IsOperation tree lines (Named.Branch label) (Resolved.Branch index)
+  branch_true : (label : List ℕ) (index : ℕ) → pc_of label lines ≡ Some index → IsOperation tree lines (Named.BranchTrue label) (Resolved.BranchTrue index)
+  branch_false : (label : List ℕ) (index : ℕ) → pc_of label lines ≡ Some index → IsOperation tree lines (Named.BranchFalse label) (Resolved.BranchFalse index)
+  branch_compare : (op : BranchComparison) (label : List ℕ) (index : ℕ) → pc_of label lines ≡ Some index →
+      IsOperation tree lines (Named.BranchCompare op label) (Resolved.BranchCompare op index)
+  switch : (labels : List (List ℕ)) (indices : List ℕ) → map (λ label. pc_of label lines) labels ≡ map Some indices →
+      IsOperation tree lines (Named.Switch labels) (Resolved.Switch indices)
   load_field : (r : FieldReference) (owner : ℕ) (field : MemberNumber) → class_name tree owner ≡ Some r.owner → IsField tree false r field →
       IsOperation tree lines (Named.LoadField r) (Resolved.LoadField owner field)
   store_field : (r : FieldReference) (owner : ℕ) (field : MemberNumber) → class_name tree owner ≡ Some r.owner → IsField tree false r field →
@@ -105,7 +105,7 @@ pub data IsOperation (tree : Tree) (lines : List Line) : Instruction → Operati
       IsOperation tree lines (Named.LoadStaticField r) (Resolved.LoadStaticField field)
   store_static_field : (r : FieldReference) (field : MemberNumber) → IsField tree true r field →
       IsOperation tree lines (Named.StoreStaticField r) (Resolved.StoreStaticField field)
-  new_array : (t : DeclaredType) (n : NumberedType) → type_at tree n ≡ Some t → IsOperation tree lines (Named.NewArray t) (Resolved.NewArray n)
+  new_array : (t : DeclaredType) (n : ResolvedType) → type_at tree n ≡ Some t → IsOperation tree lines (Named.NewArray t) (Resolved.NewArray n)
   load_length : IsOperation tree lines Named.LoadLength Resolved.LoadLength
   load_element_int32 : IsOperation tree lines Named.LoadElementInt32 Resolved.LoadElementInt32
   load_element_int64 : IsOperation tree lines Named.LoadElementInt64 Resolved.LoadElementInt64
@@ -113,8 +113,8 @@ pub data IsOperation (tree : Tree) (lines : List Line) : Instruction → Operati
   store_element_int32 : IsOperation tree lines Named.StoreElementInt32 Resolved.StoreElementInt32
   store_element_int64 : IsOperation tree lines Named.StoreElementInt64 Resolved.StoreElementInt64
   store_element_reference : IsOperation tree lines Named.StoreElementReference Resolved.StoreElementReference
-  cast_class : (t : DeclaredType) (n : NumberedType) → type_at tree n ≡ Some t → IsOperation tree lines (Named.CastClass t) (Resolved.CastClass n)
-  is_instance : (t : DeclaredType) (n : NumberedType) → type_at tree n ≡ Some t → IsOperation tree lines (Named.IsInstance t) (Resolved.IsInstance n)
+  cast_class : (t : DeclaredType) (n : ResolvedType) → type_at tree n ≡ Some t → IsOperation tree lines (Named.CastClass t) (Resolved.CastClass n)
+  is_instance : (t : DeclaredType) (n : ResolvedType) → type_at tree n ≡ Some t → IsOperation tree lines (Named.IsInstance t) (Resolved.IsInstance n)
   call : (is_instance : Bool) (r : MethodReference) (owner : ℕ) (method : MemberNumber) → class_name tree owner ≡ Some r.owner → IsMethod tree is_instance r method →
       IsOperation tree lines (Named.Call is_instance r) (Resolved.Call is_instance owner method)
   call_virtual : (c : ClassName) (name : List ℕ) (signature : Signature) (owner : ℕ) (method : MemberNumber) →

@@ -19,15 +19,15 @@ use Rattle.cil_model.specs.declared.trees.Code.{Code}
 use Rattle.cil_model.specs.declared.trees.Line.{Line}
 use Rattle.cil_model.specs.Same.{same_text}
 use Rattle.cil_model.specs.Declarations.{Declaration}
-use Rattle.cil_model.specs.Bodies.{place_of, virtual_reference, constructor_reference}
+use Rattle.cil_model.specs.Bodies.{pc_of, virtual_reference, constructor_reference}
 use Rattle.cil_model.specs.Mentions.{literals_of}
 use Rattle.name_tables.specs.declared.lookups.MemberNumber.{MemberNumber}
 use Rattle.name_tables.specs.Numbers.{class_number, field_number, method_number, declarations}
 use Rattle.name_tables.specs.Sameness.{identity_of}
 use Rattle.resolved_code.specs.Identities.{identity_number}
-use Rattle.resolved_code.specs.declared.types.NumberedElement.{NumberedElement}
-use Rattle.resolved_code.specs.declared.types.NumberedElement.TheVariants.{Int32, Int64, Object, String, Class}
-use Rattle.resolved_code.specs.declared.types.NumberedType.{NumberedType}
+use Rattle.resolved_code.specs.declared.types.ResolvedElement.{ResolvedElement}
+use Rattle.resolved_code.specs.declared.types.ResolvedElement.TheVariants.{Int32, Int64, Object, String, Class}
+use Rattle.resolved_code.specs.declared.types.ResolvedType.{ResolvedType}
 use Rattle.resolved_code.specs.declared.operations.Operation.{Operation}
 use Rattle.resolved_code.specs.declared.operations.Operation.TheVariants as Resolved
 use Rattle.resolved_code.specs.declared.classes.ResolvedField.{ResolvedField}
@@ -50,7 +50,7 @@ if_named rule (Some x) = option_map Some (rule x)
 -- ---- types
 
 -- a type without brackets (II.7.1)
-abbrev pub element_rule : Tree → Element → Option NumberedElement
+abbrev pub element_rule : Tree → Element → Option ResolvedElement
 element_rule tree Int32Element = Some Int32
 element_rule tree Int64Element = Some Int64
 element_rule tree ObjectElement = Some Object
@@ -58,18 +58,18 @@ element_rule tree StringElement = Some String
 element_rule tree (ClassElement c) = option_map Class (class_number tree c)
 
 -- a type (II.7.1)
-abbrev pub type_rule : Tree → DeclaredType → Option NumberedType
+abbrev pub type_rule : Tree → DeclaredType → Option ResolvedType
 type_rule tree t = option_map (λ e. record { element = e; brackets = t.brackets }) (element_rule tree t.element)
 
 -- a list of types
-abbrev pub types_rule : Tree → List DeclaredType → Option (List NumberedType)
+abbrev pub types_rule : Tree → List DeclaredType → Option (List ResolvedType)
 types_rule tree types = all_some (map (type_rule tree) types)
 
 -- ---- operands
 
--- a class and a place as one number
+-- a class and an index as one number
 abbrev pub member_of : ℕ × ℕ → MemberNumber
-member_of n = record { class = n.0; place = n.1 }
+member_of n = record { class = n.0; index = n.1 }
 
 -- a field that a reference finds (II.16)
 abbrev pub field_rule : Tree → Bool → FieldReference → Option MemberNumber
@@ -87,10 +87,10 @@ with_owner tree c make member = option_and_then (λ owner. option_map (make owne
 
 -- a branch to one label (III.1.7.2)
 abbrev pub branch_rule : List Line → Instruction → Option Operation
-branch_rule lines (Named.Branch label) = option_map Resolved.Branch (place_of label lines)
-branch_rule lines (Named.BranchTrue label) = option_map Resolved.BranchTrue (place_of label lines)
-branch_rule lines (Named.BranchFalse label) = option_map Resolved.BranchFalse (place_of label lines)
-branch_rule lines (Named.BranchCompare op label) = option_map (Resolved.BranchCompare op) (place_of label lines)
+branch_rule lines (Named.Branch label) = option_map Resolved.Branch (pc_of label lines)
+branch_rule lines (Named.BranchTrue label) = option_map Resolved.BranchTrue (pc_of label lines)
+branch_rule lines (Named.BranchFalse label) = option_map Resolved.BranchFalse (pc_of label lines)
+branch_rule lines (Named.BranchCompare op label) = option_map (Resolved.BranchCompare op) (pc_of label lines)
 branch_rule lines _ = None
 
 -- an instruction on a type (III.4)
@@ -146,7 +146,7 @@ plain_rule _ = None
 -- any instruction of a method with these lines
 abbrev pub operation_rule : Tree → List Line → Instruction → Option Operation
 operation_rule tree lines (Named.LoadString characters) = option_map Resolved.LoadString (position_from (same_text characters) 0 (literals_of tree))
-operation_rule tree lines (Named.Switch labels) = option_map Resolved.Switch (all_some (map (λ label. place_of label lines) labels))
+operation_rule tree lines (Named.Switch labels) = option_map Resolved.Switch (all_some (map (λ label. pc_of label lines) labels))
 operation_rule tree lines (Named.Branch label) = branch_rule lines (Named.Branch label)
 operation_rule tree lines (Named.BranchTrue label) = branch_rule lines (Named.BranchTrue label)
 operation_rule tree lines (Named.BranchFalse label) = branch_rule lines (Named.BranchFalse label)

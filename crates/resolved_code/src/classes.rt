@@ -7,21 +7,21 @@ ghost use Rattle.cil_model.specs.declared.trees.Tree.{Tree};
 ghost use Rattle.resolved_code.specs.Resolved.{BothAlike, IsBody, IsResolvedKind};
 
 use crate::operations::Operation;
-use crate::types::NumberedType;
+use crate::types::ResolvedType;
 use cil_model::sequences::Sequence;
 
 /// A field (ECMA-335 II.16).
 #[derive(Clone, Copy)]
 pub struct ResolvedField {
     pub is_static: bool,
-    pub field_type: NumberedType,
+    pub field_type: ResolvedType,
 }
 
 /// A method's body (ECMA-335 II.15.4).
 #[derive(Drop)]
 pub struct Body {
     pub max_stack: i64,
-    pub locals: Sequence<NumberedType>,
+    pub locals: Sequence<ResolvedType>,
     pub operations: Sequence<Operation>,
 }
 
@@ -39,8 +39,8 @@ pub enum ResolvedKind {
 #[derive(Drop)]
 pub struct ResolvedMethod {
     pub identity: usize,
-    pub parameters: Sequence<NumberedType>,
-    pub return_type: Option<NumberedType>,
+    pub parameters: Sequence<ResolvedType>,
+    pub return_type: Option<ResolvedType>,
     pub kind: ResolvedKind,
 }
 

@@ -83,28 +83,28 @@ impl Contents {
     }
 }
 
-fn at<T>(items: &[T], place: usize) -> Option<&T>
-    ensures { option_map (λ x. x.now) result ≡ slice_get items.now place }
+fn at<T>(items: &[T], index: usize) -> Option<&T>
+    ensures { option_map (λ x. x.now) result ≡ slice_get items.now index }
 {
-    items.get(place)
+    items.get(index)
 }
 
 /// The field of a number.
 pub(crate) fn field_at(classes: &[ResolvedClass], number: MemberNumber) -> Option<&ResolvedField>
-    ensures { option_map (λ f. f.now) result ≡ option_and_then (λ r. slice_get r.fields number.place) (slice_get classes.now number.class) }
+    ensures { option_map (λ f. f.now) result ≡ option_and_then (λ r. slice_get r.fields number.index) (slice_get classes.now number.class) }
 {
     match at(classes, number.class) {
         None => None,
-        Some(class) => at(class.fields.as_slice(), number.place),
+        Some(class) => at(class.fields.as_slice(), number.index),
     }
 }
 
 /// The method of a number.
 pub(crate) fn method_at(classes: &[ResolvedClass], number: MemberNumber) -> Option<&ResolvedMethod>
-    ensures { option_map (λ m. m.now) result ≡ option_and_then (λ r. slice_get r.methods number.place) (slice_get classes.now number.class) }
+    ensures { option_map (λ m. m.now) result ≡ option_and_then (λ r. slice_get r.methods number.index) (slice_get classes.now number.class) }
 {
     match at(classes, number.class) {
         None => None,
-        Some(class) => at(class.methods.as_slice(), number.place),
+        Some(class) => at(class.methods.as_slice(), number.index),
     }
 }

@@ -21,13 +21,13 @@ pub fn is_entry_point(method: &Method) -> bool
     }
 }
 
-/// The place of the first entry point among methods.
-pub fn entry_place(methods: &[&Method]) -> Option<usize>
+/// The index of the first entry point among methods.
+pub fn entry_index(methods: &[&Method]) -> Option<usize>
     ensures { result ≡ position_from is_entry_point 0 (map (λ m. m.now) methods.now) }
 {
-    for place in 0..methods.len() {
-        if is_entry_point(methods[place]) {
-            return Some(place);
+    for index in 0..methods.len() {
+        if is_entry_point(methods[index]) {
+            return Some(index);
         }
     }
     None
@@ -35,11 +35,11 @@ pub fn entry_place(methods: &[&Method]) -> Option<usize>
 
 /// The number of the first method with an entry point.
 pub(crate) fn entry_number(classes: &[ClassTable]) -> Option<MemberNumber>
-    ensures { option_map (λ m. (m.class, m.place)) result ≡ entry_from 0 (map (λ t. entry_of t.class) classes.now) }
+    ensures { option_map (λ m. (m.class, m.index)) result ≡ entry_from 0 (map (λ t. entry_of t.class) classes.now) }
 {
     for class in 0..classes.len() {
-        if let Some(place) = entry_place(classes[class].class.methods.as_slice()) {
-            return Some(MemberNumber { class, place });
+        if let Some(index) = entry_index(classes[class].class.methods.as_slice()) {
+            return Some(MemberNumber { class, index });
         }
     }
     None

@@ -9,8 +9,8 @@ ghost use Rattle.resolved_code.specs.Identities.{identities, identity_number};
 use cil_model::memory::NoMemory;
 use cil_model::trees::{Method, Tree};
 use name_tables::class_tables::{ClassTable, method_keys};
+use name_tables::key_indices::KeyIndices;
 use name_tables::keys::MethodKey;
-use name_tables::places::Places;
 use name_tables::tables::ClassTables;
 use std::alloc::Global;
 
@@ -18,7 +18,7 @@ use std::alloc::Global;
 #[derive(Drop)]
 pub struct Identities<'a> {
     pub tree: &'a Tree,
-    keys: Places<MethodKey<'a>>,
+    keys: KeyIndices<MethodKey<'a>>,
     ghost keys_are: { map method_of_key keys ≡ identities tree.now },
 }
 
@@ -42,7 +42,7 @@ impl<'a> Identities<'a> {
         let keys = all_keys(alloc, classes.all())?;
         Ok(Identities {
             tree: classes.tree,
-            keys: Places::new(alloc, keys)?,
+            keys: KeyIndices::new(alloc, keys)?,
         })
     }
 
@@ -53,7 +53,7 @@ impl<'a> Identities<'a> {
         let key = MethodKey::new(&method.name, &method.signature);
         match self.keys.first(key) {
             None => self.keys.keys().len(),
-            Some(place) => place,
+            Some(index) => index,
         }
     }
 }

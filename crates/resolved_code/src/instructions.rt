@@ -2,7 +2,7 @@
 
 ghost use Rattle.std.specs.Prelude.{◌≡◌, Some, option_map, false, true};
 ghost use Rattle.std.specs.List.{position_from};
-ghost use Rattle.cil_model.specs.Bodies.{place_of, virtual_reference, constructor_reference};
+ghost use Rattle.cil_model.specs.Bodies.{pc_of, virtual_reference, constructor_reference};
 ghost use Rattle.cil_model.specs.Mentions.{literals_of};
 ghost use Rattle.cil_model.specs.Same.{same_text};
 ghost use Rattle.resolved_code.specs.declared.operations.Operation.TheVariants.{LoadString, Call, CallVirtual, NewObject};
@@ -13,7 +13,7 @@ use crate::identities::Identities;
 use crate::items::{Resolve, resolve_all};
 use crate::labels::Labels;
 use crate::literals::Literals;
-use crate::numbering::{class_number, numbered_type};
+use crate::numbering::{class_number, resolved_type};
 use crate::operations::Operation;
 use cil_model::instructions::{FieldReference, Instruction, MethodReference};
 use cil_model::texts::Text;
@@ -70,30 +70,30 @@ fn plain_operation(instruction: &Instruction) -> Option<Operation>
 
 // ---- branches
 
-/// A branch to one label, by the label's place (ECMA-335 III.3.5 to III.3.17). None where no line has the label.
+/// A branch to one label, by the label's index (ECMA-335 III.3.5 to III.3.17). None where no line has the label.
 fn branch(labels: &Labels, instruction: &Instruction) -> Option<Operation>
     ensures { result ≡ branch_rule labels.now.lines.now instruction.now }
 {
     let operation = match instruction {
-        Instruction::Branch(label) => Operation::Branch(labels.place(label)?),
-        Instruction::BranchTrue(label) => Operation::BranchTrue(labels.place(label)?),
-        Instruction::BranchFalse(label) => Operation::BranchFalse(labels.place(label)?),
+        Instruction::Branch(label) => Operation::Branch(labels.index(label)?),
+        Instruction::BranchTrue(label) => Operation::BranchTrue(labels.index(label)?),
+        Instruction::BranchFalse(label) => Operation::BranchFalse(labels.index(label)?),
         Instruction::BranchCompare(comparison, label) => {
-            Operation::BranchCompare(*comparison, labels.place(label)?)
+            Operation::BranchCompare(*comparison, labels.index(label)?)
         }
         _ => return None,
     };
     Some(operation)
 }
 
-/// A label is resolved to its place.
+/// A label is resolved to its index.
 impl<'a> Resolve<Text> for Labels<'a> {
     type Resolved = usize;
 
-    ghost rule = { λ labels label. place_of label labels.lines.now };
+    ghost rule = { λ labels label. pc_of label labels.lines.now };
 
     fn resolve(&self, _alloc: Global, label: &Text) -> Result<usize, ResolveError> {
-        self.place(label).ok_or(ResolveError::Unresolved)
+        self.index(label).ok_or(ResolveError::Unresolved)
     }
 }
 
@@ -106,13 +106,13 @@ impl<'a> Resolver<'a> {
     {
         let operation = match instruction {
             Instruction::NewArray(declared) => {
-                Operation::NewArray(numbered_type(self.names, declared)?)
+                Operation::NewArray(resolved_type(self.names, declared)?)
             }
             Instruction::CastClass(declared) => {
-                Operation::CastClass(numbered_type(self.names, declared)?)
+                Operation::CastClass(resolved_type(self.names, declared)?)
             }
             Instruction::IsInstance(declared) => {
-                Operation::IsInstance(numbered_type(self.names, declared)?)
+                Operation::IsInstance(resolved_type(self.names, declared)?)
             }
             _ => return None,
         };
@@ -238,8 +238,8 @@ impl<'a> Resolve<Line> for BodyResolver<'a> {
         let operation = match instruction {
             Instruction::LoadString(text) => self.resolver.load_string(text),
             Instruction::Switch(targets) => {
-                let places = resolve_all(alloc, self.labels, targets.as_slice())?;
-                Some(Operation::Switch(places))
+                let indices = resolve_all(alloc, self.labels, targets.as_slice())?;
+                Some(Operation::Switch(indices))
             }
             Instruction::Branch(_)
             | Instruction::BranchTrue(_)

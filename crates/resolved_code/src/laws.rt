@@ -16,8 +16,8 @@ ghost use Rattle.resolved_code.specs.Resolved.{IsOperation};
 ghost use Rattle.resolved_code.specs.declared.operations.Operation.{Operation};
 
 /// Each class that a name refers to has a number, a built-in one too, and each field and each method that it declares is at that
-/// number and its place. So what is said of all numbers is said of all classes, fields and methods.
-pub fn all_are_numbered()
+/// number and its index. So what is said of all numbers is said of all classes, fields and methods.
+pub fn all_have_ids()
     ensures classes { (tree : Tree) (c : ClassName) (d : Declaration) → declaration_of tree c ≡ Some d → (n : ℕ) × (class_number tree c ≡ Some n) × (class_name tree n ≡ Some c) }
     ensures fields { (tree : Tree) (c : ClassName) (p : ℕ) (f : Field) → slice_get (fields_declared tree c) p ≡ Some f → (n : ℕ) × (class_number tree c ≡ Some n) × (field_at tree (n, p) ≡ Some (c, f)) }
     ensures methods { (tree : Tree) (c : ClassName) (p : ℕ) (m : Method) → slice_get (methods_declared tree c) p ≡ Some m → (n : ℕ) × (class_number tree c ≡ Some n) × (method_at tree (n, p) ≡ Some (c, m)) }

@@ -16,7 +16,7 @@ use name_tables::keys::TextKey;
 use name_tables::trees::instructions_of_tree;
 use std::alloc::Global;
 
-/// The distinct string literals of a tree, in the order of their first places (ECMA-335 III.4.16).
+/// The distinct string literals of a tree, in the order of their first occurrences (ECMA-335 III.4.16).
 #[derive(Drop)]
 pub struct Literals<'a> {
     pub tree: &'a Tree,
@@ -24,7 +24,7 @@ pub struct Literals<'a> {
     ghost texts_are: { map text_of_key texts.keys ≡ literals_of tree.now },
 }
 
-/// Each literal once, at its first place.
+/// Each literal once, in the order of the first occurrences.
 fn distinct_literals<'a>(
     alloc: Global,
     instructions: &[&'a Instruction],

@@ -10,7 +10,7 @@ use crate::errors::ResolveError;
 use crate::instructions::{BodyResolver, Resolver};
 use crate::items::{Resolve, resolve_all};
 use crate::labels::Labels;
-use crate::numbering::numbered_return;
+use crate::numbering::resolved_return;
 use cil_model::trees::{Code, Field, Method, MethodKind};
 use name_tables::lookups::NameTables;
 use std::alloc::Global;
@@ -79,7 +79,7 @@ impl<'a, 'b> Resolve<&'b Method> for Resolver<'a> {
     fn resolve(&self, alloc: Global, method: &&'b Method) -> Result<ResolvedMethod, ResolveError> {
         let signature = &method.signature;
         let parameters = resolve_all(alloc, self.names, signature.parameters.as_slice())?;
-        let return_type = numbered_return(self.names, &signature.return_type)?;
+        let return_type = resolved_return(self.names, &signature.return_type)?;
         let labels = Labels::new(alloc, method)?;
         let kind = self.kind(alloc, &labels, &method.kind)?;
         Ok(ResolvedMethod {

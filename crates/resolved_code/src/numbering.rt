@@ -8,7 +8,7 @@ ghost use Rattle.resolved_code.specs.Rules.{if_named, element_rule, type_rule};
 
 use crate::errors::ResolveError;
 use crate::items::Resolve;
-use crate::types::{NumberedElement, NumberedType};
+use crate::types::{ResolvedElement, ResolvedType};
 use cil_model::types::{ClassName, DeclaredType, Element};
 use name_tables::keys::ClassKey;
 use name_tables::lookups::NameTables;
@@ -48,32 +48,32 @@ impl<'a> Resolve<ClassName> for NameTables<'a> {
     }
 }
 
-fn numbered_element(names: &NameTables, element: &Element) -> Option<NumberedElement>
+fn resolved_element(names: &NameTables, element: &Element) -> Option<ResolvedElement>
     ensures { result ≡ element_rule names.now.classes.tree.now element.now }
 {
     let numbered = match element {
-        Element::Int32 => NumberedElement::Int32,
-        Element::Int64 => NumberedElement::Int64,
-        Element::Object => NumberedElement::Object,
-        Element::String => NumberedElement::String,
-        Element::Class(class) => NumberedElement::Class(class_number(names, class)?),
+        Element::Int32 => ResolvedElement::Int32,
+        Element::Int64 => ResolvedElement::Int64,
+        Element::Object => ResolvedElement::Object,
+        Element::String => ResolvedElement::String,
+        Element::Class(class) => ResolvedElement::Class(class_number(names, class)?),
     };
     Some(numbered)
 }
 
 /// A type by number (ECMA-335 II.7.1). None where the class that it names refers to nothing.
-pub fn numbered_type(names: &NameTables, declared: &DeclaredType) -> Option<NumberedType>
+pub fn resolved_type(names: &NameTables, declared: &DeclaredType) -> Option<ResolvedType>
     ensures { result ≡ type_rule names.now.classes.tree.now declared.now }
 {
-    Some(NumberedType {
-        element: numbered_element(names, &declared.element)?,
+    Some(ResolvedType {
+        element: resolved_element(names, &declared.element)?,
         brackets: declared.brackets,
     })
 }
 
 /// A type is resolved to the type by number.
 impl<'a> Resolve<DeclaredType> for NameTables<'a> {
-    type Resolved = NumberedType;
+    type Resolved = ResolvedType;
 
     ghost rule = { λ names declared. type_rule names.classes.tree.now declared };
 
@@ -81,21 +81,21 @@ impl<'a> Resolve<DeclaredType> for NameTables<'a> {
         &self,
         _alloc: Global,
         declared: &DeclaredType,
-    ) -> Result<NumberedType, ResolveError> {
-        numbered_type(self, declared).ok_or(ResolveError::Unresolved)
+    ) -> Result<ResolvedType, ResolveError> {
+        resolved_type(self, declared).ok_or(ResolveError::Unresolved)
     }
 }
 
 /// A return type by number; none is `void`. Fails where the class that it names refers to nothing.
-pub fn numbered_return(
+pub fn resolved_return(
     names: &NameTables,
     return_type: &Option<DeclaredType>,
-) -> Result<Option<NumberedType>, ResolveError>
+) -> Result<Option<ResolvedType>, ResolveError>
     ensures { Gives result (if_named (type_rule names.now.classes.tree.now) return_type.now) }
 {
     match return_type {
         None => Ok(None),
-        Some(declared) => match numbered_type(names, declared) {
+        Some(declared) => match resolved_type(names, declared) {
             None => Err(ResolveError::Unresolved),
             found => Ok(found),
         },

@@ -1,13 +1,13 @@
 //! Instructions with their operands resolved (ECMA-335 III.3 and III.4).
 
-use crate::types::NumberedType;
+use crate::types::ResolvedType;
 use cil_model::instructions::{
     BinaryOperation, BranchComparison, Comparison, ShiftOperation, UnaryOperation,
 };
 use cil_model::sequences::Sequence;
 use name_tables::lookups::MemberNumber;
 
-/// An instruction, with numbers in place of names: the classes, fields and methods that its operand finds, the places of its labels in
+/// An instruction, with numbers in place of names: the classes, fields and methods that its operand finds, the indices of its labels in
 /// the method, and the number of its literal among those of the source.
 #[derive(Drop)]
 pub enum Operation {
@@ -70,7 +70,7 @@ pub enum Operation {
     /// `stsfld`
     StoreStaticField(MemberNumber),
     /// `newarr`
-    NewArray(NumberedType),
+    NewArray(ResolvedType),
     /// `ldlen`
     LoadLength,
     /// `ldelem.i4`
@@ -86,9 +86,9 @@ pub enum Operation {
     /// `stelem.ref`
     StoreElementReference,
     /// `castclass`
-    CastClass(NumberedType),
+    CastClass(ResolvedType),
     /// `isinst`
-    IsInstance(NumberedType),
+    IsInstance(ResolvedType),
     /// `call`: with `instance` or without, the class that the text names, and the method that is found
     Call {
         is_instance: bool,

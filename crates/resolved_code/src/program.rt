@@ -20,7 +20,7 @@ pub struct Program {
     contents: Contents,
 }
 
-/// Each part gives back its own.
+/// Each part is dropped.
 impl Drop for Program {
     fn drop(self) {
         let Program {
@@ -68,16 +68,16 @@ impl Program {
         self.contents.classes.as_slice()
     }
 
-    /// The field of a number: of a class, at a place among its fields (ECMA-335 II.16). None where there is no such class or
-    /// place.
+    /// The field of a number: of a class, at an index among its fields (ECMA-335 II.16). None where there is no such class or
+    /// index.
     pub fn field(&self, number: MemberNumber) -> Option<&ResolvedField>
         ensures { IsFieldOf self.now number (option_map (λ f. f.now) result) }
     {
         field_at(self.classes(), number)
     }
 
-    /// The method of a number: of a class, at a place among its methods (ECMA-335 II.15). None where there is no such class or
-    /// place.
+    /// The method of a number: of a class, at an index among its methods (ECMA-335 II.15). None where there is no such class or
+    /// index.
     pub fn method(&self, number: MemberNumber) -> Option<&ResolvedMethod>
         ensures { IsMethodOf self.now number (option_map (λ m. m.now) result) }
     {

@@ -7,7 +7,7 @@ ghost use Rattle.cil_model.specs.Assignable.{is_assignable};
 ghost use Rattle.resolved_code.specs.Numbered.{type_at};
 ghost use Rattle.resolved_code.specs.TypeTests.{is_object, element_test, type_test, ComesTo};
 
-use crate::types::{NumberedElement, NumberedType};
+use crate::types::{ResolvedElement, ResolvedType};
 
 /// The outcome of a test of two types.
 #[derive(Clone, Copy)]
@@ -19,32 +19,32 @@ pub enum TypeTest {
 }
 
 /// `object`
-fn is_object(element: NumberedElement) -> bool
+fn is_object(element: ResolvedElement) -> bool
     ensures { result ≡ is_object element }
 {
-    matches!(element, NumberedElement::Object)
+    matches!(element, ResolvedElement::Object)
 }
 
 /// The test of types without brackets. Only the two integers may not be given for `object`.
-fn element_test(from: NumberedElement, to: NumberedElement) -> TypeTest
+fn element_test(from: ResolvedElement, to: ResolvedElement) -> TypeTest
     ensures { result ≡ element_test from to }
 {
     match (from, to) {
-        (NumberedElement::Int32, NumberedElement::Object) => TypeTest::Answered(false),
-        (NumberedElement::Int64, NumberedElement::Object) => TypeTest::Answered(false),
-        (_, NumberedElement::Object) => TypeTest::Answered(true),
-        (NumberedElement::Class(from), NumberedElement::Class(to)) => {
+        (ResolvedElement::Int32, ResolvedElement::Object) => TypeTest::Answered(false),
+        (ResolvedElement::Int64, ResolvedElement::Object) => TypeTest::Answered(false),
+        (_, ResolvedElement::Object) => TypeTest::Answered(true),
+        (ResolvedElement::Class(from), ResolvedElement::Class(to)) => {
             TypeTest::OfClasses { from, to }
         }
-        (NumberedElement::Int32, NumberedElement::Int32) => TypeTest::Answered(true),
-        (NumberedElement::Int64, NumberedElement::Int64) => TypeTest::Answered(true),
-        (NumberedElement::String, NumberedElement::String) => TypeTest::Answered(true),
+        (ResolvedElement::Int32, ResolvedElement::Int32) => TypeTest::Answered(true),
+        (ResolvedElement::Int64, ResolvedElement::Int64) => TypeTest::Answered(true),
+        (ResolvedElement::String, ResolvedElement::String) => TypeTest::Answered(true),
         _ => TypeTest::Answered(false),
     }
 }
 
 /// As many brackets on both, or fewer on `object`.
-fn type_test(from: NumberedType, to: NumberedType) -> TypeTest
+fn type_test(from: ResolvedType, to: ResolvedType) -> TypeTest
     ensures { result ≡ type_test from to }
 {
     if from.brackets == to.brackets {
@@ -54,11 +54,11 @@ fn type_test(from: NumberedType, to: NumberedType) -> TypeTest
     }
 }
 
-impl NumberedType {
+impl ResolvedType {
     /// Whether a value of this type may be given where the other is expected (ECMA-335 I.8.7), as far as elements and brackets
     /// determine it.
-    /// An array may be given for one with as many brackets where its element may be given for the other's, and for `object` with fewer.
-    pub fn test_for(self, wanted: NumberedType) -> TypeTest
+    /// An array may be given for one with the same number of brackets where its element may be given for the other's, and for `object` with fewer.
+    pub fn test_for(self, wanted: ResolvedType) -> TypeTest
         ensures { (tree : Tree) (a b : DeclaredType) → type_at tree self ≡ Some a → type_at tree wanted ≡ Some b → ComesTo tree result (is_assignable tree a b) }
     {
         type_test(self, wanted)

@@ -3,7 +3,7 @@
 /// A type without brackets (ECMA-335 II.7.1). A class or interface has its number among the built-in classes and then those of the
 /// source, in order.
 #[derive(Clone, Copy, PartialEq, Eq)]
-pub enum NumberedElement {
+pub enum ResolvedElement {
     Int32,
     Int64,
     Object,
@@ -13,7 +13,7 @@ pub enum NumberedElement {
 
 /// A type: the element, and how many pairs of brackets follow it (ECMA-335 II.7.1 and II.14.1).
 #[derive(Clone, Copy, PartialEq, Eq)]
-pub struct NumberedType {
-    pub element: NumberedElement,
+pub struct ResolvedType {
+    pub element: ResolvedElement,
     pub brackets: u32,
 }

@@ -1,10 +1,10 @@
 -- Paths and words in content that grows.
 use Rattle.std.proofs.Common.{◌≡◌, ◌==◌, ◌+◌, ◌<◌, ◌++◌, ◌⊎◌, ℕ, true, List, [], ◌∷◌, get_or, length, Option, Some, None, option_map, inl, inr, refl, sym, ap, subst, ◌∙◌, arith, append-nil, append_assoc}
 use Rattle.std.proofs.lemmas.Bool.Decides.{nat_tests}
-use Rattle.event_rows.specs.Rows.{drawn, path_text}
+use Rattle.event_rows.specs.Rows.{rows_of, path_text}
 use Rattle.event_rows.specs.declared.Span.{Span}
 use Rattle.svg_text.specs.Contents.{Adds, AddsIfWhole}
-use Rattle.svg_text.specs.Elements.{element_text, escaped, start_text, tag_text}
+use Rattle.svg_text.specs.Elements.{element_text, escape, start_text, tag_text}
 use Rattle.svg_text.specs.declared.markup.Attribute.{Attribute}
 use Rattle.svg_text.specs.declared.markup.Tag.{Tag}
 use Rattle.run_picture.specs.Paths.{Draws, Has, HasPaths, HasRow, HasWords}
@@ -20,29 +20,29 @@ has_before : (whole after part : List ℕ) → Has whole part → Has (whole ++ 
 has_before whole after part h = has_around [] whole after part h
 
 row_around : (before whole after numbers : List ℕ) → HasRow whole numbers → HasRow (before ++ whole ++ after) numbers
-row_around before whole after numbers h = (h.0, h.1, h.2, has_around before whole after (escaped (path_text h.1 h.0)) h.3)
+row_around before whole after numbers h = (h.0, h.1, h.2, has_around before whole after (escape (path_text h.1 h.0)) h.3)
 
 row_after : (before whole numbers : List ℕ) → HasRow whole numbers → HasRow (before ++ whole) numbers
-row_after before whole numbers h = (h.0, h.1, h.2, has_after before whole (escaped (path_text h.1 h.0)) h.3)
+row_after before whole numbers h = (h.0, h.1, h.2, has_after before whole (escape (path_text h.1 h.0)) h.3)
 
 row_before : (whole after numbers : List ℕ) → HasRow whole numbers → HasRow (whole ++ after) numbers
-row_before whole after numbers h = (h.0, h.1, h.2, has_before whole after (escaped (path_text h.1 h.0)) h.3)
+row_before whole after numbers h = (h.0, h.1, h.2, has_before whole after (escape (path_text h.1 h.0)) h.3)
 
 -- ---- a row more
 
-pub row_added : (old new : Option (List ℕ)) (spans : List Span) (y : ℕ) (bytes numbers before after : List ℕ) → drawn spans ≡ numbers → bytes ≡ path_text y spans → Adds old new (before ++ escaped bytes ++ after) → Draws old new numbers
+pub row_added : (old new : Option (List ℕ)) (spans : List Span) (y : ℕ) (bytes numbers before after : List ℕ) → rows_of spans ≡ numbers → bytes ≡ path_text y spans → Adds old new (before ++ escape bytes ++ after) → Draws old new numbers
 row_added old new spans y bytes numbers before after e same (inl lost) = inl lost
 row_added old new spans y bytes numbers before after e same (inr added) =
-    let whole = before ++ escaped bytes ++ after in
-    inr (whole, (spans, y, e, (before, after, ap (λ d. before ++ escaped d ++ after) same)), added)
+    let whole = before ++ escape bytes ++ after in
+    inr (whole, (spans, y, e, (before, after, ap (λ d. before ++ escape d ++ after) same)), added)
 
 pub nothing_at_zero : (bytes : List ℕ) → (length bytes == 0) ≡ true → bytes ≡ []
 nothing_at_zero [] h = refl
 nothing_at_zero (x ∷ xs) h = absurd (grind (arith, nat_tests, h))
 
-pub row_nothing : (old : Option (List ℕ)) (spans : List Span) (y : ℕ) (bytes numbers : List ℕ) → drawn spans ≡ numbers → bytes ≡ path_text y spans → bytes ≡ [] → Draws old old numbers
+pub row_nothing : (old : Option (List ℕ)) (spans : List Span) (y : ℕ) (bytes numbers : List ℕ) → rows_of spans ≡ numbers → bytes ≡ path_text y spans → bytes ≡ [] → Draws old old numbers
 row_nothing None spans y bytes numbers e same nothing = inl refl
-row_nothing (Some text) spans y bytes numbers e same nothing = inr ([], (spans, y, e, ([], [], ap (λ d. escaped d ++ []) (sym nothing ∙ same))), ap Some (sym (append-nil text)))
+row_nothing (Some text) spans y bytes numbers e same nothing = inr ([], (spans, y, e, ([], [], ap (λ d. escape d ++ []) (sym nothing ∙ same))), ap Some (sym (append-nil text)))
 
 -- the rows before this one
 abbrev pub HasPathsBefore : Option (List ℕ) → List (List ℕ) → ℕ → Type 0
@@ -93,24 +93,24 @@ paths_around None new (Some inside) tag attributes rows (inr added) h = subst (�
 paths_around (Some old) new (Some inside) tag attributes rows (inr added) h =
     subst (λ o. HasPaths o rows) (sym added) (λ row within. row_after old (element_text tag attributes inside) (get_or rows row []) (row_in_element tag attributes inside (get_or rows row []) (h row within)))
 
-pub words_in_element : (old new : Option (List ℕ)) (tag : Tag) (attributes : List Attribute) (words : List ℕ) → old ≡ Some [] → Adds old new (element_text tag attributes (escaped words)) → HasWords new words
+pub words_in_element : (old new : Option (List ℕ)) (tag : Tag) (attributes : List Attribute) (words : List ℕ) → old ≡ Some [] → Adds old new (element_text tag attributes (escape words)) → HasWords new words
 words_in_element old new tag attributes words empty (inl lost) = subst (λ o. HasWords o words) (sym lost) tt
 words_in_element old new tag attributes words empty (inr added) =
-    subst (λ o. HasWords o words) (sym (added ∙ ap (option_map (λ text. text ++ element_text tag attributes (escaped words))) empty))
-    (in_element tag attributes (escaped words) (escaped words) ([], [], sym (append-nil (escaped words))))
+    subst (λ o. HasWords o words) (sym (added ∙ ap (option_map (λ text. text ++ element_text tag attributes (escape words))) empty))
+    (in_element tag attributes (escape words) (escape words) ([], [], sym (append-nil (escape words))))
 
 pub no_words : (text : Option (List ℕ)) (words : List ℕ) → text ≡ Some [] → words ≡ [] → HasWords text words
-no_words text words empty none = subst (λ o. HasWords o words) (sym empty) (subst (λ l. Has [] (escaped l)) (sym none) ([], [], refl))
+no_words text words empty none = subst (λ o. HasWords o words) (sym empty) (subst (λ l. Has [] (escape l)) (sym none) ([], [], refl))
 
 pub words_after : (old new more : Option (List ℕ)) (words : List ℕ) → AddsIfWhole old new more (λ text. text) → HasWords more words → HasWords new words
 words_after old new None words lost h = subst (λ o. HasWords o words) (sym lost) tt
 words_after old new (Some more) words (inl lost) h = subst (λ o. HasWords o words) (sym lost) tt
 words_after None new (Some more) words (inr added) h = subst (λ o. HasWords o words) (sym added) tt
-words_after (Some old) new (Some more) words (inr added) h = subst (λ o. HasWords o words) (sym added) (has_after old more (escaped words) h)
+words_after (Some old) new (Some more) words (inr added) h = subst (λ o. HasWords o words) (sym added) (has_after old more (escape words) h)
 
-pub words_in_document : (page : Option (List ℕ)) (inside document : List ℕ) (tag : Tag) (attributes : List Attribute) (words : List ℕ) → page ≡ Some inside → document ≡ element_text tag attributes inside → HasWords page words → Has document (escaped words)
+pub words_in_document : (page : Option (List ℕ)) (inside document : List ℕ) (tag : Tag) (attributes : List Attribute) (words : List ℕ) → page ≡ Some inside → document ≡ element_text tag attributes inside → HasWords page words → Has document (escape words)
 words_in_document page inside document tag attributes words is same h =
-    subst (λ t. Has t (escaped words)) (sym same) (in_element tag attributes inside (escaped words) (subst (λ o. HasWords o words) is h))
+    subst (λ t. Has t (escape words)) (sym same) (in_element tag attributes inside (escape words) (subst (λ o. HasWords o words) is h))
 
 pub paths_before : (old new more : Option (List ℕ)) (rows : List (List ℕ)) → AddsIfWhole old new more (λ text. text) → HasPaths old rows → HasPaths new rows
 paths_before old new None rows lost h = subst (λ o. HasPaths o rows) (sym lost) tt

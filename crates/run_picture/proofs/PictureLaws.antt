@@ -8,49 +8,49 @@ use Rattle.cil_model.specs.declared.reports.Report.{Report}
 use Rattle.schedule_text.specs.Items.{events_of}
 use Rattle.schedule_text.specs.declared.items.Item.{Item}
 use Rattle.schedule_text.proofs.SoFar.{so_far, so_far_all, so_far_before, so_far_more, so_far_none}
-use Rattle.event_trace.specs.interleaving_core.simulation.MachineContents.{Content}
-use Rattle.event_trace.specs.interleaving_core.simulation.Runs.{AreTurns}
-use Rattle.event_trace.specs.interleaving_core.simulation.Turns.{IsTurn}
-use Rattle.event_trace.proofs.interleaving_core.Runs.FollowedRuns.{SameProgram, turns_length, turns_more, turns_program}
+use Rattle.event_trace.specs.interleaving_core.simulation.MachineStates.{MachineState}
+use Rattle.event_trace.specs.interleaving_core.simulation.Runs.{AreTransitions}
+use Rattle.event_trace.specs.interleaving_core.simulation.Transitions.{IsTransition}
+use Rattle.event_trace.proofs.interleaving_core.Runs.FollowedRuns.{SameProgram, transitions_length, transitions_more, transitions_program}
 use Rattle.outputs.specs.Beginnings.{AppendsBeginning}
 use Rattle.event_trace.specs.Deadlocks.{IsDeadlockOf}
 use Rattle.run_picture.specs.Pictures.{IsDrawing, IsDrawn, IsPicture, IsPictureInPart}
 use Rattle.run_picture.specs.Paths.{HasRow}
 use Rattle.run_picture.specs.Sentences.{deadlock_sentence}
 use Rattle.run_picture.specs.Rows.{drawn_rows, number_in, numbers_of}
-use Rattle.run_picture.specs.Windows.{clamped}
+use Rattle.run_picture.specs.Windows.{clamp}
 use Rattle.run_picture.specs.declared.rows.TheConstants.{ROWS}
 use Rattle.run_picture.specs.declared.windows.Window.{Window}
 use Rattle.run_picture.proofs.RowLaws.{many_drawn, numbers_more, row_drawn, rows_empty}
 
 -- the events are done, and the rows draw those in the window
-pub record SketchedSoFar (c : Content) (es : List Event) (d : Content) (w : Window) (rows : List (List ℕ)) : Type 0 where
+pub record SketchedSoFar (c : MachineState) (es : List Event) (d : MachineState) (w : Window) (rows : List (List ℕ)) : Type 0 where
   pub reports : List Report
-  pub turns : AreTurns c es d reports
+  pub transitions : AreTransitions c es d reports
   pub many : length rows ≡ ROWS
   pub drawn : (row : ℕ) → row < ROWS → get_or rows row [] ≡ numbers_of w row 0 es reports
 
-pub sketch_begun : (c : Content) (w : Window) (rows : List (List ℕ)) → rows ≡ replicate ROWS [] → length rows ≡ ROWS → SketchedSoFar c [] c w rows
-sketch_begun c w rows e many = record { reports = []; turns = (refl, refl); many = many; drawn = λ row within. rows_empty rows row e within }
+pub sketch_begun : (c : MachineState) (w : Window) (rows : List (List ℕ)) → rows ≡ replicate ROWS [] → length rows ≡ ROWS → SketchedSoFar c [] c w rows
+sketch_begun c w rows e many = record { reports = []; transitions = (refl, refl); many = many; drawn = λ row within. rows_empty rows row e within }
 
-pub sketch_step : (c d after : Content) (es : List Event) (w : Window) (n : ℕ) (e : Event) (r : Report) (rows more : List (List ℕ)) → n ≡ length es → SketchedSoFar c es d w rows → IsTurn d e (after, r) →
+pub sketch_step : (c d after : MachineState) (es : List Event) (w : Window) (n : ℕ) (e : Event) (r : Report) (rows more : List (List ℕ)) → n ≡ length es → SketchedSoFar c es d w rows → IsTransition d e (after, r) →
     more ≡ drawn_rows w n e r rows → SketchedSoFar c (es ++ e ∷ []) after w more
-sketch_step c d after es w n e r rows more is h turn drew = record {
+sketch_step c d after es w n e r rows more is h transition drew = record {
   reports = h.reports ++ r ∷ [];
-  turns = turns_more c d after es h.reports e r h.turns turn;
+  transitions = transitions_more c d after es h.reports e r h.transitions transition;
   many = ap length drew ∙ many_drawn w n e r rows ∙ h.many;
   drawn = λ row within.
       ap (λ (l : List (List ℕ)). get_or l row []) drew ∙ row_drawn w n e r rows row h.many ∙ ap (λ l. l ++ number_in w row n e r) (h.drawn row within)
       ∙ ap (λ m. numbers_of w row 0 es h.reports ++ number_in w row m e r) (is ∙ sym (zero-add (length es)))
-      ∙ sym (numbers_more w row 0 es h.reports e r (turns_length c d es h.reports h.turns));
+      ∙ sym (numbers_more w row 0 es h.reports e r (transitions_length c d es h.reports h.transitions));
 }
 
-pub same_so_far : (c d : Content) (es : List Event) (w : Window) (rows : List (List ℕ)) → SketchedSoFar c es d w rows → SameProgram c d
-same_so_far c d es w rows h = turns_program c d es h.reports h.turns
+pub same_so_far : (c d : MachineState) (es : List Event) (w : Window) (rows : List (List ℕ)) → SketchedSoFar c es d w rows → SameProgram c d
+same_so_far c d es w rows h = transitions_program c d es h.reports h.transitions
 
 -- ---- all events are done
 
-module _ (c d : Content) (es : List Event) (window : Window) (rows : List (List ℕ)) (text : List ℕ) (h : SketchedSoFar c es d (clamped window) rows) (set : List Bool) (deadlocked : IsDeadlockOf d set) (drawn : IsDrawn text rows (deadlock_sentence set)) where
+module _ (c d : MachineState) (es : List Event) (window : Window) (rows : List (List ℕ)) (text : List ℕ) (h : SketchedSoFar c es d (clamp window) rows) (set : List Bool) (deadlocked : IsDeadlockOf d set) (drawn : IsDrawn text rows (deadlock_sentence set)) where
   drawing : IsDrawing window es h.reports d text
   drawing = record {
     formed = drawn.formed;
@@ -61,37 +61,37 @@ module _ (c d : Content) (es : List Event) (window : Window) (rows : List (List 
   }
 
   pub all_drawn : (out out' : Option (List ℕ)) → Appends out out' text → (reports : List Report) × IsPicture c es d reports window out out'
-  all_drawn out out' k = (h.reports, record { turns = h.turns; each = turns_length c d es h.reports h.turns; text = text; drawing = drawing; appended = k })
+  all_drawn out out' k = (h.reports, record { transitions = h.transitions; each = transitions_length c d es h.reports h.transitions; text = text; drawing = drawing; appended = k })
 
   pub write_cut : (out out' : Option (List ℕ)) → AppendsBeginning out out' text → IsPictureInPart c es d window out out'
   write_cut out out' k = record {
     count = length es;
     within = omega arith;
     reports = h.reports;
-    turns = subst (λ l. AreTurns c l d h.reports) (sym (take_all (length es) es (omega arith))) h.turns;
+    transitions = subst (λ l. AreTransitions c l d h.reports) (sym (take_all (length es) es (omega arith))) h.transitions;
     begun = inr (text, drawing, refl, k);
   }
 
 -- ---- not all events are done
 
-pub nothing_done : (c : Content) (es : List Event) (window : Window) (out : Option (List ℕ)) → IsPictureInPart c es c window out out
-nothing_done c es window out = record { count = 0; within = omega arith; reports = []; turns = (refl, refl); begun = inl refl }
+pub nothing_done : (c : MachineState) (es : List Event) (window : Window) (out : Option (List ℕ)) → IsPictureInPart c es c window out out
+nothing_done c es window out = record { count = 0; within = omega arith; reports = []; transitions = (refl, refl); begun = inl refl }
 
 -- no more events are done
-pub stopped_before : (c d after : Content) (all es rest : List Event) (w window : Window) (rows : List (List ℕ)) (out : Option (List ℕ)) → all ≡ es ++ rest → SketchedSoFar c es d w rows → after ≡ d → IsPictureInPart c all after window out out
+pub stopped_before : (c d after : MachineState) (all es rest : List Event) (w window : Window) (rows : List (List ℕ)) (out : Option (List ℕ)) → all ≡ es ++ rest → SketchedSoFar c es d w rows → after ≡ d → IsPictureInPart c all after window out out
 stopped_before c d after all es rest w window rows out split h same =
     let front : es ≡ take (length es) all = sym (ap (take (length es)) split ∙ take-append_seam es rest) in
     record {
       count = length es;
       within = omega (arith, ap length split, length-append es rest);
       reports = h.reports;
-      turns = subst (λ l. AreTurns c l after h.reports) front (subst (λ y. AreTurns c es y h.reports) (sym same) h.turns);
+      transitions = subst (λ l. AreTransitions c l after h.reports) front (subst (λ y. AreTransitions c es y h.reports) (sym same) h.transitions);
       begun = inl refl;
     }
 
 -- the next event isn't done, or it is
-pub stopped_at : (c d after : Content) (all es : List Event) (e : Event) (rest : List Event) (w window : Window) (rows : List (List ℕ)) (out : Option (List ℕ)) → all ≡ es ++ e ∷ rest → SketchedSoFar c es d w rows →
-    (after ≡ d) ⊎ ((r : Report) × IsTurn d e (after, r)) → IsPictureInPart c all after window out out
+pub stopped_at : (c d after : MachineState) (all es : List Event) (e : Event) (rest : List Event) (w window : Window) (rows : List (List ℕ)) (out : Option (List ℕ)) → all ≡ es ++ e ∷ rest → SketchedSoFar c es d w rows →
+    (after ≡ d) ⊎ ((r : Report) × IsTransition d e (after, r)) → IsPictureInPart c all after window out out
 stopped_at c d after all es e rest w window rows out split h (inl same) = stopped_before c d after all es (e ∷ rest) w window rows out split h same
 stopped_at c d after all es e rest w window rows out split h (inr done) =
     let whole : all ≡ (es ++ e ∷ []) ++ rest = split ∙ sym (append_assoc es (e ∷ []) rest) in
@@ -100,21 +100,21 @@ stopped_at c d after all es e rest w window rows out split h (inr done) =
       count = length (es ++ e ∷ []);
       within = omega (arith, ap length whole, length-append (es ++ e ∷ []) rest);
       reports = h.reports ++ done.0 ∷ [];
-      turns = subst (λ l. AreTurns c l after (h.reports ++ done.0 ∷ [])) front (turns_more c d after es h.reports e done.0 h.turns done.1);
+      transitions = subst (λ l. AreTransitions c l after (h.reports ++ done.0 ∷ [])) front (transitions_more c d after es h.reports e done.0 h.transitions done.1);
       begun = inl refl;
     }
 
 -- ---- item by item
 
-module _ (c d : Content) (items : List Item) (i : ℕ) (w : Window) (rows : List (List ℕ)) where
+module _ (c d : MachineState) (items : List Item) (i : ℕ) (w : Window) (rows : List (List ℕ)) where
   pub sketched_none : (e : Event) → SketchedSoFar c (events_of (take i items)) d w rows → SketchedSoFar c (so_far items i e 0) d w rows
   sketched_none e h = subst (λ es. SketchedSoFar c es d w rows) (sym (so_far_none items i e)) h
 
-  pub sketched_time : (e : Event) (k n : ℕ) (r : Report) (after : Content) (more : List (List ℕ)) (own : Window) → own ≡ w → n ≡ length (so_far items i e k) → SketchedSoFar c (so_far items i e k) d w rows → IsTurn d e (after, r) →
+  pub sketched_time : (e : Event) (k n : ℕ) (r : Report) (after : MachineState) (more : List (List ℕ)) (own : Window) → own ≡ w → n ≡ length (so_far items i e k) → SketchedSoFar c (so_far items i e k) d w rows → IsTransition d e (after, r) →
       more ≡ drawn_rows own n e r rows → SketchedSoFar c (so_far items i e (k + 1)) after w more
-  sketched_time e k n r after more own same is h turn drew =
+  sketched_time e k n r after more own same is h transition drew =
       subst (λ es. SketchedSoFar c es after w more) (so_far_more items i e k)
-      (sketch_step c d after (so_far items i e k) w n e r rows more is h turn (drew ∙ ap (λ (v : Window). drawn_rows v n e r rows) same))
+      (sketch_step c d after (so_far items i e k) w n e r rows more is h transition (drew ∙ ap (λ (v : Window). drawn_rows v n e r rows) same))
 
   pub sketched_item : (x : Item) (k : ℕ) → i < length items → (get_or items i x).count ≤ k → k ≤ (get_or items i x).count → SketchedSoFar c (so_far items i (get_or items i x).event k) d w rows →
       SketchedSoFar c (events_of (take (i + 1) items)) d w rows
@@ -122,8 +122,8 @@ module _ (c d : Content) (items : List Item) (i : ℕ) (w : Window) (rows : List
       let all : k ≡ (get_or items i x).count = omega (arith, past, within) in
       subst (λ es. SketchedSoFar c es d w rows) (ap (λ m. so_far items i (get_or items i x).event m) all ∙ so_far_all items i x below) h
 
-  pub item_cut : (x : Item) (k : ℕ) (after : Content) (window : Window) (out : Option (List ℕ)) → i < length items → k < (get_or items i x).count → SketchedSoFar c (so_far items i (get_or items i x).event k) d w rows →
-      (after ≡ d) ⊎ ((r : Report) × IsTurn d (get_or items i x).event (after, r)) → IsPictureInPart c (events_of items) after window out out
+  pub item_cut : (x : Item) (k : ℕ) (after : MachineState) (window : Window) (out : Option (List ℕ)) → i < length items → k < (get_or items i x).count → SketchedSoFar c (so_far items i (get_or items i x).event k) d w rows →
+      (after ≡ d) ⊎ ((r : Report) × IsTransition d (get_or items i x).event (after, r)) → IsPictureInPart c (events_of items) after window out out
   item_cut x k after window out below few h cut =
       let e = (get_or items i x).event in
       stopped_at c d after (events_of items) (so_far items i e k) e _ w window rows out (so_far_before items i x below k few) h cut

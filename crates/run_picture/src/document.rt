@@ -52,7 +52,7 @@ fn page(
     let mut page = ground(alloc, layout, scene);
     add_plot(alloc, &mut page, layout, &rows(alloc, layout, drawn));
     page.append(&front(alloc, layout, console, scene));
-    page.append(&deadlocked(alloc, layout, sentence));
+    page.append(&deadlock_content(alloc, layout, sentence));
     page
 }
 
@@ -76,7 +76,7 @@ fn front(alloc: Global, layout: &Layout, console: &[u8], scene: &Scene) -> Conte
 }
 
 /// The sentence of the threads that are deadlocked after the last event.
-fn deadlocked(alloc: Global, layout: &Layout, sentence: &str) -> Content
+fn deadlock_content(alloc: Global, layout: &Layout, sentence: &str) -> Content
     ensures { HasWords result sentence.now }
 {
     let mut content = Content::new(alloc);

@@ -1,16 +1,16 @@
 //! The instruction of an event, and its short name.
 
 use cil_model::instructions::{Instruction, MethodName};
-use event_trace::InstructionPlace;
+use event_trace::InstructionPosition;
 use instruction_text::{CharactersText, InstructionText, MethodNameText};
 use name_tables::bodies::lines_of;
 use std::fmt;
 use std::fmt::Display;
 
 /// The instruction at a position. None after the last instruction of a method.
-pub(crate) fn instruction_of(at: Option<InstructionPlace<'_>>) -> Option<&Instruction> {
+pub(crate) fn instruction_of(at: Option<InstructionPosition<'_>>) -> Option<&Instruction> {
     let at = at?;
-    let line = lines_of(at.found.method).get(at.place as usize)?;
+    let line = lines_of(at.found.method).get(at.pc as usize)?;
     Some(&line.instruction)
 }
 

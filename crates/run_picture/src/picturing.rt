@@ -1,15 +1,15 @@
-//! Runs a machine by the events that items stand for, and draws those of a window.
+//! Runs a machine by the events that items represent, and draws those of a window.
 
 ghost use Rattle.std.specs.Prelude.{◌≡◌, ◌⊎◌, ◌+◌, Bool, IfErr, IfOk, OnErr, OnOk, List, [], replicate, string_bytes};
 ghost use Rattle.cil_model.specs.declared.reports.Report.{Report as AnyReport};
-ghost use Rattle.event_trace.specs.interleaving_core.simulation.Turns.{IsTurn};
+ghost use Rattle.event_trace.specs.interleaving_core.simulation.Transitions.{IsTransition};
 ghost use Rattle.outputs.specs.Taken.{HasGrown};
 ghost use Rattle.schedule_text.specs.Items.{events_of};
 ghost use Rattle.event_trace.specs.Deadlocks.{IsDeadlockOf};
-ghost use Rattle.event_trace.specs.Places.{ArePlacesOf};
+ghost use Rattle.event_trace.specs.MethodPositions.{ArePositionsOf};
 ghost use Rattle.run_picture.specs.Pictures.{IsDrawn, IsPicture, IsPictureInPart};
 ghost use Rattle.run_picture.specs.Rows.{drawn_rows};
-ghost use Rattle.run_picture.specs.declared.errors.PictureError.TheVariants.{Device as CantWrite, Memory as WantsMemory};
+ghost use Rattle.run_picture.specs.declared.errors.PictureError.TheVariants.{Device as CantWrite, Memory as MemoryRanOut};
 ghost use Rattle.run_picture.specs.Sentences.{deadlock_sentence};
 ghost use Rattle.run_picture.specs.declared.rows.TheConstants.{ROWS};
 
@@ -22,18 +22,18 @@ use crate::windows::Window;
 use cil_model::events::Event;
 use cil_model::memory::NoMemory;
 use cil_model::reports::Report;
-use event_trace::{Machine, MethodPlaces};
+use event_trace::{Machine, MethodPositions};
 use outputs::Out;
 use picture_scene::Layout;
 use schedule_text::Item;
 use std::alloc::{AllocError, Global};
 
-/// Does the events that these items stand for in order, as `Machine::run` does, and writes a picture of those of the window: one document
+/// Does the events that these items represent, in order, as `Machine::run` does, and writes a picture of those of the window: one document
 /// of SVG, which is put together in memory and written once, at the end. If threads are deadlocked after the last event, a sentence names exactly those
 /// (`event_trace::deadlocked_threads`).
 ///
 /// Of a window with more events than `MOST_EVENTS` the first ones are drawn, and where it has none, the picture is of none. It takes memory for
-/// the document and what is gathered for it, and no more than the machine itself for events. It stops at the first want of memory, before
+/// the document and what is gathered for it, and no more than the machine itself for events. It stops as soon as memory runs out, before
 /// anything is written, with `Memory`; with `Device` where the write fails, of which a beginning of the document is left.
 pub fn picture<W: Out>(
     alloc: Global,
@@ -48,8 +48,8 @@ pub fn picture<W: Out>(
     ensures kept { OnOk result ((W.taken out.new).failures ≡ (W.taken out.old).failures) }
     ensures device { IfErr result (λ error. error ≡ CantWrite → HasGrown (W.taken out.old).failures (W.taken out.new).failures) }
 {
-    let methods = MethodPlaces::new(alloc, machine.tree())?;
-    let mut sketch = Sketch::new(alloc, machine, window.clamped())?;
+    let methods = MethodPositions::new(alloc, machine.tree())?;
+    let mut sketch = Sketch::new(alloc, machine, window.clamp())?;
     let mut number = 0;
     for item in items {
         for _time in 0..item.count {
@@ -65,7 +65,7 @@ pub fn picture<W: Out>(
 /// The number of the next event. `Memory` where no `usize` holds it.
 fn next_number(number: usize) -> Result<usize, PictureError>
     ensures next { IfOk result (λ next. next ≡ number + 1) }
-    ensures memory { IfErr result (λ error. error ≡ WantsMemory) }
+    ensures memory { IfErr result (λ error. error ≡ MemoryRanOut) }
 {
     match number.checked_add(1) {
         Some(next) => Ok(next),
@@ -80,7 +80,7 @@ struct Sketch {
     seen: Gathering,
 }
 
-/// Each part gives back its own.
+/// Each part is dropped.
 impl Drop for Sketch {
     fn drop(self) {
         let Sketch {
@@ -106,15 +106,15 @@ impl Sketch {
         &mut self,
         alloc: Global,
         machine: &mut Machine,
-        methods: &MethodPlaces,
+        methods: &MethodPositions,
         number: usize,
         event: Event,
     ) -> Result<(), NoMemory>
-        requires { ArePlacesOf machine.old.tree methods.now }
-        ensures done { OnOk result ((report : AnyReport) × IsTurn machine.old event (machine.new, report) × (self.new.rows.rows.items ≡ drawn_rows self.old.window number event report self.old.rows.rows.items)) }
+        requires { ArePositionsOf machine.old.tree methods.now }
+        ensures done { OnOk result ((report : AnyReport) × IsTransition machine.old event (machine.new, report) × (self.new.rows.rows.items ≡ drawn_rows self.old.window number event report self.old.rows.rows.items)) }
         ensures window { self.new.window ≡ self.old.window }
         ensures same { (machine.new.tree ≡ machine.old.tree) × (machine.new.limits ≡ machine.old.limits) }
-        ensures stopped { OnErr result ((machine.new ≡ machine.old) ⊎ ((report : AnyReport) × IsTurn machine.old event (machine.new, report))) }
+        ensures stopped { OnErr result ((machine.new ≡ machine.old) ⊎ ((report : AnyReport) × IsTransition machine.old event (machine.new, report))) }
     {
         let before = Before::new(machine, event);
         let report = machine.step(alloc, event)?;

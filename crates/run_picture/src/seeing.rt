@@ -1,6 +1,6 @@
 //! What is gathered of an event.
 
-ghost use Rattle.event_trace.specs.Places.{ArePlacesOf};
+ghost use Rattle.event_trace.specs.MethodPositions.{ArePositionsOf};
 
 use crate::deadlocks::add_waits;
 use crate::event_instructions::{ShortInstruction, instruction_of, is_entry};
@@ -12,8 +12,8 @@ use cil_model::memory::NoMemory;
 use cil_model::phases::Phase;
 use cil_model::reports::{End, Report};
 use event_trace::{
-    EventText, InstructionColumn, InstructionPlace, Machine, MethodPlaces, Position, ReportText,
-    Wait, deadlocked_threads, instruction_at,
+    EventText, InstructionColumn, InstructionPosition, Machine, MethodPositions, Position,
+    ReportText, Wait, deadlocked_threads, instruction_at,
 };
 use instruction_text::MethodNameText;
 use object_memory::Addr;
@@ -113,7 +113,7 @@ pub(crate) struct Gathering {
     monitors: Monitors,
 }
 
-/// Each part gives back its own.
+/// Each part is dropped.
 impl Drop for Gathering {
     fn drop(self) {
         let Gathering {
@@ -139,24 +139,24 @@ impl Gathering {
         &mut self,
         alloc: Global,
         machine: &Machine,
-        methods: &MethodPlaces,
+        methods: &MethodPositions,
         done: &Done,
     ) -> Result<(), NoMemory>
-        requires { ArePlacesOf machine.now.tree methods.now }
+        requires { ArePositionsOf machine.now.tree methods.now }
     {
-        let place = instruction_at(machine, methods, done.before.position);
+        let position = instruction_at(machine, methods, done.before.position);
         let starter = match done.event {
             Event::Step(thread) if done.is_drawn => Some(thread),
             _ => None,
         };
         see_machine(&mut self.scene, machine, done.after, starter);
         match done.event {
-            Event::Step(thread) => self.see_step(alloc, machine, thread, place, done)?,
+            Event::Step(thread) => self.see_step(alloc, machine, thread, position, done)?,
             Event::Ack(thread) => see_acknowledgement(&mut self.scene, machine, thread, done),
             Event::Gc => self.see_collector(alloc, machine, done)?,
         }
         if done.has_tip {
-            add_tip(&mut self.scene, place, done)?;
+            add_tip(&mut self.scene, position, done)?;
         }
         if self.scene.is_whole() {
             Ok(())
@@ -171,19 +171,19 @@ impl Gathering {
         alloc: Global,
         machine: &Machine,
         thread: u8,
-        place: Option<InstructionPlace>,
+        position: Option<InstructionPosition>,
         done: &Done,
     ) -> Result<(), NoMemory> {
         let lane = usize::from(thread);
         if done.has_executed() {
-            self.see_instruction(machine, lane, place, done)?;
+            self.see_instruction(machine, lane, position, done)?;
         }
-        name_lane(&mut self.scene, lane, place)?;
+        name_lane(&mut self.scene, lane, position)?;
         match done.report {
             Report::Blocked => self.see_wait(alloc, machine, thread, done.at)?,
             Report::Ended(End::Budget) => self.scene.stop(lane, End::Budget, done.at, done.after),
             Report::Ended(end) => self.scene.stop(lane, end, done.at, done.at),
-            _ => self.scene.go_on(lane, done.at),
+            _ => self.scene.advance(lane, done.at),
         }
         let printed = machine.console().len();
         if done.is_drawn && printed > done.before.printed {
@@ -198,10 +198,10 @@ impl Gathering {
         &mut self,
         machine: &Machine,
         lane: usize,
-        place: Option<InstructionPlace>,
+        position: Option<InstructionPosition>,
         done: &Done,
     ) -> Result<(), AllocError> {
-        let Some(instruction) = instruction_of(place) else {
+        let Some(instruction) = instruction_of(position) else {
             return Ok(());
         };
         if let Some(address) = done.before.monitor {
@@ -300,7 +300,7 @@ fn see_machine(scene: &mut Scene, machine: &Machine, at: usize, starter: Option<
 
 /// From this event on a lane has this phase.
 fn see_phase(scene: &mut Scene, lane: usize, at: usize, phase: Option<Phase>) {
-    let place = match phase {
+    let position = match phase {
         None => return,
         Some(Phase::Idle) => 0,
         Some(Phase::Mark) => 1,
@@ -311,7 +311,7 @@ fn see_phase(scene: &mut Scene, lane: usize, at: usize, phase: Option<Phase>) {
         Some(Phase::ThreadFlip) => 6,
         Some(Phase::Reclaim) => 7,
     };
-    scene.change(Kind::Phase, lane, at, place, 0);
+    scene.change(Kind::Phase, lane, at, position, 0);
 }
 
 /// An acknowledgement of a thread.
@@ -327,12 +327,12 @@ fn see_acknowledgement(scene: &mut Scene, machine: &Machine, thread: u8, done: &
 fn name_lane(
     scene: &mut Scene,
     lane: usize,
-    place: Option<InstructionPlace>,
+    position: Option<InstructionPosition>,
 ) -> Result<(), AllocError> {
     let Some(lane) = scene.lanes.as_mut_slice().get_mut(lane) else {
         return Ok(());
     };
-    if let Some(at) = place {
+    if let Some(at) = position {
         if lane.method.from == lane.method.to {
             let from = scene.text.len();
             let owner = at.found.owner;
@@ -349,11 +349,11 @@ fn name_lane(
 /// its instruction too.
 fn add_tip(
     scene: &mut Scene,
-    place: Option<InstructionPlace>,
+    position: Option<InstructionPosition>,
     done: &Done,
 ) -> Result<(), AllocError> {
     let (lane, named) = match done.event {
-        Event::Step(thread) => (usize::from(thread), instruction_of(place)),
+        Event::Step(thread) => (usize::from(thread), instruction_of(position)),
         Event::Ack(thread) => (usize::from(thread), None),
         Event::Gc => (COLLECTOR, None),
     };
@@ -361,7 +361,7 @@ fn add_tip(
     let number = done.at.saturating_add(1);
     let event = EventText(done.event);
     let report = ReportText(done.report);
-    let instruction = InstructionColumn(place);
+    let instruction = InstructionColumn(position);
     write!(scene.text, "{number} {event} {report}: {instruction}")?;
     let to = scene.text.len();
     scene.add(Mark::at(Kind::Tip, lane, done.at, from, to));

@@ -1,7 +1,7 @@
 //! Which events are drawn.
 
 ghost use Rattle.std.specs.Prelude.{◌≡◌};
-ghost use Rattle.run_picture.specs.Windows.{clamped, is_in_window};
+ghost use Rattle.run_picture.specs.Windows.{clamp, is_in_window};
 
 /// The most events that a picture has.
 pub const MOST_EVENTS: usize = 20_000;
@@ -16,9 +16,9 @@ pub struct Window {
 }
 
 impl Window {
-    /// The first of these events, as many as a picture has.
-    pub(crate) fn clamped(self) -> Window
-        ensures { result ≡ clamped self }
+    /// The first of these events, at most `MOST_EVENTS`.
+    pub(crate) fn clamp(self) -> Window
+        ensures { result ≡ clamp self }
     {
         Window {
             first: self.first,

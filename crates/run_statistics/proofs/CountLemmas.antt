@@ -20,7 +20,7 @@ is_counted_entry q e = is_counted q e.event e.report
 abbrev pub counted : Quantity → List Entry → ℕ
 counted q entries = count_by (is_counted_entry q) entries
 
--- as many as events with their reports
+-- the count is the same for events with their reports
 pub counted_pairs : (q : Quantity) (entries : List Entry)
     → count_by (λ (e : Event × Report). is_counted q e.0 e.1) (zip (events_of entries) (reports_of entries)) ≡ counted q entries
 counted_pairs q [] = refl

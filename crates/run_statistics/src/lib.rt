@@ -1,5 +1,6 @@
-//! Numbers of a run: the steps of its threads, its events, the cycles of the collector, the words in use and of the heap at its end, the most words that were in use, and its refused allocations.
-//! `count` counts them in a history, `most_words` performs the history again, and `write_statistics` writes all numbers, a line for each.
+//! Numbers of a run: the steps of its threads, its events, the cycles of the collector, the words in use and of the heap at its end, the most words
+//! that were in use, and its refused allocations. `count` counts them in a history, `most_words` performs the history again, and `write_statistics`
+//! writes all numbers, a line for each.
 #![tactic(auto)]
 
 mod counting;

@@ -52,7 +52,7 @@ fn heap_words(machine: &Machine) -> u64
     u64::from(old) + u64::from(new)
 }
 
-/// Writes the lines of so many threads, in the order of their numbers.
+/// Writes the lines of that many threads, in the order of their numbers.
 fn write_steps<E: Out>(history: &History, threads: usize, err: &mut E) -> Result<(), Device>
     requires { threads ≤ MOST_THREADS }
     ensures whole { OnOk result (Takes (E.taken err.old) (E.taken err.new)

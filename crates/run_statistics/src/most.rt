@@ -5,7 +5,7 @@ ghost use Rattle.std.specs.List.{zip};
 ghost use Rattle.run_statistics.specs.Lines.{words_in_use};
 ghost use Rattle.run_statistics.specs.MostWords.{IsMostInUse};
 ghost use Rattle.shared_machine.specs.Histories.{events_of, reports_of};
-ghost use Rattle.shared_machine.specs.simulation.Turns.{IsTurn};
+ghost use Rattle.shared_machine.specs.simulation.Transitions.{IsTransition};
 
 use crate::lines::words_in_use;
 use cil_model::reports::Report;
@@ -38,7 +38,7 @@ fn most_words_of_run(alloc: Global, machine: &mut Machine, run: &Run) -> Option<
 
 /// The words in use after the event of an entry. None as for `most_words`.
 fn words_after(alloc: Global, machine: &mut Machine, entry: &Entry) -> Option<u64>
-    ensures { IfSome result (λ words. IsTurn machine.old entry.now.event (machine.new, entry.now.report) × (words ≡ words_in_use machine.new)) }
+    ensures { IfSome result (λ words. IsTransition machine.old entry.now.event (machine.new, entry.now.report) × (words ≡ words_in_use machine.new)) }
 {
     let Ok(report) = machine.step(alloc, entry.event) else {
         return None;

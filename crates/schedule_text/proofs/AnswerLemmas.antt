@@ -5,7 +5,7 @@ use Rattle.std.proofs.lemmas.Grind.{flat_map-append}
 use Rattle.std.proofs.lemmas.List.{length-replicate}
 use Rattle.std.proofs.lemmas.List.Folds.{list_all-append}
 use Rattle.cil_model.specs.declared.events.Event.{Event}
-use Rattle.schedule_text.specs.Items.{AreItems, IsItem, events_of, is_numbered}
+use Rattle.schedule_text.specs.Items.{AreItems, IsItem, events_of, has_thread_number}
 use Rattle.schedule_text.specs.Readings.{AreRead, IsFaulty, IsFirstFault}
 use Rattle.schedule_text.specs.declared.errors.ScheduleError.{ScheduleError}
 use Rattle.schedule_text.specs.declared.errors.ScheduleError.TheVariants.{NoItem, NoThread, TooLong, OutOfMemory}
@@ -53,7 +53,7 @@ count_of_item word item (inr (name, digits, _, _, _, some)) = some
 
 -- such a word is good
 good_at : (before : List (List ℕ)) (word : List ℕ) (after : List (List ℕ)) (all events : List Event) → AreRead (before ++ word ∷ after) all → AreRead before events →
-    (item : Item) × IsItem word item × IsTrue (is_numbered item.event) × (length events + item.count ≤ MOST_EVENTS)
+    (item : Item) × IsItem word item × IsTrue (has_thread_number item.event) × (length events + item.count ≤ MOST_EVENTS)
 good_at before word after all events (items, are, is, numbered, few) (front', are', is', _, _) =
     let parts = items_at before word after items are in
     let front = parts.0 in
@@ -62,20 +62,20 @@ good_at before word after all events (items, are, is, numbered, few) (front', ar
     let whole : all ≡ events_of front ++ (replicate item.count item.event ++ events_of back) =
     is ∙ ap events_of parts.3 ∙ flat_map-append (λ i. replicate i.count i.event) front (item ∷ back) in
     let earlier : events ≡ events_of front = is' ∙ ap events_of (same_items before front' front are' parts.4) in
-    let behind : list_all is_numbered (replicate item.count item.event ++ events_of back) ≡ true =
-    (both (list_all is_numbered (events_of front)) _ (sym (list_all-append is_numbered (events_of front) (replicate item.count item.event ++ events_of back)) ∙ ap (list_all is_numbered) (sym whole) ∙ numbered)).1 in
-    let own : list_all is_numbered (replicate item.count item.event) ≡ true =
-    (both (list_all is_numbered (replicate item.count item.event)) _ (sym (list_all-append is_numbered (replicate item.count item.event) (events_of back)) ∙ behind)).0 in (
+    let following : list_all has_thread_number (replicate item.count item.event ++ events_of back) ≡ true =
+    (both (list_all has_thread_number (events_of front)) _ (sym (list_all-append has_thread_number (events_of front) (replicate item.count item.event ++ events_of back)) ∙ ap (list_all has_thread_number) (sym whole) ∙ numbered)).1 in
+    let own : list_all has_thread_number (replicate item.count item.event) ≡ true =
+    (both (list_all has_thread_number (replicate item.count item.event)) _ (sym (list_all-append has_thread_number (replicate item.count item.event) (events_of back)) ∙ following)).0 in (
       item,
       parts.5,
-      first_passes is_numbered item.count item.event (count_of_item word item parts.5) own,
+      first_passes has_thread_number item.count item.event (count_of_item word item parts.5) own,
       omega (arith, ap length whole, ap length earlier, length-append (events_of front) (replicate item.count item.event ++ events_of back), length-append (replicate item.count item.event) (events_of back), length-replicate item.count item.event),
     )
 
-good_is_no_fault : (before : ℕ) (word : List ℕ) (item : Item) (error : ScheduleError) → IsItem word item → IsTrue (is_numbered item.event) → before + item.count ≤ MOST_EVENTS → IsFaulty before word error → error ≡ OutOfMemory
+good_is_no_fault : (before : ℕ) (word : List ℕ) (item : Item) (error : ScheduleError) → IsItem word item → IsTrue (has_thread_number item.event) → before + item.count ≤ MOST_EVENTS → IsFaulty before word error → error ≡ OutOfMemory
 good_is_no_fault before word item NoItem is numbered room fault = absurd (fault item is)
 good_is_no_fault before word item NoThread is numbered room (other, other_is, none) =
-    absurd (true≢false (sym numbered ∙ ap (λ i. is_numbered i.event) (one_item word item other is other_is) ∙ none))
+    absurd (true≢false (sym numbered ∙ ap (λ i. has_thread_number i.event) (one_item word item other is other_is) ∙ none))
 good_is_no_fault before word item TooLong is numbered room (other, other_is, (_, many)) =
     let count = ap (λ i. i.count) (one_item word item other is other_is) in
     absurd (omega (arith, many))
@@ -89,22 +89,22 @@ no_fault_among before word after all events error read earlier fault =
 
 -- ---- one fault
 
--- of two places in a list one comes before the other, or they are one
-places : {A : Type 0} (xs ys : List A) (x y : A) (xs' ys' : List A) → xs ++ x ∷ xs' ≡ ys ++ y ∷ ys' →
+-- of two positions in a list one comes before the other, or they are one
+positions : {A : Type 0} (xs ys : List A) (x y : A) (xs' ys' : List A) → xs ++ x ∷ xs' ≡ ys ++ y ∷ ys' →
     ((xs ≡ ys) × (x ≡ y)) ⊎ (((more : List A) × (ys ≡ xs ++ x ∷ more)) ⊎ ((more : List A) × (xs ≡ ys ++ y ∷ more)))
-places [] [] x y xs' ys' e = inl (refl, heads e)
+positions [] [] x y xs' ys' e = inl (refl, heads e)
   where
     heads : x ∷ xs' ≡ y ∷ ys' → x ≡ y
     heads h = cc
-places [] (b ∷ ys) x y xs' ys' e = inr (inl (ys, heads e))
+positions [] (b ∷ ys) x y xs' ys' e = inr (inl (ys, heads e))
   where
     heads : x ∷ xs' ≡ b ∷ (ys ++ y ∷ ys') → b ∷ ys ≡ x ∷ ys
     heads h = cc
-places (a ∷ xs) [] x y xs' ys' e = inr (inr (xs, heads e))
+positions (a ∷ xs) [] x y xs' ys' e = inr (inr (xs, heads e))
   where
     heads : a ∷ (xs ++ x ∷ xs') ≡ y ∷ ys' → a ∷ xs ≡ y ∷ xs
     heads h = cc
-places {A = A} (a ∷ xs) (b ∷ ys) x y xs' ys' e = under (heads e) (places xs ys x y xs' ys' (tails e))
+positions {A = A} (a ∷ xs) (b ∷ ys) x y xs' ys' e = under (heads e) (positions xs ys x y xs' ys' (tails e))
   where
     heads : a ∷ (xs ++ x ∷ xs') ≡ b ∷ (ys ++ y ∷ ys') → a ≡ b
     heads h = cc
@@ -129,13 +129,13 @@ same_fault before word NoItem TooLong h (item, is, _) e f = absurd (h item is)
 same_fault before word NoThread NoItem (item, is, _) k e f = absurd (k item is)
 same_fault before word TooLong NoItem (item, is, _) k e f = absurd (k item is)
 same_fault before word NoThread TooLong (item, is, none) (other, other_is, (numbered, _)) e f =
-    absurd (true≢false (sym numbered ∙ ap (λ i. is_numbered i.event) (one_item word other item other_is is) ∙ none))
+    absurd (true≢false (sym numbered ∙ ap (λ i. has_thread_number i.event) (one_item word other item other_is is) ∙ none))
 same_fault before word TooLong NoThread (other, other_is, (numbered, _)) (item, is, none) e f =
-    absurd (true≢false (sym numbered ∙ ap (λ i. is_numbered i.event) (one_item word other item other_is is) ∙ none))
+    absurd (true≢false (sym numbered ∙ ap (λ i. has_thread_number i.event) (one_item word other item other_is is) ∙ none))
 
 pub same_first_fault : (words : List (List ℕ)) (error other : ScheduleError) → IsFirstFault words error → IsFirstFault words other → error ≢ OutOfMemory → other ≢ OutOfMemory → error ≡ other
 same_first_fault words error other (before, word, after, events, split, read, fault) (before', word', after', events', split', read', fault') e f =
-    decide (places before before' word word' after after' (sym split ∙ split'))
+    decide (positions before before' word word' after after' (sym split ∙ split'))
   where
     decide : ((before ≡ before') × (word ≡ word')) ⊎ (((more : List (List ℕ)) × (before' ≡ before ++ word ∷ more)) ⊎ ((more : List (List ℕ)) × (before ≡ before' ++ word' ∷ more))) → error ≡ other
     decide (inl (front, here)) =

@@ -141,7 +141,7 @@ one_event word Gc (Ack t) k (d, e, (_, n)) = absurd (letters (sym e ∙ k) (lit<
 pub one_item : (word : List ℕ) (item other : Item) → IsItem word item → IsItem word other → item ≡ other
 one_item word item other h k = by_star (position is_star word) refl
   where
-    by_star : (place : Option ℕ) → position is_star word ≡ place → item ≡ other
+    by_star : (at : Option ℕ) → position is_star word ≡ at → item ≡ other
     by_star None e =
         let a = item_without_star word e item h in
         let b = item_without_star word e other k in

@@ -15,7 +15,7 @@ use borrow.Author.Tests.{ltb-false}
 use Rattle.cil_model.specs.declared.events.Event.{Event}
 use Rattle.cil_model.specs.declared.events.Event.TheVariants.{Step, Ack, Gc}
 use Rattle.cil_model.specs.declared.limits.TheConstants.{MOST_THREADS}
-use Rattle.schedule_text.specs.Items.{AreItems, IsItem, capped_event, capped_item, events_of, is_numbered}
+use Rattle.schedule_text.specs.Items.{AreItems, IsItem, capped_event, capped_item, events_of, has_thread_number}
 use Rattle.schedule_text.specs.Readings.{AreRead, IsAdded, IsFaultOf, IsFaulty, IsFirstFault}
 use Rattle.schedule_text.specs.declared.errors.ScheduleError.{ScheduleError}
 use Rattle.schedule_text.specs.declared.errors.ScheduleError.TheVariants.{NoItem, NoThread, TooLong, OutOfMemory}
@@ -25,10 +25,10 @@ use Rattle.schedule_text.proofs.ItemLemmas.{same_item}
 
 -- ---- greatest numbers represent no good ones
 
-thread_of_numbered : (thread : ℕ) → is_numbered (Step (min thread 255)) ≡ true → min thread 255 ≡ thread
+thread_of_numbered : (thread : ℕ) → has_thread_number (Step (min thread 255)) ≡ true → min thread 255 ≡ thread
 thread_of_numbered thread e = let h : min thread 255 < MOST_THREADS = ltb-true _ _ e in omega arith
 
-uncapped_event : (event : Event) → is_numbered (capped_event event) ≡ true → capped_event event ≡ event
+uncapped_event : (event : Event) → has_thread_number (capped_event event) ≡ true → capped_event event ≡ event
 uncapped_event (Step thread) e = ap Step (thread_of_numbered thread e)
 uncapped_event (Ack thread) e = ap Ack (thread_of_numbered thread e)
 uncapped_event Gc e = refl
@@ -36,15 +36,15 @@ uncapped_event Gc e = refl
 unnumbered : (thread : ℕ) → nat_lt (min thread 255) MOST_THREADS ≡ false → nat_lt thread MOST_THREADS ≡ false
 unnumbered thread e = let h : MOST_THREADS ≤ min thread 255 = ltb-false _ _ e in le-ltb thread MOST_THREADS (omega arith)
 
-uncapped_fault : (event : Event) → is_numbered (capped_event event) ≡ false → is_numbered event ≡ false
+uncapped_fault : (event : Event) → has_thread_number (capped_event event) ≡ false → has_thread_number event ≡ false
 uncapped_fault (Step thread) e = unnumbered thread e
 uncapped_fault (Ack thread) e = unnumbered thread e
 uncapped_fault Gc e = e
 
 -- an item that is good as the program holds it is the item that is written
-pub uncapped : (item written : Item) → item ≡ capped_item written → is_numbered item.event ≡ true → item.count ≤ MOST_EVENTS → item ≡ written
+pub uncapped : (item written : Item) → item ≡ capped_item written → has_thread_number item.event ≡ true → item.count ≤ MOST_EVENTS → item ≡ written
 uncapped item written e numbered few =
-    let event : is_numbered (capped_event written.event) ≡ true = ap (λ i. is_numbered i.event) (sym e) ∙ numbered in
+    let event : has_thread_number (capped_event written.event) ≡ true = ap (λ i. has_thread_number i.event) (sym e) ∙ numbered in
     let count : min written.count (2 ^ 32 - 1) ≤ MOST_EVENTS = subst (λ i. i.count ≤ MOST_EVENTS) e few in
     e ∙ same_item (capped_item written) written (uncapped_event written.event event) (omega arith)
 
@@ -57,11 +57,11 @@ uncapped_added item written before after e added =
 pub fault_of : (before : ℕ) (word : List ℕ) (item written : Item) (error : ScheduleError) → IsItem word written → item ≡ capped_item written → IsFaultOf before item error → IsFaulty before word error
 fault_of before word item written NoItem is e fault = absurd fault
 fault_of before word item written NoThread is e fault =
-    (written, is, uncapped_fault written.event (ap (λ i. is_numbered i.event) (sym e) ∙ fault))
+    (written, is, uncapped_fault written.event (ap (λ i. has_thread_number i.event) (sym e) ∙ fault))
 fault_of before word item written TooLong is e fault =
-    let event : is_numbered (capped_event written.event) ≡ true = ap (λ i. is_numbered i.event) (sym e) ∙ fault.0 in
+    let event : has_thread_number (capped_event written.event) ≡ true = ap (λ i. has_thread_number i.event) (sym e) ∙ fault.0 in
     let many : MOST_EVENTS < before + min written.count (2 ^ 32 - 1) = subst (λ i. MOST_EVENTS < before + i.count) e fault.1 in
-    (written, is, (ap is_numbered (sym (uncapped_event written.event event)) ∙ event, omega arith))
+    (written, is, (ap has_thread_number (sym (uncapped_event written.event event)) ∙ event, omega arith))
 fault_of before word item written OutOfMemory is e fault =
     let same = uncapped item written e fault.0 (omega (arith, fault.1)) in
     (written, is, subst (λ i. IsFaultOf before i OutOfMemory) same fault)
@@ -100,7 +100,7 @@ read_more words events after word item (items, are, is, all, few) here (numbered
   items ++ item ∷ [],
   AreItems-push words items word item are here,
   added ∙ ap (λ es. es ++ replicate item.count item.event) is ∙ sym (events_of-push items item),
-  rw added (rw (list_all-append is_numbered events (replicate item.count item.event)) (rw all (list_all-replicate is_numbered item.count item.event numbered))),
+  rw added (rw (list_all-append has_thread_number events (replicate item.count item.event)) (rw all (list_all-replicate has_thread_number item.count item.event numbered))),
   rw added (omega (arith, length-append events (replicate item.count item.event), length-replicate item.count item.event)),
 )
 
@@ -120,8 +120,8 @@ stops_at words front n word events error e below here are fault =
 pub taken_at : {S A B : Type 0} {steps : S → Option A → S → Type 0} {s : S} {r : Option A} {all : List B} (v : A → B) (xs : List A) (x : A) (t u : S) →
     Yields steps s xs t → steps t r u → r ≡ Some x → YieldsList steps v s all → (map v xs ≡ take (length xs) all) × (length xs < length all) × (v x ≡ get_or all (length xs) (v x))
 taken_at v xs x t u y next some road =
-    let turn = YieldsList-turn road xs _ y _ _ x some next in
-    (YieldsList-so_far road xs _ y, turn.0, turn.1)
+    let transition = YieldsList-turn road xs _ y _ _ x some next in
+    (YieldsList-so_far road xs _ y, transition.0, transition.1)
 
 pub all_taken : {S A B : Type 0} {steps : S → Option A → S → Type 0} {s : S} {r : Option A} {all : List B} (v : A → B) (xs : List A) (t u : S) →
     Yields steps s xs t → steps t r u → r ≡ None → YieldsList steps v s all → map v xs ≡ all

@@ -22,9 +22,9 @@ tail_of_runs events item items runs = record {
   apart = λ before after first second e. runs.apart (item ∷ before) after first second (ap (λ is. item ∷ is) e);
 }
 
-behind_run : (events : List Event) (item : Item) (items : List Item) → AreRuns events (item ∷ items) → BeginsOtherwise item.event (events_of items)
-behind_run events item [] runs = tt
-behind_run events item (next ∷ items) runs =
+after_run : (events : List Event) (item : Item) (items : List Item) → AreRuns events (item ∷ items) → BeginsOtherwise item.event (events_of items)
+after_run events item [] runs = tt
+after_run events item (next ∷ items) runs =
     let first = first_of_runs (events_of (next ∷ items)) next items (tail_of_runs events item (next ∷ items) runs) in
     subst (BeginsOtherwise item.event) (sym first.1) (runs.apart [] items item next refl)
 
@@ -53,8 +53,8 @@ same_runs events (item ∷ items) (other ∷ others) runs runs' =
     let first = first_of_runs events item items runs in
     let first' = first_of_runs events other others runs' in
     let event : item.event ≡ other.event = heads (sym first.1 ∙ first'.1) in
-    let behind : BeginsOtherwise item.event (events_of others) = subst (λ e. BeginsOtherwise e (events_of others)) (sym event) (behind_run events other others runs') in
-    let counted = same_counts item.count other.count item.event (events_of items) (events_of others) (behind_run events item items runs) behind
+    let following : BeginsOtherwise item.event (events_of others) = subst (λ e. BeginsOtherwise e (events_of others)) (sym event) (after_run events other others runs') in
+    let counted = same_counts item.count other.count item.event (events_of items) (events_of others) (after_run events item items runs) following
     (sym runs.together ∙ runs'.together ∙ ap (λ e. replicate other.count e ++ events_of others) (sym event)) in
     let rest = same_runs (events_of items) items others (tail_of_runs events item items runs)
     (subst (λ es. AreRuns es others) (sym counted.1) (tail_of_runs events other others runs')) in

@@ -6,7 +6,7 @@ use Rattle.cil_model.specs.declared.events.Event.{Event}
 use Rattle.schedule_text.specs.Items.{events_of}
 use Rattle.schedule_text.specs.declared.items.Item.{Item}
 
--- the events of the items before a place, and the given number more of one event
+-- the events of the items before a position, and the given number more of one event
 abbrev pub so_far : List Item → ℕ → Event → ℕ → List Event
 so_far items i event times = events_of (take i items) ++ replicate times event
 

@@ -13,7 +13,7 @@ use borrow.Author.Tests.{eqb-true}
 use Rattle.cil_model.specs.declared.events.Event.{Event}
 use Rattle.cil_model.specs.declared.events.Event.TheVariants.{Step, Ack, Gc}
 use Rattle.cil_model.specs.declared.limits.TheConstants.{MOST_THREADS}
-use Rattle.schedule_text.specs.Items.{AreItems, IsItem, IsNumber, Names, events_of, is_number, is_numbered, is_separator, item_text, name_of, words}
+use Rattle.schedule_text.specs.Items.{AreItems, IsItem, IsNumber, Names, events_of, is_number, has_thread_number, is_separator, item_text, name_of, words}
 use Rattle.schedule_text.specs.Readings.{AreRead}
 use Rattle.schedule_text.specs.Writings.{IsWritten}
 use Rattle.schedule_text.specs.declared.errors.TheConstants.{MOST_EVENTS}
@@ -46,12 +46,12 @@ decimal_is n small = number_is n small (zero_or_more n)
 -- ---- an item that is written
 
 abbrev IsGood : Item → Type 0
-IsGood item = IsTrue (is_numbered item.event) × (0 < item.count) × (item.count ≤ MOST_EVENTS)
+IsGood item = IsTrue (has_thread_number item.event) × (0 < item.count) × (item.count ≤ MOST_EVENTS)
 
-small_thread : (thread : ℕ) → is_numbered (Step thread) ≡ true → thread < 2 ^ 64
+small_thread : (thread : ℕ) → has_thread_number (Step thread) ≡ true → thread < 2 ^ 64
 small_thread thread e = let h : thread < MOST_THREADS = ltb-true _ _ e in omega arith
 
-name_is : (event : Event) → is_numbered event ≡ true → Names (name_of event) event
+name_is : (event : Event) → has_thread_number event ≡ true → Names (name_of event) event
 name_is (Step thread) e = (decimal thread, refl, decimal_is thread (small_thread thread e))
 name_is (Ack thread) e = (decimal thread, refl, decimal_is thread (small_thread thread e))
 name_is Gc e = refl
@@ -74,7 +74,7 @@ digit_is_no_separator byte e = search (rules, tests)
 decimal_is_whole : (n : ℕ) → n < 2 ^ 64 → IsWhole (decimal n)
 decimal_is_whole n small = All-weaker _ _ digit_is_no_separator (decimal n) (AllPass-from_list_all _ (decimal n) (digits_decimal numerals n small))
 
-name_is_whole : (event : Event) → is_numbered event ≡ true → IsWhole (name_of event)
+name_is_whole : (event : Event) → has_thread_number event ≡ true → IsWhole (name_of event)
 name_is_whole (Step thread) e = All-cons (λ byte. is_separator byte ≡ false) 115 (decimal thread) refl (decimal_is_whole thread (small_thread thread e))
 name_is_whole (Ack thread) e = All-cons (λ byte. is_separator byte ≡ false) 97 (decimal thread) refl (decimal_is_whole thread (small_thread thread e))
 name_is_whole Gc e = All-cons (λ byte. is_separator byte ≡ false) 103 [] refl (All-nil (λ byte. is_separator byte ≡ false))
@@ -116,17 +116,17 @@ texts_are : (items : List Item) → All IsGood items → AreItems (map item_text
 texts_are [] good = tt
 texts_are (item ∷ items) good = (item_is item (All-head IsGood item items good), texts_are items (All-tail IsGood item items good))
 
-goods : (items : List Item) → All (λ i. 0 < i.count) items → list_all is_numbered (events_of items) ≡ true → length (events_of items) ≤ MOST_EVENTS → All IsGood items
+goods : (items : List Item) → All (λ i. 0 < i.count) items → list_all has_thread_number (events_of items) ≡ true → length (events_of items) ≤ MOST_EVENTS → All IsGood items
 goods [] filled numbered few = All-nil IsGood
 goods (item ∷ items) filled numbered few =
     let some = All-head (λ i. 0 < i.count) item items filled in
-    let parts = both (list_all is_numbered (replicate item.count item.event)) (list_all is_numbered (events_of items)) (sym (list_all-append is_numbered (replicate item.count item.event) (events_of items)) ∙ numbered) in
+    let parts = both (list_all has_thread_number (replicate item.count item.event)) (list_all has_thread_number (events_of items)) (sym (list_all-append has_thread_number (replicate item.count item.event) (events_of items)) ∙ numbered) in
     let long = length-append (replicate item.count item.event) (events_of items) in
     let own = length-replicate item.count item.event in
-    All-cons IsGood item items (first_passes is_numbered item.count item.event some parts.0, some, omega arith)
+    All-cons IsGood item items (first_passes has_thread_number item.count item.event some parts.0, some, omega arith)
     (goods items (All-tail (λ i. 0 < i.count) item items filled) parts.1 (omega arith))
 
 pub text_is_read : (events : List Event) (text : List ℕ) → IsWritten events text → AreRead (words text) events
 text_is_read events text ((few, numbered), (items, runs, is)) =
-    let good = goods items runs.filled (ap (list_all is_numbered) (sym runs.together) ∙ numbered) (subst (λ es. length es ≤ MOST_EVENTS) runs.together few) in
+    let good = goods items runs.filled (ap (list_all has_thread_number) (sym runs.together) ∙ numbered) (subst (λ es. length es ≤ MOST_EVENTS) runs.together few) in
     (items, subst (λ ws. AreItems ws items) (sym (ap words is ∙ words_are items good)) (texts_are items good), runs.together, numbered, few)

@@ -9,7 +9,7 @@ use Rattle.std.proofs.lemmas.List.Folds.{list_all-append}
 use borrow.Author.Tests.{eqb-true, eq-eqb}
 use Rattle.cil_model.specs.declared.events.Event.{Event}
 use Rattle.cil_model.specs.declared.events.Event.TheVariants.{Step, Ack, Gc}
-use Rattle.schedule_text.specs.Items.{events_of, has_good_events, is_numbered, item_text, name_of, same_event, separated}
+use Rattle.schedule_text.specs.Items.{events_of, has_good_events, has_thread_number, item_text, name_of, same_event, separate_words}
 use Rattle.schedule_text.specs.Writings.{AreRuns, IsTextOf}
 use Rattle.schedule_text.specs.declared.items.Item.{Item}
 
@@ -41,7 +41,7 @@ joined_some : (text : List ℕ) (byte : ℕ) (bytes : List ℕ) (items : List It
 joined_some text byte bytes items e = ap (λ t. joined t items) e ∙ ap (λ t. t ++ flat_map (λ item. 32 ∷ item_text item) items) (sym e)
 
 -- an item more
-joined_next : (text : List ℕ) (item : Item) (items : List Item) → joined (separated text ++ item_text item) items ≡ joined text (item ∷ items)
+joined_next : (text : List ℕ) (item : Item) (items : List Item) → joined (separate_words text ++ item_text item) items ≡ joined text (item ∷ items)
 joined_next [] item items =
     let some = item_text_is_some item in
     joined_some (item_text item) some.0 some.1 items some.2 ∙ sym (join_cons (item_text item) items)
@@ -120,50 +120,50 @@ module _ (items : List Item) (i : ℕ) (d : Item) (below : i < length items) (ru
   abbrev item : Item
   item = get_or items i d
 
-  abbrev behind : List Event
-  behind = events_of (drop (i + 1) items)
+  abbrev following : List Event
+  following = events_of (drop (i + 1) items)
 
   -- the events from the item on
-  pub from_item : events_of (drop i items) ≡ replicate item.count item.event ++ behind
+  pub from_item : events_of (drop i items) ≡ replicate item.count item.event ++ following
   from_item = ap events_of (drop_more items i d below)
 
-  -- they are as many
-  pub from_item_count : length (events_of (drop i items)) ≡ item.count + length behind
+  -- the number of these events
+  pub from_item_count : length (events_of (drop i items)) ≡ item.count + length following
   from_item_count =
-      ap length from_item ∙ length-append (replicate item.count item.event) behind ∙ ap (λ n. n + length behind) (length-replicate item.count item.event)
+      ap length from_item ∙ length-append (replicate item.count item.event) following ∙ ap (λ n. n + length following) (length-replicate item.count item.event)
 
   module _ (most : ℕ) (few : run.count + length (events_of (drop i items)) ≤ most) where
     pub few_both : run.count + item.count ≤ most
     few_both = omega (arith, few, from_item_count)
 
-    pub few_more : (more : Item) → replicate more.count more.event ≡ replicate run.count run.event ++ replicate item.count item.event → more.count + length behind ≤ most
+    pub few_more : (more : Item) → replicate more.count more.event ≡ replicate run.count run.event ++ replicate item.count item.event → more.count + length following ≤ most
     few_more more is =
         let long : more.count ≡ run.count + item.count =
         sym (length-replicate more.count more.event) ∙ ap length is ∙ length-append (replicate run.count run.event) (replicate item.count item.event)
         ∙ ap₂ (λ m n. m + n) (length-replicate run.count run.event) (length-replicate item.count item.event) in
         omega (arith, long, few, from_item_count)
 
-    pub few_next : item.count + length behind ≤ most
+    pub few_next : item.count + length following ≤ most
     few_next = omega (arith, few, from_item_count)
 
   module _ (text : List ℕ) (so_far : (runs : List Item) → AreRuns (replicate run.count run.event ++ events_of (drop i items)) runs → IsTextOf (events_of items) (joined text runs)) where
     -- the item's events are of the run
     pub run_grows : (more : Item) → replicate more.count more.event ≡ replicate run.count run.event ++ replicate item.count item.event →
-        (runs : List Item) → AreRuns (replicate more.count more.event ++ behind) runs → IsTextOf (events_of items) (joined text runs)
+        (runs : List Item) → AreRuns (replicate more.count more.event ++ following) runs → IsTextOf (events_of items) (joined text runs)
     run_grows more is runs are =
-        so_far runs (subst (λ es. AreRuns es runs) (ap (λ es. es ++ behind) is ∙ append_assoc (replicate run.count run.event) (replicate item.count item.event) behind ∙ ap (λ es. replicate run.count run.event ++ es) (sym from_item)) are)
+        so_far runs (subst (λ es. AreRuns es runs) (ap (λ es. es ++ following) is ∙ append_assoc (replicate run.count run.event) (replicate item.count item.event) following ∙ ap (λ es. replicate run.count run.event ++ es) (sym from_item)) are)
 
     -- they are of the next one
-    pub run_ends : (text' : List ℕ) → 0 < run.count → 0 < item.count → same_event run.event item.event ≡ false → text' ≡ separated text ++ item_text run →
-        (runs : List Item) → AreRuns (replicate item.count item.event ++ behind) runs → IsTextOf (events_of items) (joined text' runs)
+    pub run_ends : (text' : List ℕ) → 0 < run.count → 0 < item.count → same_event run.event item.event ≡ false → text' ≡ separate_words text ++ item_text run →
+        (runs : List Item) → AreRuns (replicate item.count item.event ++ following) runs → IsTextOf (events_of items) (joined text' runs)
     run_ends text' some some' differ written runs are =
         subst (IsTextOf (events_of items)) (sym (ap (λ t. joined t runs) written ∙ joined_next text run runs))
-        (so_far (run ∷ runs) (runs_next (replicate run.count run.event ++ events_of (drop i items)) (replicate item.count item.event ++ behind) run runs (ap (λ es. replicate run.count run.event ++ es) from_item) some apart are))
+        (so_far (run ∷ runs) (runs_next (replicate run.count run.event ++ events_of (drop i items)) (replicate item.count item.event ++ following) run runs (ap (λ es. replicate run.count run.event ++ es) from_item) some apart are))
       where
-        apart : (next : Event) (more : List Event) → replicate item.count item.event ++ behind ≡ next ∷ more → run.event ≢ next
+        apart : (next : Event) (more : List Event) → replicate item.count item.event ++ following ≡ next ∷ more → run.event ≢ next
         apart next more e equal =
             let first = some_of item.count item.event some' in
-            let here : item.event ≡ next = heads (sym (ap (λ es. es ++ behind) first.1) ∙ e) in
+            let here : item.event ≡ next = heads (sym (ap (λ es. es ++ following) first.1) ∙ e) in
             absurd (true≢false (sym (itself run.event) ∙ ap (same_event run.event) (equal ∙ sym here) ∙ differ))
 
 -- no item is left
@@ -173,10 +173,10 @@ module _ (items : List Item) (i : ℕ) (past : length items ≤ i) (run : Item) 
   none_left = ap (λ is. replicate run.count run.event ++ events_of is) (sym (drop_of_length-le items past))
 
   -- and the last run is written
-  pub last_run : (text' : List ℕ) → 0 < run.count → text' ≡ separated text ++ item_text run → IsTextOf (events_of items) text'
+  pub last_run : (text' : List ℕ) → 0 < run.count → text' ≡ separate_words text ++ item_text run → IsTextOf (events_of items) text'
   last_run text' some written =
       let last = runs_next (replicate run.count run.event ++ []) [] run [] refl some (λ next more e. absurd (nothing next more e)) no_runs in
-      subst (IsTextOf (events_of items)) (sym (joined_next text run []) ∙ joined_none (separated text ++ item_text run) ∙ sym written)
+      subst (IsTextOf (events_of items)) (sym (joined_next text run []) ∙ joined_none (separate_words text ++ item_text run) ∙ sym written)
       (so_far (run ∷ []) (subst (λ es. AreRuns es (run ∷ [])) none_left last))
     where
       nothing : (next : Event) (more : List Event) → [] ≡ next ∷ more → ⊥
@@ -199,19 +199,19 @@ not_none n true e = let same = eqb-true (suc n) 0 e in absurd (omega arith)
 not_none n false e = e
 
 -- n events of one kind
-all_alike : (count : ℕ) (event : Event) → list_all is_numbered (replicate count event) ≡ ((count == 0) || is_numbered event)
+all_alike : (count : ℕ) (event : Event) → list_all has_thread_number (replicate count event) ≡ ((count == 0) || has_thread_number event)
 all_alike zero event = refl
 all_alike (suc count) event =
-    once (is_numbered event) (all_alike count event) ∙ ap (λ b. b || is_numbered event) (sym (not_none count (suc count == 0) refl))
+    once (has_thread_number event) (all_alike count event) ∙ ap (λ b. b || has_thread_number event) (sym (not_none count (suc count == 0) refl))
   where
-    once : (good : Bool) → list_all is_numbered (replicate count event) ≡ ((count == 0) || good) → (good && list_all is_numbered (replicate count event)) ≡ good
+    once : (good : Bool) → list_all has_thread_number (replicate count event) ≡ ((count == 0) || good) → (good && list_all has_thread_number (replicate count event)) ≡ good
     once true e = e ∙ or_true (count == 0)
     once false e = refl
 
-pub all_numbered : (items : List Item) → list_all is_numbered (events_of items) ≡ list_all has_good_events items
+pub all_numbered : (items : List Item) → list_all has_thread_number (events_of items) ≡ list_all has_good_events items
 all_numbered [] = refl
 all_numbered (item ∷ items) =
-    list_all-append is_numbered (replicate item.count item.event) (events_of items) ∙ ap₂ (λ a b. a && b) (all_alike item.count item.event) (all_numbered items)
+    list_all-append has_thread_number (replicate item.count item.event) (events_of items) ∙ ap₂ (λ a b. a && b) (all_alike item.count item.event) (all_numbered items)
 
 -- the events so far with those of one item more
 pub events_more : (items : List Item) (i : ℕ) (d : Item) → i < length items → length (events_of (take (i + 1) items)) ≡ length (events_of (take i items)) + (get_or items i d).count

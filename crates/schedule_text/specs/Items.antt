@@ -39,7 +39,7 @@ IsItem word item = (Names word item.event × (item.count ≡ 1))
     ⊎ ((name : List ℕ) × (digits : List ℕ) × (word ≡ name ++ 42 ∷ digits) × Names name item.event
     × IsNumber digits item.count × (0 < item.count))
 
--- each word is the item at its place, and there are no others
+-- each word is the item at its position, and there are no others
 abbrev pub AreItems : List (List ℕ) → List Item → Type 0
 AreItems [] [] = Unit {0}
 AreItems [] (item ∷ items) = ⊥
@@ -51,14 +51,14 @@ abbrev pub events_of : List Item → List Event
 events_of items = flat_map (λ item. replicate item.count item.event) items
 
 -- the thread is one that a machine can have
-abbrev pub is_numbered : Event → Bool
-is_numbered (Step thread) = nat_lt thread MOST_THREADS
-is_numbered (Ack thread) = nat_lt thread MOST_THREADS
-is_numbered Gc = true
+abbrev pub has_thread_number : Event → Bool
+has_thread_number (Step thread) = nat_lt thread MOST_THREADS
+has_thread_number (Ack thread) = nat_lt thread MOST_THREADS
+has_thread_number Gc = true
 
 -- an item represents no events of another thread
 abbrev pub has_good_events : Item → Bool
-has_good_events item = (item.count == 0) || is_numbered item.event
+has_good_events item = (item.count == 0) || has_thread_number item.event
 
 -- the name that is written for an event
 abbrev pub name_of : Event → List ℕ
@@ -84,9 +84,9 @@ same_event Gc Gc = true
 same_event event other = false
 
 -- a text, and a space after it where there is one
-abbrev pub separated : List ℕ → List ℕ
-separated [] = []
-separated (byte ∷ bytes) = (byte ∷ bytes) ++ codes " "
+abbrev pub separate_words : List ℕ → List ℕ
+separate_words [] = []
+separate_words (byte ∷ bytes) = (byte ∷ bytes) ++ codes " "
 
 -- ---- what represents an item whose numbers are too great for the types of the program
 

@@ -2,7 +2,7 @@
 use Rattle.std.specs.Prelude.{◌≡◌, ◌≢◌, ◌<◌, ◌≤◌, ◌++◌, ℕ, IsTrue, false, All, List, ◌∷◌, length, map}
 use Rattle.std.specs.List.{join_with_byte, list_all}
 use Rattle.cil_model.specs.declared.events.Event.{Event}
-use Rattle.schedule_text.specs.Items.{events_of, is_numbered, item_text}
+use Rattle.schedule_text.specs.Items.{events_of, has_thread_number, item_text}
 use Rattle.schedule_text.specs.declared.errors.ScheduleError.{ScheduleError}
 use Rattle.schedule_text.specs.declared.errors.ScheduleError.TheVariants.{NoItem, NoThread, TooLong, OutOfMemory}
 use Rattle.schedule_text.specs.declared.errors.TheConstants.{MOST_EVENTS}
@@ -22,7 +22,7 @@ IsTextOf events text =
 
 -- a schedule that can be written
 abbrev pub IsWritable : List Event → Type 0
-IsWritable events = (length events ≤ MOST_EVENTS) × IsTrue (list_all is_numbered events)
+IsWritable events = (length events ≤ MOST_EVENTS) × IsTrue (list_all has_thread_number events)
 
 -- the text is what the list is written as
 abbrev pub IsWritten : List Event → List ℕ → Type 0
@@ -31,6 +31,6 @@ IsWritten events text = IsWritable events × IsTextOf events text
 -- why a list is not written
 abbrev pub IsNotWritten : List Event → ScheduleError → Type 0
 IsNotWritten events NoItem = ⊥
-IsNotWritten events NoThread = (length events ≤ MOST_EVENTS) × (list_all is_numbered events ≡ false)
+IsNotWritten events NoThread = (length events ≤ MOST_EVENTS) × (list_all has_thread_number events ≡ false)
 IsNotWritten events TooLong = MOST_EVENTS < length events
 IsNotWritten events OutOfMemory = IsWritable events

@@ -9,7 +9,7 @@ use cil_model::events::Event;
 use std::alloc::{AllocError, Global};
 
 /// The events that items represent with others among them: the first `at`, then the inserted ones, then the rest. The inserted ones are after all
-/// of them where there are fewer. An item within which the place lies becomes two.
+/// of them where there are fewer. An item within which the position lies becomes two.
 ///
 /// # Errors
 /// `TooLong` where there are more than 1,000,000 events in all, which is decided first; otherwise `OutOfMemory` where memory is refused.
@@ -21,13 +21,13 @@ pub fn insert_at(
 ) -> Result<Vec<Item>, ScheduleError>
     ensures { MatchResult result (λ all. IsInserted (events_of items.now) at (events_of inserted.now) (events_of all.items)) (IsNotInserted (events_of items.now) (events_of inserted.now)) }
 {
-    let room = room_behind(items, MOST_EVENTS).ok_or(ScheduleError::TooLong)?;
-    room_behind(inserted, room).ok_or(ScheduleError::TooLong)?;
+    let room = room_after(items, MOST_EVENTS).ok_or(ScheduleError::TooLong)?;
+    room_after(inserted, room).ok_or(ScheduleError::TooLong)?;
     Ok(with_inserted(alloc, items, at, inserted)?)
 }
 
 /// How many events may follow those of items, of at most `most` in all. None where these are more.
-pub(crate) fn room_behind(items: &[Item], most: usize) -> Option<usize>
+pub(crate) fn room_after(items: &[Item], most: usize) -> Option<usize>
     ensures { MatchOption result (most < length (events_of items.now)) (λ room. room + length (events_of items.now) ≡ most) }
 {
     let mut room = most;

@@ -1,6 +1,6 @@
 //! The items of a schedule's text.
 ghost use Rattle.std.specs.Prelude.{◌≡◌};
-ghost use Rattle.schedule_text.specs.Items.{is_numbered};
+ghost use Rattle.schedule_text.specs.Items.{has_thread_number};
 
 use cil_model::events::Event;
 use cil_model::limits::MOST_THREADS;
@@ -15,8 +15,8 @@ pub struct Item {
 }
 
 /// Whether the event's thread is one that a machine can have; an event of the collector has none.
-pub(crate) fn is_numbered(event: Event) -> bool
-    ensures { result ≡ is_numbered event }
+pub(crate) fn has_thread_number(event: Event) -> bool
+    ensures { result ≡ has_thread_number event }
 {
     match event {
         Event::Step(thread) | Event::Ack(thread) => usize::from(thread) < MOST_THREADS,

@@ -3,12 +3,12 @@ ghost use Rattle.std.specs.Prelude.{◌≡◌, ◌+◌, ◌-◌, ◌^◌, ◌≤
 ghost use Rattle.std.specs.List.{list_all};
 ghost use Rattle.std.specs.Char.{is_ascii_digit};
 ghost use Rattle.std.specs.Str.Parse.{digits_value};
-ghost use Rattle.schedule_text.specs.Items.{IsItem, Names, capped_event, capped_item, events_of, is_number, is_numbered, is_separator, is_star, words};
+ghost use Rattle.schedule_text.specs.Items.{IsItem, Names, capped_event, capped_item, events_of, is_number, has_thread_number, is_separator, is_star, words};
 ghost use Rattle.schedule_text.specs.Readings.{AreRead, IsAdded, IsFaultOf, IsFaulty, IsFirstFault};
 ghost use Rattle.schedule_text.specs.declared.items.Item.{Item};
 
 use crate::errors::{MOST_EVENTS, ScheduleError};
-use crate::items::{Item, is_numbered};
+use crate::items::{Item, has_thread_number};
 use cil_model::events::Event;
 use std::alloc::Global;
 
@@ -173,7 +173,7 @@ fn append(items: &mut Vec<Item>, events: usize, item: Item) -> Result<usize, Sch
     ensures ok { OnOk result (IsAdded (events_of items.old.items) item (events_of items.new.items)) }
     ensures err { IfErr result (IsFaultOf events item) }
 {
-    if !is_numbered(item.event) {
+    if !has_thread_number(item.event) {
         return Err(ScheduleError::NoThread);
     }
     if item.count > MOST_EVENTS - events {

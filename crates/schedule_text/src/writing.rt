@@ -1,12 +1,12 @@
 //! Writes the text of a schedule.
 ghost use Rattle.std.specs.Prelude.{◌≡◌, ◌+◌, ◌<◌, ◌≤◌, ◌++◌, IfOk, IfSome, MatchResult, None, OnOk, false, length, nat_le, replicate, string_bytes};
 ghost use Rattle.std.specs.List.{list_all};
-ghost use Rattle.schedule_text.specs.Items.{events_of, has_good_events, is_numbered, item_text, name_of, same_event, separated};
+ghost use Rattle.schedule_text.specs.Items.{events_of, has_good_events, has_thread_number, item_text, name_of, same_event, separate_words};
 ghost use Rattle.schedule_text.specs.Writings.{IsNotWritten, IsTextOf, IsWritten};
 
 use crate::errors::{MOST_EVENTS, ScheduleError};
-use crate::inserting::room_behind;
-use crate::items::{Item, is_numbered};
+use crate::inserting::room_after;
+use crate::items::{Item, has_thread_number};
 use cil_model::events::Event;
 use std::alloc::{AllocError, Global};
 
@@ -25,7 +25,7 @@ pub fn write_schedule(alloc: Global, items: &[Item]) -> Result<String, ScheduleE
     if !are_few(items) {
         return Err(ScheduleError::TooLong);
     }
-    if !are_numbered(items) {
+    if !have_thread_numbers(items) {
         return Err(ScheduleError::NoThread);
     }
     Ok(write_runs(alloc, items)?)
@@ -35,12 +35,12 @@ pub fn write_schedule(alloc: Global, items: &[Item]) -> Result<String, ScheduleE
 fn are_few(items: &[Item]) -> bool
     ensures { result ≡ nat_le (length (events_of items.now)) MOST_EVENTS }
 {
-    room_behind(items, MOST_EVENTS).is_some()
+    room_after(items, MOST_EVENTS).is_some()
 }
 
 /// Whether each event's thread is one that a machine can have.
-fn are_numbered(items: &[Item]) -> bool
-    ensures { result ≡ list_all is_numbered (events_of items.now) }
+fn have_thread_numbers(items: &[Item]) -> bool
+    ensures { result ≡ list_all has_thread_number (events_of items.now) }
 {
     have_good_events(items)
 }
@@ -55,7 +55,7 @@ fn have_good_events(items: &[Item]) -> bool
 fn has_good_events(item: &Item) -> bool
     ensures { result ≡ has_good_events item.now }
 {
-    item.count == 0 || is_numbered(item.event)
+    item.count == 0 || has_thread_number(item.event)
 }
 
 /// The text of each longest run of equal events, with one space between two.
@@ -113,7 +113,7 @@ fn is_same(event: &Event, other: &Event) -> bool
 /// Adds the text of an item to the text before it, with a space between the two.
 fn append_item(text: &mut String, item: Item) -> Result<(), AllocError>
     ensures { OnOk result
-        (string_bytes text.new ≡ separated (string_bytes text.old) ++ item_text item) }
+        (string_bytes text.new ≡ separate_words (string_bytes text.old) ++ item_text item) }
 {
     if !text.is_empty() {
         text.push(' ')?;

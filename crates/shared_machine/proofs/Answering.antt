@@ -1,7 +1,7 @@
--- What an answer says, where it is known.
+-- What holds of an answer that is known.
 use Rattle.std.proofs.Common.{◌≡◌, sym, subst}
 use Rattle.cil_model.specs.declared.reports.Report.{Report}
-use Rattle.interleaving_core.specs.simulation.MachineContents.{Content}
+use Rattle.interleaving_core.specs.simulation.MachineStates.{MachineState}
 use Rattle.shared_machine.specs.declared.answer.Answer.{Answer}
 use Rattle.shared_machine.specs.declared.answer.Answer.TheVariants.{Did, NoMemory}
 use Rattle.shared_machine.specs.Worlds.{IfDid}
@@ -13,5 +13,5 @@ pub nothing_did : (a : Answer) → a ≡ NoMemory → (P : Report → Type 0) �
 nothing_did a is P = subst (λ x. IfDid x P) (sym is) tt
 
 -- what is true of two contents is true of the same ones
-pub related_at : (R : Content → Content → Type 0) (one one' two two' : Content) → one ≡ one' → two' ≡ two → R one two → R one' two'
+pub related_at : (R : MachineState → MachineState → Type 0) (one one' two two' : MachineState) → one ≡ one' → two' ≡ two → R one two → R one' two'
 related_at R one one' two two' same same' related = subst (λ x. R x two') same (subst (R one) (sym same') related)

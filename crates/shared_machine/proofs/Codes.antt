@@ -9,7 +9,7 @@ use Rattle.cil_model.specs.declared.reports.Fault.TheVariants.{NullReference, In
 use Rattle.cil_model.specs.declared.reports.Report.{Report}
 use Rattle.cil_model.specs.declared.reports.Report.TheVariants.{Ran, Blocked, Ended, Absent, Acked, NothingPosted, Worked, Waiting, CycleDone}
 use Rattle.shared_machine.specs.Codes.{event_number, fault_number, report_number, code}
-use Rattle.shared_machine.specs.Histories.{add_if, counted, IsSmall, AreSmall, count_of_pairs, pairs_if, pairs_of, Fixes}
+use Rattle.shared_machine.specs.Histories.{add_if, count_in_history, IsSmall, AreSmall, count_of_pairs, pairs_if, pairs_of, Fixes}
 use Rattle.shared_machine.specs.declared.history.Entry.{Entry}
 
 -- ---- each report has its own number
@@ -135,9 +135,9 @@ add_pairs : (b : Bool) (e : Entry) (ps : List (Event × Report)) → add_if b e 
 add_pairs true e ps = refl
 add_pairs false e ps = refl
 
-counted_pairs : (w : ℕ) (ps : List (Event × Report)) (h : List Entry) → counted w (count_of_pairs ps) h ≡ count_of_pairs (pairs_of w ps h)
+counted_pairs : (w : ℕ) (ps : List (Event × Report)) (h : List Entry) → count_in_history w (count_of_pairs ps) h ≡ count_of_pairs (pairs_of w ps h)
 counted_pairs w ps [] = refl
-counted_pairs w ps (e ∷ es) = ap (λ c. counted w c es) (add_pairs (nat_eq e.worker w) e ps) ∙ counted_pairs w (pairs_if (nat_eq e.worker w) e ps) es
+counted_pairs w ps (e ∷ es) = ap (λ c. count_in_history w c es) (add_pairs (nat_eq e.worker w) e ps) ∙ counted_pairs w (pairs_if (nat_eq e.worker w) e ps) es
 
 pub fixes : (w : ℕ) (h k : List Entry) → Fixes w h k
 fixes w h k small small' same = same_pairs (pairs_of w [] h) (pairs_of w [] k) small small' (sym (counted_pairs w [] h) ∙ same ∙ counted_pairs w [] k)

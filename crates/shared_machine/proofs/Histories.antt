@@ -10,19 +10,19 @@ use Rattle.shared_machine.proofs.Moves.{get_same, get_other}
 use Rattle.shared_machine.specs.Counts.{Count}
 use Rattle.cil_model.specs.declared.events.Event.{Event}
 use Rattle.cil_model.specs.declared.reports.Report.{Report}
-use Rattle.interleaving_core.specs.simulation.MachineContents.{Content}
-use Rattle.interleaving_core.specs.simulation.Runs.{AreTurns}
-use Rattle.interleaving_core.specs.simulation.Turns.{IsTurn}
+use Rattle.interleaving_core.specs.simulation.MachineStates.{MachineState}
+use Rattle.interleaving_core.specs.simulation.Runs.{AreTransitions}
+use Rattle.interleaving_core.specs.simulation.Transitions.{IsTransition}
 use Rattle.interleaving_core.proofs.Runs.LongerRuns.{does_more}
-use Rattle.interleaving_core.proofs.Runs.FollowedRuns.{turns_follow, turns_length, turns_more, turns_program}
+use Rattle.interleaving_core.proofs.Runs.FollowedRuns.{transitions_follow, transitions_length, transitions_more, transitions_program}
 use Rattle.shared_machine.specs.Codes.{add}
-use Rattle.shared_machine.specs.Histories.{IsSmall, plain, entry, events_of, reports_of, add_if, counted, count_of}
+use Rattle.shared_machine.specs.Histories.{IsSmall, plain, entry, events_of, reports_of, add_if, count_in_history, count_of}
 use Rattle.shared_machine.specs.Worlds.{HasRun, IsSound, fresh}
 use Rattle.shared_machine.specs.declared.history.Entry.{Entry}
 use Rattle.shared_machine.specs.declared.history.Run.{Run}
 
 -- the count of a history with one entry more
-counted-more : (w c : ℕ) (h : List Entry) (e : Entry) → counted w c (h ++ e ∷ []) ≡ add_if (nat_eq e.worker w) e (counted w c h)
+counted-more : (w c : ℕ) (h : List Entry) (e : Entry) → count_in_history w c (h ++ e ∷ []) ≡ add_if (nat_eq e.worker w) e (count_in_history w c h)
 counted-more w c [] e = refl
 counted-more w c (x ∷ h) e = counted-more w (add_if (nat_eq x.worker w) x c) h e
 
@@ -32,7 +32,7 @@ count_mine w h e r = counted-more w 0 h (entry w e r) ∙ ap (λ b. add_if b (en
 count_other : (w v : ℕ) (h : List Entry) (e : Event) (r : Report) → v ≢ w → count_of w (h ++ entry v e r ∷ []) ≡ count_of w h
 count_other w v h e r apart = counted-more w 0 h (entry v e r) ∙ ap (λ b. add_if b (entry v e r) (count_of w h)) (ne_eqb v w apart)
 
--- the turns of a history with one entry more
+-- the events of a history with one entry more
 pub events-more : (h : List Entry) (e : Entry) → events_of (h ++ e ∷ []) ≡ events_of h ++ e.event ∷ []
 events-more [] e = refl
 events-more (x ∷ h) e = ap (λ (l : List Event). x.event ∷ l) (events-more h e)
@@ -41,30 +41,30 @@ reports-more : (h : List Entry) (e : Entry) → reports_of (h ++ e ∷ []) ≡ r
 reports-more [] e = refl
 reports-more (x ∷ h) e = ap (λ (l : List Report). x.report ∷ l) (reports-more h e)
 
-turns_after : (o core next : Content) (h : List Entry) (e : Entry) → AreTurns o (events_of h) core (reports_of h) → IsTurn core e.event (next, e.report) → AreTurns o (events_of (h ++ e ∷ [])) next (reports_of (h ++ e ∷ []))
-turns_after o core next h e turns turn =
-    subst (λ (x : List Event × List Report). AreTurns o x.0 next x.1)
+transitions_after : (o core next : MachineState) (h : List Entry) (e : Entry) → AreTransitions o (events_of h) core (reports_of h) → IsTransition core e.event (next, e.report) → AreTransitions o (events_of (h ++ e ∷ [])) next (reports_of (h ++ e ∷ []))
+transitions_after o core next h e transitions transition =
+    subst (λ (x : List Event × List Report). AreTransitions o x.0 next x.1)
     (λ i. (sym (events-more h e) i, sym (reports-more h e) i))
-    (turns_more o core next (events_of h) (reports_of h) e.event e.report turns turn)
+    (transitions_more o core next (events_of h) (reports_of h) e.event e.report transitions transition)
 
--- what the turns of a history come to
-pub has_run : (o core : Content) (h : List Entry) → AreTurns o (events_of h) core (reports_of h) → HasRun o (events_of h) (reports_of h) core
-has_run o core h turns =
-    let same = turns_program o core (events_of h) (reports_of h) turns in
+-- the run that the transitions of a history make
+pub has_run : (o core : MachineState) (h : List Entry) → AreTransitions o (events_of h) core (reports_of h) → HasRun o (events_of h) (reports_of h) core
+has_run o core h transitions =
+    let same = transitions_program o core (events_of h) (reports_of h) transitions in
     record {
-      each = turns_length o core (events_of h) (reports_of h) turns;
-      turns = turns;
-      follows = turns_follow o core (events_of h) (reports_of h) turns;
-      does = does_more o core (events_of h) (reports_of h) turns;
+      each = transitions_length o core (events_of h) (reports_of h) transitions;
+      transitions = transitions;
+      follows = transitions_follow o core (events_of h) (reports_of h) transitions;
+      does = does_more o core (events_of h) (reports_of h) transitions;
       program = same.0;
       limits = same.1;
     }
 
-pub sound_more : (o : Content) (workers : ℕ) (core next : Content) (h : List Entry) (book : List ℕ) (w n : ℕ) (e : Event) (r : Report)
-    → IsSound o workers core h book → IsTurn core e (next, r) → IsSmall e → slice_get book w ≡ Some n → IsSound o workers next (h ++ entry w e r ∷ []) (set book w (add n e r))
-sound_more o workers core next h book w n e r s turn small there =
+pub sound_more : (o : MachineState) (workers : ℕ) (core next : MachineState) (h : List Entry) (book : List ℕ) (w n : ℕ) (e : Event) (r : Report)
+    → IsSound o workers core h book → IsTransition core e (next, r) → IsSmall e → slice_get book w ≡ Some n → IsSound o workers next (h ++ entry w e r ∷ []) (set book w (add n e r))
+sound_more o workers core next h book w n e r s transition small there =
     record {
-      turns = turns_after o core next h (entry w e r) s.turns turn;
+      transitions = transitions_after o core next h (entry w e r) s.transitions transition;
       theirs = All-push (λ (x : Entry). (x.worker < workers) × IsSmall x.event) h (entry w e r) s.theirs (one_of, small);
       each = length-set book w (add n e r) ∙ s.each;
       counts = counts;
@@ -108,7 +108,7 @@ plain-longer xs n d new e len some same new_is =
     let more : new ≡ record { entry = e; times = suc old.times } = new_is ∙ ap (λ (y : Entry × ℕ). record { entry = y.0; times = y.1 }) (λ i. (same i, add-one old.times i)) in
     ap (λ (r : Run). plain (set xs (n - 1) r)) more ∙ last_longer xs (n - 1) d e (omega arith) same
 
--- so many times more
+-- n times more
 pub plain-push_by : (xs : List Run) (e : Entry) (n : ℕ) → plain (xs ++ record { entry = e; times = n } ∷ []) ≡ plain xs ++ replicate n e
 plain-push_by [] e n = append-nil _
 plain-push_by (x ∷ xs) e n = ap (λ (l : List Entry). replicate x.times x.entry ++ l) (plain-push_by xs e n) ∙ sym (append_assoc (replicate x.times x.entry) (plain xs) (replicate n e))
@@ -129,8 +129,8 @@ plain-longer_by xs n d new e k len some same new_is =
     ap (λ (r : Run). plain (set xs (n - 1) r)) more ∙ last_longer_by xs (n - 1) d e k (omega arith) same
 
 -- the same under equations
-pub sound_at : (o : Content) (workers : ℕ) (core core' : Content) (h h' : List Entry) (book book' : List ℕ) → IsSound o workers core h book → core' ≡ core → h' ≡ h → book' ≡ book → IsSound o workers core' h' book'
-sound_at o workers core core' h h' book book' s a b c = subst (λ (x : Content × (List Entry × List ℕ)). IsSound o workers x.0 x.1.0 x.1.1) (λ i. (sym a i, (sym b i, sym c i))) s
+pub sound_at : (o : MachineState) (workers : ℕ) (core core' : MachineState) (h h' : List Entry) (book book' : List ℕ) → IsSound o workers core h book → core' ≡ core → h' ≡ h → book' ≡ book → IsSound o workers core' h' book'
+sound_at o workers core core' h h' book book' s a b c = subst (λ (x : MachineState × (List Entry × List ℕ)). IsSound o workers x.0 x.1.0 x.1.1) (λ i. (sym a i, (sym b i, sym c i))) s
 
 pub history_is : (all kept old : List Entry) (v w : ℕ) (e : Event) (r : Report) → all ≡ kept ++ entry v e r ∷ [] → kept ≡ old → v ≡ w → all ≡ old ++ entry w e r ∷ []
 history_is all kept old v w e r a b c = a ∙ ap (λ (x : List Entry × ℕ). x.0 ++ entry x.1 e r ∷ []) (λ i. (b i, c i))
@@ -149,7 +149,7 @@ pub fresh-more : (n : ℕ) (all rest : List Count) (t : Count) → all ≡ rest 
 fresh-more n all rest t a b c = a ∙ ap (λ (x : List Count × Count). x.0 ++ x.1 ∷ []) (λ i. (b i, c i)) ∙ sym (ap fresh (add-one n))
 
 -- before the first entry
-pub sound_first : (o : Content) (workers : ℕ) (core : Content) (h : List Entry) (book : List ℕ) → core ≡ o → h ≡ [] → length book ≡ workers → ((w n : ℕ) → slice_get book w ≡ Some n → n ≡ 0) → IsSound o workers core h book
+pub sound_first : (o : MachineState) (workers : ℕ) (core : MachineState) (h : List Entry) (book : List ℕ) → core ≡ o → h ≡ [] → length book ≡ workers → ((w n : ℕ) → slice_get book w ≡ Some n → n ≡ 0) → IsSound o workers core h book
 sound_first o workers core h book is none each zeros =
     subst (λ (x : List Entry). IsSound o workers core x book) (sym none)
-    (record { turns = (is, refl); theirs = All-nil (λ (x : Entry). (x.worker < workers) × IsSmall x.event); each = each; counts = zeros })
+    (record { transitions = (is, refl); theirs = All-nil (λ (x : Entry). (x.worker < workers) × IsSmall x.event); each = each; counts = zeros })

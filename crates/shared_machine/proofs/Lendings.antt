@@ -1,4 +1,4 @@
--- What a loan that comes back leaves: so many entries more.
+-- What a loan that comes back leaves: n entries more.
 use Rattle.std.proofs.Common.{◌≡◌, ◌<◌, ◌+◌, ℕ, zero, suc, Bool, true, false, List, [], ◌∷◌, ◌++◌, inl, inr, length, map, set, Option, None, Some, is_none, refl, sym, ap, ◌∙◌, subst, arith, append_assoc, append-nil, replicate}
 use Rattle.std.specs.Prelude.{slice_get, slice_index_or}
 use Rattle.std.proofs.lemmas.List.{length-set, length_push}
@@ -11,9 +11,9 @@ use Rattle.cil_model.specs.declared.reports.Report.{Report}
 use Rattle.cil_model.specs.declared.reports.Report.TheVariants.{Ran}
 use Rattle.interleaving_core.specs.Loans.{Begins, IsAtOrigin, Lent}
 use Rattle.interleaving_core.specs.simulation.threads_monitors.Threads.{is_live_at}
-use Rattle.interleaving_core.proofs.Runs.FollowedRuns.{turns_program}
-use Rattle.interleaving_core.specs.simulation.MachineContents.{Content}
-use Rattle.interleaving_core.specs.simulation.Runs.{AreTurns}
+use Rattle.interleaving_core.proofs.Runs.FollowedRuns.{transitions_program}
+use Rattle.interleaving_core.specs.simulation.MachineStates.{MachineState}
+use Rattle.interleaving_core.specs.simulation.Runs.{AreTransitions}
 use Rattle.shared_machine.specs.Codes.{add, add_times}
 use Rattle.shared_machine.specs.Counts.{Count}
 use Rattle.shared_machine.specs.Histories.{IsSmall, entry, events_of, reports_of}
@@ -32,27 +32,27 @@ set_twice [] k p q = refl
 set_twice (x ∷ xs) zero p q = refl
 set_twice (x ∷ xs) (suc k) p q = ap (λ (l : List ℕ). x ∷ l) (set_twice xs k p q)
 
-module _ (o : Content) (workers w : ℕ) (e : Event) (r : Report) (small : IsSmall e) (next : Content) where
-  -- the same entry so many times more, of a worker whose count is in the book
-  sound_some : (n : ℕ) (core : Content) (h : List Entry) (book : List ℕ) (count : ℕ) → IsSound o workers core h book → slice_get book w ≡ Some count → AreTurns core (replicate n e) next (replicate n r)
+module _ (o : MachineState) (workers w : ℕ) (e : Event) (r : Report) (small : IsSmall e) (next : MachineState) where
+  -- the same entry n times more, of a worker whose count is in the book
+  sound_some : (n : ℕ) (core : MachineState) (h : List Entry) (book : List ℕ) (count : ℕ) → IsSound o workers core h book → slice_get book w ≡ Some count → AreTransitions core (replicate n e) next (replicate n r)
       → IsSound o workers next (h ++ replicate n (entry w e r)) (set book w (add_times n count e r))
-  sound_some zero core h book count s there turns =
-      subst (λ (x : Content × (List Entry × List ℕ)). IsSound o workers x.0 x.1.0 x.1.1) (λ i. (sym turns.0 i, (sym (append-nil h) i, sym (set_there book w count there) i))) s
+  sound_some zero core h book count s there transitions =
+      subst (λ (x : MachineState × (List Entry × List ℕ)). IsSound o workers x.0 x.1.0 x.1.1) (λ i. (sym transitions.0 i, (sym (append-nil h) i, sym (set_there book w count there) i))) s
   sound_some (suc n) core h book count s there (mid, one, more) =
       let step = sound_more o workers core mid h book w count e r s one small there in
       let rest = sound_some n mid (h ++ entry w e r ∷ []) (set book w (add count e r)) (add count e r) step (get_same book w count (add count e r) there) more in
       subst (λ (x : List Entry × List ℕ). IsSound o workers next x.0 x.1)
       (λ i. (append_assoc h (entry w e r ∷ []) (replicate n (entry w e r)) i, set_twice book w (add count e r) (add_times n (add count e r) e r) i)) rest
 
-  -- so many times, none among them
-  pub sound_times : (n : ℕ) (core : Content) (h : List Entry) (book : List ℕ) (count : ℕ) → IsSound o workers core h book → (0 < n → slice_get book w ≡ Some count) → AreTurns core (replicate n e) next (replicate n r)
+  -- n times, none among them
+  pub sound_times : (n : ℕ) (core : MachineState) (h : List Entry) (book : List ℕ) (count : ℕ) → IsSound o workers core h book → (0 < n → slice_get book w ≡ Some count) → AreTransitions core (replicate n e) next (replicate n r)
       → IsSound o workers next (h ++ replicate n (entry w e r)) (book_times book (record { worker = w; count = count }) n e r)
-  sound_times zero core h book count s there turns =
-      subst (λ (x : Content × List Entry). IsSound o workers x.0 x.1 book) (λ i. (sym turns.0 i, sym (append-nil h) i)) s
-  sound_times (suc n) core h book count s there turns = sound_some (suc n) core h book count s (there (omega arith)) turns
+  sound_times zero core h book count s there transitions =
+      subst (λ (x : MachineState × List Entry). IsSound o workers x.0 x.1 book) (λ i. (sym transitions.0 i, sym (append-nil h) i)) s
+  sound_times (suc n) core h book count s there transitions = sound_some (suc n) core h book count s (there (omega arith)) transitions
 
 -- a world under equations
-pub world_at : (o : Content) (workers : ℕ) (most kept : Option ℕ) (core core' : Content) (h h' : List Entry) (book book' : List ℕ) (rooms rooms' : List (Option Tree)) → IsSound o workers core h book → core' ≡ core → h' ≡ h → book' ≡ book → rooms' ≡ rooms → HasRooms o rooms
+pub world_at : (o : MachineState) (workers : ℕ) (most kept : Option ℕ) (core core' : MachineState) (h h' : List Entry) (book book' : List ℕ) (rooms rooms' : List (Option Tree)) → IsSound o workers core h book → core' ≡ core → h' ≡ h → book' ≡ book → rooms' ≡ rooms → HasRooms o rooms
     → kept ≡ most → IsPrintedWithin most o core' → IsWorld o workers most kept core' h' book' rooms'
 world_at o workers most kept core core' h h' book book' rooms rooms' s a b c d homes same within = record {
   sound = sound_at o workers core core' h h' book book' s a b c;
@@ -78,13 +78,13 @@ one_room_more tree room n rooms all so is same = record {
 }
 
 -- a room that is taken, and one that is put back
-pub taken_rooms : (o : Content) (rooms : List (Option Tree)) (t : ℕ) → HasRooms o rooms → HasRooms o (set rooms t None)
+pub taken_rooms : (o : MachineState) (rooms : List (Option Tree)) (t : ℕ) → HasRooms o rooms → HasRooms o (set rooms t None)
 taken_rooms o rooms t homes = record {
   each = length-set rooms t None ∙ homes.each;
   theirs = λ n tree there. elim (set_or_was rooms t n None (Some tree) there) [ inl gone ↦ absurd (cc gone) | inr was ↦ homes.theirs n tree was ];
 }
 
-pub room_back : (o : Content) (rooms : List (Option Tree)) (t : ℕ) (room : Tree) → HasRooms o rooms → room ≡ o.tree → HasRooms o (set rooms t (Some room))
+pub room_back : (o : MachineState) (rooms : List (Option Tree)) (t : ℕ) (room : Tree) → HasRooms o rooms → room ≡ o.tree → HasRooms o (set rooms t (Some room))
 room_back o rooms t room homes same = record {
   each = length-set rooms t (Some room) ∙ homes.each;
   theirs = λ n tree there. elim (set_or_was rooms t n (Some room) (Some tree) there) [ inl here ↦ same_Some tree room here ∙ same | inr was ↦ homes.theirs n tree was ];
@@ -113,16 +113,16 @@ pub read_room : (rooms : List (Option Tree)) (t i : ℕ) (room : Option Tree) �
 read_room rooms t i room same inside reads = subst (λ n. slice_get rooms n ≡ Some room) same (slice_get_read rooms (length rooms) i room refl inside reads)
 
 -- a machine runs the program that it was opened with
-pub same_tree : (o : Content) (workers : ℕ) (core : Content) (h : List Entry) (book : List ℕ) → IsSound o workers core h book → core.tree ≡ o.tree
-same_tree o workers core h book s = (turns_program o core (events_of h) (reports_of h) s.turns).0
+pub same_tree : (o : MachineState) (workers : ℕ) (core : MachineState) (h : List Entry) (book : List ℕ) → IsSound o workers core h book → core.tree ≡ o.tree
+same_tree o workers core h book s = (transitions_program o core (events_of h) (reports_of h) s.transitions).0
 
 -- ---- what a world shows
 
-abbrev pub shown_as : Content → List Entry → List ℕ → List Bool → Bool → Shown
+abbrev pub shown_as : MachineState → List Entry → List ℕ → List Bool → Bool → Shown
 shown_as core h book lent stopped = record { core = core; history = h; book = book; lent = lent; stopped = stopped }
 
 -- nothing was taken where nothing was there
-pub nothing_taken : (core : Content) (h : List Entry) (book : List ℕ) (stopped : Bool) (rooms : List (Option Tree)) (t i : ℕ) (room left : Option Tree) → i ≡ t → slice_get rooms t ≡ Some room → room ≡ None → left ≡ None
+pub nothing_taken : (core : MachineState) (h : List Entry) (book : List ℕ) (stopped : Bool) (rooms : List (Option Tree)) (t i : ℕ) (room left : Option Tree) → i ≡ t → slice_get rooms t ≡ Some room → room ≡ None → left ≡ None
     → (shown_as core h book (lent_of (set rooms i left)) stopped ≡ shown_as core h book (lent_of rooms) stopped) × (is_lent_in (lent_of rooms) t ≡ true)
 nothing_taken core h book stopped rooms t i room left same there none none' = (
   ap (λ (l : List (Option Tree)). shown_as core h book (lent_of l) stopped) (ap (λ (k : ℕ). set rooms k left) same ∙ ap (set rooms t) none' ∙ set_itself rooms t None (there ∙ ap Some none)),
@@ -130,7 +130,7 @@ nothing_taken core h book stopped rooms t i room left same there none none' = (
 )
 
 -- a thread is lent
-pub lent_out : (core : Content) (h : List Entry) (book : List ℕ) (stopped : Bool) (rooms : List (Option Tree)) (t i : ℕ) (old left : Option Tree) (room : Tree) (l : Lent) → i ≡ t → slice_get rooms t ≡ Some old → old ≡ Some room → left ≡ None
+pub lent_out : (core : MachineState) (h : List Entry) (book : List ℕ) (stopped : Bool) (rooms : List (Option Tree)) (t i : ℕ) (old left : Option Tree) (room : Tree) (l : Lent) → i ≡ t → slice_get rooms t ≡ Some old → old ≡ Some room → left ≡ None
     → is_live_at core.threads t ≡ true → Begins core t l → IsLentOut (shown_as core h book (lent_of rooms) stopped) t l (shown_as core h book (lent_of (set rooms i left)) stopped)
 lent_out core h book stopped rooms t i old left room l same there some none live begins = record {
   live = live;
@@ -140,15 +140,15 @@ lent_out core h book stopped rooms t i old left room l same there some none live
 }
 
 -- a loan comes back
-pub checked_in : (core next : Content) (h h' : List Entry) (book book' : List ℕ) (stopped : Bool) (rooms : List (Option Tree)) (i n thread : ℕ) (room : Tree) (t u : Count) (l : Lent) → i ≡ thread → n ≡ l.done → thread ≡ l.thread
-    → is_lent_in (lent_of rooms) thread ≡ true → IsAtOrigin core l → AreTurns core (replicate n (Step thread)) next (replicate n Ran)
+pub checked_in : (core next : MachineState) (h h' : List Entry) (book book' : List ℕ) (stopped : Bool) (rooms : List (Option Tree)) (i n thread : ℕ) (room : Tree) (t u : Count) (l : Lent) → i ≡ thread → n ≡ l.done → thread ≡ l.thread
+    → is_lent_in (lent_of rooms) thread ≡ true → IsAtOrigin core l → AreTransitions core (replicate n (Step thread)) next (replicate n Ran)
     → h' ≡ h ++ replicate n (entry t.worker (Step thread) Ran) → book' ≡ book_times book t n (Step thread) Ran → u ≡ added_times t n (Step thread) Ran
     → IsCheckedIn (shown_as core h book (lent_of rooms) stopped) t l n (shown_as next h' book' (lent_of (set rooms i (Some room))) stopped) u
-checked_in core next h h' book book' stopped rooms i n thread room t u l same all own lent at turns history_is book_is ticket_is =
+checked_in core next h h' book book' stopped rooms i n thread room t u l same all own lent at transitions history_is book_is ticket_is =
     record {
       all = all;
       kept = (ap (is_lent_in (lent_of rooms)) (sym own) ∙ lent, at);
-      turns = subst (λ k. AreTurns core (replicate n (Step k)) next (replicate n Ran)) own turns;
+      transitions = subst (λ k. AreTransitions core (replicate n (Step k)) next (replicate n Ran)) own transitions;
       recorded =
           (λ j. shown_as next (history_is j) (book_is j) (lent_of (set rooms (same j) (Some room))) stopped)
           ∙ ap (λ (x : List Bool). shown_as next (h ++ replicate n (entry t.worker (Step thread) Ran)) (book_times book t n (Step thread) Ran) x stopped) (lent_set rooms thread (Some room))

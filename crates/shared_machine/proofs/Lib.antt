@@ -8,7 +8,7 @@ pub mod Codes
 pub mod OneWorker
 pub mod TicketCounts
 pub mod OwnEvents
-pub mod Openings
+pub mod InitialStates
 pub mod Records
 pub mod ServedThreads
 pub mod Moves

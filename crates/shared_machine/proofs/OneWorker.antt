@@ -10,7 +10,7 @@ use Rattle.schedule_text.specs.declared.items.Item.{Item}
 use Rattle.schedule_text.proofs.SoFar.{so_far, so_far_all, so_far_before}
 use Rattle.shared_machine.specs.Codes.{add}
 use Rattle.shared_machine.specs.Histories.{AreOf, AreSmall, IsSmall, count_of, entry, events_of, pairs_if, pairs_of}
-use Rattle.shared_machine.specs.Worlds.{AgreesWith, AreDoneOf, HasCounted, HasCountedFirst, IfDid, added}
+use Rattle.shared_machine.specs.Worlds.{AgreesWith, AreDoneOf, HasCounted, HasCountedFirst, IfDid, add_event}
 use Rattle.shared_machine.specs.declared.answer.Answer.{Answer}
 use Rattle.shared_machine.specs.declared.answer.Answer.TheVariants.{Did}
 use Rattle.shared_machine.specs.declared.history.Entry.{Entry}
@@ -75,9 +75,9 @@ counted_first t is = record {
 }
 
 pub counted_more : (events : List Event) (e : Event) (t next : Count) (x : Answer) (r : Report) → IsSmall e → HasCounted events t → x ≡ Did r
-    → IfDid x (λ s. next ≡ added t e s) → HasCounted (events ++ e ∷ []) next
-counted_more events e t next x r small h told did' =
-    let did : next ≡ added t e r = subst (λ (a : Answer). IfDid a (λ s. next ≡ added t e s)) told did' in
+    → IfDid x (λ s. next ≡ add_event t e s) → HasCounted (events ++ e ∷ []) next
+counted_more events e t next x r small h reported did' =
+    let did : next ≡ add_event t e r = subst (λ (a : Answer). IfDid a (λ s. next ≡ add_event t e s)) reported did' in
     record {
       entries = h.entries ++ entry 0 e r ∷ [];
       are = events-more h.entries (entry 0 e r) ∙ ap (λ (es : List Event). es ++ e ∷ []) h.are;
@@ -94,9 +94,9 @@ counted_none before e t h = subst (λ es. HasCounted es t) (sym (append-nil befo
 
 -- one more of them
 pub counted_time : (before : List Event) (e : Event) (n : ℕ) (t next : Count) (x : Answer) (r : Report) → IsSmall e → HasCounted (before ++ replicate n e) t → x ≡ Did r
-    → IfDid x (λ s. next ≡ added t e s) → HasCounted (before ++ replicate (n + 1) e) next
-counted_time before e n t next x r small h told did =
-    subst (λ es. HasCounted es next) (append_assoc before (replicate n e) (e ∷ []) ∙ ap (λ es. before ++ es) (replicate_more n e)) (counted_more (before ++ replicate n e) e t next x r small h told did)
+    → IfDid x (λ s. next ≡ add_event t e s) → HasCounted (before ++ replicate (n + 1) e) next
+counted_time before e n t next x r small h reported did =
+    subst (λ es. HasCounted es next) (append_assoc before (replicate n e) (e ∷ []) ∙ ap (λ es. before ++ es) (replicate_more n e)) (counted_more (before ++ replicate n e) e t next x r small h reported did)
 
 -- all of them
 pub counted_times : (before : List Event) (e : Event) (n count : ℕ) (t : Count) → count ≤ n → n ≤ count → HasCounted (before ++ replicate n e) t → HasCounted (before ++ replicate count e) t

@@ -6,7 +6,7 @@ use native.Mathlib.Decide.{ℕ_discrete}
 use mathlib.Core.Logic.{dite}
 use Rattle.cil_model.specs.declared.events.Event.{Event}
 use Rattle.cil_model.specs.declared.reports.Report.{Report}
-use Rattle.shared_machine.specs.Histories.{AreOf, AreSmall, IsSmall, count_of, counted, pairs_if, pairs_of}
+use Rattle.shared_machine.specs.Histories.{AreOf, AreSmall, IsSmall, count_of, count_in_history, pairs_if, pairs_of}
 use Rattle.shared_machine.specs.Worlds.{AgreesWith, IsComplete, fresh}
 use Rattle.shared_machine.specs.declared.history.Entry.{Entry}
 use Rattle.shared_machine.proofs.Codes.{fixes}
@@ -60,29 +60,29 @@ small_pairs w (e ∷ es) ps small all =
 -- ---- tickets
 
 -- a worker's ticket before its first event
-abbrev opening : ℕ → Count
-opening w = record { worker = w; count = 0 }
+abbrev initial_state : ℕ → Count
+initial_state w = record { worker = w; count = 0 }
 
 pub length_fresh : (n : ℕ) → length (fresh n) ≡ n
 length_fresh zero = refl
-length_fresh (suc n) = length_push (fresh n) (opening n) ∙ ap (λ k. k + 1) (length_fresh n) ∙ add-one n
+length_fresh (suc n) = length_push (fresh n) (initial_state n) ∙ ap (λ k. k + 1) (length_fresh n) ∙ add-one n
 
-fresh_at : (n w : ℕ) (d : Count) → w < n → get_or (fresh n) w d ≡ opening w
+fresh_at : (n w : ℕ) (d : Count) → w < n → get_or (fresh n) w d ≡ initial_state w
 fresh_at zero w d below = absurd (omega arith)
 fresh_at (suc n) w d below =
     let long = length_fresh n in
     dite (ℕ_discrete w n)
-    (λ last. get_or_push (fresh n) (opening n) d w (long ∙ sym last) ∙ ap opening (sym last))
-    (λ early. get_or_append_left (fresh n) (opening n ∷ []) d w (omega (arith, long)) ∙ fresh_at n w d (omega arith))
+    (λ last. get_or_push (fresh n) (initial_state n) d w (long ∙ sym last) ∙ ap initial_state (sym last))
+    (λ early. get_or_append_left (fresh n) (initial_state n ∷ []) d w (omega (arith, long)) ∙ fresh_at n w d (omega arith))
 
 -- the entries of a worker whose ticket has counted events of its own alone are such
-own_entries : (workers w : ℕ) (t u : Count) (h : List Entry) → t ≡ opening w → HasWorked workers t u → AgreesWith h u → AreOf workers h → All (OfMine (IsOwn workers w) w) h
+own_entries : (workers w : ℕ) (t u : Count) (h : List Entry) → t ≡ initial_state w → HasWorked workers t u → AgreesWith h u → AreOf workers h → All (OfMine (IsOwn workers w) w) h
 own_entries workers w t u h is worked agrees of =
     let at : t.worker ≡ w = ap (λ (c : Count). c.worker) is in
     let none : t.count ≡ 0 = ap (λ (c : Count). c.count) is in
     let did : List Entry = worked.entries in
     let own : All (IsEntryOf workers w) did = subst (λ v. All (IsEntryOf workers v) did) at worked.own in
-    let same : count_of w h ≡ count_of w did = ap (λ v. count_of v h) (sym (worked.same ∙ at)) ∙ sym agrees ∙ worked.count ∙ ap (λ v. counted v t.count did) at ∙ ap (λ c. counted w c did) none in
+    let same : count_of w h ≡ count_of w did = ap (λ v. count_of v h) (sym (worked.same ∙ at)) ∙ sym agrees ∙ worked.count ∙ ap (λ v. count_in_history v t.count did) at ∙ ap (λ c. count_in_history w c did) none in
     let small = small_pairs w h [] (All-weaker (λ (e : Entry). (e.worker < workers) × IsSmall e.event) (λ (e : Entry). IsSmall e.event) (λ e k. k.1) h of) tt in
     let small' = small_pairs w did [] (All-weaker (IsEntryOf workers w) (λ (e : Entry). IsSmall e.event) (λ e k. k.1) did own) tt in
     let pairs : pairs_of w [] h ≡ pairs_of w [] did = fixes w h did small small' same in
@@ -100,9 +100,9 @@ all_own workers before after h is worked of agree = each
         let inside : w < workers = (All-get_or (λ (e : Entry). (e.worker < workers) × IsSmall e.event) h i d below of).0 in
         let long : length before ≡ workers = ap length is ∙ length_fresh workers in
         let same = worked.each in
-        let first : get_or before w (opening 0) ≡ opening w = ap (λ l. get_or l w (opening 0)) is ∙ fresh_at workers w (opening 0) inside in
-        let theirs = own_entries workers w (get_or before w (opening 0)) (get_or after w (opening 0)) h first (worked.worked w (opening 0) (omega (arith, long)))
-        (All-get_or (AgreesWith h) after w (opening 0) (omega (arith, long, same)) agree) of in
+        let first : get_or before w (initial_state 0) ≡ initial_state w = ap (λ l. get_or l w (initial_state 0)) is ∙ fresh_at workers w (initial_state 0) inside in
+        let theirs = own_entries workers w (get_or before w (initial_state 0)) (get_or after w (initial_state 0)) h first (worked.worked w (initial_state 0) (omega (arith, long)))
+        (All-get_or (AgreesWith h) after w (initial_state 0) (omega (arith, long, same)) agree) of in
         All-get_or (OfMine (IsOwn workers w) w) h i d below theirs refl
 
 -- no worker's ticket is missing among those that came back
@@ -111,6 +111,6 @@ complete workers before after is worked w inside =
     let long : length before ≡ workers = ap length is ∙ length_fresh workers in
     let same = worked.each in
     let there : w < length after = omega (arith, long, same) in
-    let first : get_or before w (opening 0) ≡ opening w = ap (λ l. get_or l w (opening 0)) is ∙ fresh_at workers w (opening 0) inside in
-    let u : Count = get_or after w (opening 0) in
-    (w, u, there, get_or_default after w u (opening 0) there, (worked.worked w (opening 0) (omega (arith, long))).same ∙ ap (λ (c : Count). c.worker) first)
+    let first : get_or before w (initial_state 0) ≡ initial_state w = ap (λ l. get_or l w (initial_state 0)) is ∙ fresh_at workers w (initial_state 0) inside in
+    let u : Count = get_or after w (initial_state 0) in
+    (w, u, there, get_or_default after w u (initial_state 0) there, (worked.worked w (initial_state 0) (omega (arith, long))).same ∙ ap (λ (c : Count). c.worker) first)

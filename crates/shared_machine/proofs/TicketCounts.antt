@@ -9,8 +9,8 @@ use Rattle.cil_model.specs.declared.events.Event.{Event}
 use Rattle.cil_model.specs.declared.limits.TheConstants.{MOST_THREADS}
 use Rattle.cil_model.specs.declared.reports.Report.{Report}
 use Rattle.shared_machine.specs.Codes.{add}
-use Rattle.shared_machine.specs.Histories.{IsSmall, add_if, counted, entry}
-use Rattle.shared_machine.specs.Worlds.{IfDid, IfNoMemory, added, added_times}
+use Rattle.shared_machine.specs.Histories.{IsSmall, add_if, count_in_history, entry}
+use Rattle.shared_machine.specs.Worlds.{IfDid, IfNoMemory, add_event, added_times}
 use Rattle.cil_model.specs.declared.events.Event.TheVariants.{Step}
 use Rattle.shared_machine.specs.declared.answer.Answer.{Answer}
 use Rattle.shared_machine.specs.declared.answer.Answer.TheVariants.{Did, NoMemory, Away}
@@ -20,11 +20,11 @@ use Rattle.shared_machine.specs.Work.{HasWorked, HaveWorked, IsEntryOf, IsOwn, i
 
 -- ---- one worker
 
-counted_append : (w c : ℕ) (h k : List Entry) → counted w c (h ++ k) ≡ counted w (counted w c h) k
+counted_append : (w c : ℕ) (h k : List Entry) → count_in_history w c (h ++ k) ≡ count_in_history w (count_in_history w c h) k
 counted_append w c [] k = refl
 counted_append w c (x ∷ h) k = counted_append w (add_if (nat_eq x.worker w) x c) h k
 
-counted_one : (w c : ℕ) (e : Event) (r : Report) → counted w c (entry w e r ∷ []) ≡ add c e r
+counted_one : (w c : ℕ) (e : Event) (r : Report) → count_in_history w c (entry w e r ∷ []) ≡ add c e r
 counted_one w c e r = ap (λ b. add_if b (entry w e r) c) (eq-eqb w w refl)
 
 pub worked_nothing : (workers : ℕ) (t : Count) → HasWorked workers t t
@@ -40,11 +40,11 @@ worked_both workers t u v first second = record {
   entries = first.entries ++ second.entries;
   own = All-append (IsEntryOf workers t.worker) first.entries second.entries first.own (subst (λ w. All (IsEntryOf workers w) second.entries) first.same second.own);
   same = second.same ∙ first.same;
-  count = second.count ∙ ap (λ w. counted w u.count second.entries) first.same ∙ ap (λ n. counted t.worker n second.entries) first.count
+  count = second.count ∙ ap (λ w. count_in_history w u.count second.entries) first.same ∙ ap (λ n. count_in_history t.worker n second.entries) first.count
       ∙ sym (counted_append t.worker t.count first.entries second.entries);
 }
 
-did : (workers : ℕ) (t u : Count) (e : Event) (r : Report) → u ≡ added t e r → IsSmall e → IsOwn workers t.worker e → HasWorked workers t u
+did : (workers : ℕ) (t u : Count) (e : Event) (r : Report) → u ≡ add_event t e r → IsSmall e → IsOwn workers t.worker e → HasWorked workers t u
 did workers t u e r is small own = record {
   entries = entry t.worker e r ∷ [];
   own = All-cons (IsEntryOf workers t.worker) (entry t.worker e r) [] (refl, small, own) (All-nil (IsEntryOf workers t.worker));
@@ -53,7 +53,7 @@ did workers t u e r is small own = record {
 }
 
 -- an event that `act` has answered
-pub worked_once : (workers : ℕ) (t u : Count) (x : Answer) (e : Event) → IfDid x (λ r. u ≡ added t e r) → IfNoMemory x (u ≡ t) → IsSmall e → IsOwn workers t.worker e
+pub worked_once : (workers : ℕ) (t u : Count) (x : Answer) (e : Event) → IfDid x (λ r. u ≡ add_event t e r) → IfNoMemory x (u ≡ t) → IsSmall e → IsOwn workers t.worker e
     → HasWorked workers t u
 worked_once workers t u (Did r) e counts same small own = did workers t u e r counts small own
 worked_once workers t u NoMemory e counts same small own = subst (λ (v : Count). HasWorked workers t v) (sym same) (worked_nothing workers t)
@@ -64,10 +64,10 @@ second_if (Did r) P Q have = tt
 second_if NoMemory P Q have = have.1
 second_if Away P Q have = have.1
 
--- an event that was done so many times
+-- an event that was done n times
 worked_more : (workers : ℕ) (t : Count) (n : ℕ) (e : Event) (r : Report) → IsSmall e → IsOwn workers t.worker e → HasWorked workers t (added_times t n e r)
 worked_more workers t zero e r small own = worked_nothing workers t
-worked_more workers t (suc n) e r small own = worked_both workers t (added t e r) (added_times t (suc n) e r) (did workers t (added t e r) e r refl small own) (worked_more workers (added t e r) n e r small own)
+worked_more workers t (suc n) e r small own = worked_both workers t (add_event t e r) (added_times t (suc n) e r) (did workers t (add_event t e r) e r refl small own) (worked_more workers (add_event t e r) n e r small own)
 
 pub worked_times : (workers : ℕ) (t u : Count) (n lent thread : ℕ) (r : Report) → lent ≡ thread → u ≡ added_times t n (Step lent) r → thread < MOST_THREADS → IsOwn workers t.worker (Step thread)
     → HasWorked workers t u

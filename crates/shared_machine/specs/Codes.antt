@@ -57,7 +57,7 @@ code e r = 1 + report_number r + 32 * event_number e
 abbrev pub add : ℕ → Event → Report → ℕ
 add count e r = 65536 * count + code e r
 
--- and after that event so many times
+-- and after that event n times
 abbrev pub add_times : ℕ → ℕ → Event → Report → ℕ
 add_times zero count e r = count
 add_times (suc n) count e r = add_times n (add count e r) e r

@@ -40,8 +40,8 @@ abbrev pub ticket_of : View → View
 ticket_of v = claim v.worker v.count
 
 -- both with a new count
-abbrev pub renewed : View → ℕ → View
-renewed v next = record { keeps = v.keeps; book = slice_set v.book v.worker next; claims = v.claims; worker = v.worker; count = next }
+abbrev pub renew_view : View → ℕ → View
+renew_view v next = record { keeps = v.keeps; book = slice_set v.book v.worker next; claims = v.claims; worker = v.worker; count = next }
 
 -- one more worker
 abbrev pub grown : View → View
@@ -62,9 +62,9 @@ pub record Kept (views : List View) : Type 0 where
 
 -- a step by which the book and its ticket have a new count: the old one was the same in both
 abbrev pub Renews : ℕ → Step ℕ → Me ℕ View → ℕ → Me ℕ View → Type 0
-Renews next st m r m' = (m' ≡ (renewed m.0 next, m.1)) × (m.0.keeps ≡ true → m.0.claims ≡ true → slice_get m.0.book m.0.worker ≡ Some m.0.count)
+Renews next st m r m' = (m' ≡ (renew_view m.0 next, m.1)) × (m.0.keeps ≡ true → m.0.claims ≡ true → slice_get m.0.book m.0.worker ≡ Some m.0.count)
 
--- a step that changes nothing, and tells the same
+-- a step that changes nothing, where the counts in the book and the ticket are the same
 abbrev pub Compares : Step ℕ → Me ℕ View → ℕ → Me ℕ View → Type 0
 Compares st m r m' = (m' ≡ m) × (m.0.keeps ≡ true → m.0.claims ≡ true → slice_get m.0.book m.0.worker ≡ Some m.0.count)
 

@@ -34,19 +34,19 @@ add_if true e count = add count e.event e.report
 add_if false e count = count
 
 -- the count of a worker's entries, from a count on
-abbrev pub counted : ℕ → ℕ → List Entry → ℕ
-counted w count [] = count
-counted w count (e ∷ es) = counted w (add_if (nat_eq e.worker w) e count) es
+abbrev pub count_in_history : ℕ → ℕ → List Entry → ℕ
+count_in_history w count [] = count
+count_in_history w count (e ∷ es) = count_in_history w (add_if (nat_eq e.worker w) e count) es
 
 -- the count of a worker's entries
 abbrev pub count_of : ℕ → List Entry → ℕ
-count_of w h = counted w 0 h
+count_of w h = count_in_history w 0 h
 
 -- an event of a thread whose number is below 256, as each number of a program's event is
 abbrev pub IsSmall : Event → Type 0
 IsSmall e = event_number e ≤ 512
 
--- each entry is of one of so many workers, and its event is such
+-- each entry is of one of that many workers, and its event is such an event
 abbrev pub AreOf : ℕ → List Entry → Type 0
 AreOf workers h = All (λ (e : Entry). (e.worker < workers) × IsSmall e.event) h
 

@@ -7,9 +7,9 @@ use Rattle.cil_model.specs.declared.events.Event.TheVariants.{Step, Ack, Gc}
 use Rattle.cil_model.specs.declared.limits.TheConstants.{MOST_THREADS}
 use Rattle.epoch_words.specs.Tokens.{EpochsValue, HeraldValue, SeatValue}
 use Rattle.interleaving_core.specs.Waits.{wait_at}
-use Rattle.interleaving_core.specs.simulation.MachineContents.{Content}
+use Rattle.interleaving_core.specs.simulation.MachineStates.{MachineState}
 use Rattle.interleaving_core.specs.simulation.threads_monitors.Threads.{is_live, is_live_at}
-use Rattle.shared_machine.specs.Histories.{IsSmall, counted}
+use Rattle.shared_machine.specs.Histories.{IsSmall, count_in_history}
 use Rattle.shared_machine.specs.declared.history.Entry.{Entry}
 use Rattle.shared_machine.specs.Counts.{Count}
 use Rattle.cil_model.specs.declared.stops.StopAt.{StopAt}
@@ -17,20 +17,20 @@ use Rattle.cil_model.specs.declared.stops.StopAt.TheVariants.{End, Deadlock}
 
 -- ---- whose events they are
 
--- of so many workers, each drives the threads whose numbers leave its own when they are divided by the number of workers
+-- of that many workers, each drives the threads whose numbers leave its own when they are divided by the number of workers
 abbrev pub is_driven_by : ℕ → ℕ → ℕ → Bool
 is_driven_by workers worker thread = nat_eq (thread % workers) worker
 
--- a thread that a machine can have and that one of so many workers drives
+-- a thread that a machine can have and that one of that many workers drives
 abbrev pub IsTheirs : ℕ → ℕ → ℕ → Type 0
 IsTheirs workers worker thread = (thread < MOST_THREADS) × (is_driven_by workers worker thread ≡ true)
 
 -- how many of the threads below a number are live and driven by one of this many workers
-abbrev pub served_below : Content → ℕ → ℕ → ℕ → ℕ
+abbrev pub served_below : MachineState → ℕ → ℕ → ℕ → ℕ
 served_below c workers worker zero = 0
 served_below c workers worker (suc n) = served_below c workers worker n + (if is_live_at c.threads n && is_driven_by workers worker n then 1 else 0)
 
--- what one of so many workers may do: steps and acknowledgements of the threads that it drives, and, as worker 0, events of the collector
+-- what one of that many workers may do: steps and acknowledgements of the threads that it drives, and, as worker 0, events of the collector
 abbrev pub IsOwn : ℕ → ℕ → Event → Type 0
 IsOwn workers worker (Step thread) = IsTheirs workers worker thread
 IsOwn workers worker (Ack thread) = IsTheirs workers worker thread
@@ -42,16 +42,16 @@ IsOwnOf workers e = IsOwn workers e.worker e.event
 
 -- ---- what a ticket has counted of them
 
--- it is an entry of this worker, one of so many, for an event of its own
+-- it is an entry of this worker, one of that many, for an event of its own
 abbrev pub IsEntryOf : ℕ → ℕ → Entry → Type 0
 IsEntryOf workers worker e = (e.worker ≡ worker) × IsSmall e.event × IsOwn workers worker e.event
 
--- one of so many workers has done events of its own, which its ticket has counted
+-- one of that many workers has done events of its own, which its ticket has counted
 pub record HasWorked (workers : ℕ) (before after : Count) : Type 0 where
   pub entries : List Entry
   pub own : All (IsEntryOf workers before.worker) entries
   pub same : after.worker ≡ before.worker
-  pub count : after.count ≡ counted before.worker before.count entries
+  pub count : after.count ≡ count_in_history before.worker before.count entries
 
 -- so has each of these workers, whose tickets are in the same order as before
 pub record HaveWorked (workers : ℕ) (before after : List Count) : Type 0 where
@@ -79,14 +79,15 @@ IsSeatHere epochs seat = IfSome seat (IsSeatOf epochs)
 -- ---- the end of a run
 
 -- a thread is not live, or its next step is blocked
-abbrev pub IsHeldUp : Content → ℕ → Type 0
+abbrev pub IsHeldUp : MachineState → ℕ → Type 0
 IsHeldUp c thread = is_live_at c.threads thread ≡ true → IsSome (wait_at c thread)
 
--- so is each thread: none goes on
-abbrev pub IsDeadlocked : Content → Type 0
+-- so is each thread: none continues
+abbrev pub IsDeadlocked : MachineState → Type 0
 IsDeadlocked c = (thread : ℕ) → IsHeldUp c thread
 
--- how a run by workers leaves the machine, with the stop mark: no thread is live, or, where that was asked for, the stop mark is set and no live thread goes on
-abbrev pub HasEnded : StopAt → Content → Bool → Type 0
+-- how a run by workers leaves the machine, with the stop mark: no thread is live, or, where that was asked for, the stop mark is set and no live
+-- thread continues
+abbrev pub HasEnded : StopAt → MachineState → Bool → Type 0
 HasEnded End c stopped = count_by is_live c.threads ≡ 0
 HasEnded Deadlock c stopped = (count_by is_live c.threads ≡ 0) ⊎ ((stopped ≡ true) × IsDeadlocked c)

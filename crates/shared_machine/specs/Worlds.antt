@@ -12,11 +12,11 @@ use Rattle.interleaving_core.specs.Loans.{Begins, IsAtOrigin, Lent}
 use Rattle.interleaving_core.specs.simulation.threads_monitors.Threads.{is_live_at}
 use Rattle.object_memory.specs.Objects.{no_objects}
 use Rattle.interleaving_core.specs.Histories.{DoesMore}
-use Rattle.interleaving_core.specs.simulation.MachineContents.{Content}
+use Rattle.interleaving_core.specs.simulation.MachineStates.{MachineState}
 use Rattle.interleaving_core.specs.simulation.collector.Phases.{no_progress}
 use Rattle.interleaving_core.specs.simulation.phase_handshake.Handshakes.{first_handshakes}
-use Rattle.interleaving_core.specs.simulation.Runs.{AreTurns, FollowsReference}
-use Rattle.interleaving_core.specs.simulation.Turns.{IsTurn}
+use Rattle.interleaving_core.specs.simulation.Runs.{AreTransitions, FollowsReference}
+use Rattle.interleaving_core.specs.simulation.Transitions.{IsTransition}
 use Rattle.shared_machine.specs.Counts.{Count}
 use Rattle.shared_machine.specs.Codes.{add, add_times}
 use Rattle.shared_machine.specs.Histories.{AreOf, entry, events_of, reports_of, count_of}
@@ -25,8 +25,8 @@ use Rattle.shared_machine.specs.declared.answer.Answer.TheVariants.{Did, NoMemor
 use Rattle.shared_machine.specs.declared.history.Entry.{Entry}
 
 -- the content of no machine
-abbrev pub no_content : Content
-no_content = record {
+abbrev pub no_machine_state : MachineState
+no_machine_state = record {
   tree = record { externs = []; assembly = None; classes = [] };
   limits = record { words = 0; max_words = 0; budget = 0; depth = 0 };
   threads = [];
@@ -39,49 +39,49 @@ no_content = record {
 
 -- the machine, the history, the book of the workers' counts, of each thread that may be whether it is lent, and the stop mark
 pub record Shown : Type 0 where
-  pub core : Content
+  pub core : MachineState
   pub history : List Entry
   pub book : List ℕ
   pub lent : List Bool
   pub stopped : Bool
 
--- the turns over the history's events go from the opening content to the machine's with the history's reports, each entry is of one of
+-- the transitions over the history's events lead from the initial machine state to the machine's with the history's reports, each entry is of one of
 -- the workers, and the book has the count of each worker's entries
-pub record IsSound (opening : Content) (workers : ℕ) (core : Content) (history : List Entry) (book : List ℕ) : Type 0 where
-  pub turns : AreTurns opening (events_of history) core (reports_of history)
+pub record IsSound (initial_state : MachineState) (workers : ℕ) (core : MachineState) (history : List Entry) (book : List ℕ) : Type 0 where
+  pub transitions : AreTransitions initial_state (events_of history) core (reports_of history)
   pub theirs : AreOf workers history
   pub each : length book ≡ workers
   pub counts : (w n : ℕ) → slice_get book w ≡ Some n → n ≡ count_of w history
 
--- there is a place for the memory of a loan for each thread that may be; what is there has a share of the program
-pub record HasRooms (opening : Content) (rooms : List (Option Tree)) : Type 0 where
+-- the list has an item for the memory of a loan of each possible thread; each loan memory in it has a share of the program
+pub record HasRooms (initial_state : MachineState) (rooms : List (Option Tree)) : Type 0 where
   pub each : length rooms ≡ MOST_THREADS
-  pub theirs : (t : ℕ) (tree : Tree) → slice_get rooms t ≡ Some (Some tree) → tree ≡ opening.tree
+  pub theirs : (t : ℕ) (tree : Tree) → slice_get rooms t ≡ Some (Some tree) → tree ≡ initial_state.tree
 
 -- a thread is lent while the memory of its loan is elsewhere
 abbrev pub lent_of : List (Option Tree) → List Bool
 lent_of rooms = map is_none rooms
 
 -- if there is a bound, no more bytes are printed, or no more than were there at the beginning
-abbrev pub IsPrintedWithin : Option ℕ → Content → Content → Type 0
-IsPrintedWithin most opening core = IfSome most (λ bytes. (length core.printed ≤ bytes) ⊎ (length core.printed ≤ length opening.printed))
+abbrev pub IsPrintedWithin : Option ℕ → MachineState → MachineState → Type 0
+IsPrintedWithin most initial_state core = IfSome most (λ bytes. (length core.printed ≤ bytes) ⊎ (length core.printed ≤ length initial_state.printed))
 
 -- all of these, with the bound that is kept
-pub record IsWorld (opening : Content) (workers : ℕ) (most kept : Option ℕ) (core : Content) (history : List Entry) (book : List ℕ) (rooms : List (Option Tree)) : Type 0 where
-  pub sound : IsSound opening workers core history book
-  pub homes : HasRooms opening rooms
+pub record IsWorld (initial_state : MachineState) (workers : ℕ) (most kept : Option ℕ) (core : MachineState) (history : List Entry) (book : List ℕ) (rooms : List (Option Tree)) : Type 0 where
+  pub sound : IsSound initial_state workers core history book
+  pub homes : HasRooms initial_state rooms
   pub bound : kept ≡ most
-  pub printed : IsPrintedWithin most opening core
+  pub printed : IsPrintedWithin most initial_state core
 
--- a machine has made these turns, one report an event; the reference machine follows them; whatever the machine had done before, it has then done these
--- events too; program and limits are the same
-pub record HasRun (opening : Content) (events : List Event) (reports : List Report) (after : Content) : Type 0 where
+-- a machine has made these transitions, a report for each event; the reference machine follows them; whatever the machine had done before, it has
+-- then done these events too; program and limits are the same
+pub record HasRun (initial_state : MachineState) (events : List Event) (reports : List Report) (after : MachineState) : Type 0 where
   pub each : length reports ≡ length events
-  pub turns : AreTurns opening events after reports
-  pub follows : FollowsReference opening after (zip events reports)
-  pub does : DoesMore opening events reports after
-  pub program : after.tree ≡ opening.tree
-  pub limits : after.limits ≡ opening.limits
+  pub transitions : AreTransitions initial_state events after reports
+  pub follows : FollowsReference initial_state after (zip events reports)
+  pub does : DoesMore initial_state events reports after
+  pub program : after.tree ≡ initial_state.tree
+  pub limits : after.limits ≡ initial_state.limits
 
 -- what is true of the report that was answered
 abbrev pub IfDid : Answer → (Report → Type 0) → Type 0
@@ -96,11 +96,11 @@ IfNoMemory NoMemory P = P
 IfNoMemory Away P = P
 
 -- the ticket after an event
-abbrev pub added : Count → Event → Report → Count
-added t e r = record { worker = t.worker; count = add t.count e r }
+abbrev pub add_event : Count → Event → Report → Count
+add_event t e r = record { worker = t.worker; count = add t.count e r }
 
--- one entry more, with the machine at this content: the ticket's place in the book has the entry, and nothing else changes
-abbrev pub with_entry : Shown → Count → Event → Report → Content → Shown
+-- one entry more, with the machine in this state: the count of the ticket's worker in the book includes the entry, and nothing else changes
+abbrev pub with_entry : Shown → Count → Event → Report → MachineState → Shown
 with_entry world t e r core = record {
   core = core;
   history = world.history ++ entry t.worker e r ∷ [];
@@ -111,7 +111,7 @@ with_entry world t e r core = record {
 
 -- an event of a ticket's worker was done, and is recorded and counted with its report
 pub record IsDid (old : Shown) (t : Count) (e : Event) (new : Shown) (r : Report) : Type 0 where
-  pub turn : IsTurn old.core e (new.core, r)
+  pub transition : IsTransition old.core e (new.core, r)
   pub recorded : new ≡ with_entry old t e r new.core
 
 -- ---- lending
@@ -141,17 +141,17 @@ pub record IsLentOut (old : Shown) (t : ℕ) (l : Lent) (new : Shown) : Type 0 w
 abbrev pub IsKept : Shown → Lent → Type 0
 IsKept world l = (is_lent_in world.lent l.thread ≡ true) × IsAtOrigin world.core l
 
--- the ticket after an event so many times
+-- the ticket after an event n times
 abbrev pub added_times : Count → ℕ → Event → Report → Count
 added_times t n e r = record { worker = t.worker; count = add_times n t.count e r }
 
--- the book once the ticket's worker has an event so many times more
+-- the book after the ticket's worker did an event n more times
 abbrev pub book_times : List ℕ → Count → ℕ → Event → Report → List ℕ
 book_times book t zero e r = book
 book_times book t (suc n) e r = slice_set book t.worker (add_times (suc n) t.count e r)
 
--- so many entries more, with the machine at this content, and the thread is no longer lent
-abbrev pub with_entries : Shown → Count → ℕ → (thread : ℕ) → Content → Shown
+-- n entries more, with the machine in this state, and the thread is no longer lent
+abbrev pub with_entries : Shown → Count → ℕ → (thread : ℕ) → MachineState → Shown
 with_entries world t n thread core = record {
   core = core;
   history = world.history ++ replicate n (entry t.worker (Step thread) Ran);
@@ -160,11 +160,11 @@ with_entries world t n thread core = record {
   stopped = world.stopped;
 }
 
--- a loan came back: its instructions are as many steps of its thread, each of which reports that it ran, and is recorded and counted
+-- a loan came back: each of its instructions is a step of its thread, which reports that it ran, and is recorded and counted
 pub record IsCheckedIn (old : Shown) (t : Count) (l : Lent) (n : ℕ) (new : Shown) (u : Count) : Type 0 where
   pub all : n ≡ l.done
   pub kept : IsKept old l
-  pub turns : AreTurns old.core (replicate n (Step l.thread)) new.core (replicate n Ran)
+  pub transitions : AreTransitions old.core (replicate n (Step l.thread)) new.core (replicate n Ran)
   pub recorded : new ≡ with_entries old t n l.thread new.core
   pub counted : u ≡ added_times t n (Step l.thread) Ran
 

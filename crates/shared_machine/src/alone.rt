@@ -10,7 +10,7 @@ use crate::answer::Answer;
 use crate::counts::book::{Blank, Ticket};
 use crate::outcome::Outcome;
 use crate::shared::Shared;
-use crate::world::Opening;
+use crate::world::Initial;
 use cil_model::memory::NoMemory;
 use interleaving_core::Machine;
 use schedule_text::Item;
@@ -20,7 +20,7 @@ use std::sync::Wait;
 /// Does an item's event as often as it says, each time by `act` of the ticket, and returns the ticket; as an error where it runs out of
 /// memory before an event.
 #[inline(always)]
-fn act_item<M: Opening, R: Wait>(
+fn act_item<M: Initial, R: Wait>(
     rt: &R,
     alloc: Global,
     shared: &Shared<M>,
@@ -41,7 +41,7 @@ fn act_item<M: Opening, R: Wait>(
 }
 
 /// Does so with each item, in order, by a ticket that has counted nothing yet.
-fn act_items<M: Opening, R: Wait>(
+fn act_items<M: Initial, R: Wait>(
     rt: &R,
     alloc: Global,
     shared: &Shared<M>,
@@ -58,7 +58,7 @@ fn act_items<M: Opening, R: Wait>(
 }
 
 /// Does so, and returns the ticket with whether it ran out of memory before an event.
-fn act_while_memory_lasts<M: Opening, R: Wait>(
+fn act_while_memory_lasts<M: Initial, R: Wait>(
     rt: &R,
     alloc: Global,
     shared: &Shared<M>,
@@ -75,15 +75,15 @@ fn act_while_memory_lasts<M: Opening, R: Wait>(
     }
 }
 
-/// One worker does the events that these items stand for, in order, each by `act` of its ticket, and the run ends. The history has these
-/// events, each with its report, and the machine is at what its turns over them make of the initial state.
+/// One worker does the events that these items represent, in order, each by `act` of its ticket, and the run ends. The history has these
+/// events, each with its report, and the machine is in the state that its transitions over them make of the initial state.
 ///
 /// Where memory runs out for an event or its entry, the run is stopped before that event: the history has those before it. So it is before an
 /// event that would leave more than `most_printed` bytes on the console.
 ///
 /// `blank` is the book of counts that `M` names, the machine holds what `M` names, and `M` names one worker and this bound. Out of memory is the
 /// only error, for the lock; the machine is dropped then.
-pub fn run_alone<M: Opening, R: Wait>(
+pub fn run_alone<M: Initial, R: Wait>(
     rt: &R,
     alloc: Global,
     blank: Blank,
@@ -92,12 +92,12 @@ pub fn run_alone<M: Opening, R: Wait>(
     most_printed: Option<u32>,
 ) -> Result<Outcome, NoMemory>
     requires book { blank ≡ M.table }
-    requires core { core ≡ M.opening }
+    requires core { core ≡ M.initial_state }
     requires printed { most_printed ≡ M.most_printed }
     requires alone { M.workers ≡ 1 }
     ensures events { IfOk result (λ outcome. AreDoneOf (events_in items.now) (events_of outcome.history.entries) outcome.is_out_of_memory) }
-    ensures ran { IfOk result (λ outcome. HasRun M.opening (events_of outcome.history.entries) (reports_of outcome.history.entries) outcome.machine) }
-    ensures printed { IfOk result (λ outcome. IsPrintedWithin most_printed M.opening outcome.machine) }
+    ensures ran { IfOk result (λ outcome. HasRun M.initial_state (events_of outcome.history.entries) (reports_of outcome.history.entries) outcome.machine) }
+    ensures printed { IfOk result (λ outcome. IsPrintedWithin most_printed M.initial_state outcome.machine) }
 {
     let (shared, mut tickets) = Shared::<M>::new(alloc, blank, core, 1, most_printed)?;
     let Some(ticket) = tickets.pop() else {

@@ -1,4 +1,4 @@
-//! What an event under the lock is answered.
+//! The result of an event under the lock.
 
 use cil_model::reports::Report;
 

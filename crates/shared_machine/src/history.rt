@@ -24,7 +24,7 @@ pub struct Entry {
     pub report: Report,
 }
 
-/// An entry, so many times in a row.
+/// An entry, and how many times it occurs in a row.
 #[derive(Clone, Copy)]
 pub struct Run {
     /// The entry.
@@ -35,7 +35,7 @@ pub struct Run {
 
 /// All entries, the oldest first. To contracts it is the plain list of them, and whether there is room for one more.
 ///
-/// Equal entries in a row take the place of one.
+/// Equal entries in a row take the space of one.
 #[derive(Drop)]
 pub struct History {
     runs: Vec<Run>,
@@ -60,7 +60,7 @@ impl History {
         }
     }
 
-    /// Takes the memory that one entry more may need. Only want of memory is an error. The entries stay as they were in any case.
+    /// Takes the memory that one entry more may need. The only error is out of memory. The entries stay as they were in any case.
     pub fn make_room(&mut self) -> Result<(), AllocError>
         ensures entries { self.new.entries ≡ self.old.entries }
         ensures ready { OnOk result (self.new.ready ≡ true) }
@@ -81,7 +81,7 @@ impl History {
         }
     }
 
-    /// Adds an entry at the end so many times, for which there has to be room. The entries before it stay.
+    /// Adds an entry at the end `times` times, for which there has to be room. The entries before it stay.
     pub fn add_times(&mut self, entry: Entry, times: u32)
         requires room { self.old.ready ≡ true }
         requires some { 0 < times }
@@ -110,7 +110,7 @@ pub fn counts_fix_events()
     ensures { (worker : ℕ) (one other : List Entry) → Fixes worker one other }
 {}
 
-/// Whether the entries are one. Where it is true, contracts can put one in the other's place.
+/// Whether the entries are equal. Where they are, contracts can replace one by the other.
 fn is_same(one: &Entry, other: &Entry) -> bool
     ensures { result ≡ true → one.now ≡ other.now }
 {
@@ -138,7 +138,7 @@ fn can_be_longer(run: &Run, entry: &Entry) -> bool
     run.times < MOST_TIMES && is_same(&run.entry, entry)
 }
 
-/// Makes the last run longer by one, where it is one of this entry. Else it answers false, and the runs stay.
+/// Makes the last run longer by one, where it is one of this entry. Else it returns false, and the runs stay.
 fn lengthen(runs: &mut Vec<Run>, entry: &Entry) -> bool
     ensures longer { result ≡ true → plain runs.new.items ≡ plain runs.old.items ++ entry.now ∷ [] }
     ensures same { result ≡ false → runs.new ≡ runs.old }
@@ -152,14 +152,14 @@ fn lengthen(runs: &mut Vec<Run>, entry: &Entry) -> bool
     true
 }
 
-/// Whether a run is one of this entry, and can be longer by so many.
+/// Whether a run is one of this entry, and can be longer by that number.
 fn can_be_longer_by(run: &Run, entry: &Entry, times: u64) -> bool
     ensures { result ≡ true → (run.now.entry ≡ entry.now) × (run.now.times + times ≤ MOST_TIMES) }
 {
     times <= MOST_TIMES - run.times && is_same(&run.entry, entry)
 }
 
-/// Makes the last run longer by so many, where it is one of this entry and can be. Else it answers false, and the runs stay.
+/// Makes the last run longer by that number, where it is one of this entry and can be. Else it returns false, and the runs stay.
 fn lengthen_by(runs: &mut Vec<Run>, entry: &Entry, times: u64) -> bool
     ensures longer { result ≡ true → plain runs.new.items ≡ plain runs.old.items ++ replicate times entry.now }
     ensures same { result ≡ false → runs.new ≡ runs.old }

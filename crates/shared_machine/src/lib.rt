@@ -28,4 +28,4 @@ pub use shared::{MOST_WORKERS, Shared, Unfinished};
 pub use together::run_together;
 pub use workers::crew::run_workers;
 pub use workers::gate::{Gate, OpenGate};
-pub use world::{Lent, Opening, World, check_in, lend, perform, run_local, stop};
+pub use world::{Initial, Lent, World, check_in, lend, perform, run_local, stop};

@@ -29,7 +29,7 @@ impl Outcome {
         self.machine.console()
     }
 
-    /// How each thread that was started has ended, in the order of their numbers: none where it is live. Only want of memory is an error.
+    /// How each thread that was started has ended, in the order of their numbers: none where it is live. The only error is out of memory.
     pub fn ends(&self, alloc: Global) -> Result<Vec<Option<End>>, AllocError>
         ensures { IfOk result (λ ends. ends.items ≡ map end_of self.now.machine.threads) }
     {

@@ -23,7 +23,7 @@ pub fn write_record(alloc: Global, history: &History) -> Result<String, Schedule
     write_schedule(alloc, items.as_slice())
 }
 
-/// The events of a history, in order, as an item for each of its runs. Only want of memory is an error.
+/// The events of a history, in order, as an item for each of its runs. The only error is out of memory.
 fn items_of(alloc: Global, history: &History) -> Result<Vec<Item>, AllocError>
     ensures { IfOk result (λ items. events_in items.items ≡ events_of history.now.entries) }
 {

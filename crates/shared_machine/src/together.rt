@@ -1,4 +1,4 @@
-//! A run by workers, from the opening to the end.
+//! A run by workers, from the initial state to the end.
 
 ghost use Rattle.std.specs.Prelude.{◌≡◌, ◌≤◌, ◌↔◌, All, false, IfOk, IsTrue, true};
 ghost use Rattle.shared_machine.specs.Histories.{events_of, reports_of};
@@ -12,7 +12,7 @@ use crate::shared::Shared;
 use crate::workers::crew::run_workers;
 use crate::workers::deadlock::is_deadlocked;
 use crate::workers::gate::Gate;
-use crate::world::Opening;
+use crate::world::Initial;
 use cil_model::memory::NoMemory;
 use cil_model::stops::StopAt;
 use epoch_words::Epochs;
@@ -22,19 +22,19 @@ use std::marker::{Send, Sync};
 use std::sync::Wait;
 use std::thread::Threads;
 
-/// So many workers, 1 to 16, run a machine to its end or to a deadlock, as `run_workers` does, and the run ends.
+/// That many workers, 1 to 16, run a machine to its end or to a deadlock, as `run_workers` does, and the run ends.
 ///
-/// Whatever the order in which they got the lock, the history is one that a single thread could have made: the machine is at what its turns
-/// over the history's events make of the opening content, with the history's reports, and the reference machine follows them. Each entry is an
+/// Whatever the order in which they got the lock, the history is one that a single thread could have made: the machine is in the state that its transitions
+/// over the history's events make of the initial one, with the history's reports, and the reference machine follows them. Each entry is an
 /// event of its worker's own, of a thread that a machine can have. With `StopAt::End` no thread is live. With `StopAt::Deadlock` threads may
 /// be: then each of them waits for a monitor that another thread holds or for the end of a live thread, and the run has the stop mark. Where
 /// memory ran out, for an event or for a worker's thread, and had the workers stop before such an end, the outcome says so. A run that was
-/// short of memory, and came to its end all the same, has the stop mark. An event that would leave more than `most_printed` bytes on the console is
+/// short of memory, and reached its end all the same, has the stop mark. An event that would leave more than `most_printed` bytes on the console is
 /// not done, and stops the run as running out of memory does.
 ///
 /// `blank` is the book of counts that `M` names, the machine holds what `M` names, and `M` names this number of workers and this bound. Out of
 /// memory is the only error, before the first event. The machine is dropped then.
-pub fn run_together<M: Opening + Send + Sync, R: Threads + Wait + Sync, G: Gate + Sync>(
+pub fn run_together<M: Initial + Send + Sync, R: Threads + Wait + Sync, G: Gate + Sync>(
     rt: &R,
     alloc: Global,
     blank: Blank,
@@ -45,11 +45,11 @@ pub fn run_together<M: Opening + Send + Sync, R: Threads + Wait + Sync, G: Gate 
     gate: &G,
 ) -> Result<Outcome, NoMemory>
     requires book { blank ≡ M.table }
-    requires core { core ≡ M.opening }
+    requires core { core ≡ M.initial_state }
     requires printed { most_printed ≡ M.most_printed }
     requires workers { (1 ≤ workers) × (workers ≤ MOST_WORKERS) × (workers ≡ M.workers) }
-    ensures ran { IfOk result (λ outcome. HasRun M.opening (events_of outcome.history.entries) (reports_of outcome.history.entries) outcome.machine) }
-    ensures printed { IfOk result (λ outcome. IsPrintedWithin most_printed M.opening outcome.machine) }
+    ensures ran { IfOk result (λ outcome. HasRun M.initial_state (events_of outcome.history.entries) (reports_of outcome.history.entries) outcome.machine) }
+    ensures printed { IfOk result (λ outcome. IsPrintedWithin most_printed M.initial_state outcome.machine) }
     ensures own { IfOk result (λ outcome. All (IsOwnOf workers) outcome.history.entries) }
     ensures ended { IfOk result (λ outcome. outcome.is_out_of_memory ≡ false → HasEnded stop_at outcome.machine outcome.stopped) }
 {

@@ -2,16 +2,16 @@
 
 ghost use Rattle.std.specs.Prelude.{◌≡◌, ◌++◌, ◌↔◌, ◌<◌, ◌⊎◌, IfErr, IfOk, IfSome, None, ℕ, replicate, [], ◌∷◌, Some, length, slice_get, slice_set, true, false, All};
 ghost use Rattle.interleaving_core.specs.Histories.{DoesMore};
-ghost use Rattle.interleaving_core.specs.simulation.MachineContents.{Content};
+ghost use Rattle.interleaving_core.specs.simulation.MachineStates.{MachineState};
 ghost use Rattle.interleaving_core.specs.simulation.Runs.{FollowsReference};
-ghost use Rattle.interleaving_core.specs.simulation.Turns.{IsTurn};
+ghost use Rattle.interleaving_core.specs.simulation.Transitions.{IsTransition};
 ghost use Rattle.interleaving_core.specs.Loans.{IsAtOrigin, IsLent, RanLocally};
 ghost use Rattle.shared_machine.specs.Codes.{add, add_times};
 ghost use Rattle.shared_machine.specs.Histories.{AreOf, IsSmall, entry, events_of, reports_of};
 ghost use Rattle.cil_model.specs.declared.events.Event.TheVariants.{Step as StepOf};
 ghost use Rattle.cil_model.specs.declared.reports.Report.{Report as AnyReport};
 ghost use Rattle.cil_model.specs.declared.reports.Report.TheVariants.{Ran as RanOf};
-ghost use Rattle.shared_machine.specs.Worlds.{AgreesWith, CannotLend, HasRooms, HasRun, IfDid, IfNoMemory, IsCheckedIn, IsDid, IsIn, IsKept, IsLentOut, IsPrintedWithin, IsSound, added, added_times, book_times, is_away, is_lent_in, lent_of};
+ghost use Rattle.shared_machine.specs.Worlds.{AgreesWith, CannotLend, HasRooms, HasRun, IfDid, IfNoMemory, IsCheckedIn, IsDid, IsIn, IsKept, IsLentOut, IsPrintedWithin, IsSound, add_event, added_times, book_times, is_away, is_lent_in, lent_of};
 ghost use Rattle.shared_machine.specs.declared.answer.Answer.TheVariants.{Away};
 
 use crate::answer::Answer;
@@ -29,22 +29,22 @@ use std::marker::{Brand, Model, PhantomData};
 
 /// Names a shared machine: what it held when it was opened, how many workers it has, how many bytes it may print, if there is a bound, and its book
 /// of counts. Who opens it picks all four, at `Brand`.
-pub trait Opening: Naming {
+pub trait Initial: Naming {
     ghost use Rattle.std.specs.Prelude.{ℕ, Option};
-    ghost use Rattle.interleaving_core.specs.simulation.MachineContents.{Content};
+    ghost use Rattle.interleaving_core.specs.simulation.MachineStates.{MachineState};
 
-    ghost opening: { Content };
+    ghost initial_state: { MachineState };
 
     ghost workers: { ℕ };
 
     ghost most_printed: { Option ℕ };
 }
 
-impl Opening for Brand {
+impl Initial for Brand {
     ghost use Rattle.std.specs.Prelude.{None};
-    ghost use Rattle.shared_machine.specs.Worlds.{no_content};
+    ghost use Rattle.shared_machine.specs.Worlds.{no_machine_state};
 
-    ghost opening = { no_content };
+    ghost initial_state = { no_machine_state };
 
     ghost workers = { 0 };
 
@@ -53,10 +53,10 @@ impl Opening for Brand {
 
 /// The machine, its history, the count of each worker, which threads are lent, and a stop mark. To contracts it is these five.
 ///
-/// Whenever the lock is free, the machine is at what its turns over the history's events make of the opening content, with the history's
+/// Whenever the lock is free, the machine is in the state that its transitions over the history's events make of the initial one, with the history's
 /// reports, each entry is of one of the workers, and each worker's count is that of its entries. If there is a bound on what is printed, no more
 /// bytes are printed. Nothing outside this crate can change a part of it alone.
-pub struct World<M: Opening> {
+pub struct World<M: Initial> {
     core: Machine,
     history: History,
     book: Book<M>,
@@ -65,8 +65,8 @@ pub struct World<M: Opening> {
     most_printed: Option<u32>,
 }
 
-/// Each part gives back its own.
-impl<M: Opening> Drop for World<M> {
+/// Each part is dropped.
+impl<M: Initial> Drop for World<M> {
     fn drop(self) {
         let World {
             core: _core,
@@ -79,22 +79,22 @@ impl<M: Opening> Drop for World<M> {
     }
 }
 
-impl<M: Opening> Model for World<M> {
+impl<M: Initial> Model for World<M> {
     ghost use Rattle.shared_machine.specs.Worlds.{IsWorld, Shown, lent_of};
 
     ghost Value = { Shown };
 
     ghost view = { λ w. record { core = w.core; history = w.history.entries; book = w.book; lent = lent_of w.rooms.items; stopped = w.stopped } };
 
-    ghost invariant = { λ w. IsWorld M.opening M.workers M.most_printed w.most_printed w.core w.history.entries w.book w.rooms.items };
+    ghost invariant = { λ w. IsWorld M.initial_state M.workers M.most_printed w.most_printed w.core w.history.entries w.book w.rooms.items };
 }
 
-/// Gives the ticket and its worker's place in the book the count after this entry.
-fn note<N: Next, M: Opening>(book: &mut Book<M>, ticket: &mut Ticket<M>, entry: Entry)
+/// Sets the count after this entry in the ticket and, for its worker, in the book.
+fn note<N: Next, M: Initial>(book: &mut Book<M>, ticket: &mut Ticket<M>, entry: Entry)
     requires { N.next ≡ add ticket.old.count entry.event entry.report }
     ensures agreed { slice_get book.old ticket.old.worker ≡ Some ticket.old.count }
     ensures book { book.new ≡ slice_set book.old ticket.old.worker (add ticket.old.count entry.event entry.report) }
-    ensures ticket { ticket.new ≡ added ticket.old entry.event entry.report }
+    ensures ticket { ticket.new ≡ add_event ticket.old entry.event entry.report }
 {
     book.renew::<N>(ticket)
 }
@@ -131,8 +131,8 @@ fn is_away(rooms: &[Option<LoanRoom>], event: Event) -> bool
 
 /// Whether a machine may do an event. It may not if there is a bound on what is printed and the event would print beyond it.
 fn is_print_within(core: &Machine, most_printed: Option<u32>, event: Event) -> bool
-    ensures { result ≡ true → (opening : Content) (after : Content × AnyReport) → IsTurn core.now event after
-        → IsPrintedWithin most_printed opening core.now → IsPrintedWithin most_printed opening after.0 }
+    ensures { result ≡ true → (initial_state : MachineState) (after : MachineState × AnyReport) → IsTransition core.now event after
+        → IsPrintedWithin most_printed initial_state core.now → IsPrintedWithin most_printed initial_state after.0 }
 {
     let Some(most) = most_printed else {
         return true;
@@ -140,17 +140,18 @@ fn is_print_within(core: &Machine, most_printed: Option<u32>, event: Event) -> b
     core.print_length(event) <= (most as usize).saturating_sub(core.console().len())
 }
 
-/// Does an event for the ticket's worker, and answers the machine's report. It waits for nobody.
+/// Does an event for the ticket's worker, and returns the machine's report. It waits for nobody.
 ///
-/// The reference machine does the same, with a birth refused exactly where it exceeds the room. Whatever the machine has done since it was made, it has then done
-/// this event too: no cycle of the collector had more working events than its bound, and where this event ends a cycle, no more words are in use than are owed.
+/// The reference machine does the same, with a birth refused exactly where it exceeds the room. Whatever the machine has done since it was made, it
+/// has then done this event too: no cycle of the collector had more working events than its bound, and where this event ends a cycle, no more words
+/// are in use than are owed.
 ///
 /// The history has one entry more, the worker's count in the book and the ticket has that entry, and the stop mark stays as it was.
 /// Running out of memory, for the entry or for what the event prints or starts, changes nothing. Neither does an event that would print beyond the
-/// bound, which is answered `NoMemory` too, nor a step or an acknowledgement of a thread that is lent, which is answered first.
+/// bound, whose result is `NoMemory` too, nor a step or an acknowledgement of a thread that is lent, which is checked first.
 // A call on the way of an event is dear: what it saves on the stack has to be written before the lock is given back.
 #[inline(always)]
-pub fn perform<M: Opening>(
+pub fn perform<M: Initial>(
     world: &mut World<M>,
     alloc: Global,
     ticket: &mut Ticket<M>,
@@ -159,7 +160,7 @@ pub fn perform<M: Opening>(
     ensures did { IfDid result (IsDid world.old ticket.old event world.new) }
     ensures follows { IfDid result (λ report. FollowsReference world.old.core world.new.core ((event, report) ∷ [])) }
     ensures does { IfDid result (λ report. DoesMore world.old.core (event ∷ []) (report ∷ []) world.new.core) }
-    ensures counted { IfDid result (λ report. ticket.new ≡ added ticket.old event report) }
+    ensures counted { IfDid result (λ report. ticket.new ≡ add_event ticket.old event report) }
     ensures same { IfNoMemory result ((world.new ≡ world.old) × (ticket.new ≡ ticket.old)) }
     ensures away { (result ≡ Away) ↔ (is_away world.old.lent event ≡ true) }
     ensures small { IsSmall event }
@@ -198,19 +199,19 @@ pub fn perform<M: Opening>(
 }
 
 /// A thread's top frame on loan from a shared machine, and the local instructions that were done on it since.
-pub struct Lent<M: Opening> {
+pub struct Lent<M: Initial> {
     loan: Loan,
     of: PhantomData<M>,
 }
 
 /// The loan gives back its own.
-impl<M: Opening> Drop for Lent<M> {
+impl<M: Initial> Drop for Lent<M> {
     fn drop(self) {
         let Lent { loan: _loan, of: _ } = self;
     }
 }
 
-impl<M: Opening> Model for Lent<M> {
+impl<M: Initial> Model for Lent<M> {
     ghost use Rattle.std.specs.Prelude.{◌≡◌};
     ghost use Rattle.interleaving_core.specs.Loans.{Lent as LoanShown};
 
@@ -218,10 +219,10 @@ impl<M: Opening> Model for Lent<M> {
 
     ghost view = { λ l. l.loan };
 
-    ghost invariant = { λ l. l.loan.tree ≡ M.opening.tree };
+    ghost invariant = { λ l. l.loan.tree ≡ M.initial_state.tree };
 }
 
-impl<M: Opening> Lent<M> {
+impl<M: Initial> Lent<M> {
     /// What holds of it. It does nothing; its contract says so.
     pub fn laws(&self)
         ensures { IsLent self.now }
@@ -232,7 +233,7 @@ impl<M: Opening> Lent<M> {
     /// The loan itself.
     fn into_loan(self) -> Loan
         ensures loan { result ≡ self }
-        ensures tree { result.tree ≡ M.opening.tree }
+        ensures tree { result.tree ≡ M.initial_state.tree }
     {
         let Lent { loan, of: _ } = self;
         loan
@@ -243,7 +244,7 @@ impl<M: Opening> Lent<M> {
 /// waits for nobody.
 ///
 /// Steps and acknowledgements of the thread are answered `Away` until it is checked in. The machine, its history and its book stay.
-pub fn lend<M: Opening>(world: &mut World<M>, thread: u8) -> Option<Lent<M>>
+pub fn lend<M: Initial>(world: &mut World<M>, thread: u8) -> Option<Lent<M>>
     ensures none { result ≡ None → (world.new ≡ world.old) × CannotLend world.old thread }
     ensures some { IfSome result (λ lent. IsLentOut world.old thread lent world.new) }
 {
@@ -259,17 +260,17 @@ pub fn lend<M: Opening>(world: &mut World<M>, thread: u8) -> Option<Lent<M>>
     })
 }
 
-/// Does local instructions on a lent frame, so many at most. It stops before one that is not local or that would raise a fault, and before the
+/// Does local instructions on a lent frame, `most` at most. It stops before one that is not local or that would raise a fault, and before the
 /// last one of the thread's budget. It takes no lock and no memory.
-pub fn run_local<M: Opening>(mut lent: Lent<M>, most: u32) -> Lent<M>
+pub fn run_local<M: Initial>(mut lent: Lent<M>, most: u32) -> Lent<M>
     ensures { RanLocally lent most result }
 {
     lent.loan.run(most);
     lent
 }
 
-/// Gives the ticket and its worker's place in the book the count after this entry so many times.
-fn note_times<N: Next, M: Opening>(
+/// Sets the count after this entry `times` times in the ticket and, for its worker, in the book.
+fn note_times<N: Next, M: Initial>(
     book: &mut Book<M>,
     ticket: &mut Ticket<M>,
     entry: Entry,
@@ -283,8 +284,8 @@ fn note_times<N: Next, M: Opening>(
     book.renew::<N>(ticket)
 }
 
-/// Records and counts so many steps of a thread that report that they ran, for which there has to be room. None is no step.
-fn record_steps<M: Opening>(
+/// Records and counts `times` steps of a thread that report that they ran, for which there has to be room. None is no step.
+fn record_steps<M: Initial>(
     history: &mut History,
     book: &mut Book<M>,
     ticket: &mut Ticket<M>,
@@ -309,15 +310,15 @@ fn record_steps<M: Opening>(
     note_times::<Brand, M>(book, ticket, entry, times);
 }
 
-/// Takes a lent frame back, for the ticket's worker, and answers how many local instructions were done on it. It waits for nobody.
+/// Takes a lent frame back, for the ticket's worker, and returns how many local instructions were done on it. It waits for nobody.
 ///
 /// Each of them is recorded and counted as a step of the thread that ran, and is one: the machine is at what these steps make of it, whatever
 /// others did meanwhile. None is recorded where none was done. The thread is no longer lent.
 ///
 /// # Errors
 /// The frame comes back, and nothing changes, where its thread is not lent or does not stand as it did when the frame was lent, or where memory
-/// is wanting for the entry; that is never so where no instruction was done.
-pub fn check_in<M: Opening>(
+/// runs out for the entry; that never happens where no instruction was done.
+pub fn check_in<M: Initial>(
     world: &mut World<M>,
     ticket: &mut Ticket<M>,
     lent: Lent<M>,
@@ -348,13 +349,13 @@ pub fn check_in<M: Opening>(
 }
 
 /// Sets the stop mark, and changes nothing else. It waits for nobody.
-pub fn stop<M: Opening>(world: &mut World<M>)
+pub fn stop<M: Initial>(world: &mut World<M>)
     ensures { world.new ≡ record world.old { stopped = true } }
 {
     world.stopped = true;
 }
 
-impl<M: Opening> World<M> {
+impl<M: Initial> World<M> {
     /// A world before its first event: no entries, each count 0, no thread lent, and no stop mark. With a bound, no event prints beyond it. It takes
     /// no memory.
     pub(crate) fn new(
@@ -364,11 +365,11 @@ impl<M: Opening> World<M> {
         rooms: Vec<Option<LoanRoom>>,
         most_printed: Option<u32>,
     ) -> World<M>
-        requires core { core ≡ M.opening }
+        requires core { core ≡ M.initial_state }
         requires printed { most_printed ≡ M.most_printed }
         requires each { length book ≡ M.workers }
         requires book { (worker count : ℕ) → slice_get book worker ≡ Some count → count ≡ 0 }
-        requires rooms { HasRooms M.opening rooms.items }
+        requires rooms { HasRooms M.initial_state rooms.items }
         ensures { result ≡ record { core = core; history = []; book = book; lent = lent_of rooms.items; stopped = false } }
     {
         World {
@@ -383,9 +384,9 @@ impl<M: Opening> World<M> {
 
     /// What holds whenever the lock is free. It does nothing; its contract says so.
     pub fn laws(&self)
-        ensures sound { IsSound M.opening M.workers self.now.core self.now.history self.now.book }
-        ensures ran { HasRun M.opening (events_of self.now.history) (reports_of self.now.history) self.now.core }
-        ensures printed { IsPrintedWithin M.most_printed M.opening self.now.core }
+        ensures sound { IsSound M.initial_state M.workers self.now.core self.now.history self.now.book }
+        ensures ran { HasRun M.initial_state (events_of self.now.history) (reports_of self.now.history) self.now.core }
+        ensures printed { IsPrintedWithin M.most_printed M.initial_state self.now.core }
     {
         let _stopped = &self.stopped;
     }
@@ -408,8 +409,8 @@ impl<M: Opening> World<M> {
     /// entries.
     pub fn into_outcome(self, tickets: Vec<Ticket<M>>) -> Outcome
         ensures world { (result.history.entries ≡ self.history) × (result.machine ≡ self.core) × (result.stopped ≡ self.stopped) }
-        ensures ran { HasRun M.opening (events_of result.history.entries) (reports_of result.history.entries) result.machine }
-        ensures printed { IsPrintedWithin M.most_printed M.opening result.machine }
+        ensures ran { HasRun M.initial_state (events_of result.history.entries) (reports_of result.history.entries) result.machine }
+        ensures printed { IsPrintedWithin M.most_printed M.initial_state result.machine }
         ensures theirs { AreOf M.workers result.history.entries }
         ensures counts { All (AgreesWith result.history.entries) tickets.items }
     {
@@ -431,7 +432,7 @@ impl<M: Opening> World<M> {
     }
 }
 
-/// Memory for a loan of each thread that may be. Only want of memory is an error.
+/// Memory for a loan of each thread that may be. The only error is out of memory.
 pub(crate) fn rooms_for(alloc: Global, core: &Machine) -> Result<Vec<Option<LoanRoom>>, NoMemory>
     ensures { IfOk result (λ rooms. HasRooms core.now rooms.items) }
 {
@@ -443,7 +444,7 @@ pub(crate) fn rooms_for(alloc: Global, core: &Machine) -> Result<Vec<Option<Loan
 }
 
 /// Takes the tickets back. Each one's count is in the book, which stays as it was.
-fn compare_all<M: Opening>(book: &mut Book<M>, mut tickets: Vec<Ticket<M>>)
+fn compare_all<M: Initial>(book: &mut Book<M>, mut tickets: Vec<Ticket<M>>)
     ensures same { book.new ≡ book.old }
     ensures counts { All (IsIn book.old) tickets.items }
 {

@@ -3,7 +3,7 @@ pub mod Soundness
 pub mod RepresentedObjects
 pub mod UnchangedState
 pub mod Reports
-pub mod WaitsAndOpenings
+pub mod WaitsAndInitialStates
 pub mod NextBlockSize
 pub mod ClosedMarking
 pub mod AcknowledgementSoundness

@@ -1,6 +1,6 @@
 -- Runs of a machine beside runs of the reference machine.
 pub mod EventByEvent
-pub mod UniqueTurns
+pub mod UniqueTransitions
 pub mod UniqueRuns
 pub mod RunsWithoutCollection
 pub mod EventCorrespondence

@@ -10,7 +10,7 @@ use Rattle.interpreter.specs.cil_model.declared.reports.Report.TheVariants.{Abse
 use Rattle.interpreter.specs.reference_machine.States.{State, Thread as StateThread}
 use Rattle.interpreter.specs.threads_monitors.Threads.{is_live_at}
 use Rattle.interpreter.specs.threads_monitors.declared.threads.Thread.{Thread}
-use Rattle.simulation.specs.MachineContents.{Content}
+use Rattle.simulation.specs.MachineStates.{MachineState}
 
 -- whether an event is a step that thread t made: one that isn't reported Absent
 abbrev pub made_step : ℕ → Event → Report → Bool
@@ -24,11 +24,11 @@ abbrev pub steps_made : ℕ → List (Event × Report) → ℕ
 steps_made t events = count_by (λ (e : Event × Report). made_step t e.0 e.1) events
 
 -- how many steps are left to a thread; to one that isn't started yet, its whole budget
-abbrev pub steps_left_of : Content → ℕ → ℕ
+abbrev pub steps_left_of : MachineState → ℕ → ℕ
 steps_left_of c t = option_map_or (λ (thread : Thread). thread.steps_left) (slice_get c.threads t) c.limits.budget
 
 -- Each thread has one step less for each that it made, and a live one has steps left.
-pub record KeepsBudgets (before after : Content) (events : List (Event × Report)) : Type 0 where
+pub record KeepsBudgets (before after : MachineState) (events : List (Event × Report)) : Type 0 where
   pub counted : (t : ℕ) → steps_made t events + steps_left_of after t ≡ steps_left_of before t
   pub live : (t : ℕ) → is_live_at after.threads t ≡ true → 0 < steps_left_of after t
 

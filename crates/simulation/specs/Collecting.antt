@@ -12,96 +12,96 @@ use Rattle.interpreter.specs.object_memory.declared.values.Value.TheVariants.{Re
 use Rattle.interpreter.specs.reference_machine.Cycles.{next_words}
 use Rattle.interpreter.specs.object_memory.Cells.{used_words}
 use Rattle.interpreter.specs.object_memory.Objects.{Objects}
-use Rattle.interpreter.specs.object_memory.Spaces.{forward, opened}
+use Rattle.interpreter.specs.object_memory.Spaces.{forward, open_cycle}
 use Rattle.interpreter.specs.instructions.barriers.Barriers.{with_marked}
 use Rattle.collector.specs.Phases.{no_progress}
 use Rattle.collector.specs.Marking.{is_closed, marked_on, statics_scanned}
 use Rattle.collector.specs.Copying.{copied_on, looked_on}
-use Rattle.collector.specs.Flips.{cleared_on, flipped_on, retired}
+use Rattle.collector.specs.Flips.{cleared_on, flipped_on, retire_old}
 use Rattle.collector.specs.Holding.{is_marking}
 use Rattle.collector.specs.declared.progress.Progress.{Progress}
-use Rattle.collector.specs.phase_handshake.Handshakes.{acknowledged, all_answered, all_seen, is_open, is_phase, posted_next, posted_round, seat_of}
+use Rattle.collector.specs.phase_handshake.Handshakes.{acknowledge_phase, all_answered, all_seen, is_open, is_phase, posted_next, posted_round, seat_of}
 use Rattle.collector.specs.phase_handshake.declared.posts.Seat.{Seat}
 use Rattle.interpreter.specs.threads_monitors.Roots.{roots, with_references}
 use Rattle.interpreter.specs.threads_monitors.Threads.{is_live_at}
-use Rattle.interpreter.specs.threads_monitors.declared.threads.Standing.{Standing}
-use Rattle.interpreter.specs.threads_monitors.declared.threads.Standing.TheVariants.{Live, Ended}
+use Rattle.interpreter.specs.threads_monitors.declared.threads.ThreadStatus.{ThreadStatus}
+use Rattle.interpreter.specs.threads_monitors.declared.threads.ThreadStatus.TheVariants.{Live, Ended}
 use Rattle.interpreter.specs.threads_monitors.declared.threads.Thread.{Thread}
-use Rattle.simulation.specs.MachineContents.{Content}
+use Rattle.simulation.specs.MachineStates.{MachineState}
 
 -- ---- posts
 
 -- the next phase, of which the collector has done nothing
-abbrev pub with_next_phase : Content → Content
+abbrev pub with_next_phase : MachineState → MachineState
 with_next_phase c = record c { posts = posted_next c.posts; progress = no_progress }
 
 -- it is posted
-abbrev pub next_posted : Content → Content × Report
+abbrev pub next_posted : MachineState → MachineState × Report
 next_posted c = (with_next_phase c, Worked)
 
 -- the words of the block that a cycle opens with
-abbrev pub opening_words : Content → ℕ
-opening_words c = next_words c.objects.spaces.old.words (used_words c.objects.spaces.old.cells) c.limits.max_words
+abbrev pub initial_words : MachineState → ℕ
+initial_words c = next_words c.objects.spaces.old.words (used_words c.objects.spaces.old.cells) c.limits.max_words
 
 -- a cycle opens, with a second block of opening_words words
-abbrev pub cycle_opened : Content → Content
-cycle_opened c = record (with_next_phase c) { objects = record c.objects { spaces = opened c.objects.spaces (opening_words c) } }
+abbrev pub cycle_opened : MachineState → MachineState
+cycle_opened c = record (with_next_phase c) { objects = record c.objects { spaces = open_cycle c.objects.spaces (initial_words c) } }
 
 -- ---- work
 
 -- a step of the work of a phase, or the next phase where none is left
-abbrev pub worked : Content → Progress × Objects × Bool → Content × Report
-worked c (p, o, true) = (record c { progress = p; objects = o }, Worked)
-worked c (p, o, false) = next_posted c
+abbrev pub do_work : MachineState → Progress × Objects × Bool → MachineState × Report
+do_work c (p, o, true) = (record c { progress = p; objects = o }, Worked)
+do_work c (p, o, false) = next_posted c
 
 -- a static field is flipped, or the next phase is posted where none is left
-abbrev pub flipped : Content → Progress × List Value × Bool → Content × Report
-flipped c (p, statics, true) = (record c { progress = p; statics = statics }, Worked)
-flipped c (p, statics, false) = next_posted c
+abbrev pub flip_values : MachineState → Progress × List Value × Bool → MachineState × Report
+flip_values c (p, statics, true) = (record c { progress = p; statics = statics }, Worked)
+flip_values c (p, statics, false) = next_posted c
 
 -- a cycle ends with the new block alone
-abbrev pub cycle_ended : Content → Content
-cycle_ended c = record (with_next_phase c) { objects = retired c.objects }
+abbrev pub cycle_ended : MachineState → MachineState
+cycle_ended c = record (with_next_phase c) { objects = retire_old c.objects }
 
 -- a new object is cleared, or the cycle ends where none is left
-abbrev pub cleared : Content → Progress × Objects × Bool → Content × Report
-cleared c (p, o, true) = (record c { progress = p; objects = o }, Worked)
-cleared c (p, o, false) = (cycle_ended c, CycleDone)
+abbrev pub clear_object : MachineState → Progress × Objects × Bool → MachineState × Report
+clear_object c (p, o, true) = (record c { progress = p; objects = o }, Worked)
+clear_object c (p, o, false) = (cycle_ended c, CycleDone)
 
 -- a round begins: nobody has answered it, and nothing was marked since
-abbrev pub round_posted : Content → Content
+abbrev pub round_posted : MachineState → MachineState
 round_posted c = record c { posts = posted_round c.posts; objects = record c.objects { spaces = record c.objects.spaces { has_marked = false } } }
 
 -- Nothing is grey: marking is closed, a round waits for its acknowledgements, or the next one is posted.
-abbrev pub rounds : Content → Content × Report
+abbrev pub rounds : MachineState → MachineState × Report
 rounds c =
     if is_closed c.progress c.objects c.posts then next_posted c
     else if c.posts.has_round && not (all_answered c.posts) then (c, Waiting)
     else (round_posted c, Worked)
 
-abbrev pub marked : Content → Progress × Objects × Bool → Content × Report
-marked c (p, o, true) = (record c { progress = p; objects = o }, Worked)
-marked c (p, o, false) = rounds c
+abbrev pub mark_object : MachineState → Progress × Objects × Bool → MachineState × Report
+mark_object c (p, o, true) = (record c { progress = p; objects = o }, Worked)
+mark_object c (p, o, false) = rounds c
 
 -- the static fields are scanned first
-abbrev pub mark_work : Content → Content × Report
+abbrev pub mark_work : MachineState → MachineState × Report
 mark_work c =
-    if c.progress.scanned_statics then marked c (marked_on c.tree c.progress c.objects)
+    if c.progress.scanned_statics then mark_object c (marked_on c.tree c.progress c.objects)
     else (record c { progress = (statics_scanned c.progress c.objects c.statics).0; objects = (statics_scanned c.progress c.objects c.statics).1 }, Worked)
 
-abbrev pub work : Phase → Content → Content × Report
+abbrev pub work : Phase → MachineState → MachineState × Report
 work Idle c = (cycle_opened c, Worked)
 work Mark c = mark_work c
-work Allocate c = worked c (looked_on c.progress c.objects)
-work Copy c = worked c (copied_on c.tree c.progress c.objects)
+work Allocate c = do_work c (looked_on c.progress c.objects)
+work Copy c = do_work c (copied_on c.tree c.progress c.objects)
 work PreFlip c = next_posted c
-work HeapFlip c = flipped c (flipped_on c.progress c.objects c.statics)
+work HeapFlip c = flip_values c (flipped_on c.progress c.objects c.statics)
 work ThreadFlip c = next_posted c
-work Reclaim c = cleared c (cleared_on c.progress c.objects)
+work Reclaim c = clear_object c (cleared_on c.progress c.objects)
 
 -- a phase's work begins once all live threads have acknowledged it
-abbrev pub collected : Content → Content × Report
-collected c = if all_seen c.posts then work c.posts.posted c else (c, Waiting)
+abbrev pub collect : MachineState → MachineState × Report
+collect c = if all_seen c.posts then work c.posts.posted c else (c, Waiting)
 
 -- ---- acknowledgements
 
@@ -111,41 +111,41 @@ with_roots_marked o [] = o
 with_roots_marked o (a ∷ rest) = with_roots_marked (with_marked o (Ref a)) rest
 
 -- those of a live thread
-abbrev pub with_standing_marked : Objects → Standing → Objects
-with_standing_marked o (Live m) = with_roots_marked o (roots m)
-with_standing_marked o (Ended e) = o
+abbrev pub with_status_marked : Objects → ThreadStatus → Objects
+with_status_marked o (Live m) = with_roots_marked o (roots m)
+with_status_marked o (Ended e) = o
 
 abbrev pub with_thread_marked : Objects → Option Thread → Objects
-with_thread_marked o thread = option_map_or (λ (x : Thread). with_standing_marked o x.standing) thread o
+with_thread_marked o thread = option_map_or (λ (x : Thread). with_status_marked o x.thread_status) thread o
 
 -- a thread that acknowledges a round of Mark has all marked that its frames hold
-abbrev pub answers_round : Content → ℕ → Bool
+abbrev pub answers_round : MachineState → ℕ → Bool
 answers_round c t = is_open c.posts t && (is_marking c.posts.posted && option_map_or (λ (s : Seat). is_phase s.phase c.posts.posted) (seat_of c.posts t) false)
 
-abbrev pub objects_after : Content → ℕ → Objects
+abbrev pub objects_after : MachineState → ℕ → Objects
 objects_after c t = if answers_round c t then with_thread_marked c.objects (slice_get c.threads t) else c.objects
 
 -- a thread that acknowledges ThreadFlip has the forward of each reference in its frames
-abbrev pub standing_flipped : Objects → Standing → Standing
-standing_flipped o (Live m) = Live (with_references (forward o.spaces) m)
-standing_flipped o (Ended e) = Ended e
+abbrev pub status_flipped : Objects → ThreadStatus → ThreadStatus
+status_flipped o (Live m) = Live (with_references (forward o.spaces) m)
+status_flipped o (Ended e) = Ended e
 
 abbrev pub thread_flipped : Objects → Thread → Thread
-thread_flipped o x = record x { standing = standing_flipped o x.standing }
+thread_flipped o x = record x { thread_status = status_flipped o x.thread_status }
 
 abbrev pub with_flipped : Objects → List Thread → ℕ → Option Thread → List Thread
 with_flipped o threads t thread = option_map_or (λ (x : Thread). slice_set threads t (thread_flipped o x)) thread threads
 
-abbrev pub flips_frames : Content → ℕ → Bool
+abbrev pub flips_frames : MachineState → ℕ → Bool
 flips_frames c t = is_phase c.posts.posted ThreadFlip && option_map_or (λ (s : Seat). not (is_phase s.phase c.posts.posted)) (seat_of c.posts t) false
 
-abbrev pub threads_after : Content → ℕ → List Thread
+abbrev pub threads_after : MachineState → ℕ → List Thread
 threads_after c t = if flips_frames c t then with_flipped c.objects c.threads t (slice_get c.threads t) else c.threads
 
--- what it is answered
-abbrev pub acknowledgement : Content → ℕ → Report
+-- what it reports
+abbrev pub acknowledgement : MachineState → ℕ → Report
 acknowledgement c t = if is_open c.posts t then Acked else if is_live_at c.threads t then NothingPosted else Absent
 
 -- the phase is acknowledged, or else the round answered
-abbrev pub with_acknowledgement : Content → ℕ → Content × Report
-with_acknowledgement c t = (record c { threads = threads_after c t; posts = acknowledged c.posts t; objects = objects_after c t }, acknowledgement c t)
+abbrev pub with_acknowledgement : MachineState → ℕ → MachineState × Report
+with_acknowledgement c t = (record c { threads = threads_after c t; posts = acknowledge_phase c.posts t; objects = objects_after c t }, acknowledgement c t)

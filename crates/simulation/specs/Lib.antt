@@ -11,13 +11,13 @@ pub use Rattle.interpreter.specs.instructions as instructions
 pub use Rattle.interpreter.specs as interpreter
 pub mod Agreement
 pub mod Counts
-pub mod MachineContents
+pub mod MachineStates
 pub mod Rooms
 pub mod Sound
 pub mod Collecting
 pub mod Reached
-pub mod StandsFor
-pub mod Turns
+pub mod Refines
+pub mod Transitions
 pub mod Ready
 pub mod Lending
 pub mod Budgets

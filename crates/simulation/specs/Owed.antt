@@ -1,4 +1,4 @@
--- What the cycles of a run owe their user: an end after a bounded amount of work, and the words of all but what was reachable in the reference machine's
+-- What the cycles of a run guarantee: an end after a bounded amount of work, and the words of all but what was reachable in the reference machine's
 -- state when the cycle began, or was born since (this profile).
 use Rattle.std.specs.Prelude.{◌≡◌, ◌≤◌, ◌++◌, ℕ, List, [], ◌∷◌, length, Some}
 use Rattle.std.specs.List.{zip}
@@ -13,15 +13,15 @@ use Rattle.interpreter.specs.object_memory.Cells.{used_words}
 use Rattle.interpreter.specs.object_memory.Objects.{used_space}
 use Rattle.interpreter.specs.reference_machine.Cycles.{BeginsNewestCycle, larger_words, most_working, working_in_cycle}
 use Rattle.interpreter.specs.reference_machine.OwedWords.{OwesWords}
-use Rattle.interpreter.specs.reference_machine.Runs.{RunsTo, opening, run, step_reports, thread_part}
+use Rattle.interpreter.specs.reference_machine.Runs.{RunsTo, initial_state, run, step_reports, thread_part}
 use Rattle.interpreter.specs.reference_machine.States.{State}
-use Rattle.simulation.specs.MachineContents.{Content}
+use Rattle.simulation.specs.MachineStates.{MachineState}
 use Rattle.simulation.specs.Rooms.{spaces_of}
 use Rattle.simulation.specs.Runs.{HoldsAfter}
 
 -- the reference machine reaches this state by the steps among the events
-abbrev pub ComesTo : Tree → Limits → State → List (Event × Report) → State → Type 0
-ComesTo tree limits first events s = run tree limits first (thread_part events) ≡ RunsTo (step_reports events) s
+abbrev pub ResultsIn : Tree → Limits → State → List (Event × Report) → State → Type 0
+ResultsIn tree limits first events s = run tree limits first (thread_part events) ≡ RunsTo (step_reports events) s
 
 -- what was reachable when the newest cycle began, and what was born since, have this number of words together after all events
 pub record OwesAfter (tree : Tree) (limits : Limits) (events : List Event) (reports : List Report) (words : ℕ) : Type 0 where
@@ -29,16 +29,16 @@ pub record OwesAfter (tree : Tree) (limits : Limits) (events : List Event) (repo
   pub later : List (Event × Report)
   pub split : BeginsNewestCycle (zip events reports) earlier later
   pub first : State
-  pub opens : opening tree limits ≡ Some first
+  pub opens : initial_state tree limits ≡ Some first
   pub before : State
-  pub began : ComesTo tree limits first earlier before
+  pub began : ResultsIn tree limits first earlier before
   pub now : State
-  pub comes : ComesTo tree limits first (zip events reports) now
+  pub comes : ResultsIn tree limits first (zip events reports) now
   pub owes : OwesWords tree before now words
 
 -- where the last event ends a cycle, no more words are in use than are owed, all in one space
-abbrev pub LeavesWhatIsOwed : Tree → Limits → List Event → List Report → Content → Type 0
-LeavesWhatIsOwed tree limits events reports c =
+abbrev pub LeavesOnlyOwed : Tree → Limits → List Event → List Report → MachineState → Type 0
+LeavesOnlyOwed tree limits events reports c =
     (most : List (Event × Report)) → zip events reports ≡ most ++ (Gc, CycleDone) ∷ [] →
     (words : ℕ) × OwesAfter tree limits events reports words × (used_space c.objects ≤ words) × (used_words c.objects.spaces.new.cells ≡ 0)
 
@@ -47,4 +47,4 @@ LeavesWhatIsOwed tree limits events reports c =
 abbrev pub AreCyclesBounded : Tree → Limits → List (Event × Report) → Type 0
 AreCyclesBounded tree limits events =
     (done rest : List (Event × Report)) → events ≡ done ++ rest →
-    (c : Content) × HoldsAfter tree limits done c × (working_in_cycle done ≤ most_working (larger_words (spaces_of c.objects)) (length (static_fields tree)))
+    (c : MachineState) × HoldsAfter tree limits done c × (working_in_cycle done ≤ most_working (larger_words (spaces_of c.objects)) (length (static_fields tree)))

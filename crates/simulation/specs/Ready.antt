@@ -8,25 +8,25 @@ use Rattle.interpreter.specs.object_memory.Objects.{Objects, object_slots}
 use Rattle.interpreter.specs.instructions.barriers.Barriers.{is_word_storable}
 use Rattle.interpreter.specs.threads_monitors.Frames.{Frames}
 use Rattle.interpreter.specs.threads_monitors.Threads.{start_fault}
-use Rattle.interpreter.specs.Instructions.{HasSmallConstant, IsAt, line_at, operation_turn, Answer}
+use Rattle.interpreter.specs.Instructions.{HasSmallConstant, IsAt, line_at, operation_transition, Answer}
 use Rattle.interpreter.specs.declared.outcomes.Outcome.{Outcome}
 use Rattle.interpreter.specs.declared.outcomes.Outcome.TheVariants.{Comes, Starts, Joins}
-use Rattle.simulation.specs.MachineContents.{Content, mutator_of}
-use Rattle.simulation.specs.Turns.{left_by, thread_for}
+use Rattle.simulation.specs.MachineStates.{MachineState, mutator_of}
+use Rattle.simulation.specs.Transitions.{left_by, thread_for}
 
 -- the frames of the thread are at an instruction, whose rule has a result
-pub record IsReady (c : Content) (t : ℕ) (m : Frames) : Type 0 where
-  pub place : IsSome (line_at c.tree m)
-  pub there : (op : Operation) → IsAt c.tree m op → HasSmallConstant op → IsSome (operation_turn c.tree (mutator_of c t) op m c.objects c.statics c.printed)
+pub record IsReady (c : MachineState) (t : ℕ) (m : Frames) : Type 0 where
+  pub pc : IsSome (line_at c.tree m)
+  pub there : (op : Operation) → IsAt c.tree m op → HasSmallConstant op → IsSome (operation_transition c.tree (mutator_of c t) op m c.objects c.statics c.printed)
 
 -- the slot of an object that identifies its thread is there, and so are the operand and the next instruction
 pub record HasRequest (o : Objects) (m : Frames) (object : Addr) : Type 0 where
   pub slot : object ≢ null → 0 < length (object_slots o object)
   pub operand : 0 < length m.running.stack
-  pub behind : m.running.place < MOST_INSTRUCTIONS
+  pub following : m.running.pc < MOST_INSTRUCTIONS
 
 -- what the thread with these frames asks of other threads can be answered
-abbrev pub CanFinish : Content → ℕ → Frames → Outcome → Type 0
+abbrev pub CanFinish : MachineState → ℕ → Frames → Outcome → Type 0
 CanFinish c t m (Comes e) = Unit {0}
 CanFinish c t m (Starts object) =
     HasRequest c.objects m object
@@ -35,5 +35,5 @@ CanFinish c t m (Starts object) =
 CanFinish c t m (Joins object) = HasRequest c.objects m object
 
 -- and so it is for what an instruction leaves
-abbrev pub IsAnswerable : Content → ℕ → ℕ → Answer → Outcome → Type 0
+abbrev pub IsAnswerable : MachineState → ℕ → ℕ → Answer → Outcome → Type 0
 IsAnswerable c t left a outcome = CanFinish (left_by c t left a) t a.frames outcome

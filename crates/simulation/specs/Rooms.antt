@@ -8,7 +8,7 @@ use Rattle.interpreter.specs.reference_machine.Steps.{Answers, step}
 use Rattle.interpreter.specs.object_memory.Cells.{used_words}
 use Rattle.interpreter.specs.object_memory.Objects.{Objects, used_space}
 use Rattle.collector.specs.phase_handshake.Handshakes.{own_phase}
-use Rattle.simulation.specs.MachineContents.{Content}
+use Rattle.simulation.specs.MachineStates.{MachineState}
 
 -- the spaces of a heap, as a user sees them
 abbrev pub spaces_of : Objects → Spaces
@@ -18,7 +18,7 @@ spaces_of o = record {
 }
 
 -- A step of the thread makes an object, unless that is refused, and its cell exceeds the room where the thread's own phase has it born.
-pub record ExceedsRoom (c : Content) (s : State) (t : ℕ) : Type 0 where
+pub record ExceedsRoom (c : MachineState) (s : State) (t : ℕ) : Type 0 where
   pub report : Report
   pub after : State
   pub object : HeapObject

@@ -6,12 +6,12 @@ ghost use Rattle.interpreter.specs.cil_model.declared.limits.Limits.{Limits};
 ghost use Rattle.interpreter.specs.cil_model.declared.reports.Report.{Report};
 ghost use Rattle.interpreter.specs.reference_machine.States.{State};
 ghost use Rattle.interpreter.specs.reference_machine.Steps.{step, Answers};
-ghost use Rattle.interpreter.specs.reference_machine.Runs.{opening};
+ghost use Rattle.interpreter.specs.reference_machine.Runs.{initial_state};
 ghost use Rattle.simulation.specs.Counts.{IsCounted};
 
 /// In the initial state no monitor is held, and the first thread has its whole budget.
-pub fn opening_states_are_counted()
-    ensures { (tree : Tree) (limits : Limits) → 1 ≤ limits.budget → (s : State) → opening tree limits ≡ Some s → IsCounted limits s }
+pub fn initial_states_are_counted()
+    ensures { (tree : Tree) (limits : Limits) → 1 ≤ limits.budget → (s : State) → initial_state tree limits ≡ Some s → IsCounted limits s }
 {}
 
 /// No step leaves a monitor that was entered oftener than its owner made steps.

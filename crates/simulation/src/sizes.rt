@@ -23,7 +23,7 @@ pub fn methods_are_small()
     ensures locals { (tree : Tree) → IsLegal tree → (c : ClassName) (n : ℕ) (m : Method) → slice_get (methods_declared tree c) n ≡ Some m → (code : Code) → code_of m.kind ≡ Some code → length code.locals ≤ MOST_LOCALS }
     ensures stack { (tree : Tree) → IsLegal tree → (c : ClassName) (n : ℕ) (m : Method) → slice_get (methods_declared tree c) n ≡ Some m → (code : Code) → code_of m.kind ≡ Some code → code.max_stack ≤ℤ MOST_STACK }
     ensures arrays { (tree : Tree) → IsLegal tree → (c : ClassName) (n : ℕ) (m : Method) → slice_get (methods_declared tree c) n ≡ Some m → (code : Code) → code_of m.kind ≡ Some code →
-        (place : ℕ) (line : Line) → slice_get code.lines place ≡ Some line → (t : DeclaredType) → line.instruction ≡ NewArray t → t.brackets < MOST_BRACKETS }
+        (index : ℕ) (line : Line) → slice_get code.lines index ≡ Some line → (t : DeclaredType) → line.instruction ≡ NewArray t → t.brackets < MOST_BRACKETS }
 {}
 
 /// A class has a number of 16 bits.

@@ -18,12 +18,12 @@ fn run_length(bytes: &[u8]) -> usize {
 /// How many bytes stand before the end of a string literal, its quote counted, or before the end of the line.
 fn literal_length(bytes: &[u8]) -> usize {
     let mut is_escaped = false;
-    for (place, byte) in bytes.iter().enumerate() {
+    for (index, byte) in bytes.iter().enumerate() {
         if *byte == b'\n' {
-            return place;
+            return index;
         }
         if *byte == b'"' && !is_escaped {
-            return place.saturating_add(1);
+            return index.saturating_add(1);
         }
         is_escaped = *byte == b'\\' && !is_escaped;
     }

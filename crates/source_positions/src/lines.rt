@@ -7,7 +7,7 @@ ghost use Rattle.source_positions.specs.Positions.{column_of_byte, is_in_line};
 
 use source_lines::line_of_byte;
 
-/// A place of a text as a person counts it, line and column from 1. Each byte is one column, a tab too.
+/// A position in a text as a person counts it, line and column from 1. Each byte is one column, a tab too.
 #[derive(Clone, Copy)]
 pub struct Position {
     pub line: usize,

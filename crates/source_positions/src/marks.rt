@@ -1,4 +1,4 @@
-//! The tokens by which parts of a source are found. Each of these words stands at one place of the grammar alone, so to count them is to
+//! The tokens by which parts of a source are found. Each of these words occurs at only one position of the grammar, so to count them is to
 //! count the parts that they begin.
 
 use crate::lexemes::token_at;

@@ -1,10 +1,10 @@
-//! Fields and methods of a class, by their places.
+//! Fields and methods of a class, by their indices.
 
 use cil_model::trees::{Class, Field, Member, Method};
 
-/// The method that has this place among those of a class, and its number among the members.
-pub fn nth_method(class: &Class, place: usize) -> Option<(usize, &Method)> {
-    let mut left = place;
+/// The method at this index among those of a class, and its number among the members.
+pub fn nth_method(class: &Class, index: usize) -> Option<(usize, &Method)> {
+    let mut left = index;
     for (member, item) in class.members.as_slice().iter().enumerate() {
         let Member::Method(method) = item else {
             continue;
@@ -17,9 +17,9 @@ pub fn nth_method(class: &Class, place: usize) -> Option<(usize, &Method)> {
     None
 }
 
-/// The field that has this place among those of a class, and its number among the members.
-pub fn nth_field(class: &Class, place: usize) -> Option<(usize, &Field)> {
-    let mut left = place;
+/// The field at this index among those of a class, and its number among the members.
+pub fn nth_field(class: &Class, index: usize) -> Option<(usize, &Field)> {
+    let mut left = index;
     for (member, item) in class.members.as_slice().iter().enumerate() {
         let Member::Field(field) = item else {
             continue;
@@ -43,26 +43,26 @@ fn count_methods(class: &Class) -> usize {
     count
 }
 
-/// A method of a source: its class, its number among the members of that class, and its place among the methods.
+/// A method of a source: its class, its number among the members of that class, and its index among the methods.
 #[derive(Clone, Copy)]
-pub struct MethodPlace {
+pub struct MethodPosition {
     pub class: usize,
     pub member: usize,
-    pub place: usize,
+    pub index: usize,
 }
 
 /// The method of a number, counted through the classes of a whole source.
-pub fn method_of_number(classes: &[Class], number: usize) -> Option<MethodPlace> {
-    let mut place = number;
+pub fn method_of_number(classes: &[Class], number: usize) -> Option<MethodPosition> {
+    let mut index = number;
     for (class, declared) in classes.iter().enumerate() {
-        if let Some((member, _)) = nth_method(declared, place) {
-            return Some(MethodPlace {
+        if let Some((member, _)) = nth_method(declared, index) {
+            return Some(MethodPosition {
                 class,
                 member,
-                place,
+                index,
             });
         }
-        place = place.saturating_sub(count_methods(declared));
+        index = index.saturating_sub(count_methods(declared));
     }
     None
 }

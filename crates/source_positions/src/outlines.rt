@@ -3,14 +3,14 @@
 ghost use Rattle.std.specs.Prelude.{◌≡◌};
 ghost use Rattle.source_lines.specs.Lines.{line_of_byte};
 
+use crate::locations::{ClassPart, LinePart, Location, MemberPart};
 use crate::marks::{Mark, Walk};
-use crate::places::{ClassPart, LinePart, MemberPart, Place};
 use source_lines::line_of_byte;
 
 /// The offset in bytes, from 0, at which a part of a source begins. None where it is not there. What is returned of a source that is no
 /// sentence of the grammar, or of a part that its tree lacks, says nothing.
-pub fn offset_of(source: &[u8], place: Place) -> Option<usize> {
-    beginning_of(Walk::at_first(source), place).offset()
+pub fn offset_of(source: &[u8], index: Location) -> Option<usize> {
+    beginning_of(Walk::at_first(source), index).offset()
 }
 
 /// A member of a source, from which its parts are found without a look at what stands before it.
@@ -47,18 +47,18 @@ impl<'t> FoundMember<'t> {
 }
 
 /// The token with which a part begins, by the first of the source.
-fn beginning_of(first: Walk<'_>, place: Place) -> Walk<'_> {
-    match place {
-        Place::Extern(number) => first
+fn beginning_of(first: Walk<'_>, index: Location) -> Walk<'_> {
+    match index {
+        Location::Extern(number) => first
             .to_directive(Mark::Token(b".assembly"), number)
             .forward(2),
-        Place::InClass { class, part } => part_of_class(class_at(first, class), part),
-        Place::InMember {
+        Location::InClass { class, part } => part_of_class(class_at(first, class), part),
+        Location::InMember {
             class,
             member,
             part,
         } => part_of_member(member_at(first, class, member), part),
-        Place::InLine {
+        Location::InLine {
             class,
             member,
             line,
@@ -82,7 +82,7 @@ fn part_of_class(class: Walk<'_>, part: ClassPart) -> Walk<'_> {
     match part {
         ClassPart::Name => class.to(Mark::Name, 0),
         ClassPart::Base => class_name(class.to(Mark::Token(b"extends"), 0).forward(1)),
-        ClassPart::Interface(place) => listed(class, place),
+        ClassPart::Interface(index) => list_item(class, index),
     }
 }
 
@@ -95,9 +95,9 @@ fn class_name(reference: Walk<'_>) -> Walk<'_> {
 }
 
 /// The name of an interface that a class lists.
-fn listed(class: Walk<'_>, place: usize) -> Walk<'_> {
+fn list_item(class: Walk<'_>, index: usize) -> Walk<'_> {
     let mut name = class_name(class.to(Mark::Token(b"implements"), 0).forward(1));
-    for _ in 0..place {
+    for _ in 0..index {
         name = class_name(name.forward(2));
     }
     name
@@ -106,7 +106,7 @@ fn listed(class: Walk<'_>, place: usize) -> Walk<'_> {
 fn part_of_member(member: Walk<'_>, part: MemberPart) -> Walk<'_> {
     match part {
         MemberPart::Name => member_name(member),
-        MemberPart::ClassOfType(place) => class_of_type(member, place),
+        MemberPart::ClassOfType(index) => class_of_type(member, index),
         MemberPart::EntryPoint => member.to_directive(Mark::Token(b".entrypoint"), 0),
         MemberPart::MaxStack => member.to_directive(Mark::Token(b".maxstack"), 0).forward(1),
         MemberPart::Locals => member.to_directive(Mark::Token(b".locals"), 0),
@@ -123,19 +123,19 @@ fn member_name(member: Walk<'_>) -> Walk<'_> {
     next.back(1)
 }
 
-/// The name of the class in the type of this place among those with `class`, from a token on.
-fn class_of_type(from: Walk<'_>, place: usize) -> Walk<'_> {
-    class_name(from.to(Mark::Token(b"class"), place).forward(1))
+/// The name of the class in the type at this index among those with `class`, from a token on.
+fn class_of_type(from: Walk<'_>, index: usize) -> Walk<'_> {
+    class_name(from.to(Mark::Token(b"class"), index).forward(1))
 }
 
 fn part_of_line(instruction: Walk<'_>, part: LinePart) -> Walk<'_> {
     match part {
         LinePart::Name => instruction,
-        LinePart::Label(place) => instruction.back(place.saturating_mul(2)),
-        LinePart::ClassOfType(place) => class_of_type(instruction, place),
+        LinePart::Label(index) => instruction.back(index.saturating_mul(2)),
+        LinePart::ClassOfType(index) => class_of_type(instruction, index),
         LinePart::Owner => owner_end(instruction).back(1),
         LinePart::Member => owner_end(instruction).forward(1),
-        LinePart::Target(place) => target(instruction.forward(1), place),
+        LinePart::Target(index) => target(instruction.forward(1), index),
     }
 }
 
@@ -145,9 +145,9 @@ fn owner_end(instruction: Walk<'_>) -> Walk<'_> {
 }
 
 /// A label to which an instruction goes: the one operand of a branch, or one of those in the parentheses of `switch`.
-fn target(operand: Walk<'_>, place: usize) -> Walk<'_> {
+fn target(operand: Walk<'_>, index: usize) -> Walk<'_> {
     if operand.is(Mark::Token(b"(")) {
-        return operand.forward(place.saturating_mul(2)).forward(1);
+        return operand.forward(index.saturating_mul(2)).forward(1);
     }
     operand
 }

@@ -77,7 +77,7 @@ fn plain_length(bytes: &[u8]) -> usize {
         .count()
 }
 
-/// Whether the byte before an offset is one of a word, so that a word goes on there.
+/// Whether the byte before an offset is one of a word, so that a word continues there.
 fn is_in_word(text: &[u8], offset: usize) -> bool {
     match text.get(offset.saturating_sub(1)) {
         None => false,

@@ -3,7 +3,7 @@ use Rattle.std.proofs.Common.{◌≡◌, ◌≤◌, ◌⊎◌, ℕ, List, length
 use Rattle.std.proofs.lemmas.Option.{same_Some}
 use Rattle.std.specs.Prelude.{IfSome}
 use Rattle.shared_machine.specs.interleaving_core.Histories.{HasDone}
-use Rattle.shared_machine.specs.simulation.MachineContents.{Content}
+use Rattle.shared_machine.specs.simulation.MachineStates.{MachineState}
 use Rattle.cil_model.specs.declared.events.Event.{Event}
 use Rattle.cil_model.specs.declared.limits.Limits.{Limits}
 use Rattle.cil_model.specs.declared.reports.Report.{Report}
@@ -12,15 +12,15 @@ use Rattle.cil_model.specs.declared.trees.Method.{Method}
 use Rattle.cil_model.specs.declared.types.ClassName.{ClassName}
 use Rattle.cil_model.specs.Bodies.{entry_points}
 use Rattle.cil_model.proofs.Lists.{none_is_some}
-use Rattle.shared_machine.specs.simulation.Turns.{content_at, opening_content}
+use Rattle.shared_machine.specs.simulation.Transitions.{machine_state_at, initial_machine_state}
 use Rattle.shared_machine.specs.simulation.loaded_program.MethodNumbers.{number_of}
 use Rattle.acceptance.specs.Sources.{IsAcceptedSource}
-use Rattle.source_runs.specs.Runs.{ComesToBy, IsPrintedUpTo}
+use Rattle.source_runs.specs.Runs.{ResultsInBy, IsPrintedUpTo}
 
 -- what a machine has done shows a run to its state
-pub comes_to : (source : List ℕ) (tree : Tree) (limits : Limits) (events : List Event) (reports : List Report) (c : Content) → IsAcceptedSource source tree →
-    (done : HasDone tree limits events reports c) → ComesToBy source limits events reports done.stands.state
-comes_to source tree limits events reports c is_accepted done = record {
+pub results_in : (source : List ℕ) (tree : Tree) (limits : Limits) (events : List Event) (reports : List Report) (c : MachineState) → IsAcceptedSource source tree →
+    (done : HasDone tree limits events reports c) → ResultsInBy source limits events reports done.stands.state
+results_in source tree limits events reports c is_accepted done = record {
   tree = tree;
   is_accepted = is_accepted;
   in_range = done.in_range;
@@ -30,22 +30,22 @@ comes_to source tree limits events reports c is_accepted done = record {
 }
 
 -- nothing is printed before the first event
-opening_prints_nothing : (tree : Tree) (limits : Limits) (c : Content) → opening_content tree limits ≡ Some c → length c.printed ≡ 0
-opening_prints_nothing tree limits c e = by_entry (slice_get (entry_points tree) 0) e
+initial_prints_nothing : (tree : Tree) (limits : Limits) (c : MachineState) → initial_machine_state tree limits ≡ Some c → length c.printed ≡ 0
+initial_prints_nothing tree limits c e = by_entry (slice_get (entry_points tree) 0) e
   where
-    by_number : (entry : ClassName × Method) (n : Option ℕ) → option_map (content_at tree limits entry) n ≡ Some c → length c.printed ≡ 0
+    by_number : (entry : ClassName × Method) (n : Option ℕ) → option_map (machine_state_at tree limits entry) n ≡ Some c → length c.printed ≡ 0
     by_number entry None e' = none_is_some c e'
-    by_number entry (Some n) e' = sym (ap (λ (x : Content). length x.printed) (same_Some (content_at tree limits entry n) c e'))
+    by_number entry (Some n) e' = sym (ap (λ (x : MachineState). length x.printed) (same_Some (machine_state_at tree limits entry n) c e'))
 
-    by_entry : (o : Option (ClassName × Method)) → option_and_then (λ (entry : ClassName × Method). option_map (content_at tree limits entry) (number_of tree entry)) o ≡ Some c → length c.printed ≡ 0
+    by_entry : (o : Option (ClassName × Method)) → option_and_then (λ (entry : ClassName × Method). option_map (machine_state_at tree limits entry) (number_of tree entry)) o ≡ Some c → length c.printed ≡ 0
     by_entry None e' = none_is_some c e'
     by_entry (Some entry) e' = by_number entry (number_of tree entry) e'
 
 -- so no more than the bound is printed after it
-pub printed_up_to : (tree : Tree) (limits : Limits) (most : Option ℕ) (opening : Content) (printed : List ℕ) → opening_content tree limits ≡ Some opening
-    → IfSome most (λ bytes. (length printed ≤ bytes) ⊎ (length printed ≤ length opening.printed)) → IsPrintedUpTo most printed
-printed_up_to tree limits None opening printed e h = tt
-printed_up_to tree limits (Some bytes) opening printed e h = elim h [
+pub printed_up_to : (tree : Tree) (limits : Limits) (most : Option ℕ) (initial_state : MachineState) (printed : List ℕ) → initial_machine_state tree limits ≡ Some initial_state
+    → IfSome most (λ bytes. (length printed ≤ bytes) ⊎ (length printed ≤ length initial_state.printed)) → IsPrintedUpTo most printed
+printed_up_to tree limits None initial_state printed e h = tt
+printed_up_to tree limits (Some bytes) initial_state printed e h = elim h [
   | inl few ↦ few
-  | inr none ↦ let nothing = opening_prints_nothing tree limits opening e in omega (arith, none, nothing)
+  | inr none ↦ let nothing = initial_prints_nothing tree limits initial_state e in omega (arith, none, nothing)
 ]

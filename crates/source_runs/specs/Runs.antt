@@ -1,4 +1,4 @@
--- What comes of a source by a list of events (this profile).
+-- What results from a source by a list of events (this profile).
 use Rattle.std.specs.Prelude.{◌≡◌, ◌⊎◌, [], ℕ, ◌≤◌, Bool, true, List, length, Option, IfSome}
 use Rattle.std.specs.List.{zip}
 use Rattle.shared_machine.specs.Worlds.{AreDoneOf}
@@ -11,7 +11,7 @@ use Rattle.cil_model.specs.declared.trees.Tree.{Tree}
 use Rattle.cil_model.specs.declared.reports.Report.{Report}
 use Rattle.shared_machine.specs.simulation.Owed.{AreCyclesBounded}
 use Rattle.shared_machine.specs.simulation.Runs.{IsRunOf}
-use Rattle.shared_machine.specs.simulation.MachineContents.{Content}
+use Rattle.shared_machine.specs.simulation.MachineStates.{MachineState}
 use Rattle.reference_machine.specs.States.{State}
 use Rattle.schedule_text.specs.Items.{words}
 use Rattle.schedule_text.specs.Readings.{AreRead, IsFirstFault}
@@ -21,11 +21,11 @@ use Rattle.acceptance.specs.Sources.{HasRunTo, IsAcceptedSource, IsLetIn, IsNotR
 use Rattle.acceptance.specs.declared.failure.Failure.{Failure}
 
 -- a machine has run by a text: it has done the first of the events that the text writes, and all of them unless the run was stopped
-pub record IsRunBy (source : List ℕ) (limits : Limits) (text : List ℕ) (done : List Event) (reports : List Report) (stopped : Bool) (content : Content) : Type 0 where
+pub record IsRunBy (source : List ℕ) (limits : Limits) (text : List ℕ) (done : List Event) (reports : List Report) (stopped : Bool) (machine_state : MachineState) : Type 0 where
   pub events : List Event
   pub are_read : AreRead (words text) events
   pub are_done : AreDoneOf events done stopped
-  pub ran : HasRunTo source limits done reports content
+  pub ran : HasRunTo source limits done reports machine_state
 
 -- the text of a schedule writes no events: this is its first fault
 abbrev pub IsBadSchedule : List ℕ → Failure → Type 0
@@ -36,10 +36,10 @@ abbrev pub IsNotRunBy : List ℕ → Limits → List ℕ → Failure → Type 0
 IsNotRunBy source limits text failure = IsNotRun source limits failure
     ⊎ (IsLetIn source × (are_in_range limits ≡ true) × IsBadSchedule text failure)
 
--- A run of a list of events comes to a state. The bytes have a tree that is an accepted program, and the reference machine's run over
--- the steps among the events is never stuck. No thread made more steps than its budget has, and one that made as many has ended. Each cycle had few
+-- A run of a list of events results in a state. The bytes have a tree that is an accepted program, and the reference machine's run over
+-- the steps among the events is never stuck. No thread made more steps than its budget has, and one that made exactly its budget has ended. Each cycle had few
 -- working events.
-pub record ComesToBy (source : List ℕ) (limits : Limits) (events : List Event) (reports : List Report) (state : State) : Type 0 where
+pub record ResultsInBy (source : List ℕ) (limits : Limits) (events : List Event) (reports : List Report) (state : State) : Type 0 where
   pub tree : Tree
   pub is_accepted : IsAcceptedSource source tree
   pub in_range : are_in_range limits ≡ true
@@ -47,17 +47,17 @@ pub record ComesToBy (source : List ℕ) (limits : Limits) (events : List Event)
   pub budgets : AreWithinBudget limits (zip events reports) state
   pub bounded : AreCyclesBounded tree limits (zip events reports)
 
--- a run by a text comes to a state: the text writes the events
-pub record ComesTo (source : List ℕ) (limits : Limits) (text : List ℕ) (events : List Event) (reports : List Report) (state : State) : Type 0 where
+-- a run by a text results in a state: the text writes the events
+pub record ResultsIn (source : List ℕ) (limits : Limits) (text : List ℕ) (events : List Event) (reports : List Report) (state : State) : Type 0 where
   pub are_read : AreRead (words text) events
-  pub by_events : ComesToBy source limits events reports state
+  pub by_events : ResultsInBy source limits events reports state
 
 -- if there is a bound, no more bytes were printed
 abbrev pub IsPrintedUpTo : Option ℕ → List ℕ → Type 0
 IsPrintedUpTo most printed = IfSome most (λ bytes. length printed ≤ bytes)
 
 -- the bytes have a tree that is an accepted program, whose machine has its limits in range and has run nothing, and the text writes events
-pub record IsReady (source : List ℕ) (limits : Limits) (text : List ℕ) (events : List Event) (machine : Content) : Type 0 where
+pub record IsReady (source : List ℕ) (limits : Limits) (text : List ℕ) (events : List Event) (machine : MachineState) : Type 0 where
   pub tree : Tree
   pub is_accepted : IsAcceptedSource source tree
   pub in_range : are_in_range limits ≡ true

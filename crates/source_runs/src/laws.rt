@@ -6,7 +6,7 @@ ghost use Rattle.cil_model.specs.declared.limits.Limits.{Limits};
 ghost use Rattle.cil_model.specs.declared.reports.Report.{Report};
 ghost use Rattle.reference_machine.specs.States.{State};
 ghost use Rattle.schedule_text.specs.Writings.{IsWritten};
-ghost use Rattle.source_runs.specs.Runs.{ComesTo, ComesToBy};
+ghost use Rattle.source_runs.specs.Runs.{ResultsIn, ResultsInBy};
 
 use ilasm_reader::laws::answers_are_unique;
 use schedule_text::laws::{one_answer, written_text_is_read};
@@ -15,7 +15,7 @@ use schedule_text::laws::{one_answer, written_text_is_read};
 /// after it, with all that was printed and the status of each thread.
 pub fn a_run_is_one()
     ensures { (source : List ℕ) (limits : Limits) (text : List ℕ) (events events' : List Event) (reports reports' : List Report) (s s' : State) →
-        ComesTo source limits text events reports s → ComesTo source limits text events' reports' s' →
+        ResultsIn source limits text events reports s → ResultsIn source limits text events' reports' s' →
         (events ≡ events') × (reports ≡ reports') × (s ≡ s') }
 {
     answers_are_unique();
@@ -26,7 +26,7 @@ pub fn a_run_is_one()
 /// reports.
 pub fn a_record_repeats_its_run()
     ensures { (source : List ℕ) (limits : Limits) (text : List ℕ) (events : List Event) (reports : List Report) (s : State) →
-        ComesToBy source limits events reports s → IsWritten events text → ComesTo source limits text events reports s }
+        ResultsInBy source limits events reports s → IsWritten events text → ResultsIn source limits text events reports s }
 {
     written_text_is_read();
 }

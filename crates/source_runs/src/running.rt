@@ -7,7 +7,7 @@ ghost use Rattle.schedule_text.specs.Items.{events_of as events_in};
 ghost use Rattle.shared_machine.specs.Histories.{events_of, reports_of};
 ghost use Rattle.shared_machine.specs.Worlds.{AreDoneOf};
 ghost use Rattle.shared_machine.specs.interleaving_core.Histories.{HasDone};
-ghost use Rattle.shared_machine.specs.simulation.Turns.{opening_content};
+ghost use Rattle.shared_machine.specs.simulation.Transitions.{initial_machine_state};
 ghost use Rattle.acceptance.specs.Sources.{HasRunTo, IsNotRun};
 ghost use Rattle.source_runs.specs.Runs.{IsNotRunBy, IsPrintedUpTo, IsReady, IsRunBy};
 
@@ -78,7 +78,7 @@ fn run(
     items: &[Item],
     most_printed: Option<u32>,
 ) -> Result<Outcome, NoMemory>
-    ensures printed { (tree : Tree) (limits : RunLimits) → opening_content tree limits ≡ Some machine → IfOk result (λ outcome. IsPrintedUpTo most_printed outcome.machine.printed) }
+    ensures printed { (tree : Tree) (limits : RunLimits) → initial_machine_state tree limits ≡ Some machine → IfOk result (λ outcome. IsPrintedUpTo most_printed outcome.machine.printed) }
     ensures events { IfOk result (λ outcome. AreDoneOf (events_in items.now) (events_of outcome.history.entries) outcome.is_out_of_memory) }
     ensures ran { (tree : Tree) (limits : RunLimits) → HasDone tree limits [] [] machine → IfOk result (λ outcome. HasDone tree limits (events_of outcome.history.entries) (reports_of outcome.history.entries) outcome.machine) }
 {

@@ -8,7 +8,7 @@ use denote.RattleType.{RattleType}
 use denote.RawPtr.{Ptr, block_ptr, null_ptr}
 use denote.Param.Send.{IsSend, IsSync, Frees, Common, AllSend, part_keyless, owning_send, struct_sync, sendable}
 use denote.Struct.Owning.{shape, fields, to}
-use Rattle.space_block.specs.Memory.{places, places_lent, words_owned, words_lent}
+use Rattle.space_block.specs.Memory.{places, lent_words, words_owned, words_lent}
 use Rattle.space_block.specs.contracts.words.Words as words
 use Rattle.space_block.specs.contracts.words.Lease as lease
 
@@ -23,17 +23,17 @@ places-Keyless b o [] = tt
 places-Keyless b o (Some w ∷ cs) = (part_keyless u64 word_send full_share w b o, places-Keyless b (o + 8) cs)
 places-Keyless b o (None ∷ cs) = (tt, places-Keyless b (o + 8) cs)
 
-places_lent-Common : (b o : ℕ) (cs : List (Option ℕ)) → Common (places_lent b o cs)
-places_lent-Common b o [] κ = tt
-places_lent-Common b o (Some w ∷ cs) κ = (word_sync.shared w b o κ, places_lent-Common b (o + 8) cs κ)
-places_lent-Common b o (None ∷ cs) κ = (tt, places_lent-Common b (o + 8) cs κ)
+lent_words-Common : (b o : ℕ) (cs : List (Option ℕ)) → Common (lent_words b o cs)
+lent_words-Common b o [] κ = tt
+lent_words-Common b o (Some w ∷ cs) κ = (word_sync.shared w b o κ, lent_words-Common b (o + 8) cs κ)
+lent_words-Common b o (None ∷ cs) κ = (tt, lent_words-Common b (o + 8) cs κ)
 
 words-Keyless : (p : Ptr) (cs : List (Option ℕ)) → Keyless (words_owned p cs)
 words-Keyless (block_ptr b o) cs = (tt, places-Keyless b o cs)
 words-Keyless null_ptr cs = tt
 
 words_lent-Common : (p : Ptr) (cs : List (Option ℕ)) → Common (words_lent p cs)
-words_lent-Common (block_ptr b o) cs κ = (tt, places_lent-Common b o cs κ)
+words_lent-Common (block_ptr b o) cs κ = (tt, lent_words-Common b o cs κ)
 words_lent-Common null_ptr cs κ = tt
 
 pub words_send : IsSend words.the_row

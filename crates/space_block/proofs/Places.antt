@@ -1,4 +1,4 @@
--- Places side by side: one is taken out of the sequence, put back or seen, and room for words is a sequence of places.
+-- Consecutive word slots: one is taken out of the sequence, put back or read, and room for words is a sequence of slots.
 use Prim.Native.Nat.{ℕ, zero, suc, ◌+◌, ◌*◌, ◌<◌, ◌≤◌}
 use native.Mathlib.Omega.{arith}
 use mathlib.Core.Path.{◌≡◌, refl, sym, ap, ◌∙◌}
@@ -16,7 +16,7 @@ use types.Kit.{‵, ◌⊛◌, ◌$◌, ◌∵◌, !, qed, by, move, keep, drop 
 use denote.Plain.{uint_out}
 use denote.Steps.{nothing}
 use Rattle.std.specs.Prelude.{Option, Some, None}
-use Rattle.space_block.specs.Memory.{place, places, place_lent, places_lent}
+use Rattle.space_block.specs.Memory.{place, places, lent_word, lent_words}
 
 module _ {M : Type 1} {𝓤 : Ura M} (𝓛 : Logic 𝓤) (b : ℕ) where
   open 𝓛 use {H}
@@ -35,7 +35,7 @@ module _ {M : Type 1} {𝓤 : Ura M} (𝓛 : Logic 𝓤) (b : ℕ) where
       use2 𝓛 (‵ (Row (o + 8) (xs ++ ys))) (glue xs ys (o + 8) at (omega (arith, e))) $ move ! (1 ∷ 0 ∷ []) $ fjoin ! $ done !
 
   module _ (o : ℕ) (cs : List (Option ℕ)) (i : ℕ) where
-    -- the places but for the i-th
+    -- the slots except for the i-th
     abbrev pub Besides : Fml
     Besides = fsep (Row o (take i cs)) (Row (i * 8 + o + 8) (drop (suc i) cs))
 
@@ -53,7 +53,7 @@ module _ {M : Type 1} {𝓤 : Ura M} (𝓛 : Logic 𝓤) (b : ℕ) where
         use2 𝓛 (‵ (Row o (take i cs ++ c ∷ drop (suc i) cs))) (glue (take i cs) (c ∷ drop (suc i) cs) o (i * 8 + o) (before (omega arith))) $
         rewrite ! 0 (λ (l : List (Option ℕ)). ‵ (Row o l)) (sym (set_split cs i c lt)) refl $ done !
 
-  -- a place is room for a word, whatever it holds
+  -- a slot is room for a word, whatever it holds
   pub place_room : (o : ℕ) (c : Option ℕ) → ent 𝓤 (sem 𝓛 (place b o c)) (H.room (ty_int w64) b o)
   place_room o (Some w) = via 𝓤 (H.at full_share (ty_int w64) b o (vint w64 w)) (uint_out 𝓛 full_share w64 w b o) (𝓛.laws.at_room (ty_int w64) b o (vint w64 w))
   place_room o None = id⊢ 𝓤 _
@@ -72,13 +72,13 @@ module _ {M : Type 1} {𝓤 : Ura M} (𝓛 : Logic 𝓤) (b : ℕ) where
 
   module _ (κ : Lft) where
     abbrev Seen : ℕ → List (Option ℕ) → Fml
-    Seen o cs = places_lent b o cs κ
+    Seen o cs = lent_words b o cs κ
 
-    pub place_seen : (o at : ℕ) (cs : List (Option ℕ)) (i : ℕ) → i < length cs → at ≡ i * 8 + o → ent 𝓤 (sem 𝓛 (Seen o cs)) (sem 𝓛 (place_lent b at (get_or cs i None) κ))
+    pub place_seen : (o at : ℕ) (cs : List (Option ℕ)) (i : ℕ) → i < length cs → at ≡ i * 8 + o → ent 𝓤 (sem 𝓛 (Seen o cs)) (sem 𝓛 (lent_word b at (get_or cs i None) κ))
     place_seen o at [] i lt e = absurd (omega arith)
-    place_seen o at (c ∷ cs) zero lt e = qed 𝓛 (‵ (Seen o (c ∷ cs)) ∷ []) ∵ fsplit ! $ keep ! (0 ∷ []) $ rewrite ! 0 (λ (k : ℕ). ‵ (place_lent b k c κ)) {x = at} (omega (arith, e)) refl $ done !
+    place_seen o at (c ∷ cs) zero lt e = qed 𝓛 (‵ (Seen o (c ∷ cs)) ∷ []) ∵ fsplit ! $ keep ! (0 ∷ []) $ rewrite ! 0 (λ (k : ℕ). ‵ (lent_word b k c κ)) {x = at} (omega (arith, e)) refl $ done !
     place_seen o at (c ∷ cs) (suc i) lt e =
-        via 𝓤 (sem 𝓛 (Seen (o + 8) cs)) (snd∗ 𝓤 (sem 𝓛 (place_lent b o c κ)) (sem 𝓛 (Seen (o + 8) cs))) (place_seen (o + 8) at cs i (omega arith) (omega (arith, e)))
+        via 𝓤 (sem 𝓛 (Seen (o + 8) cs)) (snd∗ 𝓤 (sem 𝓛 (lent_word b o c κ)) (sem 𝓛 (Seen (o + 8) cs))) (place_seen (o + 8) at cs i (omega arith) (omega (arith, e)))
 
 pub written_inside : (cs : List (Option ℕ)) (i w : ℕ) → get_or cs i None ≡ Some w → i < length cs
 written_inside [] i w e = cc

@@ -24,8 +24,8 @@ front_val p = vstruct (vcons (ptr_val p) vnil)
 abbrev pub front_own : Ptr → List Val → Fml
 front_own p = (plainly (RawPtr ∷ [])).own_val (p, tt)
 
-pub front_told : (p : Ptr) (vs : List Val) → shadow (front_own p vs) → vs ≡ front_val p ∷ []
-front_told p vs s = s.1.0 ∙ (λ i. vstruct (of_list (s.1.1.0 i ++ [])) ∷ [])
+pub front_decoded : (p : Ptr) (vs : List Val) → shadow (front_own p vs) → vs ≡ front_val p ∷ []
+front_decoded p vs s = s.1.0 ∙ (λ i. vstruct (of_list (s.1.1.0 i ++ [])) ∷ [])
 
 pub front_made : {M : Type 1} {𝓤 : Ura M} (𝓛 : Logic 𝓤) (p : Ptr) → ent 𝓤 (emp 𝓤) (sem 𝓛 (front_own p (front_val p ∷ [])))
 front_made 𝓛 p = makes_shadow 𝓛 (front_own p (front_val p ∷ [])) (λ _. (tt, (tt, tt))) ((ptr_val p ∷ [], tt), (refl, (refl, tt)))
@@ -36,8 +36,8 @@ bare_val = vstruct vnil
 abbrev pub bare_own : List Val → Fml
 bare_own = (plainly []).own_val tt
 
-pub bare_told : (vs : List Val) → shadow (bare_own vs) → vs ≡ bare_val ∷ []
-bare_told vs s = s.1.0
+pub bare_decoded : (vs : List Val) → shadow (bare_own vs) → vs ≡ bare_val ∷ []
+bare_decoded vs s = s.1.0
 
 pub bare_made : {M : Type 1} {𝓤 : Ura M} (𝓛 : Logic 𝓤) → ent 𝓤 (emp 𝓤) (sem 𝓛 (bare_own (bare_val ∷ [])))
 bare_made 𝓛 = makes_shadow 𝓛 (bare_own (bare_val ∷ [])) (λ _. (tt, tt)) (tt, (refl, tt))
@@ -48,8 +48,8 @@ lease_val = vstruct (vcons (vstruct vnil) vnil)
 abbrev pub lease_own : List Val → Fml
 lease_own = (plainly (plainly [] ∷ [])).own_val (tt, tt)
 
-pub lease_told : (vs : List Val) → shadow (lease_own vs) → vs ≡ lease_val ∷ []
-lease_told vs s = s.1.0 ∙ (λ i. vstruct (of_list (s.1.1.0.1.0 i ++ [])) ∷ [])
+pub lease_decoded : (vs : List Val) → shadow (lease_own vs) → vs ≡ lease_val ∷ []
+lease_decoded vs s = s.1.0 ∙ (λ i. vstruct (of_list (s.1.1.0.1.0 i ++ [])) ∷ [])
 
 pub lease_made : {M : Type 1} {𝓤 : Ura M} (𝓛 : Logic 𝓤) → ent 𝓤 (emp 𝓤) (sem 𝓛 (lease_own (lease_val ∷ [])))
 lease_made 𝓛 = makes_shadow 𝓛 (lease_own (lease_val ∷ [])) (λ _. (tt, ((λ _. (tt, tt)), tt))) ((vstruct vnil ∷ [], tt), (refl, ((tt, (refl, tt)), tt)))

@@ -17,35 +17,35 @@ word_size = 8
 abbrev pub FitsBlock : ℕ → Type 0
 FitsBlock n = n * word_size < 2 ^ 63
 
--- a word's place, o bytes into the block b: it holds a word, or is room for one
+-- a word slot, o bytes into the block b: it holds a word, or is room for one
 abbrev pub place : ℕ → ℕ → Option ℕ → Fml
 place b o (Some w) = part_at u64 full_share w b o
 place b o None = froom (ty_int w64) b o
 
--- places side by side
+-- consecutive slots
 abbrev pub places : ℕ → ℕ → List (Option ℕ) → Fml
 places b o [] = ftrue
 places b o (c ∷ cs) = fsep (place b o c) (places b (o + word_size) cs)
 
-abbrev pub place_lent : ℕ → ℕ → Option ℕ → Lft → Fml
-place_lent b o (Some w) = shared_of u64 w b o
-place_lent b o None = nothing
+abbrev pub lent_word : ℕ → ℕ → Option ℕ → Lft → Fml
+lent_word b o (Some w) = shared_of u64 w b o
+lent_word b o None = nothing
 
-abbrev pub places_lent : ℕ → ℕ → List (Option ℕ) → Lft → Fml
-places_lent b o [] = nothing
-places_lent b o (c ∷ cs) = beside (place_lent b o c) (places_lent b (o + word_size) cs)
+abbrev pub lent_words : ℕ → ℕ → List (Option ℕ) → Lft → Fml
+lent_words b o [] = nothing
+lent_words b o (c ∷ cs) = beside (lent_word b o c) (lent_words b (o + word_size) cs)
 
 abbrev pub fit : List (Option ℕ) → Fml
 fit cs = flt (length cs * word_size) (2 ^ 63)
 
--- the places from a pointer on
+-- the slots from a pointer on
 abbrev pub words_owned : Ptr → List (Option ℕ) → Fml
 words_owned (block_ptr b o) cs = fsep (fit cs) (places b o cs)
 words_owned null_ptr cs = ffalse
 
 -- what a `&` to their owner has
 abbrev pub words_lent : Ptr → List (Option ℕ) → Lft → Fml
-words_lent (block_ptr b o) cs = beside (said (fit cs)) (places_lent b o cs)
+words_lent (block_ptr b o) cs = beside (said (fit cs)) (lent_words b o cs)
 words_lent null_ptr cs = said ffalse
 
 -- the right to give a block of n words back, by the allocator's token

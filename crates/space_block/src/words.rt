@@ -100,7 +100,7 @@ pub(crate) fn give_back<A: Allocator>(
 }
 
 impl Words {
-    /// The word at a place that holds one.
+    /// The word at an offset that holds one.
     pub(crate) fn read(&self, front: Front, place: usize) -> u64
         requires { (front.start ≡ self.now.at) × IsWritten self.now.places place }
         ensures { get_or self.now.places place None ≡ Some result }
@@ -108,7 +108,7 @@ impl Words {
         unsafe { *front.start.add(place) }
     }
 
-    /// Stores a word at a place.
+    /// Stores a word at an offset.
     pub(crate) fn write(&mut self, front: Front, place: usize, word: u64)
         requires { (front.start ≡ self.old.at) × (place < length self.old.places) }
         ensures { (self.new.at ≡ self.old.at) × (self.new.places ≡ slice_set self.old.places place (Some word)) }
@@ -116,7 +116,7 @@ impl Words {
         unsafe { *front.start.add(place) = word };
     }
 
-    /// Stores 0 in each place from `from` on and below `to`.
+    /// Stores 0 in each slot from `from` on and below `to`.
     pub(crate) fn clear(&mut self, front: Front, from: usize, to: usize)
         requires { (front.start ≡ self.old.at) × (from ≤ to) × (to ≤ length self.old.places) }
         ensures { (self.new.at ≡ self.old.at) × (self.new.places ≡ take from self.old.places ++ replicate (to - from) (Some 0) ++ drop to self.old.places) }

@@ -5,7 +5,7 @@ use Rattle.svg_text.specs.Contents.{Adds, AddsIfWhole, IsContent, IsDocument, Is
 use Rattle.svg_text.specs.declared.markup.Attribute.{Attribute}
 use Rattle.svg_text.specs.declared.markup.Tag.{Tag}
 use Rattle.svg_text.specs.declared.markup.Tag.TheVariants.{Path, Svg}
-use Rattle.svg_text.specs.Elements.{attribute_text, attributes_text, element_text, empty_text, escaped, name_text, tag_text, value_text}
+use Rattle.svg_text.specs.Elements.{attribute_text, attributes_text, element_text, empty_text, escape, name_text, tag_text, value_text}
 
 -- the pieces of an element, as they are written
 abbrev pub pieces : Tag → List Attribute → List ℕ → List ℕ
@@ -37,11 +37,11 @@ formed_lost text = ∣ (λ h. absurd (cc)) ∣₁
 pub formed_empty : (tag : Tag) (attributes : List Attribute) (piece : List ℕ) → piece ≡ empty_text tag attributes → ∥ IsContent piece ∥₁
 formed_empty tag attributes piece e = ∣ subst (λ x. IsContent x) (sym e) (empty tag attributes) ∣₁
 
-pub formed_words : (tag : Tag) (attributes : List Attribute) (bytes piece : List ℕ) → piece ≡ element_text tag attributes (escaped bytes) → ∥ IsContent piece ∥₁
-formed_words tag attributes bytes piece e = ∣ subst (λ x. IsContent x) (sym e) (element tag attributes (escaped bytes) (words bytes)) ∣₁
+pub formed_words : (tag : Tag) (attributes : List Attribute) (bytes piece : List ℕ) → piece ≡ element_text tag attributes (escape bytes) → ∥ IsContent piece ∥₁
+formed_words tag attributes bytes piece e = ∣ subst (λ x. IsContent x) (sym e) (element tag attributes (escape bytes) (words bytes)) ∣₁
 
-pub content_of_whole : (whole : Bool) (text piece : List ℕ) → whole ≡ true → piece ≡ text → ∥ IsFormed whole text ∥₁ → ∥ IsContent piece ∥₁
-content_of_whole whole text piece e same h = ∥∥₁_map h (λ formed. subst (λ x. IsContent x) (sym same) (formed e))
+pub machine_state_of_whole : (whole : Bool) (text piece : List ℕ) → whole ≡ true → piece ≡ text → ∥ IsFormed whole text ∥₁ → ∥ IsContent piece ∥₁
+machine_state_of_whole whole text piece e same h = ∥∥₁_map h (λ formed. subst (λ x. IsContent x) (sym same) (formed e))
 
 pub formed_around : (whole : Bool) (text : List ℕ) (tag : Tag) (attributes : List Attribute) (piece : List ℕ) → whole ≡ true → piece ≡ element_text tag attributes text → ∥ IsFormed whole text ∥₁ → ∥ IsContent piece ∥₁
 formed_around whole text tag attributes piece e same h = ∥∥₁_map h (λ formed. subst (λ x. IsContent x) (sym same) (element tag attributes text (formed e)))

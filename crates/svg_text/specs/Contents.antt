@@ -3,12 +3,12 @@ use Rattle.std.specs.Prelude.{◌≡◌, ◌++◌, ◌⊎◌, ℕ, Bool, true, f
 use Rattle.svg_text.specs.declared.markup.Attribute.{Attribute}
 use Rattle.svg_text.specs.declared.markup.Tag.{Tag}
 use Rattle.svg_text.specs.declared.markup.Tag.TheVariants.{Svg}
-use Rattle.svg_text.specs.Elements.{element_text, empty_text, escaped}
+use Rattle.svg_text.specs.Elements.{element_text, empty_text, escape}
 
--- words and elements, one behind another, each element with content in it or with nothing
+-- words and elements, one after another, each element with content in it or with nothing
 pub data IsContent : List ℕ → Type 0 where
   nothing : IsContent []
-  words : (bytes : List ℕ) → IsContent (escaped bytes)
+  words : (bytes : List ℕ) → IsContent (escape bytes)
   empty : (tag : Tag) (attributes : List Attribute) → IsContent (empty_text tag attributes)
   element : (tag : Tag) (attributes : List Attribute) (inside : List ℕ) → IsContent inside → IsContent (element_text tag attributes inside)
   both : (first second : List ℕ) → IsContent first → IsContent second → IsContent (first ++ second)

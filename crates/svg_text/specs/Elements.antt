@@ -25,8 +25,8 @@ escaped_byte c =
     else if is_printable c then c ∷ []
     else codes "?"
 
-abbrev pub escaped : List ℕ → List ℕ
-escaped words = flat_map escaped_byte words
+abbrev pub escape : List ℕ → List ℕ
+escape words = flat_map escaped_byte words
 
 -- ---- names
 
@@ -60,7 +60,7 @@ name_text Y = codes "y"
 
 abbrev pub value_text : Value → List ℕ
 value_text (Number n) = decimal n
-value_text (Words words) = escaped words.now
+value_text (Words words) = escape words.now
 
 abbrev pub attribute_text : Attribute → List ℕ
 attribute_text a = codes " " ++ name_text a.name ++ codes "=\"" ++ value_text a.value ++ codes "\""

@@ -1,7 +1,7 @@
 //! What stands in an element, put together in memory.
 
 ghost use Rattle.std.specs.Prelude.{◌≡◌, ◌++◌, [], IfOk, List, None, Some, ℕ, string_bytes};
-ghost use Rattle.svg_text.specs.Elements.{element_text, empty_text, escaped};
+ghost use Rattle.svg_text.specs.Elements.{element_text, empty_text, escape};
 ghost use Rattle.svg_text.specs.Contents.{Adds, AddsIfWhole, IsContent, IsDocument};
 ghost use Rattle.svg_text.specs.declared.markup.Tag.TheVariants.{Svg};
 
@@ -23,7 +23,7 @@ pub struct Area {
     pub height: usize,
 }
 
-/// Words and elements, put together one behind another: well-formed content. Where memory runs out all is lost, and `into_document` says so; so
+/// Words and elements, put together one after another: well-formed content. Where memory runs out all is lost, and `into_document` says so; so
 /// whoever draws looks at no error. Contracts see the text, and none where it is lost.
 #[derive(Drop)]
 pub struct Content {
@@ -71,7 +71,7 @@ impl Content {
 
     /// Appends an element with words in it.
     pub fn words(&mut self, tag: Tag, attributes: &[Attribute], words: &[u8])
-        ensures { Adds self.old self.new (element_text tag attributes.now (escaped words.now)) }
+        ensures { Adds self.old self.new (element_text tag attributes.now (escape words.now)) }
     {
         let start = Start { tag, attributes };
         let words = Escaped(words);
@@ -126,7 +126,7 @@ impl Content {
         self.is_whole = false;
     }
 
-    /// The document with this content. Only want of memory is an error, also where it was met before.
+    /// The document with this content. The only error is out of memory, also where it was met before.
     pub fn into_document(
         self,
         alloc: Global,
@@ -165,7 +165,7 @@ impl Content {
 
     /// Appends a path of these data.
     pub fn path_of(&mut self, class: &str, color: &str, data: &str)
-        ensures { (before : List ℕ) × (after : List ℕ) × Adds self.old self.new (before ++ escaped data.now ++ after) }
+        ensures { (before : List ℕ) × (after : List ℕ) × Adds self.old self.new (before ++ escape data.now ++ after) }
     {
         self.empty(
             Tag::Path,
@@ -191,7 +191,7 @@ impl Content {
         );
     }
 
-    /// Appends a label at this place.
+    /// Appends a label at this point.
     pub fn label(&mut self, class: &str, color: &str, x: usize, y: usize, words: &[u8]) {
         self.words(
             Tag::Text,
@@ -205,16 +205,16 @@ impl Content {
         );
     }
 
-    /// Appends a label that is turned by 90 degrees at this place, to be read upwards.
+    /// Appends a label that is turned by 90 degrees at this point, to be read upwards.
     pub fn label_up(&mut self, class: &str, x: usize, y: usize, words: &[u8]) {
         self.put_point("translate(", x, y);
         self.put(") rotate(-90)");
-        let place = self.take_pending();
+        let index = self.take_pending();
         self.words(
             Tag::Text,
             &[
                 Attribute::words(Name::Class, class),
-                Attribute::words(Name::Transform, place.as_str()),
+                Attribute::words(Name::Transform, index.as_str()),
             ],
             words,
         );
@@ -250,7 +250,7 @@ impl Content {
         self.path_of(class, color, data.as_str());
     }
 
-    /// Appends a label of what has been put, at this place.
+    /// Appends a label of what has been put, at this point.
     pub fn text(&mut self, class: &str, color: &str, x: usize, y: usize) {
         let words = self.take_pending();
         self.label(class, color, x, y, words.as_str().as_bytes());
@@ -263,7 +263,7 @@ impl Content {
         self.path(class, color);
     }
 
-    /// Appends a line from a point: a command, `H` or `V`, to this place.
+    /// Appends a line from a point: a command, `H` or `V`, to this coordinate.
     pub fn line(&mut self, class: &str, color: &str, x: usize, y: usize, command: &str, to: usize) {
         self.put_point("M", x, y);
         self.put_number(command, to);

@@ -88,9 +88,9 @@ pub(crate) struct Escaped<'a>(pub(crate) &'a [u8]);
 /// Each byte as `EscapedByte` writes it.
 impl<'a> fmt::Display for Escaped<'a> {
     ghost use Rattle.std.specs.Prelude.{Some};
-    ghost use Rattle.svg_text.specs.Elements.{escaped};
+    ghost use Rattle.svg_text.specs.Elements.{escape};
 
-    ghost output = { λ words. Some (escaped words.0.now) };
+    ghost output = { λ words. Some (escape words.0.now) };
 
     fn fmt<W: fmt::Write>(&self, f: &mut fmt::Formatter<W>) -> fmt::Result {
         for byte in self.0 {
@@ -153,7 +153,7 @@ pub struct Attribute<'a> {
 
 impl<'a> Attribute<'a> {
     ghost use Rattle.std.specs.Prelude.{◌≡◌, decimal};
-    ghost use Rattle.svg_text.specs.Elements.{escaped, value_text};
+    ghost use Rattle.svg_text.specs.Elements.{escape, value_text};
 
     /// An attribute whose value is a number.
     pub fn number(name: Name, number: usize) -> Attribute<'a>
@@ -169,7 +169,7 @@ impl<'a> Attribute<'a> {
     /// An attribute whose value is words.
     pub fn words(name: Name, words: &'a str) -> Attribute<'a>
         ensures name { result.name ≡ name }
-        ensures value { value_text result.value ≡ escaped words.now }
+        ensures value { value_text result.value ≡ escape words.now }
     {
         Attribute {
             name,
@@ -190,7 +190,7 @@ impl<'a> fmt::Display for Attribute<'a> {
     }
 }
 
-/// Attributes, one behind another.
+/// Attributes, one after another.
 #[derive(Clone, Copy)]
 pub(crate) struct Attributes<'a>(pub(crate) &'a [Attribute<'a>]);
 

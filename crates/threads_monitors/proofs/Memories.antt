@@ -13,8 +13,8 @@ use Rattle.object_memory.specs.declared.addresses.Addr.{Addr}
 use Rattle.object_memory.specs.declared.values.Value.{Value}
 use Rattle.object_memory.specs.declared.values.ValueKind.{ValueKind}
 use Rattle.threads_monitors.specs.declared.frames.Activation.{Activation}
-use Rattle.threads_monitors.specs.Frames.{Frame, Frames, size, zero_value, new_frame, with_place, with_stack, with_argument, with_local, with_call, with_running, returned}
-use Rattle.threads_monitors.specs.Activations.{Lays, Fit, IsSound, shown, activation, activations, frame_of, row, lowest, moved_to, with_constructed}
+use Rattle.threads_monitors.specs.Frames.{Frame, Frames, size, zero_value, new_frame, with_pc, with_stack, with_argument, with_local, with_call, with_running, return_frames}
+use Rattle.threads_monitors.specs.Activations.{Lays, Fit, IsSound, visible_frames, activation, activations, frame_of, row, lowest, moved_to, with_constructed}
 use Rattle.threads_monitors.specs.Roots.{values_of, reference_in, frames_upward, roots, with_reference, frame_with_references, with_references}
 use Rattle.threads_monitors.proofs.Rows as rows
 use Rattle.threads_monitors.proofs.Replacing as replacing
@@ -22,7 +22,7 @@ use Rattle.threads_monitors.proofs.Upward as upward
 
 -- a memory that shows these frames, and is sound
 pub record Holds (values : List Value) (running : Activation) (below : List Activation) (depth room capacity most_below : ℕ) (frames : Frames) : Type 0 where
-  pub view : shown values running below depth room ≡ frames
+  pub view : visible_frames values running below depth room ≡ frames
   pub sound : IsSound values running below depth room capacity most_below
 
 holds : (values : List Value) (running : Activation) (below : List Activation) (depth room capacity most_below : ℕ) (f : Frame) (fs : List Frame)
@@ -48,10 +48,10 @@ room_at_first depth room n some fits =
     let all : 1 * room ≤ depth * room = mul-le 1 room depth room (omega (arith, some)) (omega arith) in
     omega (arith, all, fits)
 
--- the first memory: one frame in an empty row
+-- the first memory: one frame on an empty value stack
 abbrev pub Begun : (arguments : List Value) (kinds : List ValueKind) (method depth room : ℕ) (values : List Value) (below : List Activation) (stack capacity most_below : ℕ) → Type 0
 Begun arguments kinds method depth room values below stack capacity most_below =
-    Holds values (record { method = method; place = 0; constructed = None; arguments = 0; locals = length arguments; stack = stack }) below depth room capacity most_below
+    Holds values (record { method = method; pc = 0; constructed = None; arguments = 0; locals = length arguments; stack = stack }) below depth room capacity most_below
     (record { running = new_frame method arguments kinds None; below = []; depth = depth; room = room })
 
 pub begun : (arguments : List Value) (kinds : List ValueKind) (method depth room : ℕ) (values : List Value) (below : List Activation) (stack capacity most_below : ℕ) → 0 < depth → length arguments + length kinds ≤ room
@@ -61,20 +61,20 @@ begun arguments kinds method depth room values below stack capacity most_below s
     let zero_first : length arguments ≡ 0 + length arguments = omega arith in
     let long = ap length values_are ∙ length-append arguments (map zero_value kinds) in
     let stack_first : stack ≡ 0 + (length arguments + length (map zero_value kinds)) = omega (arith, stack_is, long) in
-    holds values (record { method = method; place = 0; constructed = None; arguments = 0; locals = length arguments; stack = stack })
+    holds values (record { method = method; pc = 0; constructed = None; arguments = 0; locals = length arguments; stack = stack })
     below depth room capacity most_below (new_frame method arguments kinds None) []
     (record {
       values_are = values_are ∙ ap (λ xs. arguments ++ xs) (sym (append-nil (map zero_value kinds)));
       running_is =
-          ap (λ (k : ℕ). record { method = method; place = 0; constructed = None; arguments = 0; locals = k; stack = stack }) zero_first
-          ∙ ap (λ (k : ℕ). record { method = method; place = 0; constructed = None; arguments = 0; locals = 0 + length arguments; stack = k }) stack_first;
+          ap (λ (k : ℕ). record { method = method; pc = 0; constructed = None; arguments = 0; locals = k; stack = stack }) zero_first
+          ∙ ap (λ (k : ℕ). record { method = method; pc = 0; constructed = None; arguments = 0; locals = 0 + length arguments; stack = k }) stack_first;
       below_are = ap reverse below_are;
     })
     (rw count (omega (arith, fits)), tt) (omega (arith, some, ap length below_are)) large deep
 
 module _ (values : List Value) (running : Activation) (below : List Activation) (depth room capacity most_below : ℕ) (s : IsSound values running below depth room capacity most_below) where
   abbrev m : Frames
-  m = shown values running below depth room
+  m = visible_frames values running below depth room
 
   abbrev f : Frame
   f = m.running
@@ -99,8 +99,8 @@ module _ (values : List Value) (running : Activation) (below : List Activation) 
 
   -- the topmost value is taken
   pub record Popped (new : List Value) (v : Value) : Type 0 where
-    pub stack_is : f.stack ≡ v ∷ (shown new running below depth room).running.stack
-    pub others : shown new running below depth room ≡ with_stack m (shown new running below depth room).running.stack
+    pub stack_is : f.stack ≡ v ∷ (visible_frames new running below depth room).running.stack
+    pub others : visible_frames new running below depth room ≡ with_stack m (visible_frames new running below depth room).running.stack
     pub sound : IsSound new running below depth room capacity most_below
 
   pub after_pop : (new : List Value) (v : Value) → 0 < length f.stack → values ≡ new ++ v ∷ [] → Popped new v
@@ -115,17 +115,17 @@ module _ (values : List Value) (running : Activation) (below : List Activation) 
           let first = s.fit.0 in
           let lays = subst (λ ys. Lays ys running (reverse below) (record f { stack = xs }) fs) (sym same.0) t.lays in
           let then = holds new running below depth room capacity most_below (record f { stack = xs }) fs lays (omega (arith, first, long), s.fit.1) s.few s.large s.deep in
-          let left : (shown new running below depth room).running.stack ≡ xs = ap (λ (k : Frames). k.running.stack) then.view in
+          let left : (visible_frames new running below depth room).running.stack ≡ xs = ap (λ (k : Frames). k.running.stack) then.view in
           record {
             stack_is = e ∙ ap (λ y. y ∷ xs) (sym same.1) ∙ ap (λ ys. v ∷ ys) (sym left);
             others = then.view ∙ ap (with_stack m) (sym left);
             sound = then.sound;
           }
 
-  -- where a value lies in the row that is one of these
-  pub record IsAt (xs : List Value) (i place : ℕ) : Type 0 where
-    pub inside : place < length values
-    pub read : (v : Value) → v ≡ get_or values place v → slice_get xs i ≡ Some v
+  -- where one of these values is in the value stack
+  pub record IsAt (xs : List Value) (i pc : ℕ) : Type 0 where
+    pub inside : pc < length values
+    pub read : (v : Value) → v ≡ get_or values pc v → slice_get xs i ≡ Some v
 
   pub argument_at : (i : ℕ) → i < length f.arguments → IsAt f.arguments i (running.arguments + i)
   argument_at i less = record {
@@ -145,9 +145,9 @@ module _ (values : List Value) (running : Activation) (below : List Activation) 
     read = λ v is. rows.operand_read values running (reverse below) f fs s.lays i v less ∙ ap Some (sym is);
   }
 
-  -- the place of a value below the topmost ones is in the row
-  pub place_below : (n : ℕ) → n ≤ length f.stack → n ≤ length values
-  place_below n less = omega (arith, less, rows.length_values values running (reverse below) f fs s.lays)
+  -- the index of a value below the topmost ones is in the value stack
+  pub index_below : (n : ℕ) → n ≤ length f.stack → n ≤ length values
+  index_below n less = omega (arith, less, rows.length_values values running (reverse below) f fs s.lays)
 
   pub after_insert : (n : ℕ) (v : Value) → n ≤ length f.stack → size f < room → Holds (insert values (length values - n) v) running below depth room capacity most_below (with_stack m (take n f.stack ++ v ∷ drop n f.stack))
   after_insert n v there less =
@@ -160,10 +160,10 @@ module _ (values : List Value) (running : Activation) (below : List Activation) 
       length_inserted (suc n) [] v h = absurd (omega (arith, h))
       length_inserted (suc n) (x ∷ xs) v h = let ih = length_inserted n xs v (omega (arith, h)) in omega (arith, ih)
 
-  pub after_place : (place : ℕ) → Holds values (record running { place = place }) below depth room capacity most_below (with_place m place)
-  after_place place =
-      holds values (record running { place = place }) below depth room capacity most_below (record f { place = place }) fs
-      (record { values_are = s.lays.values_are; running_is = ap (λ (a : Activation). record a { place = place }) s.lays.running_is; below_are = s.lays.below_are })
+  pub after_pc : (pc : ℕ) → Holds values (record running { pc = pc }) below depth room capacity most_below (with_pc m pc)
+  after_pc pc =
+      holds values (record running { pc = pc }) below depth room capacity most_below (record f { pc = pc }) fs
+      (record { values_are = s.lays.values_are; running_is = ap (λ (a : Activation). record a { pc = pc }) s.lays.running_is; below_are = s.lays.below_are })
       s.fit s.few s.large s.deep
 
   pub after_argument : (i : ℕ) (v : Value) → i < length f.arguments → Holds (set values (running.arguments + i) v) running below depth room capacity most_below (with_argument m i v)
@@ -191,11 +191,11 @@ module _ (values : List Value) (running : Activation) (below : List Activation) 
 
   pub after_call : (method n : ℕ) (kinds : List ValueKind) (object : Option Addr) → length fs + 1 < depth → n ≤ length f.stack → n + length kinds ≤ room
       → Holds (values ++ map zero_value kinds)
-      (record { method = method; place = 0; constructed = object; arguments = length values - n; locals = length values; stack = length values + length kinds })
+      (record { method = method; pc = 0; constructed = object; arguments = length values - n; locals = length values; stack = length values + length kinds })
       (below ++ running ∷ []) depth room capacity most_below (with_call m method n kinds object)
   after_call method n kinds object more less fits =
       let order : reverse (below ++ running ∷ []) ≡ running ∷ reverse below = reverse-append below (running ∷ []) in
-      let new : Activation = record { method = method; place = 0; constructed = object; arguments = length values - n; locals = length values; stack = length values + length kinds } in
+      let new : Activation = record { method = method; pc = 0; constructed = object; arguments = length values - n; locals = length values; stack = length values + length kinds } in
       let count = length-map kinds zero_value in
       let taken = length-reverse (take n f.stack) ∙ length-take-le n f.stack less in
       let long = length_append_one below running in
@@ -217,16 +217,16 @@ module _ (values : List Value) (running : Activation) (below : List Activation) 
       length_drop (suc k) [] = omega arith
       length_drop (suc k) (x ∷ xs) = let ih = length_drop k xs in omega (arith, ih)
 
-  pub after_return : (next : Activation) (rest : List Activation) → 0 < length fs → below ≡ rest ++ next ∷ [] → Holds (take running.arguments values) next rest depth room capacity most_below (returned m)
+  pub after_return : (next : Activation) (rest : List Activation) → 0 < length fs → below ≡ rest ++ next ∷ [] → Holds (take running.arguments values) next rest depth room capacity most_below (return_frames m)
   after_return next rest some e = by fs refl
     where
       order : reverse below ≡ next ∷ reverse rest
       order = ap reverse e ∙ reverse-append rest (next ∷ [])
 
-      returned_is : (frames : List Frame) (g : Frame) (gs : List Frame) → fs ≡ frames → frames ≡ g ∷ gs → returned m ≡ record m { running = g; below = gs }
+      returned_is : (frames : List Frame) (g : Frame) (gs : List Frame) → fs ≡ frames → frames ≡ g ∷ gs → return_frames m ≡ record m { running = g; below = gs }
       returned_is frames g gs here is = rw (here ∙ is) refl
 
-      by : (frames : List Frame) → fs ≡ frames → Holds (take running.arguments values) next rest depth room capacity most_below (returned m)
+      by : (frames : List Frame) → fs ≡ frames → Holds (take running.arguments values) next rest depth room capacity most_below (return_frames m)
       by [] here = let none = rw here at some in absurd (omega (arith, none))
       by (g ∷ gs) here =
           let laid : Lays values running (next ∷ reverse rest) f (g ∷ gs) =
@@ -322,10 +322,10 @@ module _ (values : List Value) (running : Activation) (below : List Activation) 
 module _ (values : List Value) (running : Activation) (below : List Activation) (depth room capacity most_below : ℕ) (s : IsSound values running below depth room capacity most_below)
     (values' : List Value) (running' : Activation) (below' : List Activation) (depth' room' capacity' most_below' : ℕ) (s' : IsSound values' running' below' depth' room' capacity' most_below') (fits : room' ≤ room) where
   abbrev old : Frames
-  old = shown values running below depth room
+  old = visible_frames values running below depth room
 
   abbrev other : Frames
-  other = shown values' running' below' depth' room'
+  other = visible_frames values' running' below' depth' room'
 
   starts : running.arguments ≡ length (row old.below)
   starts = ap (λ (a : Activation). a.arguments) s.lays.running_is
@@ -391,16 +391,16 @@ module _ (values : List Value) (running : Activation) (below : List Activation) 
 
 module _ (values : List Value) (running : Activation) (below : List Activation) (depth room capacity most_below : ℕ) (s : IsSound values running below depth room capacity most_below) where
   -- the running frame lies in its own values
-  pub own_values : drop running.arguments values ≡ values_of (shown values running below depth room).running
+  pub own_values : drop running.arguments values ≡ values_of (visible_frames values running below depth room).running
   own_values =
       ap (λ n. drop n values) (ap (λ (a : Activation). a.arguments) s.lays.running_is)
-      ∙ ap (drop (length (row (shown values running below depth room).below))) s.lays.values_are
-      ∙ drop-append_seam (row (shown values running below depth room).below) (values_of (shown values running below depth room).running)
+      ∙ ap (drop (length (row (visible_frames values running below depth room).below))) s.lays.values_are
+      ∙ drop-append_seam (row (visible_frames values running below depth room).below) (values_of (visible_frames values running below depth room).running)
 
-  own_activation : moved_to 0 running ≡ activation [] (shown values running below depth room).running
+  own_activation : moved_to 0 running ≡ activation [] (visible_frames values running below depth room).running
   own_activation =
-      let g = (shown values running below depth room).running in
-      let gs = (shown values running below depth room).below in
+      let g = (visible_frames values running below depth room).running in
+      let gs = (visible_frames values running below depth room).below in
       let starts : running.arguments ≡ length (row gs) = ap (λ (a : Activation). a.arguments) s.lays.running_is in
       let locals : running.locals ≡ length (row gs) + length g.arguments = ap (λ (a : Activation). a.locals) s.lays.running_is in
       let stack : running.stack ≡ length (row gs) + (length g.arguments + length g.locals) = ap (λ (a : Activation). a.stack) s.lays.running_is in
@@ -409,5 +409,5 @@ module _ (values : List Value) (running : Activation) (below : List Activation) 
       (λ i. record running { arguments = 0; locals = first i; stack = second i })
       ∙ ap (λ (a : Activation). record a { arguments = 0; locals = 0 + length g.arguments; stack = 0 + (length g.arguments + length g.locals) }) s.lays.running_is
 
-  pub own_frame : frame_of (drop running.arguments values) (moved_to 0 running) ≡ (shown values running below depth room).running
-  own_frame = ap (λ xs. frame_of xs (moved_to 0 running)) own_values ∙ ap (frame_of (values_of (shown values running below depth room).running)) own_activation ∙ rows.frame_there [] (shown values running below depth room).running
+  pub own_frame : frame_of (drop running.arguments values) (moved_to 0 running) ≡ (visible_frames values running below depth room).running
+  own_frame = ap (λ xs. frame_of xs (moved_to 0 running)) own_values ∙ ap (frame_of (values_of (visible_frames values running below depth room).running)) own_activation ∙ rows.frame_there [] (visible_frames values running below depth room).running

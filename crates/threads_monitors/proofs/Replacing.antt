@@ -1,4 +1,4 @@
--- The references of all frames replaced: what lies in the row then, and that each of them is asked for.
+-- The references of all frames replaced: what the value stack holds then, and that each of them is asked for.
 use Rattle.std.proofs.Common.{◌≡◌, ℕ, ◌+◌, ◌-◌, ◌<◌, ◌≤◌, List, [], ◌∷◌, ◌++◌, length, take, drop, set, get_or, refl, sym, ap, subst, ◌∙◌, arith, length-append, append-nil}
 use Rattle.std.specs.Prelude.{option_map, pos, reverse, map, Option, Some, None, option_to_list, filter_map, flat_map, All, IfSome}
 use Rattle.std.specs.List.{cons_option, AllByRecursion}
@@ -23,7 +23,7 @@ map-reverse f (x ∷ xs) =
     ∙ ap (λ ys. ys ++ f x ∷ []) (map-reverse f xs)
     ∙ sym (reverse-append (f x ∷ []) (map f xs))
 
--- ---- what lies in the row
+-- ---- what the value stack holds
 
 module _ (g : Addr → Addr) where
   abbrev value : Value → Value
@@ -180,12 +180,12 @@ pub asked : (pre : Addr → Type 0) (post : Addr → Addr → Type 0) (g : Addr 
 asked pre post g None h = tt
 asked pre post g (Some a) h = h.0
 
--- what a row has at a place that it does not have
+-- what a value stack has at an index that it does not have
 abbrev pub no_value : Value
 no_value = Int32 (pos 0)
 
 abbrev pub no_activation : Activation
-no_activation = record { method = 0; place = 0; constructed = None; arguments = 0; locals = 0; stack = 0 }
+no_activation = record { method = 0; pc = 0; constructed = None; arguments = 0; locals = 0; stack = 0 }
 
 module _ {X : Type 0} (h : X → X) (xs ys : List X) (i : ℕ) (d : X) (within : i < length xs) (so_far : ys ≡ map h (take i xs) ++ drop i xs) where
   not_yet : get_or ys i d ≡ get_or xs i d

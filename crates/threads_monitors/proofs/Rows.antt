@@ -1,4 +1,4 @@
--- The row of values: the frames in it are those that were laid there, and what each call of the memory makes of it.
+-- The value stack: the frames in it are those that were laid there, and what each call of the memory makes of it.
 use Rattle.std.proofs.Common.{◌≡◌, ℕ, ◌+◌, ◌-◌, ◌*◌, ◌<◌, ◌≤◌, List, [], ◌∷◌, ◌++◌, length, take, drop, set, get_or, refl, sym, ap, subst, ◌∙◌, arith, length-append, append_assoc, append-nil}
 use Rattle.std.specs.Prelude.{reverse, map, slice_get, Option, Some}
 use Rattle.std.proofs.Math.ListN.{length-set, get_or-append}
@@ -26,7 +26,7 @@ pub one_made_more : {X Y : Type 0} (h : X → Y) (old before after : List Y) (mo
 one_made_more h old before after more n d y less had made now =
     now ∙ ap (λ x. before ++ x ∷ []) made ∙ ap (λ xs. xs ++ h (get_or more n d) ∷ []) had ∙ append_assoc old (map h (take n more)) (h (get_or more n d) ∷ []) ∙ ap (λ xs. old ++ xs) (sym (map_more h more n d less))
 
--- ---- what lies in a row
+-- ---- what a value stack holds
 
 module _ (fs : List Frame) (f : Frame) where
   base : ℕ
@@ -131,8 +131,8 @@ module _ (values : List Value) (running : Activation) (below : List Activation) 
         ∙ ap (λ xs. row fs ++ (f.arguments ++ (f.locals ++ xs))) (ap reverse (sym (take-append-drop n f.stack)) ∙ reverse-append (take n f.stack) (drop n f.stack))
         ∙ sym (nested above)
 
-    place_there : length values - n ≡ length head
-    place_there =
+    pc_there : length values - n ≡ length head
+    pc_there =
         let count : length above ≡ n = length-reverse (take n f.stack) ∙ length-take-le n f.stack fits in
         let long : length values ≡ length head + length above = ap length split_there ∙ length-append head above in
         omega (arith, count, long)
@@ -149,7 +149,7 @@ module _ (values : List Value) (running : Activation) (below : List Activation) 
     row_then : insert values (length values - n) v ≡ row fs ++ values_of (record f { stack = take n f.stack ++ v ∷ drop n f.stack })
     row_then =
         ap (λ xs. insert xs (length values - n) v) split_there
-        ∙ ap (λ k. insert (head ++ above) k v) place_there
+        ∙ ap (λ k. insert (head ++ above) k v) pc_there
         ∙ insert-append_right head above (length head) (length head) v refl (omega arith)
         ∙ ap (λ k. head ++ insert above k v) none_left
         ∙ nested (v ∷ above)
@@ -183,14 +183,14 @@ module _ (values : List Value) (running : Activation) (below : List Activation) 
   pub operand_read : (i : ℕ) (d : Value) → i < length f.stack → slice_get f.stack i ≡ Some (get_or values (length values - 1 - i) d)
   operand_read i d less =
       let left = length f.stack - 1 - i in
-      let place : length values - 1 - i ≡ length (row fs) + (length f.arguments + (length f.locals + left)) = omega (arith, length_values, less) in
+      let pc : length values - 1 - i ≡ length (row fs) + (length f.arguments + (length f.locals + left)) = omega (arith, length_values, less) in
       let mirrored : i ≡ length f.stack - 1 - left = omega (arith, less) in
       slice_get-get_or f.stack i d less
-      ∙ ap Some (ap (λ n. get_or f.stack n d) mirrored ∙ sym (get_or-reverse f.stack left d (omega (arith, less))) ∙ sym (topmost_read left d place))
+      ∙ ap Some (ap (λ n. get_or f.stack n d) mirrored ∙ sym (get_or-reverse f.stack left d (omega (arith, less))) ∙ sym (topmost_read left d pc))
     where
       topmost_read : (n : ℕ) (d : Value) → length values - 1 - i ≡ length (row fs) + (length f.arguments + (length f.locals + n)) → get_or values (length values - 1 - i) d ≡ get_or (reverse f.stack) n d
-      topmost_read n d place =
-          ap (λ k. get_or values k d) place
+      topmost_read n d pc =
+          ap (λ k. get_or values k d) pc
           ∙ ap (λ xs. get_or xs (length (row fs) + (length f.arguments + (length f.locals + n))) d) l.values_are
           ∙ get_or-append-add (row fs) (values_of f) (length f.arguments + (length f.locals + n)) d
           ∙ get_or-append-add f.arguments (f.locals ++ reverse f.stack) (length f.locals + n) d
@@ -198,8 +198,8 @@ module _ (values : List Value) (running : Activation) (below : List Activation) 
 
   -- ---- arguments and locals
 
-  argument_place : (i : ℕ) → i < length f.arguments → running.arguments + i ≡ length (row fs) + i
-  argument_place i less = ap (λ (a : Activation). a.arguments + i) l.running_is
+  argument_index : (i : ℕ) → i < length f.arguments → running.arguments + i ≡ length (row fs) + i
+  argument_index i less = ap (λ (a : Activation). a.arguments + i) l.running_is
 
   pub argument_read : (i : ℕ) (d : Value) → i < length f.arguments → slice_get f.arguments i ≡ Some (get_or values (running.arguments + i) d)
   argument_read i d less =
@@ -207,17 +207,17 @@ module _ (values : List Value) (running : Activation) (below : List Activation) 
       ∙ ap Some (sym (get_or-append f.arguments (f.locals ++ reverse f.stack) d i less)
       ∙ sym (get_or-append-add (row fs) (values_of f) i d)
       ∙ ap (λ xs. get_or xs (length (row fs) + i) d) (sym l.values_are)
-      ∙ ap (λ n. get_or values n d) (sym (argument_place i less)))
+      ∙ ap (λ n. get_or values n d) (sym (argument_index i less)))
 
   pub argument_inside : (i : ℕ) → i < length f.arguments → running.arguments + i < length values
-  argument_inside i less = omega (arith, argument_place i less, length_values)
+  argument_inside i less = omega (arith, argument_index i less, length_values)
 
   pub argument_stored : (i : ℕ) (v : Value) → i < length f.arguments → Lays (set values (running.arguments + i) v) running below (record f { arguments = set f.arguments i v }) fs
   argument_stored i v less =
       let near : length (row fs) + i - length (row fs) ≡ i = omega arith in
       record {
         values_are =
-            ap (λ n. set values n v) (argument_place i less)
+            ap (λ n. set values n v) (argument_index i less)
             ∙ ap (λ xs. set xs (length (row fs) + i) v) l.values_are
             ∙ set-append_right (row fs) (values_of f) (length (row fs)) (length (row fs) + i) v refl (omega arith)
             ∙ ap (λ n. row fs ++ set (values_of f) n v) near
@@ -226,8 +226,8 @@ module _ (values : List Value) (running : Activation) (below : List Activation) 
         below_are = l.below_are;
       }
 
-  local_place : (i : ℕ) → running.locals + i ≡ length (row fs) + (length f.arguments + i)
-  local_place i = let locals = ap (λ (a : Activation). a.locals) l.running_is in omega (arith, locals)
+  local_index : (i : ℕ) → running.locals + i ≡ length (row fs) + (length f.arguments + i)
+  local_index i = let locals = ap (λ (a : Activation). a.locals) l.running_is in omega (arith, locals)
 
   pub local_read : (i : ℕ) (d : Value) → i < length f.locals → slice_get f.locals i ≡ Some (get_or values (running.locals + i) d)
   local_read i d less =
@@ -236,10 +236,10 @@ module _ (values : List Value) (running : Activation) (below : List Activation) 
       ∙ sym (get_or-append-add f.arguments (f.locals ++ reverse f.stack) i d)
       ∙ sym (get_or-append-add (row fs) (values_of f) (length f.arguments + i) d)
       ∙ ap (λ xs. get_or xs (length (row fs) + (length f.arguments + i)) d) (sym l.values_are)
-      ∙ ap (λ n. get_or values n d) (sym (local_place i)))
+      ∙ ap (λ n. get_or values n d) (sym (local_index i)))
 
   pub local_inside : (i : ℕ) → i < length f.locals → running.locals + i < length values
-  local_inside i less = omega (arith, local_place i, length_values)
+  local_inside i less = omega (arith, local_index i, length_values)
 
   pub local_stored : (i : ℕ) (v : Value) → i < length f.locals → Lays (set values (running.locals + i) v) running below (record f { locals = set f.locals i v }) fs
   local_stored i v less =
@@ -248,7 +248,7 @@ module _ (values : List Value) (running : Activation) (below : List Activation) 
       let nearer : arguments + i - arguments ≡ i = omega arith in
       record {
         values_are =
-            ap (λ n. set values n v) (local_place i)
+            ap (λ n. set values n v) (local_index i)
             ∙ ap (λ xs. set xs (length (row fs) + (arguments + i)) v) l.values_are
             ∙ set-append_right (row fs) (values_of f) (length (row fs)) (length (row fs) + (arguments + i)) v refl (omega arith)
             ∙ ap (λ n. row fs ++ set (values_of f) n v) near
@@ -282,7 +282,7 @@ module _ (values : List Value) (running : Activation) (below : List Activation) 
   -- the new frame lies above what is left of the running one
   pub called : (method n : ℕ) (kinds : List ValueKind) (object : Option Addr) → n ≤ length f.stack
       → Lays (values ++ map zero_value kinds)
-      (record { method = method; place = 0; constructed = object; arguments = length values - n; locals = length values; stack = length values + length kinds })
+      (record { method = method; pc = 0; constructed = object; arguments = length values - n; locals = length values; stack = length values + length kinds })
       (running ∷ below)
       (new_frame method (reverse (take n f.stack)) kinds object)
       (record f { stack = drop n f.stack } ∷ fs)
@@ -309,9 +309,9 @@ module _ (values : List Value) (running : Activation) (below : List Activation) 
             ∙ append_assoc (row (caller ∷ fs)) arguments zeros
             ∙ ap (λ xs. row (caller ∷ fs) ++ (arguments ++ xs)) (sym (append-nil zeros));
         running_is =
-            ap (λ (k : ℕ). record { method = method; place = 0; constructed = object; arguments = k; locals = length values; stack = length values + length kinds }) from
-            ∙ ap (λ (k : ℕ). record { method = method; place = 0; constructed = object; arguments = length (row (caller ∷ fs)); locals = k; stack = length values + length kinds }) long
-            ∙ ap (λ (k : ℕ). record { method = method; place = 0; constructed = object; arguments = length (row (caller ∷ fs)); locals = length (row (caller ∷ fs)) + length arguments; stack = k }) top;
+            ap (λ (k : ℕ). record { method = method; pc = 0; constructed = object; arguments = k; locals = length values; stack = length values + length kinds }) from
+            ∙ ap (λ (k : ℕ). record { method = method; pc = 0; constructed = object; arguments = length (row (caller ∷ fs)); locals = k; stack = length values + length kinds }) long
+            ∙ ap (λ (k : ℕ). record { method = method; pc = 0; constructed = object; arguments = length (row (caller ∷ fs)); locals = length (row (caller ∷ fs)) + length arguments; stack = k }) top;
         below_are = rw (l.running_is, l.below_are) refl;
       }
 

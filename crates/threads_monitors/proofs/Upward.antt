@@ -1,4 +1,4 @@
--- The frames from the first one on, and where the values of each lie in the row.
+-- The frames from the first one on, and where the values of each are in the value stack.
 use Rattle.std.proofs.Common.{◌≡◌, ◌⊎◌, inl, inr, ℕ, zero, suc, ◌+◌, ◌-◌, ◌<◌, ◌≤◌, List, [], ◌∷◌, ◌++◌, length, take, drop, refl, sym, ap, ◌∙◌, arith, length-append, append_assoc, append-nil}
 use Rattle.std.specs.Prelude.{reverse, map, Some, option_map, slice_get}
 use Rattle.std.proofs.Math.Seq.{take-append_seam, drop-append_seam}
@@ -109,7 +109,7 @@ constructed_there gs n a e =
     same [] = refl
     same (f ∷ fs) = ap (λ xs. f.constructed ∷ xs) (same fs)
 
--- ---- the part of the row
+-- ---- the part of the value stack
 
 record Above (gs : List Frame) (k : ℕ) : Type 0 where
   pub rest : List Value

@@ -1,4 +1,4 @@
--- How the frames of a thread lie in its memory: all their values in one row, the lowest frame's first. No caller reads this.
+-- How the frames of a thread lie in its memory: all their values in one stack, the lowest frame's first. No caller reads this.
 use Rattle.std.specs.Prelude.{◌≡◌, ◌≤◌, ℕ, ◌+◌, ◌-◌, ◌*◌, List, [], ◌∷◌, ◌++◌, length, reverse, take, drop, option_map}
 use Rattle.object_memory.specs.declared.addresses.Addr.{Addr}
 use Rattle.object_memory.specs.declared.values.Value.{Value}
@@ -15,7 +15,7 @@ row (f ∷ fs) = row fs ++ values_of f
 abbrev pub activation : List Frame → Frame → Activation
 activation fs f = record {
   method = f.method;
-  place = f.place;
+  pc = f.pc;
   constructed = f.constructed;
   arguments = length (row fs);
   locals = length (row fs) + length f.arguments;
@@ -30,19 +30,19 @@ activations (f ∷ fs) = activation fs f ∷ activations fs
 abbrev pub frame_of : List Value → Activation → Frame
 frame_of values a = record {
   method = a.method;
-  place = a.place;
+  pc = a.pc;
   arguments = take (a.locals - a.arguments) (drop a.arguments values);
   locals = take (a.stack - a.locals) (drop a.locals values);
   stack = reverse (drop a.stack values);
   constructed = a.constructed;
 }
 
--- the frames that lie in the row, the uppermost first
+-- the frames whose values are in the value stack, the uppermost first
 abbrev pub frames_of : List Value → List Activation → List Frame
 frames_of values [] = []
 frames_of values (a ∷ rest) = frame_of values a ∷ frames_of (take a.arguments values) rest
 
--- the row and the activations are those of these frames
+-- the value stack and the activations are those of these frames
 pub record Lays (values : List Value) (running : Activation) (below : List Activation) (f : Frame) (fs : List Frame) : Type 0 where
   pub values_are : values ≡ row (f ∷ fs)
   pub running_is : running ≡ activation fs f
@@ -52,11 +52,11 @@ pub record Lays (values : List Value) (running : Activation) (below : List Activ
 abbrev pub lowest : ℕ → List Frame → List Frame
 lowest n fs = drop (length fs - n) fs
 
--- another address in the place of the object that a constructor makes
+-- another address in place of the object that a constructor makes
 abbrev pub with_constructed : (Addr → Addr) → Activation → Activation
 with_constructed g a = record a { constructed = option_map g a.constructed }
 
--- the same frame, whose values begin at another place
+-- the same frame, whose values begin at another index
 abbrev pub moved_to : ℕ → Activation → Activation
 moved_to start a = record a { arguments = start; locals = start + (a.locals - a.arguments); stack = start + (a.stack - a.arguments) }
 
@@ -65,19 +65,19 @@ abbrev pub Fit : ℕ → List Frame → Type 0
 Fit room [] = Unit {0}
 Fit room (f ∷ fs) = (size f ≤ room) × Fit room fs
 
--- what callers see of a row with its activations, the running one beside those below it
-abbrev pub shown : List Value → Activation → List Activation → (depth room : ℕ) → Frames
-shown values running below depth room = record {
+-- what callers see of a value stack with its activations, the running one beside those below it
+abbrev pub visible_frames : List Value → Activation → List Activation → (depth room : ℕ) → Frames
+visible_frames values running below depth room = record {
   running = frame_of values running;
   below = frames_of (take running.arguments values) (reverse below);
   depth = depth;
   room = room;
 }
 
--- the row and the activations are those of the frames, which fit into the memory that was taken
+-- the value stack and the activations are those of the frames, which fit into the memory that was taken
 pub record IsSound (values : List Value) (running : Activation) (below : List Activation) (depth room capacity most_below : ℕ) : Type 0 where
-  pub lays : Lays values running (reverse below) (shown values running below depth room).running (shown values running below depth room).below
-  pub fit : Fit room ((shown values running below depth room).running ∷ (shown values running below depth room).below)
+  pub lays : Lays values running (reverse below) (visible_frames values running below depth room).running (visible_frames values running below depth room).below
+  pub fit : Fit room ((visible_frames values running below depth room).running ∷ (visible_frames values running below depth room).below)
   pub few : length below + 1 ≤ depth
   pub large : depth * room ≤ capacity
   pub deep : depth ≤ most_below + 1

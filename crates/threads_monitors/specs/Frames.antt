@@ -1,4 +1,4 @@
--- The frames of a thread as callers see them, with no place in memory (I.12.3.2, this profile).
+-- The frames of a thread as callers see them, without indices into the value stack (I.12.3.2, this profile).
 use Rattle.std.specs.Prelude.{ℕ, ◌+◌, pos, List, [], ◌∷◌, ◌++◌, map, length, reverse, take, drop, Option, slice_set}
 use Rattle.object_memory.specs.declared.addresses.Addr.{Addr}
 use Rattle.object_memory.specs.declared.values.Value.{Value}
@@ -7,11 +7,11 @@ use Rattle.object_memory.specs.declared.values.ValueKind.{ValueKind}
 use Rattle.object_memory.specs.declared.values.ValueKind.TheVariants.{Int32 as Int32Kind, Int64 as Int64Kind, Native as NativeKind, Ref as RefKind}
 use Rattle.object_memory.specs.Cells.{null}
 
--- A method state: the number of the method, the place of the next instruction, and the values; the stack's topmost comes
+-- A method state: the number of the method, the pc of the next instruction, and the values; the stack's topmost comes
 -- first. Of a constructor that newobj runs, the object to push at its end.
 pub record Frame : Type 0 where
   pub method : ℕ
-  pub place : ℕ
+  pub pc : ℕ
   pub arguments : List Value
   pub locals : List Value
   pub stack : List Value
@@ -38,15 +38,15 @@ zero_value RefKind = Ref null
 -- a frame at the beginning of a method, with zeros in its locals
 abbrev pub new_frame : ℕ → List Value → List ValueKind → Option Addr → Frame
 new_frame method arguments locals constructed =
-    record { method = method; place = 0; arguments = arguments; locals = map zero_value locals; stack = []; constructed = constructed }
+    record { method = method; pc = 0; arguments = arguments; locals = map zero_value locals; stack = []; constructed = constructed }
 
 -- ---- the running frame
 
 abbrev pub with_running : Frames → Frame → Frames
 with_running m f = record m { running = f }
 
-abbrev pub with_place : Frames → ℕ → Frames
-with_place m place = with_running m (record m.running { place = place })
+abbrev pub with_pc : Frames → ℕ → Frames
+with_pc m pc = with_running m (record m.running { pc = pc })
 
 abbrev pub with_stack : Frames → List Value → Frames
 with_stack m stack = with_running m (record m.running { stack = stack })
@@ -77,5 +77,5 @@ returned_to m [] = m
 returned_to m (f ∷ fs) = record m { running = f; below = fs }
 
 -- the nearest frame below runs again (III.3.57)
-abbrev pub returned : Frames → Frames
-returned m = returned_to m m.below
+abbrev pub return_frames : Frames → Frames
+return_frames m = returned_to m m.below

@@ -31,7 +31,7 @@ roots m = flat_map frame_roots (frames_upward m)
 
 -- ---- replacing them
 
--- another address in the place of a reference; an integer stays
+-- another address in place of a reference; an integer stays
 abbrev pub with_reference : (Addr → Addr) → Value → Value
 with_reference g (Int32 n) = Int32 n
 with_reference g (Int64 n) = Int64 n

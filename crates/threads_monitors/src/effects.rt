@@ -6,7 +6,7 @@ use cil_model::reports::Fault;
 #[derive(Clone, Copy, PartialEq, Eq)]
 pub enum Effect {
     /// The thread continues with its frames.
-    GoesOn,
+    Continues,
     /// Its first method has returned.
     Returns,
     /// It waits, and nothing has changed.

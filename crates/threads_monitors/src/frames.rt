@@ -12,12 +12,12 @@ use object_memory::{Addr, Digest, Value, ValueKind};
 use std::alloc::Global;
 use std::marker::Model;
 
-/// Where the values of a frame begin in the row of all values: its arguments, its locals and its stack. Beside them what
-/// it runs, the place of the next instruction, and the object to push at the end of a constructor.
+/// Where the values of a frame begin in the stack of all values: its arguments, its locals and its stack. Beside them what
+/// it runs, the pc of the next instruction, and the object to push at the end of a constructor.
 #[derive(Clone, Copy, PartialEq, Eq)]
 struct Activation {
     method: u32,
-    place: u32,
+    pc: u32,
     constructed: Option<Addr>,
     arguments: usize,
     locals: usize,
@@ -28,7 +28,7 @@ impl Activation {
     /// Adds the activation to a digest.
     fn digest(&self, digest: &mut Digest) {
         digest.add(u64::from(self.method));
-        digest.add(u64::from(self.place));
+        digest.add(u64::from(self.pc));
         digest.add(self.arguments as u64);
         digest.add(self.locals as u64);
         digest.add(self.stack as u64);
@@ -51,18 +51,18 @@ pub struct FrameMemory {
 
 impl Model for FrameMemory {
     ghost use Rattle.std.specs.Prelude.{vec_capacity};
-    ghost use Rattle.threads_monitors.specs.Activations.{IsSound, shown};
+    ghost use Rattle.threads_monitors.specs.Activations.{IsSound, visible_frames};
     ghost use Rattle.threads_monitors.specs.Frames.{Frames};
 
     ghost Value = { Frames };
 
-    ghost view = { λ m. shown m.values.items m.running m.below.items m.depth m.room };
+    ghost view = { λ m. visible_frames m.values.items m.running m.below.items m.depth m.room };
 
     ghost invariant = { λ m. IsSound m.values.items m.running m.below.items m.depth m.room (vec_capacity m.values) (vec_capacity m.below) };
 }
 
 impl FrameMemory {
-    ghost use Rattle.threads_monitors.specs.Frames.{size, new_frame, returned, with_argument, with_call, with_inserted, with_local, with_place, with_running, with_stack};
+    ghost use Rattle.threads_monitors.specs.Frames.{size, new_frame, return_frames, with_argument, with_call, with_inserted, with_local, with_pc, with_running, with_stack};
     ghost use Rattle.threads_monitors.specs.Roots.{frames_upward, roots, values_of, with_references};
     ghost use Rattle.threads_monitors.specs.Activations.{lowest, row};
     ghost use Rattle.object_memory.specs.declared.values.Value.{Value};
@@ -90,7 +90,7 @@ impl FrameMemory {
         push_zeros(&mut values, locals);
         let running = Activation {
             method,
-            place: 0,
+            pc: 0,
             constructed: None,
             arguments: 0,
             locals: arguments.len(),
@@ -134,18 +134,18 @@ impl FrameMemory {
         self.running.method
     }
 
-    /// The place of the next instruction of the running method.
-    pub fn place(&self) -> u32
-        ensures { result ≡ self.now.running.place }
+    /// The pc of the next instruction of the running method.
+    pub fn pc(&self) -> u32
+        ensures { result ≡ self.now.running.pc }
     {
-        self.running.place
+        self.running.pc
     }
 
-    /// Sets the place of the next instruction. Nothing else changes.
-    pub fn set_place(&mut self, place: u32)
-        ensures { self.new ≡ with_place self.old place }
+    /// Sets the pc of the next instruction. Nothing else changes.
+    pub fn set_pc(&mut self, pc: u32)
+        ensures { self.new ≡ with_pc self.old pc }
     {
-        self.running.place = place;
+        self.running.pc = pc;
     }
 
     /// The object that the running constructor of `newobj` makes (ECMA-335 III.4.21). None in any other method.
@@ -183,8 +183,8 @@ impl FrameMemory {
         requires room { size self.old.running < self.old.room }
         ensures { self.new ≡ with_inserted self.old below value }
     {
-        let place = self.values.len() - below;
-        let inserted = self.values.insert(place, value);
+        let index = self.values.len() - below;
+        let inserted = self.values.insert(index, value);
         inserted.unwrap();
     }
 
@@ -285,7 +285,7 @@ impl FrameMemory {
         self.below.push_reserved(self.running);
         self.running = Activation {
             method,
-            place: 0,
+            pc: 0,
             constructed,
             arguments: arguments_start,
             locals: locals_start,
@@ -293,7 +293,7 @@ impl FrameMemory {
         };
     }
 
-    /// Puts the frame that runs in other memory in the place of the one that runs here. The frames below stay, and no memory is taken.
+    /// Puts the frame that runs in other memory in place of the one that runs here. The frames below stay, and no memory is taken.
     pub fn set_running(&mut self, other: &FrameMemory)
         requires { other.now.room ≤ self.old.room }
         ensures { self.new ≡ with_running self.old other.now.running }
@@ -302,26 +302,26 @@ impl FrameMemory {
         self.values.truncate(start);
         push_values(
             &mut self.values,
-            behind(&other.values, other.running.arguments),
+            following(&other.values, other.running.arguments),
         );
-        self.running = moved(other.running, start);
+        self.running = move_activation(other.running, start);
     }
 
-    /// Whether the frame that runs is the one that runs in other memory: the same method, place and values, and the same object to push.
+    /// Whether the frame that runs is the one that runs in other memory: the same method, pc and values, and the same object to push.
     pub fn runs_same(&self, other: &FrameMemory) -> bool
         ensures { IsTrue result ↔ (self.now.running ≡ other.now.running) }
     {
         is_same_activation(self.running, other.running)
             && are_same(
-                behind(&self.values, self.running.arguments),
-                behind(&other.values, other.running.arguments),
+                following(&self.values, self.running.arguments),
+                following(&other.values, other.running.arguments),
             )
     }
 
     /// Drops the running frame with its values, and the one below it runs again (ECMA-335 III.3.57).
     pub fn pop_frame(&mut self)
         requires { 0 < length self.old.below }
-        ensures { self.new ≡ returned self.old }
+        ensures { self.new ≡ return_frames self.old }
     {
         self.values.truncate(self.running.arguments);
         self.running = self.below.pop().unwrap();
@@ -363,7 +363,7 @@ impl FrameMemory {
         }
     }
 
-    /// Where the values of a frame end in the row.
+    /// Where the values of a frame end in the value stack.
     fn end_of(&self, frame: usize) -> usize
         requires { frame ≤ length self.now.below }
         ensures { result ≡ length (row (lowest (frame + 1) (self.now.running ∷ self.now.below))) }
@@ -424,16 +424,16 @@ fn push_values(values: &mut Vec<Value>, more: &[Value])
     }
 }
 
-/// The values of a row from one place on.
-fn behind(row: &[Value], start: usize) -> &[Value]
+/// The values of a list from an index on.
+fn following(row: &[Value], start: usize) -> &[Value]
     requires { start ≤ length row.now }
     ensures { result.now ≡ drop start row.now }
 {
     &row[start..]
 }
 
-/// The activation of the same frame where its values begin at another place of a row.
-fn moved(activation: Activation, start: usize) -> Activation
+/// The activation of the same frame where its values begin at another index of the value stack.
+fn move_activation(activation: Activation, start: usize) -> Activation
     requires order { (activation.arguments ≤ activation.locals) × (activation.locals ≤ activation.stack) }
     requires fits { start + (activation.stack - activation.arguments) < 2 ^ 63 }
     ensures { result ≡ moved_to start activation }
@@ -460,19 +460,19 @@ fn is_same_object(one: Option<Addr>, other: Option<Addr>) -> bool
     one == other
 }
 
-/// Whether two activations are of one method at one place, with the same numbers of arguments and locals and the same object to push.
+/// Whether two activations are of the same method at the same pc, with the same numbers of arguments and locals and the same object to push.
 fn is_same_activation(one: Activation, other: Activation) -> bool
     requires { (one.arguments ≤ one.locals) × (one.locals ≤ one.stack) × (other.arguments ≤ other.locals) × (other.locals ≤ other.stack) }
     ensures { IsTrue result ↔ (moved_to 0 one ≡ moved_to 0 other) }
 {
     one.method == other.method
-        && one.place == other.place
+        && one.pc == other.pc
         && is_same_object(one.constructed, other.constructed)
         && one.locals - one.arguments == other.locals - other.arguments
         && one.stack - one.arguments == other.stack - other.arguments
 }
 
-/// The values of a row from one place on to another.
+/// The values of a list from one index to another.
 fn part(row: &[Value], start: usize, end: usize) -> &[Value]
     requires order { start ≤ end }
     requires within { end ≤ length row.now }

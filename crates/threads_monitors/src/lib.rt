@@ -16,4 +16,6 @@ pub use effects::Effect;
 pub use frames::{FrameMemory, are_same, zero_value};
 pub use monitors::{enter, exit};
 pub use mutators::Mutator;
-pub use threads::{Beginning, Standing, Thread, is_live, join, start, start_fault, thread_on};
+pub use threads::{
+    Thread, ThreadStart, ThreadStatus, is_live, join, start, start_fault, thread_on,
+};

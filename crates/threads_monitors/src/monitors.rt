@@ -5,7 +5,7 @@ ghost use Rattle.object_memory.specs.Cells.{null};
 ghost use Rattle.object_memory.specs.Objects.{monitor_at};
 ghost use Rattle.object_memory.specs.declared.monitors.Monitor.{Monitor};
 ghost use Rattle.barriers.specs.Barriers.{is_monitor_storable};
-ghost use Rattle.threads_monitors.specs.Monitors.{entered, entries, left, with_entry, with_exit};
+ghost use Rattle.threads_monitors.specs.Monitors.{enter_monitor, entries, leave_monitor, with_entry, with_exit};
 
 use crate::effects::Effect;
 use crate::mutators::Mutator;
@@ -26,7 +26,7 @@ pub fn enter(heap: &mut Heap, mutator: Mutator, object: Addr) -> Effect
     match once_more(heap.monitor(object), mutator.number) {
         Some(monitor) => {
             barriers::store_monitor(heap, mutator.phase, object, monitor);
-            Effect::GoesOn
+            Effect::Continues
         }
         None => Effect::Blocks,
     }
@@ -45,7 +45,7 @@ pub fn exit(heap: &mut Heap, mutator: Mutator, object: Addr) -> Effect
     match once_less(heap.monitor(object), mutator.number) {
         Some(monitor) => {
             barriers::store_monitor(heap, mutator.phase, object, monitor);
-            Effect::GoesOn
+            Effect::Continues
         }
         None => Effect::Raises(Fault::SynchronizationLock),
     }
@@ -54,7 +54,7 @@ pub fn exit(heap: &mut Heap, mutator: Mutator, object: Addr) -> Effect
 /// The monitor once the thread has entered it once more. None where another thread holds it.
 fn once_more(monitor: Monitor, thread: u8) -> Option<Monitor>
     requires { entries monitor < 2 ^ 32 - 1 }
-    ensures { result ≡ entered thread monitor }
+    ensures { result ≡ enter_monitor thread monitor }
 {
     match monitor {
         Monitor::Free => Some(Monitor::Held {
@@ -71,7 +71,7 @@ fn once_more(monitor: Monitor, thread: u8) -> Option<Monitor>
 
 /// The monitor once its owner has left it once. None where the thread is not its owner.
 fn once_less(monitor: Monitor, thread: u8) -> Option<Monitor>
-    ensures { result ≡ left thread monitor }
+    ensures { result ≡ leave_monitor thread monitor }
 {
     match monitor {
         Monitor::Held { owner, count } if owner == thread => {

@@ -5,7 +5,7 @@ ghost use Rattle.object_memory.specs.Cells.{null};
 ghost use Rattle.object_memory.specs.Objects.{object_slots};
 ghost use Rattle.object_memory.specs.declared.values.Value.TheVariants.{Ref};
 ghost use Rattle.barriers.specs.Barriers.{is_word_storable};
-ghost use Rattle.threads_monitors.specs.Threads.{end_of, is_live, new_thread, end_after, report_of, settled, start_fault, thread_on, with_start, is_live_at, join_effect};
+ghost use Rattle.threads_monitors.specs.Threads.{end_of, is_live, new_thread, end_after, report_of, charge, start_fault, thread_on, with_start, is_live_at, join_effect};
 
 use crate::effects::Effect;
 use crate::frames::FrameMemory;
@@ -25,10 +25,10 @@ const DONE_WORD: u64 = u64::MAX;
 /// The word in a digest for a thread that ended in any other way.
 const ENDED_EARLY_WORD: u64 = u64::MAX - 1;
 
-/// How a thread stands: with its frames while it is live, or as it ended. A thread that ended has no frames; the monitors
+/// The status of a thread: with its frames while it is live, or as it ended. A thread that ended has no frames; the monitors
 /// that it holds stay held (this profile).
 #[derive(Drop)]
-pub enum Standing {
+pub enum ThreadStatus {
     Live(FrameMemory),
     Ended(End),
 }
@@ -36,14 +36,14 @@ pub enum Standing {
 /// A thread that was started, and the steps of its budget that are left.
 #[derive(Drop)]
 pub struct Thread {
-    pub standing: Standing,
+    pub thread_status: ThreadStatus,
     pub steps_left: u32,
 }
 
 /// What a thread begins with: its first method, by number, with the kinds of its locals; how many frames it may have, how
 /// many values one frame may hold (arguments, locals and stack), and how many steps it may make.
 #[derive(Clone, Copy)]
-pub struct Beginning<'a> {
+pub struct ThreadStart<'a> {
     pub method: u32,
     pub locals: &'a [ValueKind],
     pub depth: usize,
@@ -51,14 +51,14 @@ pub struct Beginning<'a> {
     pub budget: u32,
 }
 
-impl Standing {
+impl ThreadStatus {
     /// Whether two threads are both live with the same frames, or both ended in the same way. True only if so.
-    pub fn is_like(&self, other: &Standing) -> bool
+    pub fn is_like(&self, other: &ThreadStatus) -> bool
         ensures { result ≡ true → self.now ≡ other.now }
     {
         match (self, other) {
-            (Standing::Live(frames), Standing::Live(others)) => frames.is_like(others),
-            (Standing::Ended(end), Standing::Ended(other)) => end == other,
+            (ThreadStatus::Live(frames), ThreadStatus::Live(others)) => frames.is_like(others),
+            (ThreadStatus::Ended(end), ThreadStatus::Ended(other)) => end == other,
             _ => false,
         }
     }
@@ -66,9 +66,9 @@ impl Standing {
     /// Adds the frames of a live thread to a digest, or a word for the end of a thread. Threads of which `is_like` is true add the same words.
     pub fn digest(&self, digest: &mut Digest) {
         match self {
-            Standing::Live(frames) => frames.digest(digest),
-            Standing::Ended(End::Done) => digest.add(DONE_WORD),
-            Standing::Ended(_) => digest.add(ENDED_EARLY_WORD),
+            ThreadStatus::Live(frames) => frames.digest(digest),
+            ThreadStatus::Ended(End::Done) => digest.add(DONE_WORD),
+            ThreadStatus::Ended(_) => digest.add(ENDED_EARLY_WORD),
         }
     }
 }
@@ -76,7 +76,11 @@ impl Standing {
 impl Thread {
     /// A thread before its first step: at the beginning of its first method, with its whole budget. The memory of all its
     /// frames is taken here. `NoMemory` where there is none; nothing is kept then.
-    pub fn new(alloc: Global, beginning: Beginning, arguments: &[Value]) -> Result<Thread, NoMemory>
+    pub fn new(
+        alloc: Global,
+        beginning: ThreadStart,
+        arguments: &[Value],
+    ) -> Result<Thread, NoMemory>
         requires some { 0 < beginning.depth }
         requires limits { beginning.depth * beginning.room < 2 ^ 32 }
         requires fits { length arguments.now + length beginning.locals.now ≤ beginning.room }
@@ -91,7 +95,7 @@ impl Thread {
             beginning.locals,
         )?;
         Ok(Thread {
-            standing: Standing::Live(frames),
+            thread_status: ThreadStatus::Live(frames),
             steps_left: beginning.budget,
         })
     }
@@ -100,9 +104,9 @@ impl Thread {
     pub fn end(&self) -> Option<End>
         ensures { result ≡ end_of self.now }
     {
-        match &self.standing {
-            Standing::Live(_) => None,
-            Standing::Ended(end) => Some(*end),
+        match &self.thread_status {
+            ThreadStatus::Live(_) => None,
+            ThreadStatus::Ended(end) => Some(*end),
         }
     }
 
@@ -110,29 +114,29 @@ impl Thread {
     pub fn is_live(&self) -> bool
         ensures { result ≡ is_live self.now }
     {
-        match &self.standing {
-            Standing::Live(_) => true,
-            Standing::Ended(_) => false,
+        match &self.thread_status {
+            ThreadStatus::Live(_) => true,
+            ThreadStatus::Ended(_) => false,
         }
     }
 
-    /// Counts a step of the thread by what its instruction came to, and reports it. A blocked step counts too. The thread ends
+    /// Counts a step of the thread by the result of its instruction, and reports it. A blocked step counts too. The thread ends
     /// where its first method has returned or a fault was raised, and else where the budget is used up; its frames go then.
     /// Of a thread that has ended the report is `Absent`, and nothing changes.
-    pub fn settle(&mut self, effect: Effect) -> Report
-        ensures { (self.new, result) ≡ settled effect self.old }
+    pub fn charge_step(&mut self, effect: Effect) -> Report
+        ensures { (self.new, result) ≡ charge effect self.old }
     {
-        if effect == Effect::GoesOn && self.steps_left > 1 && self.is_live() {
+        if effect == Effect::Continues && self.steps_left > 1 && self.is_live() {
             self.steps_left -= 1;
             return Report::Ran;
         }
-        self.settle_any(effect)
+        self.charge_step_any(effect)
     }
 
     /// The same for any step. It is a separate function, so that a step after which the thread continues is short.
     #[cold]
-    fn settle_any(&mut self, effect: Effect) -> Report
-        ensures { (self.new, result) ≡ settled effect self.old }
+    fn charge_step_any(&mut self, effect: Effect) -> Report
+        ensures { (self.new, result) ≡ charge effect self.old }
     {
         if !self.is_live() {
             return Report::Absent;
@@ -140,7 +144,7 @@ impl Thread {
         self.steps_left = self.steps_left.saturating_sub(1);
         match end_after(effect, self.steps_left) {
             Some(end) => {
-                self.standing = Standing::Ended(end);
+                self.thread_status = ThreadStatus::Ended(end);
                 Report::Ended(end)
             }
             None => report_of(effect),
@@ -155,8 +159,8 @@ fn end_after(effect: Effect, steps_left: u32) -> Option<End>
     match effect {
         Effect::Returns => Some(End::Done),
         Effect::Raises(fault) => Some(End::Fault(fault)),
-        Effect::GoesOn | Effect::Blocks if steps_left == 0 => Some(End::Budget),
-        Effect::GoesOn | Effect::Blocks => None,
+        Effect::Continues | Effect::Blocks if steps_left == 0 => Some(End::Budget),
+        Effect::Continues | Effect::Blocks => None,
     }
 }
 
@@ -206,7 +210,7 @@ pub fn start(
     heap: &mut Heap,
     phase: Phase,
     object: Addr,
-    beginning: Beginning,
+    beginning: ThreadStart,
 ) -> Result<Effect, NoMemory>
     requires there { object ≢ null → 0 < length (object_slots heap.old object) }
     requires ready { object ≢ null → is_word_storable phase heap.old object 0 ≡ true }
@@ -224,7 +228,7 @@ pub fn start(
     let thread = Thread::new(alloc, beginning, &[Value::Ref(object)])?;
     threads.push_reserved(thread);
     barriers::store_int(heap, phase, object, THREAD_SLOT, threads.len() as u64);
-    Ok(Effect::GoesOn)
+    Ok(Effect::Continues)
 }
 
 /// `Cilvm.Thread.Join` on an object (this profile): it blocks while the thread that was started on it is live, the calling one
@@ -239,7 +243,7 @@ pub fn join(threads: &[Thread], heap: &Heap, object: Addr) -> Effect
     match thread_on(heap, object) {
         None => Effect::Raises(Fault::ThreadState),
         Some(number) if is_live(threads, number) => Effect::Blocks,
-        Some(_) => Effect::GoesOn,
+        Some(_) => Effect::Continues,
     }
 }
 

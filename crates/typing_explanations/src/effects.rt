@@ -99,18 +99,18 @@ impl Scene<'_> {
     /// The index of the instruction that pushed a value of the stack before another instruction, by the number of values above it. It is
     /// looked for along the instructions before that one; None where control does not come from them.
     pub fn pusher(self, instruction: usize, above: usize) -> Option<usize>
-        ensures { IfSome result (λ place. place < instruction) }
+        ensures { IfSome result (λ index. index < instruction) }
     {
         let mut depth = above;
         for distance in 0..instruction {
-            let place = instruction.checked_sub(distance)?.checked_sub(1)?;
-            let operation = self.operations.get(place)?;
+            let index = instruction.checked_sub(distance)?.checked_sub(1)?;
+            let operation = self.operations.get(index)?;
             if is_jump(operation) {
                 return None;
             }
             let pushed = self.pushes(operation);
             if depth < pushed {
-                return Some(place);
+                return Some(index);
             }
             depth = (depth - pushed).saturating_add(self.pops(operation));
         }
@@ -121,7 +121,7 @@ impl Scene<'_> {
     pub fn is_after_void_call(self, instruction: usize) -> bool {
         let before = match instruction.checked_sub(1) {
             None => None,
-            Some(place) => self.operations.get(place),
+            Some(index) => self.operations.get(index),
         };
         match before {
             Some(Operation::Call { method, .. } | Operation::CallVirtual { method, .. }) => {

@@ -6,7 +6,7 @@ use crate::numbered::{ClassNames, TypeOf};
 use flow_rules::type_tree::type_of_class;
 use resolved_code::Program;
 use resolved_code::operations::Operation;
-use resolved_code::types::NumberedType;
+use resolved_code::types::ResolvedType;
 use source_positions::cil_model::instructions::{BranchComparison, Comparison};
 use source_positions::name_tables::lookups::MemberNumber;
 use std::fmt;
@@ -19,10 +19,10 @@ pub(crate) struct Scene<'a> {
     pub program: &'a Program,
     pub names: ClassNames<'a>,
     /// The type of the first argument, where the method is not static.
-    pub this: Option<NumberedType>,
-    pub parameters: &'a [NumberedType],
-    pub locals: &'a [NumberedType],
-    pub return_type: Option<NumberedType>,
+    pub this: Option<ResolvedType>,
+    pub parameters: &'a [ResolvedType],
+    pub locals: &'a [ResolvedType],
+    pub return_type: Option<ResolvedType>,
     pub max_stack: i64,
     pub operations: &'a [Operation],
 }
@@ -35,8 +35,8 @@ pub(crate) struct Expected<'a>(pub Scene<'a>, pub &'a Operation);
 fn write_types<W: fmt::Write>(
     f: &mut fmt::Formatter<W>,
     names: ClassNames,
-    first: Option<NumberedType>,
-    others: &[NumberedType],
+    first: Option<ResolvedType>,
+    others: &[ResolvedType],
 ) -> fmt::Result {
     let mut comma = "";
     if let Some(first) = first {
@@ -68,29 +68,29 @@ impl<'a> Scene<'a> {
     }
 
     /// The type of an argument, by the number that stands in the text.
-    fn argument(self, number: i64) -> Option<NumberedType> {
-        let place = usize::try_from(number).ok()?;
-        match (self.this, place) {
-            (None, _) => self.parameters.get(place).copied(),
+    fn argument(self, number: i64) -> Option<ResolvedType> {
+        let index = usize::try_from(number).ok()?;
+        match (self.this, index) {
+            (None, _) => self.parameters.get(index).copied(),
             (this, 0) => this,
-            _ => self.parameters.get(place - 1).copied(),
+            _ => self.parameters.get(index - 1).copied(),
         }
     }
 
     /// The type of a local, by the number that stands in the text.
-    fn local(self, number: i64) -> Option<NumberedType> {
-        let place = usize::try_from(number).ok()?;
-        self.locals.get(place).copied()
+    fn local(self, number: i64) -> Option<ResolvedType> {
+        let index = usize::try_from(number).ok()?;
+        self.locals.get(index).copied()
     }
 
-    fn parameters_of(self, method: MemberNumber) -> &'a [NumberedType] {
+    fn parameters_of(self, method: MemberNumber) -> &'a [ResolvedType] {
         match self.program.method(method) {
             None => &[],
             Some(method) => method.parameters.as_slice(),
         }
     }
 
-    fn field(self, field: MemberNumber) -> &'a [NumberedType] {
+    fn field(self, field: MemberNumber) -> &'a [ResolvedType] {
         match self.program.field(field) {
             None => &[],
             Some(field) => from_ref(&field.field_type),
@@ -101,7 +101,7 @@ impl<'a> Scene<'a> {
     pub fn declared(
         self,
         operation: &Operation,
-    ) -> Option<(Option<NumberedType>, &'a [NumberedType])> {
+    ) -> Option<(Option<ResolvedType>, &'a [ResolvedType])> {
         match operation {
             Operation::StoreArgument(number) => Some((self.argument(*number), &[])),
             Operation::StoreLocal(number) => Some((self.local(*number), &[])),

@@ -5,7 +5,7 @@ ghost use Rattle.std.specs.Prelude.{◌≤◌, IfOk, length};
 use flow_rules::type_tree::{TypeTree, type_of_class};
 use resolved_code::Program;
 use resolved_code::classes::{Body, ResolvedKind, ResolvedMethod, body_of};
-use resolved_code::types::NumberedType;
+use resolved_code::types::ResolvedType;
 use source_positions::cil_model::limits::MOST_STACK;
 use source_positions::cil_model::memory::NoMemory;
 use source_positions::method_of_number;
@@ -33,7 +33,7 @@ fn member_number(program: &Program, method: usize) -> Option<MemberNumber> {
     let built_in = program.classes().len().checked_sub(sources.len())?;
     Some(MemberNumber {
         class: found.class.checked_add(built_in)?,
-        place: found.place,
+        index: found.index,
     })
 }
 
@@ -42,7 +42,7 @@ fn arguments_of(
     alloc: Global,
     class: usize,
     method: &ResolvedMethod,
-) -> Result<Vec<NumberedType>, NoMemory>
+) -> Result<Vec<ResolvedType>, NoMemory>
     ensures { IfOk result (λ arguments. length method.now.parameters ≤ length arguments.items) }
 {
     let mut arguments = Vec::new(alloc);

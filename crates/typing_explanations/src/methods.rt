@@ -2,12 +2,12 @@
 
 use source_positions::cil_model::instructions::MethodName;
 use source_positions::cil_model::trees::{Class, Method};
-use source_positions::{FoundMember, MemberPart, MethodPlace, method_of_number, nth_method};
+use source_positions::{FoundMember, MemberPart, MethodPosition, method_of_number, nth_method};
 
 /// A method of a source, with the name of its class.
 #[derive(Clone, Copy)]
 pub(crate) struct SourceMethod<'a> {
-    pub number: MethodPlace,
+    pub number: MethodPosition,
     pub class_name: &'a str,
     pub method: &'a Method,
     /// Where it stands in the text; none where it is not found there.
@@ -19,7 +19,7 @@ impl<'a> SourceMethod<'a> {
     pub fn find(text: &'a [u8], classes: &'a [Class], number: usize) -> Option<Self> {
         let number = method_of_number(classes, number)?;
         let class = classes.get(number.class)?;
-        let (_, method) = nth_method(class, number.place)?;
+        let (_, method) = nth_method(class, number.index)?;
         Some(SourceMethod {
             number,
             class_name: class.name.as_str(),

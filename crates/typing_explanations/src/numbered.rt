@@ -1,7 +1,7 @@
 //! Types by numbers, as text.
 
 use flow_rules::entries::StackEntry;
-use resolved_code::types::{NumberedElement, NumberedType};
+use resolved_code::types::{ResolvedElement, ResolvedType};
 use source_positions::ClassText;
 use source_positions::cil_model::trees::Class;
 use source_positions::name_tables::built_in::BuiltInClass;
@@ -27,9 +27,9 @@ impl<'a> ClassNames<'a> {
 
 /// The class of a number.
 #[derive(Clone, Copy)]
-pub(crate) struct NumberedClass<'a>(pub ClassNames<'a>, pub usize);
+pub(crate) struct ClassById<'a>(pub ClassNames<'a>, pub usize);
 
-impl fmt::Display for NumberedClass<'_> {
+impl fmt::Display for ClassById<'_> {
     fn fmt<W: fmt::Write>(&self, f: &mut fmt::Formatter<W>) -> fmt::Result {
         match self.0.name(self.1) {
             None => f.write_str("?"),
@@ -40,17 +40,17 @@ impl fmt::Display for NumberedClass<'_> {
 
 /// A type by its number: `int32`, `Dog[]`.
 #[derive(Clone, Copy)]
-pub(crate) struct TypeOf<'a>(pub ClassNames<'a>, pub NumberedType);
+pub(crate) struct TypeOf<'a>(pub ClassNames<'a>, pub ResolvedType);
 
 impl TypeOf<'_> {
     /// The type without its brackets.
     fn write_element<W: fmt::Write>(&self, f: &mut fmt::Formatter<W>) -> fmt::Result {
         match &self.1.element {
-            NumberedElement::Int32 => f.write_str("int32"),
-            NumberedElement::Int64 => f.write_str("int64"),
-            NumberedElement::Object => f.write_str("object"),
-            NumberedElement::String => f.write_str("string"),
-            NumberedElement::Class(number) => NumberedClass(self.0, *number).fmt(f),
+            ResolvedElement::Int32 => f.write_str("int32"),
+            ResolvedElement::Int64 => f.write_str("int64"),
+            ResolvedElement::Object => f.write_str("object"),
+            ResolvedElement::String => f.write_str("string"),
+            ResolvedElement::Class(number) => ClassById(self.0, *number).fmt(f),
         }
     }
 }

@@ -3,11 +3,11 @@
 use crate::expected::Scene;
 use flow_rules::entries::{StackEntry, is_int32_type, is_int64_type};
 use resolved_code::operations::Operation;
-use resolved_code::types::{NumberedElement, NumberedType};
+use resolved_code::types::{ResolvedElement, ResolvedType};
 use source_positions::cil_model::instructions::{BranchComparison, Comparison};
 
 /// The instructions that make an integer of an operand.
-pub(crate) fn conversion(found: StackEntry, expected: NumberedType) -> Option<&'static str> {
+pub(crate) fn conversion(found: StackEntry, expected: ResolvedType) -> Option<&'static str> {
     if is_int64_type(expected) && (found.is_int32() || is_native(found)) {
         return Some("conv.i8");
     }
@@ -38,14 +38,14 @@ fn is_array(entry: StackEntry) -> bool {
 fn is_string(entry: StackEntry) -> bool {
     match entry {
         StackEntry::Declared(declared) => {
-            matches!(declared.element, NumberedElement::String) && declared.brackets == 0
+            matches!(declared.element, ResolvedElement::String) && declared.brackets == 0
         }
         _ => false,
     }
 }
 
 /// The number of values of exactly this type.
-fn count_entries(entries: &[StackEntry], declared: NumberedType) -> usize {
+fn count_entries(entries: &[StackEntry], declared: ResolvedType) -> usize {
     let mut count = 0usize;
     for entry in entries {
         if *entry == StackEntry::Declared(declared) {
@@ -57,9 +57,9 @@ fn count_entries(entries: &[StackEntry], declared: NumberedType) -> usize {
 
 /// The number of times that a type occurs among a first one and others.
 fn count_types(
-    first: Option<NumberedType>,
-    others: &[NumberedType],
-    declared: NumberedType,
+    first: Option<ResolvedType>,
+    others: &[ResolvedType],
+    declared: ResolvedType,
 ) -> usize {
     let mut count = if first == Some(declared) { 1usize } else { 0 };
     for other in others {
@@ -119,13 +119,13 @@ impl Scene<'_> {
     }
 
     /// Whether a value of the first type may be an object of the second one, so that a cast helps.
-    pub fn may_cast(self, found: NumberedType, expected: NumberedType) -> bool {
+    pub fn may_cast(self, found: ResolvedType, expected: ResolvedType) -> bool {
         if found.brackets > 0 {
             return false;
         }
         match (found.element, expected.element) {
-            (NumberedElement::Object, _) => true,
-            (NumberedElement::Class(from), NumberedElement::Class(to)) => {
+            (ResolvedElement::Object, _) => true,
+            (ResolvedElement::Class(from), ResolvedElement::Class(to)) => {
                 expected.brackets == 0 && (self.is_interface(from) || self.extends(to, from))
             }
             _ => false,
@@ -133,7 +133,7 @@ impl Scene<'_> {
     }
 
     /// The type of an operand of an instruction, by its index from that pushed first.
-    fn expected_at(self, operation: &Operation, index: usize) -> Option<NumberedType> {
+    fn expected_at(self, operation: &Operation, index: usize) -> Option<ResolvedType> {
         match self.declared(operation)? {
             (None, others) => others.get(index).copied(),
             (first, others) => match index.checked_sub(1) {
@@ -143,13 +143,13 @@ impl Scene<'_> {
         }
     }
 
-    /// The number of values above the operand of a type in the place of which another one is expected.
+    /// The number of values above the operand of a type where another one is expected.
     pub fn above_operand(
         self,
         operation: &Operation,
         stack: &[StackEntry],
         found: StackEntry,
-        expected: NumberedType,
+        expected: ResolvedType,
     ) -> usize {
         let count = self.pops(operation);
         for (above, entry) in stack.iter().enumerate() {

@@ -1,11 +1,11 @@
 //! Why a method has no typing (number 301), in words.
 
 use crate::expected::Scene;
-use crate::numbered::{EntryOf, NumberedClass};
+use crate::numbered::{ClassById, EntryOf};
 use flow_rules::entries::StackEntry;
 use flow_rules::mismatches::Mismatch;
 use resolved_code::operations::Operation;
-use resolved_code::types::NumberedType;
+use resolved_code::types::ResolvedType;
 use std::fmt;
 use std::fmt::Display;
 use verifier::failures::Reason;
@@ -83,7 +83,7 @@ impl Refusal<'_> {
     fn write_no_reference<W: fmt::Write>(
         &self,
         f: &mut fmt::Formatter<W>,
-        declared: NumberedType,
+        declared: ResolvedType,
     ) -> fmt::Result {
         let declared = StackEntry::Declared(declared);
         self.write_entry(f, "expects a reference type, found", declared, "")
@@ -98,7 +98,7 @@ impl Refusal<'_> {
         fault: &str,
     ) -> fmt::Result {
         let name = self.name;
-        let class = NumberedClass(self.scene.names, class);
+        let class = ClassById(self.scene.names, class);
         write!(f, "`{name}` {verb} `{class}`, which {fault}")
     }
 
@@ -108,12 +108,12 @@ impl Refusal<'_> {
         write!(f, "`{name}` {verb}")
     }
 
-    /// A value in the place of one of another type.
+    /// A value in place of one of another type.
     fn write_unassignable<W: fmt::Write>(
         &self,
         f: &mut fmt::Formatter<W>,
         found: StackEntry,
-        expected: NumberedType,
+        expected: ResolvedType,
     ) -> fmt::Result {
         self.write_entry(f, "expects", StackEntry::Declared(expected), ", found ")?;
         EntryOf(self.scene.names, found).fmt(f)
@@ -162,14 +162,14 @@ impl Refusal<'_> {
         }
     }
 
-    /// Why what the instruction itself names has no place here.
+    /// Why what the instruction itself names is not allowed here.
     fn write_members<W: fmt::Write>(
         &self,
         f: &mut fmt::Formatter<W>,
         mismatch: &Mismatch,
     ) -> fmt::Result {
         match mismatch {
-            Mismatch::NoSuchPlace(number) => self.write_place(f, *number),
+            Mismatch::NoSuchVariable(number) => self.write_location(f, *number),
             Mismatch::NoReference(declared) => self.write_no_reference(f, *declared),
             Mismatch::AbstractMethod(method) => self.write_class(
                 f,
@@ -184,7 +184,7 @@ impl Refusal<'_> {
         }
     }
 
-    fn write_place<W: fmt::Write>(&self, f: &mut fmt::Formatter<W>, number: i64) -> fmt::Result {
+    fn write_location<W: fmt::Write>(&self, f: &mut fmt::Formatter<W>, number: i64) -> fmt::Result {
         let (what, count) = match self.operation {
             Some(Operation::LoadArgument(_) | Operation::StoreArgument(_)) => {
                 ("argument", self.scene.count_arguments())

@@ -6,7 +6,7 @@ use crate::refusals::Refusal;
 use flow_rules::entries::{StackEntry, is_reference};
 use flow_rules::mismatches::Mismatch;
 use resolved_code::operations::Operation;
-use resolved_code::types::{NumberedElement, NumberedType};
+use resolved_code::types::{ResolvedElement, ResolvedType};
 use std::fmt;
 use verifier::failures::Reason;
 use verifier::merging::StackMismatch;
@@ -68,9 +68,9 @@ impl fmt::Display for Remedy<'_> {
 }
 
 /// The word before the name of a class in a type.
-fn class_word(declared: NumberedType) -> &'static str {
+fn class_word(declared: ResolvedType) -> &'static str {
     match declared.element {
-        NumberedElement::Class(_) => "class ",
+        ResolvedElement::Class(_) => "class ",
         _ => "",
     }
 }
@@ -144,8 +144,8 @@ impl<'a> Refusal<'a> {
     fn is_zero(self, operands: Operands, above: usize) -> bool {
         match self.scene.pusher(operands.instruction, above) {
             None => false,
-            Some(place) => matches!(
-                self.scene.operations.get(place),
+            Some(index) => matches!(
+                self.scene.operations.get(index),
                 Some(Operation::LoadInt32(0))
             ),
         }
@@ -157,7 +157,7 @@ impl<'a> Refusal<'a> {
         operands: Operands,
         above: usize,
         found: StackEntry,
-        expected: NumberedType,
+        expected: ResolvedType,
     ) -> Option<Remedy<'a>> {
         match found {
             StackEntry::Declared(declared) if self.scene.may_cast(declared, expected) => {
@@ -179,7 +179,7 @@ impl<'a> Refusal<'a> {
         operands: Operands,
         above: usize,
         found: StackEntry,
-        expected: NumberedType,
+        expected: ResolvedType,
     ) -> Option<Remedy<'a>> {
         if is_reference(expected) {
             return self.remedy_of_reference(operands, above, found, expected);
@@ -240,7 +240,7 @@ impl<'a> Refusal<'a> {
     }
 
     /// What to say of an argument that the method does not have.
-    fn remedy_of_place(self) -> Option<Remedy<'a>> {
+    fn remedy_of_position(self) -> Option<Remedy<'a>> {
         match (self.operation, self.scene.this) {
             (Some(Operation::LoadArgument(_) | Operation::StoreArgument(_)), None) => {
                 sentence("a static method has no `this`: argument 0 is its first parameter")
@@ -254,7 +254,7 @@ impl<'a> Refusal<'a> {
         match (mismatch, self.operation?) {
             (Mismatch::OperandMissing, _) => self.remedy_of_missing(operands.instruction),
             (Mismatch::LeftOnStack(_), _) => Some(self.remedy_of_left(operands)),
-            (Mismatch::NoSuchPlace(_), _) => self.remedy_of_place(),
+            (Mismatch::NoSuchVariable(_), _) => self.remedy_of_position(),
             (_, operation) => self.remedy_of_operands(operation, mismatch, operands),
         }
     }

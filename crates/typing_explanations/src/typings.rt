@@ -23,8 +23,8 @@ fn scene_of<'a>(
     found: SourceMethod,
 ) -> Option<Scene<'a>> {
     let class = found.number.class.checked_add(names.built_in.len())?;
-    let place = found.number.place;
-    let method = program.method(MemberNumber { class, place })?;
+    let index = found.number.index;
+    let method = program.method(MemberNumber { class, index })?;
     let body = body_of(&method.kind)?;
     let is_static = matches!(method.kind, ResolvedKind::Static(_));
     Some(Scene {
@@ -72,7 +72,7 @@ struct Stacks<'a> {
     found: SourceMethod<'a>,
     refusal: Refusal<'a>,
     failure: &'a FailurePoint,
-    /// The lines of the values before the instruction, and of those that come to it.
+    /// The lines of the values before the instruction, and of those that control brings to it.
     lines: &'a [Option<usize>],
     incoming: &'a [Option<usize>],
 }

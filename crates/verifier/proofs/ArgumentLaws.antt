@@ -10,7 +10,7 @@ use Rattle.cil_model.specs.Chains.{is_static}
 use Rattle.flow_rules.specs.Named.{type_named, types_named}
 use Rattle.flow_rules.proofs.MemberLaws.{types_are_named}
 use Rattle.resolved_code.specs.declared.classes.ResolvedMethod.{ResolvedMethod}
-use Rattle.resolved_code.specs.declared.types.NumberedType.{NumberedType}
+use Rattle.resolved_code.specs.declared.types.ResolvedType.{ResolvedType}
 use Rattle.resolved_code.specs.Resolved.{IsResolvedMethod}
 
 module _ (tree : Tree) (owner : ClassName) (m : Method) (found : ResolvedMethod) (is : IsResolvedMethod tree m found) where
@@ -22,7 +22,7 @@ module _ (tree : Tree) (owner : ClassName) (m : Method) (found : ResolvedMethod)
   static_arguments e = parameters_named ∙ sym (ap (λ (b : Bool). if b then m.signature.parameters else type_of_class owner ∷ m.signature.parameters) e)
 
   -- another has the object first
-  pub instance_arguments : (first : NumberedType) → type_named tree first ≡ type_of_class owner → is_static m.kind ≡ false → types_named tree (first ∷ found.parameters) ≡ argument_types m owner
+  pub instance_arguments : (first : ResolvedType) → type_named tree first ≡ type_of_class owner → is_static m.kind ≡ false → types_named tree (first ∷ found.parameters) ≡ argument_types m owner
   instance_arguments first named e =
       ap (λ (t : DeclaredType). t ∷ types_named tree found.parameters) named
       ∙ ap (λ (ts : List DeclaredType). type_of_class owner ∷ ts) parameters_named

@@ -13,55 +13,55 @@ use Rattle.name_tables.specs.declared.lookups.MemberNumber.{MemberNumber}
 use Rattle.name_tables.specs.Numbers.{declarations, source_entry, method_at}
 use Rattle.verifier.specs.Members.{methods_at, own_methods}
 
--- the method at a place of a class of the source
-next_of_class : (tree : Tree) (c : Class) (class place : ℕ) (m : Method) → slice_get (declarations tree) class ≡ Some (source_entry c) → slice_get (method_members c) place ≡ Some m → method_at tree (class, place) ≡ Some (source_name c, m)
-next_of_class tree c class place m here there =
-    ap (option_and_then {U = ClassName × Method} (λ (e : ClassName × Declaration). option_map {U = ClassName × Method} (λ x. (e.0, x)) (slice_get e.1.methods place))) here
+-- the method at an index of a class of the source
+next_of_class : (tree : Tree) (c : Class) (class index : ℕ) (m : Method) → slice_get (declarations tree) class ≡ Some (source_entry c) → slice_get (method_members c) index ≡ Some m → method_at tree (class, index) ≡ Some (source_name c, m)
+next_of_class tree c class index m here there =
+    ap (option_and_then {U = ClassName × Method} (λ (e : ClassName × Declaration). option_map {U = ClassName × Method} (λ x. (e.0, x)) (slice_get e.1.methods index))) here
     ∙ ap (option_map {U = ClassName × Method} (λ x. (source_name c, x))) there
 
 -- classes of the source come after the five built-in ones
-pub source_class : (tree : Tree) (place : ℕ) (c : Class) → slice_get tree.classes place ≡ Some c → slice_get (declarations tree) (place + 5) ≡ Some (source_entry c)
-source_class tree place c there = simp unary_clauses (slice_get-map source_entry tree.classes place ∙ ap (option_map source_entry) there)
+pub source_class : (tree : Tree) (index : ℕ) (c : Class) → slice_get tree.classes index ≡ Some c → slice_get (declarations tree) (index + 5) ≡ Some (source_entry c)
+source_class tree index c there = simp unary_clauses (slice_get-map source_entry tree.classes index ∙ ap (option_map source_entry) there)
 
 -- one number more, and the methods that are left
-pub number_added : (tree : Tree) (c : Class) (class place : ℕ) (so_far : List MemberNumber) {X : Type 0} (shown : X → Method) (xs : List X) (x : X) (whole : List (Option (ClassName × Method))) →
-    slice_get (declarations tree) class ≡ Some (source_entry c) → map shown xs ≡ method_members c → place < length xs → x ≡ get_or xs place x →
-    methods_at tree so_far ++ map Some (map (λ (m : Method). (source_name c, m)) (map shown (drop place xs))) ≡ whole →
-    methods_at tree (so_far ++ record { class = class; place = place } ∷ []) ++ map Some (map (λ (m : Method). (source_name c, m)) (map shown (drop (place + 1) xs))) ≡ whole
-number_added tree c class place so_far {X} shown xs x whole here all below at invariant =
-    ap (λ ns. ns ++ left (drop (place + 1) xs)) (map-append (λ (n : MemberNumber). method_at tree (n.class, n.place)) so_far (number ∷ []))
-    ∙ (append_assoc (methods_at tree so_far) (method_at tree (class, place) ∷ []) (left (drop (place + 1) xs))
-    ∙ (ap (λ o. methods_at tree so_far ++ o ∷ left (drop (place + 1) xs)) found
+pub number_added : (tree : Tree) (c : Class) (class index : ℕ) (so_far : List MemberNumber) {X : Type 0} (shown : X → Method) (xs : List X) (x : X) (whole : List (Option (ClassName × Method))) →
+    slice_get (declarations tree) class ≡ Some (source_entry c) → map shown xs ≡ method_members c → index < length xs → x ≡ get_or xs index x →
+    methods_at tree so_far ++ map Some (map (λ (m : Method). (source_name c, m)) (map shown (drop index xs))) ≡ whole →
+    methods_at tree (so_far ++ record { class = class; index = index } ∷ []) ++ map Some (map (λ (m : Method). (source_name c, m)) (map shown (drop (index + 1) xs))) ≡ whole
+number_added tree c class index so_far {X} shown xs x whole here all below at invariant =
+    ap (λ ns. ns ++ left (drop (index + 1) xs)) (map-append (λ (n : MemberNumber). method_at tree (n.class, n.index)) so_far (number ∷ []))
+    ∙ (append_assoc (methods_at tree so_far) (method_at tree (class, index) ∷ []) (left (drop (index + 1) xs))
+    ∙ (ap (λ o. methods_at tree so_far ++ o ∷ left (drop (index + 1) xs)) found
     ∙ (ap (λ ys. methods_at tree so_far ++ left ys) (sym opened) ∙ invariant)))
   where
     number : MemberNumber
-    number = record { class = class; place = place }
+    number = record { class = class; index = index }
 
     left : List X → List (Option (ClassName × Method))
     left ys = map Some (map (λ (m : Method). (source_name c, m)) (map shown ys))
 
-    opened : drop place xs ≡ x ∷ drop (place + 1) xs
-    opened = rw (add-one, at) (drop-cons xs place x below)
+    opened : drop index xs ≡ x ∷ drop (index + 1) xs
+    opened = rw (add-one, at) (drop-cons xs index x below)
 
-    there : slice_get xs place ≡ Some x
-    there = slice_get_read xs (length xs) place x refl below at
+    there : slice_get xs index ≡ Some x
+    there = slice_get_read xs (length xs) index x refl below at
 
-    found : method_at tree (class, place) ≡ Some (source_name c, shown x)
-    found = next_of_class tree c class place (shown x) here (ap (λ ms. slice_get ms place) (sym all) ∙ slice_get-map shown xs place ∙ ap (option_map shown) there)
+    found : method_at tree (class, index) ≡ Some (source_name c, shown x)
+    found = next_of_class tree c class index (shown x) here (ap (λ ms. slice_get ms index) (sym all) ∙ slice_get-map shown xs index ∙ ap (option_map shown) there)
 
 -- the methods of one class more, and those of the classes that are left
-pub class_added : (tree : Tree) (place : ℕ) (c : Class) (so_far more : List MemberNumber) (whole : List (Option (ClassName × Method))) → place < length tree.classes → c ≡ get_or tree.classes place c →
+pub class_added : (tree : Tree) (index : ℕ) (c : Class) (so_far more : List MemberNumber) (whole : List (Option (ClassName × Method))) → index < length tree.classes → c ≡ get_or tree.classes index c →
     methods_at tree more ≡ methods_at tree so_far ++ map Some (own_methods c) →
-    methods_at tree so_far ++ map Some (flat_map own_methods (drop place tree.classes)) ≡ whole →
-    methods_at tree more ++ map Some (flat_map own_methods (drop (place + 1) tree.classes)) ≡ whole
-class_added tree place c so_far more whole below at added invariant =
+    methods_at tree so_far ++ map Some (flat_map own_methods (drop index tree.classes)) ≡ whole →
+    methods_at tree more ++ map Some (flat_map own_methods (drop (index + 1) tree.classes)) ≡ whole
+class_added tree index c so_far more whole below at added invariant =
     ap (λ ms. ms ++ rest) added
     ∙ (append_assoc (methods_at tree so_far) (map Some (own_methods c)) rest
-    ∙ (ap (λ ms. methods_at tree so_far ++ ms) (sym (map-append Some (own_methods c) (flat_map own_methods (drop (place + 1) tree.classes))))
+    ∙ (ap (λ ms. methods_at tree so_far ++ ms) (sym (map-append Some (own_methods c) (flat_map own_methods (drop (index + 1) tree.classes))))
     ∙ (ap (λ cs. methods_at tree so_far ++ map Some (flat_map own_methods cs)) (sym opened) ∙ invariant)))
   where
     rest : List (Option (ClassName × Method))
-    rest = map Some (flat_map own_methods (drop (place + 1) tree.classes))
+    rest = map Some (flat_map own_methods (drop (index + 1) tree.classes))
 
-    opened : drop place tree.classes ≡ c ∷ drop (place + 1) tree.classes
-    opened = rw (add-one, at) (drop-cons tree.classes place c below)
+    opened : drop index tree.classes ≡ c ∷ drop (index + 1) tree.classes
+    opened = rw (add-one, at) (drop-cons tree.classes index c below)

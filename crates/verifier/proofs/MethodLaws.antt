@@ -17,7 +17,7 @@ use Rattle.resolved_code.specs.Contents.{IsMethodOf}
 use Rattle.resolved_code.specs.Resolved.{BothAlike, IsBody, IsResolvedMethod}
 use Rattle.resolved_code.specs.declared.classes.Body.{Body}
 use Rattle.resolved_code.specs.declared.classes.ResolvedMethod.{ResolvedMethod}
-use Rattle.resolved_code.specs.declared.types.NumberedType.{NumberedType}
+use Rattle.resolved_code.specs.declared.types.ResolvedType.{ResolvedType}
 use Rattle.resolved_code.specs.Numbered.{class_name}
 use Rattle.verifier.specs.Answers.{typing_of, IsTypingAnswer}
 use Rattle.verifier.specs.declared.failures.TypingError.{TypingError}
@@ -27,22 +27,22 @@ use Rattle.cil_model.proofs.Lists.{none_is_some}
 
 module _ (tree : Tree) (owner : ClassName) (m : Method) where
   -- a method that is known by its number is in a class of that number
-  pub owner_named : (class place : ℕ) → method_at tree (class, place) ≡ Some (owner, m) → class_name tree class ≡ Some owner
-  owner_named class place h = by_entry (slice_get (declarations tree) class) refl h
+  pub owner_named : (class pc : ℕ) → method_at tree (class, pc) ≡ Some (owner, m) → class_name tree class ≡ Some owner
+  owner_named class pc h = by_entry (slice_get (declarations tree) class) refl h
     where
       by_method : (e : ClassName × Declaration) (o : Option Method) → option_map {U = ClassName × Method} (λ x. (e.0, x)) o ≡ Some (owner, m) → e.0 ≡ owner
       by_method e None k = none_is_some _ k
       by_method e (Some x) k = ap (λ (y : ClassName × Method). y.0) (same_Some _ _ k)
 
-      by_entry : (o : Option (ClassName × Declaration)) → slice_get (declarations tree) class ≡ o → option_and_then {U = ClassName × Method} (λ (e : ClassName × Declaration). option_map {U = ClassName × Method} (λ x. (e.0, x)) (slice_get e.1.methods place)) o ≡ Some (owner, m) → class_name tree class ≡ Some owner
+      by_entry : (o : Option (ClassName × Declaration)) → slice_get (declarations tree) class ≡ o → option_and_then {U = ClassName × Method} (λ (e : ClassName × Declaration). option_map {U = ClassName × Method} (λ x. (e.0, x)) (slice_get e.1.methods pc)) o ≡ Some (owner, m) → class_name tree class ≡ Some owner
       by_entry None at k = none_is_some _ k
-      by_entry (Some e) at k = ap (option_map (λ (x : ClassName × Declaration). x.0)) at ∙ ap Some (by_method e (slice_get e.1.methods place) k)
+      by_entry (Some e) at k = ap (option_map (λ (x : ClassName × Declaration). x.0)) at ∙ ap Some (by_method e (slice_get e.1.methods pc) k)
 
   -- it is there by numbers too
-  pub not_absent : (number : MemberNumber) → method_at tree (number.class, number.place) ≡ Some (owner, m) → IsMethodOf tree number None → ⊥
+  pub not_absent : (number : MemberNumber) → method_at tree (number.class, number.index) ≡ Some (owner, m) → IsMethodOf tree number None → ⊥
   not_absent number h is = subst (λ (o : Option (ClassName × Method)). BothAlike (λ (named : ClassName × Method) resolved. IsResolvedMethod tree named.1 resolved) o None) h is
 
-  pub is_resolved : (number : MemberNumber) (found : ResolvedMethod) → method_at tree (number.class, number.place) ≡ Some (owner, m) → IsMethodOf tree number (Some found) → IsResolvedMethod tree m found
+  pub is_resolved : (number : MemberNumber) (found : ResolvedMethod) → method_at tree (number.class, number.index) ≡ Some (owner, m) → IsMethodOf tree number (Some found) → IsResolvedMethod tree m found
   is_resolved number found h is = subst (λ (o : Option (ClassName × Method)). BothAlike (λ (named : ClassName × Method) resolved. IsResolvedMethod tree named.1 resolved) o (Some found)) h is
 
   -- a method without code has the empty typing
@@ -62,9 +62,9 @@ module _ (tree : Tree) (owner : ClassName) (m : Method) where
       by_code (Some code) e k = (code, e, k)
 
   -- what is found of the code of a method is found of the method
-  pub code_verdict : (found : ResolvedMethod) (code : Code) (arguments : List NumberedType) (answer : Result (List (Option (List StackEntry))) TypingError) → IsResolvedMethod tree m found → code_of m.kind ≡ Some code →
+  pub code_verdict : (found : ResolvedMethod) (code : Code) (arguments : List ResolvedType) (answer : Result (List (Option (List StackEntry))) TypingError) → IsResolvedMethod tree m found → code_of m.kind ≡ Some code →
       types_named tree arguments ≡ argument_types m owner → IsTypingAnswer tree (types_named tree arguments) (option_map (type_named tree) found.return_type) code answer → IsMethodVerdict tree owner m answer
-  code_verdict found code arguments answer is coded named told = by_answer answer told
+  code_verdict found code arguments answer is coded named reported = by_answer answer reported
     where
       returned : option_map (type_named tree) found.return_type ≡ m.signature.return_type
       returned = return_is_named tree found.return_type m.signature.return_type is.return_type

@@ -34,7 +34,7 @@ pos_within n m h = grind (arith, ints, h)
 pos_beyond : (n m : ℕ) → m < n → pos n ≤ℤ pos m → ⊥
 pos_beyond n m h k = grind (arith, ints, h, k)
 
--- ---- how many places are pending
+-- ---- how many pcs are pending
 
 count_set : (pending : List Bool) (n : ℕ) → count_pending (slice_set pending n true) ≤ count_pending pending + 1
 count_set [] n = omega arith
@@ -63,94 +63,94 @@ module _ (tree : Tree) where
   typing_set : (rows later : List (Option (List StackEntry))) (n : ℕ) (stack : List StackEntry) → later ≡ slice_set rows n (Some stack) → typing_of tree later ≡ slice_set (typing_of tree rows) n (Some (stack_types tree stack))
   typing_set rows later n stack e = ap (typing_of tree) e ∙ map_set (option_map (stack_types tree)) rows n (Some stack)
 
-  module _ (max_stack : ℤ) (after : List StackEntry) (place : ℕ) (old : Search) where
-    pub rise_off : slice_get old.rows.items place ≡ None → IsRefused tree max_stack after (place ∷ []) old
+  module _ (max_stack : ℤ) (after : List StackEntry) (pc : ℕ) (old : Search) where
+    pub rise_off : slice_get old.rows.items pc ≡ None → IsRefused tree max_stack after (pc ∷ []) old
     rise_off e =
         let same : length (typing_of tree old.rows.items) ≡ length old.rows.items = length-map old.rows.items (option_map (stack_types tree)) in
-        let past : length old.rows.items ≤ place = none_is_outside old.rows.items place e in
-        off_the_end tree max_stack (stack_types tree after) (typing_of tree old.rows.items) place (omega (arith, same, past))
+        let past : length old.rows.items ≤ pc = none_is_outside old.rows.items pc e in
+        off_the_end tree max_stack (stack_types tree after) (typing_of tree old.rows.items) pc (omega (arith, same, past))
 
-    pub rise_refused : (T U : Type 0) (e : RaiseError) (known : List StackEntry) (new : Search) → slice_get old.rows.items place ≡ Some (Some known) → IsMergeAt tree known after (Err e) → IsRise {T = U} tree max_stack after (place ∷ []) old new (Err e)
-    rise_refused T U (Refused at reason) known new e none = apart tree max_stack (stack_types tree after) (typing_of tree old.rows.items) place (stack_types tree known) (row_at old.rows.items place (Some known) e) none
+    pub rise_refused : (T U : Type 0) (e : RaiseError) (known : List StackEntry) (new : Search) → slice_get old.rows.items pc ≡ Some (Some known) → IsMergeAt tree known after (Err e) → IsRise {T = U} tree max_stack after (pc ∷ []) old new (Err e)
+    rise_refused T U (Refused at reason) known new e none = apart tree max_stack (stack_types tree after) (typing_of tree old.rows.items) pc (stack_types tree known) (row_at old.rows.items pc (Some known) e) none
     rise_refused T U OutOfMemory known new e none = tt
 
-    set_risen : (new : Search) (row : Option (List StackEntry)) (stack : List StackEntry) → slice_get old.rows.items place ≡ Some row →
-        new.rows.items ≡ slice_set old.rows.items place (Some stack) → new.is_pending.items ≡ slice_set old.is_pending.items place true →
-        HasRisen tree max_stack (stack_types tree after) (place ∷ []) (typing_of tree old.rows.items) old.is_pending.items (slice_set (typing_of tree old.rows.items) place (Some (stack_types tree stack))) (slice_set old.is_pending.items place true) →
+    set_risen : (new : Search) (row : Option (List StackEntry)) (stack : List StackEntry) → slice_get old.rows.items pc ≡ Some row →
+        new.rows.items ≡ slice_set old.rows.items pc (Some stack) → new.is_pending.items ≡ slice_set old.is_pending.items pc true →
+        HasRisen tree max_stack (stack_types tree after) (pc ∷ []) (typing_of tree old.rows.items) old.is_pending.items (slice_set (typing_of tree old.rows.items) pc (Some (stack_types tree stack))) (slice_set old.is_pending.items pc true) →
         row_rises tree (most_values max_stack) (Some (stack_types tree stack)) < row_rises tree (most_values max_stack) (option_map (stack_types tree) row) →
-        HasRisen tree max_stack (stack_types tree after) (place ∷ []) (typing_of tree old.rows.items) old.is_pending.items (typing_of tree new.rows.items) new.is_pending.items × (work_left tree max_stack new ≤ work_left tree max_stack old)
+        HasRisen tree max_stack (stack_types tree after) (pc ∷ []) (typing_of tree old.rows.items) old.is_pending.items (typing_of tree new.rows.items) new.is_pending.items × (work_left tree max_stack new ≤ work_left tree max_stack old)
     set_risen new row stack at rows pending risen lower =
-        let set : typing_of tree new.rows.items ≡ slice_set (typing_of tree old.rows.items) place (Some (stack_types tree stack)) = typing_set old.rows.items new.rows.items place stack rows in
-        let P : Typing → Type 0 = λ t. HasRisen tree max_stack (stack_types tree after) (place ∷ []) (typing_of tree old.rows.items) old.is_pending.items t new.is_pending.items in
-        let Q : List Bool → Type 0 = λ p. HasRisen tree max_stack (stack_types tree after) (place ∷ []) (typing_of tree old.rows.items) old.is_pending.items (slice_set (typing_of tree old.rows.items) place (Some (stack_types tree stack))) p in
-        let falls : table_rises tree (most_values max_stack) (slice_set (typing_of tree old.rows.items) place (Some (stack_types tree stack))) < table_rises tree (most_values max_stack) (typing_of tree old.rows.items) =
-        table_falls tree (most_values max_stack) (typing_of tree old.rows.items) place (option_map (stack_types tree) row) (Some (stack_types tree stack)) (row_at old.rows.items place row at) lower in
-        let same : table_rises tree (most_values max_stack) (typing_of tree new.rows.items) ≡ table_rises tree (most_values max_stack) (slice_set (typing_of tree old.rows.items) place (Some (stack_types tree stack))) = ap (table_rises tree (most_values max_stack)) set in
-        let more : count_pending (slice_set old.is_pending.items place true) ≤ count_pending old.is_pending.items + 1 = count_set old.is_pending.items place in
-        let counted : count_pending new.is_pending.items ≡ count_pending (slice_set old.is_pending.items place true) = ap count_pending pending in
+        let set : typing_of tree new.rows.items ≡ slice_set (typing_of tree old.rows.items) pc (Some (stack_types tree stack)) = typing_set old.rows.items new.rows.items pc stack rows in
+        let P : Typing → Type 0 = λ t. HasRisen tree max_stack (stack_types tree after) (pc ∷ []) (typing_of tree old.rows.items) old.is_pending.items t new.is_pending.items in
+        let Q : List Bool → Type 0 = λ p. HasRisen tree max_stack (stack_types tree after) (pc ∷ []) (typing_of tree old.rows.items) old.is_pending.items (slice_set (typing_of tree old.rows.items) pc (Some (stack_types tree stack))) p in
+        let falls : table_rises tree (most_values max_stack) (slice_set (typing_of tree old.rows.items) pc (Some (stack_types tree stack))) < table_rises tree (most_values max_stack) (typing_of tree old.rows.items) =
+        table_falls tree (most_values max_stack) (typing_of tree old.rows.items) pc (option_map (stack_types tree) row) (Some (stack_types tree stack)) (row_at old.rows.items pc row at) lower in
+        let same : table_rises tree (most_values max_stack) (typing_of tree new.rows.items) ≡ table_rises tree (most_values max_stack) (slice_set (typing_of tree old.rows.items) pc (Some (stack_types tree stack))) = ap (table_rises tree (most_values max_stack)) set in
+        let more : count_pending (slice_set old.is_pending.items pc true) ≤ count_pending old.is_pending.items + 1 = count_set old.is_pending.items pc in
+        let counted : count_pending new.is_pending.items ≡ count_pending (slice_set old.is_pending.items pc true) = ap count_pending pending in
         (subst P (sym set) (subst Q (sym pending) risen), omega (arith, falls, same, more, counted))
 
-    as_many : IsWhole old → length old.is_pending.items ≡ length (typing_of tree old.rows.items)
-    as_many w = w ∙ sym (length-map old.rows.items (option_map (stack_types tree)))
+    same_count : IsWhole old → length old.is_pending.items ≡ length (typing_of tree old.rows.items)
+    same_count w = w ∙ sym (length-map old.rows.items (option_map (stack_types tree)))
 
-    rise_mapped : (new : Search) (stack : List StackEntry) → IsWhole old → slice_get old.rows.items place ≡ Some None → pos (length after) ≤ℤ max_stack → stack ≡ after →
-        new.rows.items ≡ slice_set old.rows.items place (Some stack) → new.is_pending.items ≡ slice_set old.is_pending.items place true → IsRisen tree max_stack after (place ∷ []) old new
+    rise_mapped : (new : Search) (stack : List StackEntry) → IsWhole old → slice_get old.rows.items pc ≡ Some None → pos (length after) ≤ℤ max_stack → stack ≡ after →
+        new.rows.items ≡ slice_set old.rows.items pc (Some stack) → new.is_pending.items ≡ slice_set old.is_pending.items pc true → IsRisen tree max_stack after (pc ∷ []) old new
     rise_mapped new stack w at small copy rows pending =
         let low : pos (length (stack_types tree after)) ≤ℤ max_stack = subst (λ (n : ℕ). pos n ≤ℤ max_stack) (sym (length-map after (stack_type tree))) small in
-        set_risen new None after at (rows ∙ ap (λ v. slice_set old.rows.items place (Some v)) copy) pending
-        (rise_first tree max_stack (stack_types tree after) (typing_of tree old.rows.items) old.is_pending.items place (as_many w) (row_at old.rows.items place None at) low) (first_falls tree max_stack (stack_types tree after) low)
+        set_risen new None after at (rows ∙ ap (λ v. slice_set old.rows.items pc (Some v)) copy) pending
+        (rise_first tree max_stack (stack_types tree after) (typing_of tree old.rows.items) old.is_pending.items pc (same_count w) (row_at old.rows.items pc None at) low) (first_falls tree max_stack (stack_types tree after) low)
 
-    rise_merging : (new : Search) (known stack : List StackEntry) → IsWhole old → slice_get old.rows.items place ≡ Some (Some known) → AreMerged tree (stack_types tree known) (stack_types tree after) (stack_types tree stack) →
+    rise_merging : (new : Search) (known stack : List StackEntry) → IsWhole old → slice_get old.rows.items pc ≡ Some (Some known) → AreMerged tree (stack_types tree known) (stack_types tree after) (stack_types tree stack) →
         stack_rises tree (stack_types tree stack) < stack_rises tree (stack_types tree known) →
-        new.rows.items ≡ slice_set old.rows.items place (Some stack) → new.is_pending.items ≡ slice_set old.is_pending.items place true → IsRisen tree max_stack after (place ∷ []) old new
+        new.rows.items ≡ slice_set old.rows.items pc (Some stack) → new.is_pending.items ≡ slice_set old.is_pending.items pc true → IsRisen tree max_stack after (pc ∷ []) old new
     rise_merging new known stack w at merge lower rows pending =
         set_risen new (Some known) stack at rows pending
-        (rise_merged tree max_stack (stack_types tree after) (typing_of tree old.rows.items) old.is_pending.items place (stack_types tree known) (stack_types tree stack) (as_many w) (row_at old.rows.items place (Some known) at) merge) lower
+        (rise_merged tree max_stack (stack_types tree after) (typing_of tree old.rows.items) old.is_pending.items pc (stack_types tree known) (stack_types tree stack) (same_count w) (row_at old.rows.items pc (Some known) at) merge) lower
 
-    rise_unchanged : (new : Search) (known stack : List StackEntry) → slice_get old.rows.items place ≡ Some (Some known) → AreMerged tree (stack_types tree known) (stack_types tree after) (stack_types tree stack) →
-        stack ≡ known → new ≡ old → IsRisen tree max_stack after (place ∷ []) old new
+    rise_unchanged : (new : Search) (known stack : List StackEntry) → slice_get old.rows.items pc ≡ Some (Some known) → AreMerged tree (stack_types tree known) (stack_types tree after) (stack_types tree stack) →
+        stack ≡ known → new ≡ old → IsRisen tree max_stack after (pc ∷ []) old new
     rise_unchanged new known stack at merge same unchanged =
         let own : AreMerged tree (stack_types tree known) (stack_types tree after) (stack_types tree known) = subst (λ v. AreMerged tree (stack_types tree known) (stack_types tree after) (stack_types tree v)) same merge in
         let low : work_left tree max_stack old ≤ work_left tree max_stack old = omega arith in
-        subst (λ (s : Search). IsRisen tree max_stack after (place ∷ []) old s) (sym unchanged)
-        (rise_same tree max_stack (stack_types tree after) (typing_of tree old.rows.items) old.is_pending.items place (stack_types tree known) (row_at old.rows.items place (Some known) at) own, low)
+        subst (λ (s : Search). IsRisen tree max_stack after (pc ∷ []) old s) (sym unchanged)
+        (rise_same tree max_stack (stack_types tree after) (typing_of tree old.rows.items) old.is_pending.items pc (stack_types tree known) (row_at old.rows.items pc (Some known) at) own, low)
 
     -- a stack that is there already raises nothing
-    pub rise_equal : (known : List StackEntry) → slice_get old.rows.items place ≡ Some (Some known) → known ≡ after → IsRisen tree max_stack after (place ∷ []) old old
+    pub rise_equal : (known : List StackEntry) → slice_get old.rows.items pc ≡ Some (Some known) → known ≡ after → IsRisen tree max_stack after (pc ∷ []) old old
     rise_equal known at e =
         let own : AreMerged tree (stack_types tree known) (stack_types tree known) (stack_types tree known) =
         record { above_first = below_itself tree (stack_types tree known); above_second = below_itself tree (stack_types tree known); least = λ above h k. h } in
         let P : List StackEntry → Type 0 = λ v. AreMerged tree (stack_types tree known) (stack_types tree v) (stack_types tree known) in
         rise_unchanged old known known at (subst P e own) refl refl
 
-    rise_by_merge : (new : Search) (known : List StackEntry) (merge : StackMerge) → IsWhole old → slice_get old.rows.items place ≡ Some (Some known) →
+    rise_by_merge : (new : Search) (known : List StackEntry) (merge : StackMerge) → IsWhole old → slice_get old.rows.items pc ≡ Some (Some known) →
         AreMerged tree (stack_types tree known) (stack_types tree after) (stack_types tree merge.stack) → (merge.is_higher ≡ false → merge.stack ≡ known) →
         (merge.is_higher ≡ true → stack_rises tree (stack_types tree merge.stack) < stack_rises tree (stack_types tree known)) → (merge.is_higher ≡ false → new ≡ old) →
-        (merge.is_higher ≡ true → new.rows.items ≡ slice_set old.rows.items place (Some merge.stack)) → (merge.is_higher ≡ true → new.is_pending.items ≡ slice_set old.is_pending.items place true) →
-        IsRisen tree max_stack after (place ∷ []) old new
+        (merge.is_higher ≡ true → new.rows.items ≡ slice_set old.rows.items pc (Some merge.stack)) → (merge.is_higher ≡ true → new.is_pending.items ≡ slice_set old.is_pending.items pc true) →
+        IsRisen tree max_stack after (pc ∷ []) old new
     rise_by_merge new known merge w at merged same lower unchanged rows pending = by_test merge.is_higher refl
       where
-        by_test : (b : Bool) → merge.is_higher ≡ b → IsRisen tree max_stack after (place ∷ []) old new
+        by_test : (b : Bool) → merge.is_higher ≡ b → IsRisen tree max_stack after (pc ∷ []) old new
         by_test true h = rise_merging new known merge.stack w at merged (lower h) (rows h) (pending h)
         by_test false h = rise_unchanged new known merge.stack at merged (same h) (unchanged h)
 
     -- the same where memory may run out
-    pub rise_merged_or_not : {T : Type 0} (r : Result T RaiseError) (new : Search) (known : List StackEntry) (merge : StackMerge) → IsWhole old → slice_get old.rows.items place ≡ Some (Some known) →
+    pub rise_merged_or_not : {T : Type 0} (r : Result T RaiseError) (new : Search) (known : List StackEntry) (merge : StackMerge) → IsWhole old → slice_get old.rows.items pc ≡ Some (Some known) →
         AreMerged tree (stack_types tree known) (stack_types tree after) (stack_types tree merge.stack) → (merge.is_higher ≡ false → merge.stack ≡ known) →
         (merge.is_higher ≡ true → stack_rises tree (stack_types tree merge.stack) < stack_rises tree (stack_types tree known)) → (merge.is_higher ≡ false → new ≡ old) →
-        OnOk r (merge.is_higher ≡ true → new.rows.items ≡ slice_set old.rows.items place (Some merge.stack)) → OnOk r (merge.is_higher ≡ true → new.is_pending.items ≡ slice_set old.is_pending.items place true) →
-        IfErr r (λ e. e ≡ OutOfMemory) → IsRise tree max_stack after (place ∷ []) old new r
+        OnOk r (merge.is_higher ≡ true → new.rows.items ≡ slice_set old.rows.items pc (Some merge.stack)) → OnOk r (merge.is_higher ≡ true → new.is_pending.items ≡ slice_set old.is_pending.items pc true) →
+        IfErr r (λ e. e ≡ OutOfMemory) → IsRise tree max_stack after (pc ∷ []) old new r
     rise_merged_or_not (Ok done) new known merge w at merged same lower unchanged rows pending wants = rise_by_merge new known merge w at merged same lower unchanged rows pending
     rise_merged_or_not (Err (Refused at' reason)) new known merge w at merged same lower unchanged rows pending wants = absurd (cc wants)
     rise_merged_or_not (Err OutOfMemory) new known merge w at merged same lower unchanged rows pending wants = tt
 
-  module _ (most : ℕ) (after : List StackEntry) (place : ℕ) (old : Search) where
-    pub rise_high : most < length after → IsRefused tree (pos most) after (place ∷ []) old
-    rise_high high = too_high tree (pos most) (stack_types tree after) (typing_of tree old.rows.items) place (λ h. pos_beyond (length after) most high (subst (λ (n : ℕ). pos n ≤ℤ pos most) (length-map after (stack_type tree)) h))
+  module _ (most : ℕ) (after : List StackEntry) (pc : ℕ) (old : Search) where
+    pub rise_high : most < length after → IsRefused tree (pos most) after (pc ∷ []) old
+    rise_high high = too_high tree (pos most) (stack_types tree after) (typing_of tree old.rows.items) pc (λ h. pos_beyond (length after) most high (subst (λ (n : ℕ). pos n ≤ℤ pos most) (length-map after (stack_type tree)) h))
 
-    pub rise_at_first : (new : Search) (stack : List StackEntry) → IsWhole old → slice_get old.rows.items place ≡ Some None → length after ≤ most → stack ≡ after →
-        new.rows.items ≡ slice_set old.rows.items place (Some stack) → new.is_pending.items ≡ slice_set old.is_pending.items place true → IsRisen tree (pos most) after (place ∷ []) old new
-    rise_at_first new stack w at small = rise_mapped (pos most) after place old new stack w at (pos_within (length after) most small)
+    pub rise_at_first : (new : Search) (stack : List StackEntry) → IsWhole old → slice_get old.rows.items pc ≡ Some None → length after ≤ most → stack ≡ after →
+        new.rows.items ≡ slice_set old.rows.items pc (Some stack) → new.is_pending.items ≡ slice_set old.is_pending.items pc true → IsRisen tree (pos most) after (pc ∷ []) old new
+    rise_at_first new stack w at small = rise_mapped (pos most) after pc old new stack w at (pos_within (length after) most small)
 
   -- ---- along more ways
 

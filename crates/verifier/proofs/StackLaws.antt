@@ -1,4 +1,4 @@
--- Stacks below others, and their merges place by place.
+-- Stacks below others, and their merges entry by entry.
 use Rattle.std.proofs.Common.{◌≡◌, ◌≤◌, ◌<◌, ◌+◌, ℕ, zero, suc, Bool, true, false, ◌||◌, get_or, List, [], ◌∷◌, ◌++◌, take, length, Some, None, slice_get, refl, sym, ap, ◌∙◌, subst, arith}
 use Rattle.std.proofs.lemmas.List.{take_more, take_all}
 use Rattle.std.proofs.lemmas.Option.{slice_get-get_or}
@@ -35,7 +35,7 @@ module _ (tree : Tree) where
   as_high [] (y ∷ ys) h = absurd h
   as_high (x ∷ xs) [] h = absurd h
 
-  -- ---- merges, place by place
+  -- ---- merges, entry by entry
 
   abbrev pub AllMerged : List StackEntry → List StackEntry → List StackEntry → Type 0
   AllMerged [] [] [] = Unit {0}

@@ -23,18 +23,18 @@ use Rattle.cil_model.proofs.Lists.{none_is_outside, none_is_some}
 
 -- the method of a number, as the source has it
 pub method_there : (tree : Tree) (members : List MemberNumber) (n : ℕ) (member : MemberNumber) → methods_at tree members ≡ map Some (source_methods tree) → n < length members → member ≡ get_or members n member →
-    (owner : ClassName) × (m : Method) × (slice_get (source_methods tree) n ≡ Some (owner, m)) × (method_at tree (member.class, member.place) ≡ Some (owner, m))
+    (owner : ClassName) × (m : Method) × (slice_get (source_methods tree) n ≡ Some (owner, m)) × (method_at tree (member.class, member.index) ≡ Some (owner, m))
 method_there tree members n member all below at = by_method (slice_get (source_methods tree) n) refl shown
   where
     there : slice_get members n ≡ Some member
     there = slice_get_read members (length members) n member refl below at
 
-    shown : Some (method_at tree (member.class, member.place)) ≡ option_map Some (slice_get (source_methods tree) n)
-    shown = sym (slice_get-map (λ (k : MemberNumber). method_at tree (k.class, k.place)) members n ∙ ap (option_map (λ (k : MemberNumber). method_at tree (k.class, k.place))) there)
+    shown : Some (method_at tree (member.class, member.index)) ≡ option_map Some (slice_get (source_methods tree) n)
+    shown = sym (slice_get-map (λ (k : MemberNumber). method_at tree (k.class, k.index)) members n ∙ ap (option_map (λ (k : MemberNumber). method_at tree (k.class, k.index))) there)
         ∙ (ap (λ ms. slice_get ms n) all ∙ slice_get-map Some (source_methods tree) n)
 
-    by_method : (o : Option (ClassName × Method)) → slice_get (source_methods tree) n ≡ o → Some (method_at tree (member.class, member.place)) ≡ option_map Some o →
-        (owner : ClassName) × (m : Method) × (slice_get (source_methods tree) n ≡ Some (owner, m)) × (method_at tree (member.class, member.place) ≡ Some (owner, m))
+    by_method : (o : Option (ClassName × Method)) → slice_get (source_methods tree) n ≡ o → Some (method_at tree (member.class, member.index)) ≡ option_map Some o →
+        (owner : ClassName) × (m : Method) × (slice_get (source_methods tree) n ≡ Some (owner, m)) × (method_at tree (member.class, member.index) ≡ Some (owner, m))
     by_method None e h = none_is_some _ (sym h)
     by_method (Some x) e h = (x.0, x.1, e, same_Some _ _ h)
 
@@ -45,12 +45,12 @@ after_end : {X : Type 0} (xs : List X) (x : X) (n : ℕ) → (slice_get (xs ++ x
 after_end [] x zero = inr (refl, refl)
 after_end [] x (suc n) = inl refl
 after_end (y ∷ ys) x zero = inl refl
-after_end {X} (y ∷ ys) x (suc n) = behind (after_end ys x n)
+after_end {X} (y ∷ ys) x (suc n) = following (after_end ys x n)
   where
-    behind : (slice_get (ys ++ x ∷ []) n ≡ slice_get ys n) ⊎ ((n ≡ length ys) × (slice_get (ys ++ x ∷ []) n ≡ Some x)) →
+    following : (slice_get (ys ++ x ∷ []) n ≡ slice_get ys n) ⊎ ((n ≡ length ys) × (slice_get (ys ++ x ∷ []) n ≡ Some x)) →
         (slice_get (ys ++ x ∷ []) n ≡ slice_get ys n) ⊎ ((suc n ≡ suc (length ys)) × (slice_get (ys ++ x ∷ []) n ≡ Some x))
-    behind (inl e) = inl e
-    behind (inr (e, at)) = inr (ap suc e, at)
+    following (inl e) = inl e
+    following (inr (e, at)) = inr (ap suc e, at)
 
 pub none_kept : (tree : Tree) → AreOfMethods tree []
 none_kept tree n rows owner m at here = none_is_some _ at
@@ -59,11 +59,11 @@ module _ (tree : Tree) (typings : List (List (Option (List StackEntry)))) (kept 
   -- one more is kept
   pub one_more : (owner : ClassName) (m : Method) (rows : List (Option (List StackEntry))) → slice_get (source_methods tree) (length typings) ≡ Some (owner, m) → IsTyping tree owner m (typing_of tree rows) →
       AreOfMethods tree (typings ++ rows ∷ [])
-  one_more owner m rows there typed n found o k at here = by_place (after_end typings rows n)
+  one_more owner m rows there typed n found o k at here = by_index (after_end typings rows n)
     where
-      by_place : (slice_get (typings ++ rows ∷ []) n ≡ slice_get typings n) ⊎ ((n ≡ length typings) × (slice_get (typings ++ rows ∷ []) n ≡ Some rows)) → IsTyping tree o k (typing_of tree found)
-      by_place (inl e) = kept n found o k (sym e ∙ at) here
-      by_place (inr (last, e)) =
+      by_index : (slice_get (typings ++ rows ∷ []) n ≡ slice_get typings n) ⊎ ((n ≡ length typings) × (slice_get (typings ++ rows ∷ []) n ≡ Some rows)) → IsTyping tree o k (typing_of tree found)
+      by_index (inl e) = kept n found o k (sym e ∙ at) here
+      by_index (inr (last, e)) =
           let same_rows : rows ≡ found = same_Some _ _ (sym e ∙ at) in
           let same : (owner, m) ≡ (o, k) = same_Some _ _ (sym there ∙ (ap (slice_get (source_methods tree)) (sym last) ∙ here)) in
           subst (λ (T : Type 0). T) (λ i. let s : ClassName × Method = same i in IsTyping tree s.0 s.1 (typing_of tree (same_rows i))) typed
@@ -82,9 +82,9 @@ accepted tree typings legal are = record {
   typed = λ n o x here. (typing_of tree (get_or typings n []), are.each n (get_or typings n []) o x (slice_get-get_or typings n [] (subst (λ (z : ℕ). n < z) (sym are.whole) (slice_get_within (source_methods tree) n (o, x) here))) here);
 }
 
--- the methods of as many numbers
-pub as_many : (tree : Tree) (members : List MemberNumber) → methods_at tree members ≡ map Some (source_methods tree) → length members ≡ length (source_methods tree)
-as_many tree members all = sym (length-map members (λ (k : MemberNumber). method_at tree (k.class, k.place))) ∙ (ap length all ∙ length-map (source_methods tree) Some)
+-- the methods of that many numbers
+pub same_count : (tree : Tree) (members : List MemberNumber) → methods_at tree members ≡ map Some (source_methods tree) → length members ≡ length (source_methods tree)
+same_count tree members all = sym (length-map members (λ (k : MemberNumber). method_at tree (k.class, k.index))) ∙ (ap length all ∙ length-map (source_methods tree) Some)
 
 -- a typing that is found by the number of a method is one of it
 pub kept_at : {B : Type 0} (shown : B → List (Option (List StackEntry))) (tree : Tree) (typings : List (List (Option (List StackEntry)))) (n : ℕ) (found : Option B) (owner : ClassName) (m : Method) →
@@ -121,20 +121,20 @@ module _ (tree : Tree) (members : List MemberNumber) (typings : List (List (Opti
   abbrev pub member : MemberNumber
   member = get_or members n other
 
-  there : (owner : ClassName) × (m : Method) × (slice_get (source_methods tree) n ≡ Some (owner, m)) × (method_at tree (member.class, member.place) ≡ Some (owner, m))
+  there : (owner : ClassName) × (m : Method) × (slice_get (source_methods tree) n ≡ Some (owner, m)) × (method_at tree (member.class, member.index) ≡ Some (owner, m))
   there = method_there tree members n member all below (sym (get_or_from_slice_get members n member member (slice_get-get_or members n other below)))
 
   -- the next typing is kept
-  pub next_kept : (rows : List (Option (List StackEntry))) → ((owner : ClassName) (m : Method) → method_at tree (member.class, member.place) ≡ Some (owner, m) → IsMethodVerdict tree owner m (Ok rows)) →
+  pub next_kept : (rows : List (Option (List StackEntry))) → ((owner : ClassName) (m : Method) → method_at tree (member.class, member.index) ≡ Some (owner, m) → IsMethodVerdict tree owner m (Ok rows)) →
       (length (typings ++ rows ∷ []) ≡ n + 1) × AreOfMethods tree (typings ++ rows ∷ [])
-  next_kept rows told =
-      (length-append typings (rows ∷ []) ∙ ap (λ k. k + 1) counted, one_more tree typings kept there.0 there.1 rows (ap (slice_get (source_methods tree)) counted ∙ there.2) (told there.0 there.1 there.3))
+  next_kept rows reported =
+      (length-append typings (rows ∷ []) ∙ ap (λ k. k + 1) counted, one_more tree typings kept there.0 there.1 rows (ap (slice_get (source_methods tree)) counted ∙ there.2) (reported there.0 there.1 there.3))
 
   -- the next method is the first without a typing
-  pub next_refused : (error : TypingError) (refusal : VerifyError) → ((owner : ClassName) (m : Method) → method_at tree (member.class, member.place) ≡ Some (owner, m) → IsMethodVerdict tree owner m (Err error)) →
+  pub next_refused : (error : TypingError) (refusal : VerifyError) → ((owner : ClassName) (m : Method) → method_at tree (member.class, member.index) ≡ Some (owner, m) → IsMethodVerdict tree owner m (Err error)) →
       IsRefusalOf n error refusal → AreVerdicts tree (Err refusal)
-  next_refused (OfMethod.Untyped told_of) (NoTyping method failure) told is =
-      subst (IsFirstUntyped tree) (sym is.0) (first_untyped tree typings kept n there.0 there.1 counted there.2 (told there.0 there.1 there.3))
-  next_refused (OfMethod.Untyped told_of) OutOfMemory told is = tt
-  next_refused OfMethod.OutOfMemory (NoTyping method failure) told is = elim is [ ]
-  next_refused OfMethod.OutOfMemory OutOfMemory told is = tt
+  next_refused (OfMethod.Untyped reported_of) (NoTyping method failure) reported is =
+      subst (IsFirstUntyped tree) (sym is.0) (first_untyped tree typings kept n there.0 there.1 counted there.2 (reported there.0 there.1 there.3))
+  next_refused (OfMethod.Untyped reported_of) OutOfMemory reported is = tt
+  next_refused OfMethod.OutOfMemory (NoTyping method failure) reported is = elim is [ ]
+  next_refused OfMethod.OutOfMemory OutOfMemory reported is = tt

@@ -24,7 +24,7 @@ use Rattle.verifier.specs.Rises.{table_rises, most_values, natural}
 use Rattle.verifier.specs.Ways.{ways_on}
 use Rattle.verifier.specs.Tables.{IsPending, HasRisen, CannotRise, AreWays}
 use Rattle.verifier.specs.Answers.{typing_of, work_left, count_pending, IsWhole, IsResultAt, IsRise, IsRisen, AreOf, IsOnTheWay, IsVisit, IsLeastTyping, IsTypingAnswer}
-use Rattle.verifier.specs.Evidence.{IsToldOf, IsAnsweredBy}
+use Rattle.verifier.specs.Evidence.{IsReportedOf, IsAnsweredBy}
 use Rattle.verifier.specs.declared.failures.TypingError.{TypingError}
 use Rattle.verifier.specs.declared.failures.TypingError.TheVariants.{Untyped, OutOfMemory}
 use Rattle.verifier.specs.declared.search.RaiseError.{RaiseError}
@@ -41,10 +41,10 @@ work_falls tree max_stack after ways old new (Err e) h = tt
 
 -- what holds where a stack was taken on holds where that is the result
 pub answered_so : {T : Type 0} (P : Type 0) (r : Result T RaiseError) (answer : Result T TypingError) → IsAnsweredBy r answer → OnOk r P → OnOk answer P
-answered_so P (Ok done) (Ok done') told so = so
-answered_so P (Ok done) (Err e) told so = tt
-answered_so P (Err step) (Ok done) told so = elim told [ ]
-answered_so P (Err step) (Err e) told so = tt
+answered_so P (Ok done) (Ok done') reported so = so
+answered_so P (Ok done) (Err e) reported so = tt
+answered_so P (Err step) (Ok done) reported so = elim reported [ ]
+answered_so P (Err step) (Err e) reported so = tt
 
 module _ (m : MethodTypes) (operations : List Operation) (max_stack : ℤ) (code : Code) (of : AreOf m operations max_stack code) where
   abbrev arguments : List DeclaredType
@@ -56,34 +56,34 @@ module _ (m : MethodTypes) (operations : List Operation) (max_stack : ℤ) (code
   abbrev Alike : Line → Operation → Type 0
   Alike line operation = IsOperation m.types.now code.lines line.instruction operation
 
-  unmapped : (rows : List (Option (List StackEntry))) (place : ℕ) → ((stack : List StackEntry) → slice_get rows place ≡ Some (Some stack) → ⊥) → (stack : List StackType) → slice_get (typing_of m.types.now rows) place ≡ Some (Some stack) → ⊥
-  unmapped rows place none stack e = by_row (slice_get rows place) refl (sym (slice_get-map (option_map (stack_types m.types.now)) rows place) ∙ e)
+  unmapped : (rows : List (Option (List StackEntry))) (pc : ℕ) → ((stack : List StackEntry) → slice_get rows pc ≡ Some (Some stack) → ⊥) → (stack : List StackType) → slice_get (typing_of m.types.now rows) pc ≡ Some (Some stack) → ⊥
+  unmapped rows pc none stack e = by_row (slice_get rows pc) refl (sym (slice_get-map (option_map (stack_types m.types.now)) rows pc) ∙ e)
     where
-      by_row : (o : Option (Option (List StackEntry))) → slice_get rows place ≡ o → option_map (option_map (stack_types m.types.now)) o ≡ Some (Some stack) → ⊥
+      by_row : (o : Option (Option (List StackEntry))) → slice_get rows pc ≡ o → option_map (option_map (stack_types m.types.now)) o ≡ Some (Some stack) → ⊥
       by_row None h f = none_is_some (Some stack) f
       by_row (Some None) h f = none_is_some stack (same_Some None (Some stack) f)
       by_row (Some (Some known)) h f = none known h
 
-  pub visit_unmapped : (rows : List (Option (List StackEntry))) (pending : List Bool) (place : ℕ) → IsOnTheWay m code rows (slice_set pending place true) → ((stack : List StackEntry) → slice_get rows place ≡ Some (Some stack) → ⊥) → IsOnTheWay m code rows pending
-  visit_unmapped rows pending place u none = passed_over m.types.now arguments return_type code (typing_of m.types.now rows) pending place u (unmapped rows place none)
+  pub visit_unmapped : (rows : List (Option (List StackEntry))) (pending : List Bool) (pc : ℕ) → IsOnTheWay m code rows (slice_set pending pc true) → ((stack : List StackEntry) → slice_get rows pc ≡ Some (Some stack) → ⊥) → IsOnTheWay m code rows pending
+  visit_unmapped rows pending pc u none = passed_over m.types.now arguments return_type code (typing_of m.types.now rows) pending pc u (unmapped rows pc none)
 
-  pub visit_beyond : (rows : List (Option (List StackEntry))) (pending : List Bool) (place : ℕ) → IsOnTheWay m code rows (slice_set pending place true) → slice_get operations place ≡ None → IsOnTheWay m code rows pending
-  visit_beyond rows pending place u e = passed_over m.types.now arguments return_type code (typing_of m.types.now rows) pending place u outside
+  pub visit_beyond : (rows : List (Option (List StackEntry))) (pending : List Bool) (pc : ℕ) → IsOnTheWay m code rows (slice_set pending pc true) → slice_get operations pc ≡ None → IsOnTheWay m code rows pending
+  visit_beyond rows pending pc u e = passed_over m.types.now arguments return_type code (typing_of m.types.now rows) pending pc u outside
     where
-      outside : (stack : List StackType) → slice_get (typing_of m.types.now rows) place ≡ Some (Some stack) → ⊥
+      outside : (stack : List StackType) → slice_get (typing_of m.types.now rows) pc ≡ Some (Some stack) → ⊥
       outside stack f =
-          let past : length code.lines ≤ place = none_is_outside code.lines place (alike_beyond Alike code.lines operations of.resolved place e) in
-          let inside : place < length (typing_of m.types.now rows) = slice_get_within (typing_of m.types.now rows) place (Some stack) f in
+          let past : length code.lines ≤ pc = none_is_outside code.lines pc (alike_beyond Alike code.lines operations of.resolved pc e) in
+          let inside : pc < length (typing_of m.types.now rows) = slice_get_within (typing_of m.types.now rows) pc (Some stack) f in
           let whole : length (typing_of m.types.now rows) ≡ length code.lines = u.whole in
           omega (arith, past, inside, whole)
 
-  module _ (legal : IsLegal m.types.now) (old : Search) (place : ℕ) (u : IsOnTheWay m code old.rows.items (slice_set old.is_pending.items place true)) (op : Operation) (at : slice_get operations place ≡ Some op)
-      (before : List StackEntry) (held : slice_get old.rows.items place ≡ Some (Some before)) where
-    line : AlikeTo Alike code.lines place op
-    line = alike_to Alike code.lines operations place op of.resolved at
+  module _ (legal : IsLegal m.types.now) (old : Search) (pc : ℕ) (u : IsOnTheWay m code old.rows.items (slice_set old.is_pending.items pc true)) (op : Operation) (at : slice_get operations pc ≡ Some op)
+      (before : List StackEntry) (held : slice_get old.rows.items pc ≡ Some (Some before)) where
+    line : AlikeTo Alike code.lines pc op
+    line = alike_to Alike code.lines operations pc op of.resolved at
 
-    named : slice_get (typing_of m.types.now old.rows.items) place ≡ Some (Some (stack_types m.types.now before))
-    named = row_at m.types.now old.rows.items place (Some before) held
+    named : slice_get (typing_of m.types.now old.rows.items) pc ≡ Some (Some (stack_types m.types.now before))
+    named = row_at m.types.now old.rows.items pc (Some before) held
 
     -- the rule's result with the code's own locals
     in_code : (answer : StackAfter) (i : Instruction) → flow_of m i before ≡ answer → flow m.types.now arguments code.locals return_type i (stack_types m.types.now before) ≡ answer
@@ -91,30 +91,30 @@ module _ (m : MethodTypes) (operations : List Operation) (max_stack : ℤ) (code
 
     pub visit_no_result : (T U : Type 0) (e : TypingError) (new : Search) → ((lines : List Line) (i : Instruction) → IsOperation m.types.now lines i op → IsResultAt m.types.now (Err e) (flow_of m i before)) → IsVisit {T = U} m code new (Err e)
     visit_no_result T U (Untyped failure) new h =
-        no_result m.types.now arguments return_type code legal (typing_of m.types.now old.rows.items) old.is_pending.items place u line.item line.there (stack_types m.types.now before) named
+        no_result m.types.now arguments return_type code legal (typing_of m.types.now old.rows.items) old.is_pending.items pc u line.item line.there (stack_types m.types.now before) named
         (in_code None line.item.instruction (h code.lines line.item.instruction line.alike))
     visit_no_result T U OutOfMemory new h = tt
 
-    pub visit_goes_on : {T : Type 0} (r : Result T RaiseError) (answer : Result T TypingError) (new : Search) (after : List StackEntry) (ways : List ℕ) →
-        ((lines : List Line) (i : Instruction) → IsOperation m.types.now lines i op → flow_of m i before ≡ Some (stack_types m.types.now after)) → ways ≡ ways_on op (place + 1) →
+    pub visit_continues : {T : Type 0} (r : Result T RaiseError) (answer : Result T TypingError) (new : Search) (after : List StackEntry) (ways : List ℕ) →
+        ((lines : List Line) (i : Instruction) → IsOperation m.types.now lines i op → flow_of m i before ≡ Some (stack_types m.types.now after)) → ways ≡ ways_on op (pc + 1) →
         IsRise m.types.now max_stack after ways old new r → IsAnsweredBy r answer → IsVisit m code new answer
-    visit_goes_on r answer new after ways h along rise told = by_answer r answer rise told
+    visit_continues r answer new after ways h along rise reported = by_answer r answer rise reported
       where
         result : flow m.types.now arguments code.locals return_type line.item.instruction (stack_types m.types.now before) ≡ Some (stack_types m.types.now after)
         result = in_code (Some (stack_types m.types.now after)) line.item.instruction (h code.lines line.item.instruction line.alike)
 
-        are : AreWays code place line.item ways
-        are = subst (λ (w : List ℕ). AreWays code place line.item w) (sym along) (are_ways m.types.now code place line.item op line.alike)
+        are : AreWays code pc line.item ways
+        are = subst (λ (w : List ℕ). AreWays code pc line.item w) (sym along) (are_ways m.types.now code pc line.item op line.alike)
 
         by_answer : {T : Type 0} (r : Result T RaiseError) (answer : Result T TypingError) → IsRise m.types.now max_stack after ways old new r → IsAnsweredBy r answer → IsVisit m code new answer
         by_answer (Ok done) (Ok done') k same =
-            visited m.types.now arguments return_type code legal (typing_of m.types.now old.rows.items) old.is_pending.items place u line.item line.there (stack_types m.types.now before) named
+            visited m.types.now arguments return_type code legal (typing_of m.types.now old.rows.items) old.is_pending.items pc u line.item line.there (stack_types m.types.now before) named
             (stack_types m.types.now after) result ways are (typing_of m.types.now new.rows.items) new.is_pending.items
             (subst (λ (z : ℤ). HasRisen m.types.now z (stack_types m.types.now after) ways (typing_of m.types.now old.rows.items) old.is_pending.items (typing_of m.types.now new.rows.items) new.is_pending.items) of.same_max k.0)
         by_answer (Ok done) (Err e) k same = elim same [ ]
         by_answer (Err step) (Ok done) k same = elim same [ ]
         by_answer (Err (OfRaise.Refused at' reason)) (Err (Untyped failure)) k same =
-            not_visited m.types.now arguments return_type code legal (typing_of m.types.now old.rows.items) old.is_pending.items place u line.item line.there (stack_types m.types.now before) named
+            not_visited m.types.now arguments return_type code legal (typing_of m.types.now old.rows.items) old.is_pending.items pc u line.item line.there (stack_types m.types.now before) named
             (stack_types m.types.now after) result ways are
             (subst (λ (z : ℤ). CannotRise m.types.now z (stack_types m.types.now after) ways (typing_of m.types.now old.rows.items)) of.same_max k)
         by_answer (Err OfRaise.OutOfMemory) (Err (Untyped failure)) k same = elim same [ ]
@@ -123,10 +123,10 @@ module _ (m : MethodTypes) (operations : List Operation) (max_stack : ℤ) (code
 
   -- ---- the beginning and the end
 
-  none_there : (n place : ℕ) (stack : List StackEntry) → slice_get (replicate n None) place ≡ Some (Some stack) → ⊥
-  none_there zero place stack e = none_is_some (Some stack) e
+  none_there : (n pc : ℕ) (stack : List StackEntry) → slice_get (replicate n None) pc ≡ Some (Some stack) → ⊥
+  none_there zero pc stack e = none_is_some (Some stack) e
   none_there (suc n) zero stack e = none_is_some stack (same_Some None (Some stack) e)
-  none_there (suc n) (suc place) stack e = none_there n place stack e
+  none_there (suc n) (suc pc) stack e = none_there n pc stack e
 
   length_none : (n : ℕ) (xs : List (Option (List StackEntry))) → xs ≡ replicate n None → length xs ≡ n
   length_none n xs e = ap length e ∙ counted n
@@ -136,8 +136,8 @@ module _ (m : MethodTypes) (operations : List Operation) (max_stack : ℤ) (code
       counted (suc k) = ap suc (counted k)
 
   module _ (old : Search) (rows : old.rows.items ≡ replicate (length operations) None) where
-    nothing : (place : ℕ) (stack : List StackType) → slice_get (typing_of m.types.now old.rows.items) place ≡ Some (Some stack) → ⊥
-    nothing place stack e = unmapped old.rows.items place (λ s h. none_there (length operations) place s (sym (ap (λ (v : List (Option (List StackEntry))). slice_get v place) rows) ∙ h)) stack e
+    nothing : (pc : ℕ) (stack : List StackType) → slice_get (typing_of m.types.now old.rows.items) pc ≡ Some (Some stack) → ⊥
+    nothing pc stack e = unmapped old.rows.items pc (λ s h. none_there (length operations) pc s (sym (ap (λ (v : List (Option (List StackEntry))). slice_get v pc) rows) ∙ h)) stack e
 
     as_long : length (typing_of m.types.now old.rows.items) ≡ length code.lines
     as_long = length-map old.rows.items (option_map (stack_types m.types.now)) ∙ length_none (length operations) old.rows.items rows ∙ sym (alike_length Alike code.lines operations of.resolved)
@@ -147,53 +147,53 @@ module _ (m : MethodTypes) (operations : List Operation) (max_stack : ℤ) (code
         begun m.types.now arguments return_type code (typing_of m.types.now old.rows.items) (typing_of m.types.now new.rows.items) old.is_pending.items new.is_pending.items as_long nothing
         (subst (λ (z : ℤ). HasRisen m.types.now z [] (0 ∷ []) (typing_of m.types.now old.rows.items) old.is_pending.items (typing_of m.types.now new.rows.items) new.is_pending.items) of.same_max h.0)
 
-    pub never_begun : (T : Type 0) (step : RaiseError) (e : TypingError) (new : Search) → IsRise {T = T} m.types.now max_stack [] (0 ∷ []) old new (Err step) → IsToldOf step e → IsTypingAnswer m.types.now arguments return_type code (Err e)
-    never_begun T (OfRaise.Refused at reason) (Untyped failure) new h told =
+    pub never_begun : (T : Type 0) (step : RaiseError) (e : TypingError) (new : Search) → IsRise {T = T} m.types.now max_stack [] (0 ∷ []) old new (Err step) → IsReportedOf step e → IsTypingAnswer m.types.now arguments return_type code (Err e)
+    never_begun T (OfRaise.Refused at reason) (Untyped failure) new h reported =
         not_begun m.types.now arguments return_type code (typing_of m.types.now old.rows.items) as_long nothing
         (subst (λ (z : ℤ). CannotRise m.types.now z [] (0 ∷ []) (typing_of m.types.now old.rows.items)) of.same_max h)
-    never_begun T OfRaise.OutOfMemory (Untyped failure) new h told = elim told [ ]
-    never_begun T (OfRaise.Refused at reason) OutOfMemory new h told = tt
-    never_begun T OfRaise.OutOfMemory OutOfMemory new h told = tt
+    never_begun T OfRaise.OutOfMemory (Untyped failure) new h reported = elim reported [ ]
+    never_begun T (OfRaise.Refused at reason) OutOfMemory new h reported = tt
+    never_begun T OfRaise.OutOfMemory OutOfMemory new h reported = tt
 
   pub stopped : (T : Type 0) (e : TypingError) (new : Search) → IsVisit {T = T} m code new (Err e) → IsTypingAnswer m.types.now arguments return_type code (Err e)
   stopped T (Untyped failure) new h = h
   stopped T OutOfMemory new h = tt
 
-  arrived : (rows : List (Option (List StackEntry))) (pending : List Bool) → IsOnTheWay m code rows pending → ((place : ℕ) → IsPending pending place → ⊥) → IsLeastTyping m.types.now arguments return_type code (typing_of m.types.now rows)
+  arrived : (rows : List (Option (List StackEntry))) (pending : List Bool) → IsOnTheWay m code rows pending → ((pc : ℕ) → IsPending pending pc → ⊥) → IsLeastTyping m.types.now arguments return_type code (typing_of m.types.now rows)
   arrived rows pending u none = record {
     is_typing = finished m.types.now arguments return_type code (typing_of m.types.now rows) pending u none;
     under = u.under;
   }
 
-  -- what is known before a place is visited, its flag taken
-  pub taken : (rows later : List (Option (List StackEntry))) (pending rest : List Bool) (place : ℕ) → IsOnTheWay m code rows pending → later ≡ rows → IsPending pending place → rest ≡ slice_set pending place false → IsOnTheWay m code later (slice_set rest place true)
-  taken rows later pending rest place u same flag left =
-      let again : slice_set rest place true ≡ pending = ap (λ v. slice_set v place true) left ∙ taken_back pending place flag in
-      subst (λ (v : List (Option (List StackEntry))). IsOnTheWay m code v (slice_set rest place true)) (sym same) (subst (λ (p : List Bool). IsOnTheWay m code rows p) (sym again) u)
+  -- what is known before a pc is visited, its flag taken
+  pub taken : (rows later : List (Option (List StackEntry))) (pending rest : List Bool) (pc : ℕ) → IsOnTheWay m code rows pending → later ≡ rows → IsPending pending pc → rest ≡ slice_set pending pc false → IsOnTheWay m code later (slice_set rest pc true)
+  taken rows later pending rest pc u same flag left =
+      let again : slice_set rest pc true ≡ pending = ap (λ v. slice_set v pc true) left ∙ taken_back pending pc flag in
+      subst (λ (v : List (Option (List StackEntry))). IsOnTheWay m code v (slice_set rest pc true)) (sym same) (subst (λ (p : List Bool). IsOnTheWay m code rows p) (sym again) u)
 
-  pub settled_all : (rows later result : List (Option (List StackEntry))) (pending : List Bool) → IsOnTheWay m code rows pending → ((place : ℕ) → IsPending pending place → ⊥) → later ≡ rows → result ≡ later →
+  pub decided_all : (rows later result : List (Option (List StackEntry))) (pending : List Bool) → IsOnTheWay m code rows pending → ((pc : ℕ) → IsPending pending pc → ⊥) → later ≡ rows → result ≡ later →
       IsLeastTyping m.types.now arguments return_type code (typing_of m.types.now result)
-  settled_all rows later result pending u none same made = subst (λ (v : List (Option (List StackEntry))). IsLeastTyping m.types.now arguments return_type code (typing_of m.types.now v)) (sym (made ∙ same)) (arrived rows pending u none)
+  decided_all rows later result pending u none same made = subst (λ (v : List (Option (List StackEntry))). IsLeastTyping m.types.now arguments return_type code (typing_of m.types.now v)) (sym (made ∙ same)) (arrived rows pending u none)
 
-pub work_taken : (tree : Tree) (max_stack : ℤ) (old new : Search) (place : ℕ) → new.rows.items ≡ old.rows.items → IsPending old.is_pending.items place → new.is_pending.items ≡ slice_set old.is_pending.items place false →
+pub work_taken : (tree : Tree) (max_stack : ℤ) (old new : Search) (pc : ℕ) → new.rows.items ≡ old.rows.items → IsPending old.is_pending.items pc → new.is_pending.items ≡ slice_set old.is_pending.items pc false →
     work_left tree max_stack new < work_left tree max_stack old
-work_taken tree max_stack old new place rows flag pending =
+work_taken tree max_stack old new pc rows flag pending =
     let same : table_rises tree (most_values max_stack) (typing_of tree new.rows.items) ≡ table_rises tree (most_values max_stack) (typing_of tree old.rows.items) = ap (λ v. table_rises tree (most_values max_stack) (typing_of tree v)) rows in
-    let fewer : count_pending (slice_set old.is_pending.items place false) < count_pending old.is_pending.items = count_taken old.is_pending.items place flag in
-    let counted : count_pending new.is_pending.items ≡ count_pending (slice_set old.is_pending.items place false) = ap count_pending pending in
+    let fewer : count_pending (slice_set old.is_pending.items pc false) < count_pending old.is_pending.items = count_taken old.is_pending.items pc flag in
+    let counted : count_pending new.is_pending.items ≡ count_pending (slice_set old.is_pending.items pc false) = ap count_pending pending in
     omega (arith, same, fewer, counted)
 
--- ---- a flag a place
+-- ---- a flag for each pc
 
 pub begun_whole : (n : ℕ) (s : Search) → s.rows.items ≡ replicate n None → s.is_pending.items ≡ replicate n false → IsWhole s
-begun_whole n s rows flags = ap length flags ∙ as_many n ∙ ap length (sym rows)
+begun_whole n s rows flags = ap length flags ∙ same_count n ∙ ap length (sym rows)
   where
-    as_many : (k : ℕ) → length {A = Bool} (replicate k false) ≡ length {A = Option (List StackEntry)} (replicate k None)
-    as_many zero = refl
-    as_many (suc k) = ap suc (as_many k)
+    same_count : (k : ℕ) → length {A = Bool} (replicate k false) ≡ length {A = Option (List StackEntry)} (replicate k None)
+    same_count zero = refl
+    same_count (suc k) = ap suc (same_count k)
 
-pub taken_whole : (old new : Search) (place : ℕ) → IsWhole old → new.rows.items ≡ old.rows.items → new.is_pending.items ≡ slice_set old.is_pending.items place false → IsWhole new
-taken_whole old new place w rows pending = ap length pending ∙ length-set old.is_pending.items place false ∙ w ∙ ap length (sym rows)
+pub taken_whole : (old new : Search) (pc : ℕ) → IsWhole old → new.rows.items ≡ old.rows.items → new.is_pending.items ≡ slice_set old.is_pending.items pc false → IsWhole new
+taken_whole old new pc w rows pending = ap length pending ∙ length-set old.is_pending.items pc false ∙ w ∙ ap length (sym rows)
 
 pub rise_whole : {T : Type 0} (tree : Tree) (max_stack : ℤ) (after : List StackEntry) (ways : List ℕ) (old new : Search) (r : Result T RaiseError) → IsWhole old → IsRise tree max_stack after ways old new r → OnOk r (IsWhole new)
 rise_whole tree max_stack after ways old new (Ok done) w h = still_whole tree max_stack after ways old new w h

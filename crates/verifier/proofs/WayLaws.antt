@@ -1,4 +1,4 @@
--- The places at which control may continue after an operation are those of its instruction.
+-- The pcs at which control may continue after an operation are those of its instruction.
 use Rattle.std.proofs.Common.{◌≡◌, ◌+◌, ◌⊎◌, ℕ, Bool, true, false, if◌then◌else◌, IsTrue, List, [], ◌∷◌, ◌++◌, map, Option, Some, refl, inl, inr, sym, ap, ◌∙◌, subst}
 use Rattle.std.specs.Prelude.{Contains}
 use Rattle.std.proofs.lemmas.List.Elements.{Contains-push, Contains-append_left, Contains-append_right, Contains-append_cases}
@@ -6,7 +6,7 @@ use Rattle.cil_model.specs.declared.instructions.Instruction.{Instruction}
 use Rattle.cil_model.specs.declared.trees.Tree.{Tree}
 use Rattle.cil_model.specs.declared.trees.Code.{Code}
 use Rattle.cil_model.specs.declared.trees.Line.{Line}
-use Rattle.cil_model.specs.Bodies.{place_of, falls_through, labels_of}
+use Rattle.cil_model.specs.Bodies.{pc_of, falls_through, labels_of}
 use Rattle.resolved_code.specs.Resolved.{IsOperation, no_operation, load_int32, load_int64, load_null, load_string, load_argument, store_argument, load_local, store_local, duplicate, pop, binary, unary, shift, compare, convert_int32, convert_int64, branch, branch_true, branch_false, branch_compare, switch, load_field, store_field, load_static_field, store_static_field, new_array, load_length, load_element_int32, load_element_int64, load_element_reference, store_element_int32, store_element_int64, store_element_reference, cast_class, is_instance, call, call_virtual, new_object, return}
 use Rattle.resolved_code.specs.declared.operations.Operation.{Operation}
 use Rattle.verifier.specs.Ways.{falls, targets, ways_on}
@@ -14,7 +14,7 @@ use Rattle.verifier.specs.Tables.{AreWays}
 use Rattle.verifier.proofs.TableLaws.{nothing_contained, one_contained}
 
 abbrev AreSame : List Line → Instruction → Operation → Type 0
-AreSame lines i op = (falls_through i ≡ falls op) × (map (λ label. place_of label lines) (labels_of i) ≡ map Some (targets op))
+AreSame lines i op = (falls_through i ≡ falls op) × (map (λ label. pc_of label lines) (labels_of i) ≡ map Some (targets op))
 
 same : (tree : Tree) (lines : List Line) (i : Instruction) (op : Operation) → IsOperation tree lines i op → AreSame lines i op
 same tree lines _ _ no_operation = (refl, refl)
@@ -34,11 +34,11 @@ same tree lines _ _ (shift op) = (refl, refl)
 same tree lines _ _ (compare op) = (refl, refl)
 same tree lines _ _ convert_int32 = (refl, refl)
 same tree lines _ _ convert_int64 = (refl, refl)
-same tree lines _ _ (branch label place at) = (refl, ap (λ o. o ∷ []) at)
-same tree lines _ _ (branch_true label place at) = (refl, ap (λ o. o ∷ []) at)
-same tree lines _ _ (branch_false label place at) = (refl, ap (λ o. o ∷ []) at)
-same tree lines _ _ (branch_compare op label place at) = (refl, ap (λ o. o ∷ []) at)
-same tree lines _ _ (switch labels places at) = (refl, at)
+same tree lines _ _ (branch label pc at) = (refl, ap (λ o. o ∷ []) at)
+same tree lines _ _ (branch_true label pc at) = (refl, ap (λ o. o ∷ []) at)
+same tree lines _ _ (branch_false label pc at) = (refl, ap (λ o. o ∷ []) at)
+same tree lines _ _ (branch_compare op label pc at) = (refl, ap (λ o. o ∷ []) at)
+same tree lines _ _ (switch labels pcs at) = (refl, at)
 same tree lines _ _ (load_field r owner field at is) = (refl, refl)
 same tree lines _ _ (store_field r owner field at is) = (refl, refl)
 same tree lines _ _ (load_static_field r field is) = (refl, refl)
@@ -106,22 +106,22 @@ from_next : (b : Bool) (next way : ℕ) → Contains (if b then next ∷ [] else
 from_next true next way c = (refl, sym (one_contained way next c))
 from_next false next way c = nothing_contained way c
 
-pub are_ways : (tree : Tree) (code : Code) (place : ℕ) (line : Line) (op : Operation) → IsOperation tree code.lines line.instruction op → AreWays code place line (ways_on op (place + 1))
-are_ways tree code place line op is = record {
-  falls = λ h. next_in (falls op) (targets op) (place + 1) (subst IsTrue both.0 h);
-  branches = λ label c. added label (to_way (λ l. place_of l code.lines) (labels_of line.instruction) (targets op) both.1 label c);
-  only = λ way c. by_case way (Contains-append_cases (targets op) (if falls op then (place + 1) ∷ [] else []) way c);
+pub are_ways : (tree : Tree) (code : Code) (pc : ℕ) (line : Line) (op : Operation) → IsOperation tree code.lines line.instruction op → AreWays code pc line (ways_on op (pc + 1))
+are_ways tree code pc line op is = record {
+  falls = λ h. next_in (falls op) (targets op) (pc + 1) (subst IsTrue both.0 h);
+  branches = λ label c. added label (to_way (λ l. pc_of l code.lines) (labels_of line.instruction) (targets op) both.1 label c);
+  only = λ way c. by_case way (Contains-append_cases (targets op) (if falls op then (pc + 1) ∷ [] else []) way c);
 }
   where
     both : AreSame code.lines line.instruction op
     both = same tree code.lines line.instruction op is
 
-    added : (label : List ℕ) → (way : ℕ) × (place_of label code.lines ≡ Some way) × Contains (targets op) way → (way : ℕ) × (place_of label code.lines ≡ Some way) × Contains (ways_on op (place + 1)) way
-    added label (way, e, c) = (way, e, Contains-append_left (targets op) (if falls op then (place + 1) ∷ [] else []) way c)
+    added : (label : List ℕ) → (way : ℕ) × (pc_of label code.lines ≡ Some way) × Contains (targets op) way → (way : ℕ) × (pc_of label code.lines ≡ Some way) × Contains (ways_on op (pc + 1)) way
+    added label (way, e, c) = (way, e, Contains-append_left (targets op) (if falls op then (pc + 1) ∷ [] else []) way c)
 
-    by_case : (way : ℕ) → Contains (targets op) way ⊎ Contains (if falls op then (place + 1) ∷ [] else []) way →
-        (IsTrue (falls_through line.instruction) × (way ≡ place + 1)) ⊎ ((label : List ℕ) × Contains (labels_of line.instruction) label × (place_of label code.lines ≡ Some way))
-    by_case way (inl c) = inr (to_label (λ l. place_of l code.lines) (labels_of line.instruction) (targets op) both.1 way c)
+    by_case : (way : ℕ) → Contains (targets op) way ⊎ Contains (if falls op then (pc + 1) ∷ [] else []) way →
+        (IsTrue (falls_through line.instruction) × (way ≡ pc + 1)) ⊎ ((label : List ℕ) × Contains (labels_of line.instruction) label × (pc_of label code.lines ≡ Some way))
+    by_case way (inl c) = inr (to_label (λ l. pc_of l code.lines) (labels_of line.instruction) (targets op) both.1 way c)
     by_case way (inr c) =
-        let n : IsTrue (falls op) × (way ≡ place + 1) = from_next (falls op) (place + 1) way c in
+        let n : IsTrue (falls op) × (way ≡ pc + 1) = from_next (falls op) (pc + 1) way c in
         inl (subst IsTrue (sym both.0) n.0, n.1)

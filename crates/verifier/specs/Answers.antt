@@ -31,7 +31,7 @@ IsResult tree (Ok stack) after = after ≡ Some (stack_types tree stack)
 IsResult tree (Err (OfFlow.Mismatch reason)) after = after ≡ None
 IsResult tree (Err OfFlow.OutOfMemory) after = Unit {0}
 
--- the same, where a mismatch was reported with its place
+-- the same, where a mismatch was reported with its pc
 abbrev pub IsResultAt : Tree → Result (List StackEntry) TypingError → StackAfter → Type 0
 IsResultAt tree (Ok stack) after = after ≡ Some (stack_types tree stack)
 IsResultAt tree (Err (Untyped failure)) after = after ≡ None
@@ -40,24 +40,24 @@ IsResultAt tree (Err OutOfMemory) after = Unit {0}
 -- The merge of two stacks, or that none is above both. Out of memory says nothing of them.
 abbrev pub IsMergeAt : Tree → List StackEntry → List StackEntry → Result StackMerge RaiseError → Type 0
 IsMergeAt tree one other (Ok merge) = AreMerged tree (stack_types tree one) (stack_types tree other) (stack_types tree merge.stack)
-IsMergeAt tree one other (Err (OfRaise.Refused place reason)) = AreApart tree (stack_types tree one) (stack_types tree other)
+IsMergeAt tree one other (Err (OfRaise.Refused pc reason)) = AreApart tree (stack_types tree one) (stack_types tree other)
 IsMergeAt tree one other (Err OfRaise.OutOfMemory) = Unit {0}
 
--- what is known of a place
+-- what is known of a pc
 abbrev pub IsRow : List (Option (List StackEntry)) → ℕ → Row → Type 0
-IsRow rows place Absent = slice_get rows place ≡ None
-IsRow rows place Unmapped = slice_get rows place ≡ Some None
-IsRow rows place (Mapped known) = slice_get rows place ≡ Some (Some known.now)
+IsRow rows pc Absent = slice_get rows pc ≡ None
+IsRow rows pc Unmapped = slice_get rows pc ≡ Some None
+IsRow rows pc (Mapped known) = slice_get rows pc ≡ Some (Some known.now)
 
 -- what the rows of a search say
 abbrev pub typing_of : Tree → List (Option (List StackEntry)) → Typing
 typing_of tree rows = map (option_map (stack_types tree)) rows
 
--- a search has one flag a place, so no place is pending twice
+-- a search has one flag for each pc, so no pc is pending twice
 abbrev pub IsWhole : Search → Type 0
 IsWhole s = length s.is_pending.items ≡ length s.rows.items
 
--- how many places are pending
+-- how many pcs are pending
 abbrev pub count_pending : List Bool → ℕ
 count_pending [] = 0
 count_pending (true ∷ rest) = suc (count_pending rest)
@@ -79,7 +79,7 @@ IsRefused tree max_stack after ways old = CannotRise tree max_stack (stack_types
 -- One or the other. Out of memory says nothing of them.
 abbrev pub IsRise : {T : Type 0} → Tree → ℤ → List StackEntry → List ℕ → Search → Search → Result T RaiseError → Type 0
 IsRise tree max_stack after ways old new (Ok done) = IsRisen tree max_stack after ways old new
-IsRise tree max_stack after ways old new (Err (OfRaise.Refused place reason)) = IsRefused tree max_stack after ways old
+IsRise tree max_stack after ways old new (Err (OfRaise.Refused pc reason)) = IsRefused tree max_stack after ways old
 IsRise tree max_stack after ways old new (Err OfRaise.OutOfMemory) = Unit {0}
 
 -- the code with this .maxstack in place of its own
@@ -92,7 +92,7 @@ pub record AreOf (m : MethodTypes) (operations : List Operation) (max_stack : �
   pub locals : types_named m.types.now m.locals.now ≡ code.locals
   pub resolved : AllAlike (λ (line : Line) operation. IsOperation m.types.now code.lines line.instruction operation) code.lines operations
 
--- what a search of a method's code has found is a typing but for pending places
+-- what a search of a method's code has found is a typing but for pending pcs
 abbrev pub IsOnTheWay : MethodTypes → Code → List (Option (List StackEntry)) → List Bool → Type 0
 IsOnTheWay m code rows pending = IsUnfinished m.types.now (types_named m.types.now m.arguments.now) (option_map (type_named m.types.now) m.return_type) code (typing_of m.types.now rows) pending
 

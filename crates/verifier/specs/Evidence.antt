@@ -7,32 +7,32 @@ use Rattle.verifier.specs.declared.failures.TypingError.TheVariants.{Untyped, Ou
 use Rattle.verifier.specs.declared.search.RaiseError.{RaiseError}
 use Rattle.verifier.specs.declared.search.RaiseError.TheVariants as OfRaise
 
--- the place and the reason; out of memory says nothing of them
+-- the pc and the reason; out of memory says nothing of them
 abbrev pub IsRefusedAt : ℕ → Reason → TypingError → Type 0
-IsRefusedAt place reason (Untyped failure) = (failure.place ≡ place) × (failure.reason ≡ reason)
-IsRefusedAt place reason OutOfMemory = Unit {0}
+IsRefusedAt pc reason (Untyped failure) = (failure.pc ≡ pc) × (failure.reason ≡ reason)
+IsRefusedAt pc reason OutOfMemory = Unit {0}
 
 -- those of the step that failed
-abbrev pub IsToldOf : RaiseError → TypingError → Type 0
-IsToldOf (OfRaise.Refused place reason) error = IsRefusedAt place reason error
-IsToldOf OfRaise.OutOfMemory (Untyped failure) = ⊥
-IsToldOf OfRaise.OutOfMemory OutOfMemory = Unit {0}
+abbrev pub IsReportedOf : RaiseError → TypingError → Type 0
+IsReportedOf (OfRaise.Refused pc reason) error = IsRefusedAt pc reason error
+IsReportedOf OfRaise.OutOfMemory (Untyped failure) = ⊥
+IsReportedOf OfRaise.OutOfMemory OutOfMemory = Unit {0}
 
 -- a result for a step's result: done where it is done, and otherwise the failure of the step
 abbrev pub IsAnsweredBy : {T : Type 0} → Result T RaiseError → Result T TypingError → Type 0
 IsAnsweredBy (Ok done) (Ok answer) = Unit {0}
 IsAnsweredBy (Ok done) (Err error) = ⊥
 IsAnsweredBy (Err step) (Ok answer) = ⊥
-IsAnsweredBy (Err step) (Err error) = IsToldOf step error
+IsAnsweredBy (Err step) (Err error) = IsReportedOf step error
 
 -- an instruction and the stack before it
 abbrev pub IsStackOf : ℕ → List StackEntry → TypingError → Type 0
-IsStackOf place before (Untyped failure) = (failure.place ≡ place) × (failure.instruction ≡ place) × (failure.stack ≡ before)
-IsStackOf place before OutOfMemory = Unit {0}
+IsStackOf pc before (Untyped failure) = (failure.pc ≡ pc) × (failure.instruction ≡ pc) × (failure.stack ≡ before)
+IsStackOf pc before OutOfMemory = Unit {0}
 
--- the stack that a search has of a place, where it has one
+-- the stack that a search has of a pc, where it has one
 abbrev pub IsShown : List (Option (List StackEntry)) → ℕ → List StackEntry → Type 0
-IsShown rows place shown = (stack : List StackEntry) → slice_get rows place ≡ Some (Some stack) → shown ≡ stack
+IsShown rows pc shown = (stack : List StackEntry) → slice_get rows pc ≡ Some (Some stack) → shown ≡ stack
 
 -- the stack that the search has of the instruction at fault
 abbrev pub IsEvidence : List (Option (List StackEntry)) → TypingError → Type 0

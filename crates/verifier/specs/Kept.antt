@@ -1,6 +1,6 @@
 -- The entries of stacks as they are kept.
 use Rattle.std.specs.Prelude.{ℕ, List, map}
-use Rattle.resolved_code.specs.declared.types.NumberedElement.TheVariants as Elements
+use Rattle.resolved_code.specs.declared.types.ResolvedElement.TheVariants as Elements
 use Rattle.flow_rules.specs.declared.entries.StackEntry.{StackEntry}
 use Rattle.flow_rules.specs.declared.entries.StackEntry.TheVariants as Entries
 use Rattle.verifier.specs.declared.kept_stacks.EntryKind.{EntryKind}

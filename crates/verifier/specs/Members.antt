@@ -10,7 +10,7 @@ use Rattle.name_tables.specs.Numbers.{method_at}
 
 -- the method of each number, with its class
 abbrev pub methods_at : Tree → List MemberNumber → List (Option (ClassName × Method))
-methods_at tree members = map (λ (n : MemberNumber). method_at tree (n.class, n.place)) members
+methods_at tree members = map (λ (n : MemberNumber). method_at tree (n.class, n.index)) members
 
 -- the methods of a class of the source, each with it
 abbrev pub own_methods : Class → List (ClassName × Method)

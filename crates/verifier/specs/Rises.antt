@@ -26,12 +26,12 @@ abbrev pub stack_rises : Tree → List StackType → ℕ
 stack_rises tree [] = 0
 stack_rises tree (a ∷ as') = rises tree a + stack_rises tree as'
 
--- of a place, where a stack holds at most `most` types
+-- of a pc, where a stack holds at most `most` types
 abbrev pub row_rises : Tree → ℕ → Option (List StackType) → ℕ
 row_rises tree most None = suc (most * suc (most_rises tree))
 row_rises tree most (Some stack) = stack_rises tree stack
 
--- of all places
+-- of all pcs
 abbrev pub table_rises : Tree → ℕ → List (Option (List StackType)) → ℕ
 table_rises tree most [] = 0
 table_rises tree most (row ∷ rows) = row_rises tree most row + table_rises tree most rows

@@ -36,7 +36,7 @@ AreVerdicts tree (Err OutOfMemory) = Unit {0}
 
 -- the refusal of a method, with what is known of its failure, or out of memory
 abbrev pub IsRefusalOf : ℕ → TypingError → VerifyError → Type 0
-IsRefusalOf number (OfMethod.Untyped told) (NoTyping method failure) = (method ≡ number) × (failure ≡ told)
+IsRefusalOf number (OfMethod.Untyped reported) (NoTyping method failure) = (method ≡ number) × (failure ≡ reported)
 IsRefusalOf number OfMethod.OutOfMemory (NoTyping method failure) = ⊥
 IsRefusalOf number error OutOfMemory = Unit {0}
 

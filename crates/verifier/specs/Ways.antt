@@ -5,17 +5,17 @@ use Rattle.resolved_code.specs.declared.operations.Operation.TheVariants.{Branch
 
 -- whether control may advance to the next one
 abbrev pub falls : Operation → Bool
-falls (Branch place) = false
+falls (Branch pc) = false
 falls Return = false
 falls _ = true
 
--- the places that it names
+-- the pcs that it names
 abbrev pub targets : Operation → List ℕ
-targets (Branch place) = place ∷ []
-targets (BranchTrue place) = place ∷ []
-targets (BranchFalse place) = place ∷ []
-targets (BranchCompare op place) = place ∷ []
-targets (Switch places) = places
+targets (Branch pc) = pc ∷ []
+targets (BranchTrue pc) = pc ∷ []
+targets (BranchFalse pc) = pc ∷ []
+targets (BranchCompare op pc) = pc ∷ []
+targets (Switch pcs) = pcs
 targets _ = []
 
 -- all of them, and the next one

@@ -14,7 +14,7 @@ ghost use Rattle.resolved_code.specs.Numbered.{class_name};
 use cil_model::memory::NoMemory;
 use flow_rules::type_tree::type_of_class;
 use resolved_code::classes::{ResolvedKind, ResolvedMethod};
-use resolved_code::types::NumberedType;
+use resolved_code::types::ResolvedType;
 use std::alloc::Global;
 
 /// A method that belongs to its class and not to objects (ECMA-335 II.15.2).
@@ -35,7 +35,7 @@ pub(crate) fn arguments_of(
     alloc: Global,
     class: usize,
     method: &ResolvedMethod,
-) -> Result<Vec<NumberedType>, NoMemory>
+) -> Result<Vec<ResolvedType>, NoMemory>
     ensures { (tree : Tree) (owner : ClassName) (m : Method) → class_name tree class ≡ Some owner → IsResolvedMethod tree m method.now →
         IfOk result (λ types. types_named tree types.items ≡ argument_types m owner) }
 {

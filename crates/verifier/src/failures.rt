@@ -26,31 +26,31 @@ pub enum Reason {
 /// The stack of types after an instruction, the top first.
 #[derive(Drop)]
 pub struct IncomingStack {
-    /// The instruction's place.
+    /// The pc of the instruction.
     pub from: usize,
     pub stack: Sequence<StackEntry>,
 }
 
-/// Where the search for a typing fails, why, and with what on the stack. Places are counted from 0.
+/// Where the search for a typing fails, why, and with what on the stack. Pcs are counted from 0.
 #[derive(Drop)]
 pub struct FailurePoint {
-    /// The place before which there can be no stack.
-    pub place: usize,
+    /// The pc before which there can be no stack.
+    pub pc: usize,
     pub reason: Reason,
-    /// The place of the instruction at fault: the same one, or that from which control goes there, where it runs off the end or brings
+    /// The pc of the instruction at fault: the same one, or that from which control goes there, where it runs off the end or brings
     /// more values than `.maxstack` allows.
     pub instruction: usize,
     /// The stack of types before the instruction at fault, the top first; empty where control never gets to one.
     pub stack: Sequence<StackEntry>,
-    /// What control brings to the place; none where the instruction there has no result, and where control never gets to one.
+    /// What control brings to the pc; none where the instruction there has no result, and where control never gets to one.
     pub incoming: Option<IncomingStack>,
 }
 
-/// The place alone.
+/// The pc alone.
 impl fmt::Debug for FailurePoint {
     fn fmt<W: fmt::Write>(&self, f: &mut fmt::Formatter<W>) -> fmt::Result {
-        let place = self.place;
-        write!(f, "FailurePoint at {place}")
+        let pc = self.pc;
+        write!(f, "FailurePoint at {pc}")
     }
 }
 

@@ -6,7 +6,7 @@ ghost use Rattle.verifier.specs.Kept.{entry_of, entries_of};
 
 use cil_model::memory::NoMemory;
 use flow_rules::entries::StackEntry;
-use resolved_code::types::{NumberedElement, NumberedType};
+use resolved_code::types::{ResolvedElement, ResolvedType};
 use std::alloc::Global;
 use std::marker::Model;
 use std::mem::size_of;
@@ -34,16 +34,16 @@ struct KeptEntry {
 const _: () = prove!(size_of::<KeptEntry>() == 8);
 
 /// The type in eight bytes. None where the number of its class has more than 16 bits, which no program's has.
-fn kept_type(t: NumberedType) -> Option<KeptEntry>
+fn kept_type(t: ResolvedType) -> Option<KeptEntry>
     ensures { IfSome result (λ kept. entry_of kept ≡ Declared t) }
 {
     let brackets = t.brackets;
     let (kind, number) = match t.element {
-        NumberedElement::Int32 => (EntryKind::Int32, 0),
-        NumberedElement::Int64 => (EntryKind::Int64, 0),
-        NumberedElement::Object => (EntryKind::Object, 0),
-        NumberedElement::String => (EntryKind::String, 0),
-        NumberedElement::Class(number) => (EntryKind::Class, number),
+        ResolvedElement::Int32 => (EntryKind::Int32, 0),
+        ResolvedElement::Int64 => (EntryKind::Int64, 0),
+        ResolvedElement::Object => (EntryKind::Object, 0),
+        ResolvedElement::String => (EntryKind::String, 0),
+        ResolvedElement::Class(number) => (EntryKind::Class, number),
     };
     match u16::try_from(number) {
         Ok(class) => Some(KeptEntry {
@@ -77,10 +77,10 @@ fn kept_entry(entry: StackEntry) -> Option<KeptEntry>
     }
 }
 
-fn declared(element: NumberedElement, brackets: u32) -> StackEntry
+fn declared(element: ResolvedElement, brackets: u32) -> StackEntry
     ensures { result ≡ Declared (record { element = element; brackets = brackets }) }
 {
-    StackEntry::Declared(NumberedType { element, brackets })
+    StackEntry::Declared(ResolvedType { element, brackets })
 }
 
 /// The entry that is kept.
@@ -88,23 +88,23 @@ fn entry_of(kept: KeptEntry) -> StackEntry
     ensures { result ≡ entry_of kept }
 {
     match kept.kind {
-        EntryKind::Int32 => declared(NumberedElement::Int32, kept.brackets),
-        EntryKind::Int64 => declared(NumberedElement::Int64, kept.brackets),
-        EntryKind::Object => declared(NumberedElement::Object, kept.brackets),
-        EntryKind::String => declared(NumberedElement::String, kept.brackets),
-        EntryKind::Class => declared(NumberedElement::Class(kept.class as usize), kept.brackets),
+        EntryKind::Int32 => declared(ResolvedElement::Int32, kept.brackets),
+        EntryKind::Int64 => declared(ResolvedElement::Int64, kept.brackets),
+        EntryKind::Object => declared(ResolvedElement::Object, kept.brackets),
+        EntryKind::String => declared(ResolvedElement::String, kept.brackets),
+        EntryKind::Class => declared(ResolvedElement::Class(kept.class as usize), kept.brackets),
         EntryKind::NativeInt => StackEntry::NativeInt,
         EntryKind::Null => StackEntry::Null,
     }
 }
 
 /// The entries in eight bytes each; none where one of them takes more. The only error is out of memory.
-fn narrowed(entries: &[StackEntry], alloc: Global) -> Result<Option<Vec<KeptEntry>>, NoMemory>
+fn narrow(entries: &[StackEntry], alloc: Global) -> Result<Option<Vec<KeptEntry>>, NoMemory>
     ensures { IfOk result (λ found. IfSome found (λ kept. map entry_of kept.items ≡ entries.now)) }
 {
     let mut kept = Vec::with_capacity(alloc, entries.len())?;
-    for place in 0..entries.len() {
-        match kept_entry(entries[place]) {
+    for index in 0..entries.len() {
+        match kept_entry(entries[index]) {
             None => return Ok(None),
             Some(entry) => kept.push(entry)?,
         }
@@ -136,18 +136,18 @@ impl Model for KeptStack {
     ghost view = { λ s. entries_of s.form };
 }
 
-fn narrow_at(entries: &[KeptEntry], place: usize) -> StackEntry
-    requires { place < length (map entry_of entries.now) }
-    ensures { slice_get (map entry_of entries.now) place ≡ Some result }
+fn narrow_at(entries: &[KeptEntry], index: usize) -> StackEntry
+    requires { index < length (map entry_of entries.now) }
+    ensures { slice_get (map entry_of entries.now) index ≡ Some result }
 {
-    entry_of(entries[place])
+    entry_of(entries[index])
 }
 
-fn wide_at(entries: &[StackEntry], place: usize) -> StackEntry
-    requires { place < length entries.now }
-    ensures { slice_get entries.now place ≡ Some result }
+fn wide_at(entries: &[StackEntry], index: usize) -> StackEntry
+    requires { index < length entries.now }
+    ensures { slice_get entries.now index ≡ Some result }
 {
-    entries[place]
+    entries[index]
 }
 
 impl KeptStack {
@@ -155,7 +155,7 @@ impl KeptStack {
     pub fn new(entries: &[StackEntry], alloc: Global) -> Result<Self, NoMemory>
         ensures { IfOk result (λ kept. kept ≡ entries.now) }
     {
-        let form = match narrowed(entries, alloc)? {
+        let form = match narrow(entries, alloc)? {
             Some(kept) => Form::Narrow(kept),
             None => Form::Wide(entries.to_vec(alloc)?),
         };
@@ -172,14 +172,14 @@ impl KeptStack {
         }
     }
 
-    /// The entry at a place, the top at 0.
-    pub fn entry(&self, place: usize) -> StackEntry
-        requires { place < length self.now }
-        ensures { slice_get self.now place ≡ Some result }
+    /// The entry at an index, the top at 0.
+    pub fn entry(&self, index: usize) -> StackEntry
+        requires { index < length self.now }
+        ensures { slice_get self.now index ≡ Some result }
     {
         match &self.form {
-            Form::Narrow(entries) => narrow_at(entries.as_slice(), place),
-            Form::Wide(entries) => wide_at(entries.as_slice(), place),
+            Form::Narrow(entries) => narrow_at(entries.as_slice(), index),
+            Form::Wide(entries) => wide_at(entries.as_slice(), index),
         }
     }
 }

@@ -24,24 +24,24 @@ fn add_numbers(
     ensures { (tree : SourceTree) (c : SourceClass) → slice_get (declarations tree) class ≡ Some (source_entry c) → map (λ m. m.now) methods.now ≡ method_members c →
         OnOk result (methods_at tree members.new.items ≡ methods_at tree members.old.items ++ map Some (own_methods c)) }
 {
-    for (place, _method) in methods.iter().enumerate() {
-        members.push(MemberNumber { class, place })?;
+    for (index, _method) in methods.iter().enumerate() {
+        members.push(MemberNumber { class, index })?;
     }
     Ok(())
 }
 
-/// Appends the numbers of the methods of the class at a place of the source.
+/// Appends the numbers of the methods of the class at an index of the source.
 #[tactic(auto, using(crate::proofs::MemberNumbers::source_class))]
 fn add_class(
     alloc: Global,
-    place: usize,
+    index: usize,
     class: &Class,
     members: &mut Vec<MemberNumber>,
 ) -> Result<(), NoMemory>
-    ensures { (tree : SourceTree) → slice_get tree.classes place ≡ Some class.now →
+    ensures { (tree : SourceTree) → slice_get tree.classes index ≡ Some class.now →
         OnOk result (methods_at tree members.new.items ≡ methods_at tree members.old.items ++ map Some (own_methods class.now)) }
 {
-    let Some(number) = place.checked_add(FIRST_OF_SOURCE) else {
+    let Some(number) = index.checked_add(FIRST_OF_SOURCE) else {
         return Err(NoMemory);
     };
     let methods = method_members(alloc, class)?;
@@ -54,8 +54,8 @@ pub(crate) fn source_members(alloc: Global, tree: &Tree) -> Result<Vec<MemberNum
     ensures { IfOk result (λ members. methods_at tree.now members.items ≡ map Some (source_methods tree.now)) }
 {
     let mut members = Vec::new(alloc);
-    for (place, class) in tree.classes.as_slice().iter().enumerate() {
-        add_class(alloc, place, class, &mut members)?;
+    for (index, class) in tree.classes.as_slice().iter().enumerate() {
+        add_class(alloc, index, class, &mut members)?;
     }
     Ok(members)
 }

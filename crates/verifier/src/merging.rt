@@ -16,7 +16,7 @@ use crate::kept_stacks::KeptStack;
 use cil_model::sequences::Sequence;
 use flow_rules::entries::StackEntry;
 use flow_rules::type_tree::TypeTree;
-use resolved_code::types::{NumberedElement, NumberedType};
+use resolved_code::types::{ResolvedElement, ResolvedType};
 use std::alloc::Global;
 
 /// Why no stack is above two others.
@@ -24,7 +24,7 @@ use std::alloc::Global;
 pub enum StackMismatch {
     /// They hold other numbers of values: the first, and the second.
     Heights(usize, usize),
-    /// No type is above these two, which are at one place.
+    /// No type is above these two, which are at one index of the stacks.
     Types(StackEntry, StackEntry),
 }
 
@@ -50,26 +50,26 @@ struct EntryMerge {
 }
 
 /// The type itself; in place of a number that is no class's, System.Object's.
-fn known_type(types: &TypeTree, t: NumberedType) -> NumberedType
+fn known_type(types: &TypeTree, t: ResolvedType) -> ResolvedType
     ensures known { is_known types.now result.element ≡ true }
     ensures same { type_named types.now result ≡ type_named types.now t }
     ensures legal { IsLegal types.now }
 {
-    let NumberedElement::Class(number) = t.element else {
+    let ResolvedElement::Class(number) = t.element else {
         let _root = types.class(0);
         return t;
     };
     if types.class(number).is_some() {
         return t;
     }
-    NumberedType {
-        element: NumberedElement::Class(0),
+    ResolvedType {
+        element: ResolvedElement::Class(0),
         brackets: t.brackets,
     }
 }
 
 /// Whether two types are one by their numbers.
-fn is_equal(one: NumberedType, other: NumberedType) -> bool
+fn is_equal(one: ResolvedType, other: ResolvedType) -> bool
     ensures same { result ≡ true → one ≡ other }
     ensures apart { result ≡ false → one ≡ other → ⊥ }
 {
@@ -77,7 +77,7 @@ fn is_equal(one: NumberedType, other: NumberedType) -> bool
 }
 
 /// Whether two types are one.
-fn is_same_type(types: &TypeTree, one: NumberedType, other: NumberedType) -> bool
+fn is_same_type(types: &TypeTree, one: ResolvedType, other: ResolvedType) -> bool
     ensures same { result ≡ true → type_named types.now one ≡ type_named types.now other }
     ensures apart { result ≡ false → type_named types.now one ≡ type_named types.now other → ⊥ }
     ensures legal { IsLegal types.now }
@@ -86,7 +86,7 @@ fn is_same_type(types: &TypeTree, one: NumberedType, other: NumberedType) -> boo
 }
 
 /// The brackets of a type are counted in 32 bits.
-fn brackets_of(t: NumberedType) -> u32
+fn brackets_of(t: ResolvedType) -> u32
     ensures same { result ≡ t.brackets }
     ensures few { result < 2 ^ 32 }
 {
@@ -94,7 +94,7 @@ fn brackets_of(t: NumberedType) -> u32
 }
 
 /// What becomes of a declared type when a type above it takes its place.
-fn raised_type(types: &TypeTree, known: NumberedType, above: NumberedType) -> EntryMerge
+fn raised_type(types: &TypeTree, known: ResolvedType, above: ResolvedType) -> EntryMerge
     requires { IsBelow types.now (OnStack.Declared (type_named types.now known)) (OnStack.Declared (type_named types.now above)) }
     ensures named { stack_type types.now result.entry ≡ OnStack.Declared (type_named types.now above) }
     ensures same { result.is_higher ≡ false → result.entry ≡ Declared known }
@@ -115,7 +115,7 @@ fn raised_type(types: &TypeTree, known: NumberedType, above: NumberedType) -> En
 }
 
 /// What becomes of an entry when one above it takes its place: the entry itself, where both say the same.
-fn raised(types: &TypeTree, known: StackEntry, above: StackEntry) -> EntryMerge
+fn raise_entry(types: &TypeTree, known: StackEntry, above: StackEntry) -> EntryMerge
     requires { IsBelow types.now (stack_type types.now known) (stack_type types.now above) }
     ensures named { stack_type types.now result.entry ≡ stack_type types.now above }
     ensures same { result.is_higher ≡ false → result.entry ≡ known }
@@ -145,7 +145,7 @@ fn merge_entries(
     ensures higher { IfOk result (λ m. m.is_higher ≡ true → rises types.now (stack_type types.now m.entry) < rises types.now (stack_type types.now known)) }
 {
     match types.merge(known, coming) {
-        Some(above) => Ok(raised(types, known, above)),
+        Some(above) => Ok(raise_entry(types, known, above)),
         None => Err(MergeError::Apart(StackMismatch::Types(known, coming))),
     }
 }
@@ -168,7 +168,7 @@ fn either(one: bool, other: bool) -> bool
     one || other
 }
 
-/// The closest stack above two others, both with the top first (ECMA-335 III.1.8.1.3): as high as both, and at each place the closest
+/// The closest stack above two others, both with the top first (ECMA-335 III.1.8.1.3): as high as both, and at each index the closest
 /// type above the two there. It is higher where it says less than the first. At `Apart` no stack is above both; otherwise the error is out
 /// of memory.
 pub fn merge_stacks(

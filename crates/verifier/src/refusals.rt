@@ -14,9 +14,9 @@ use thiserror::Error;
 /// Why a program was not accepted.
 #[derive(Debug, Drop, Error)]
 pub enum VerifyError {
-    /// The first method in source order without a typing, by its number from 0, with the place of the instruction at which it fails,
+    /// The first method in source order without a typing, by its number from 0, with the pc of the instruction at which it fails,
     /// from 0, why, and the stacks of types there.
-    #[error("method {method} has no typing at instruction {}", .failure.place)]
+    #[error("method {method} has no typing at instruction {}", .failure.pc)]
     NoTyping {
         method: usize,
         failure: FailurePoint,
@@ -54,7 +54,7 @@ impl<T: Drop> From<AllocFailed<T>> for VerifyError {
 }
 
 /// The refusal of the method of this number.
-pub(crate) fn refused(method: usize, error: TypingError) -> VerifyError
+pub(crate) fn refusal_in(method: usize, error: TypingError) -> VerifyError
     ensures { IsRefusalOf method error result }
 {
     match error {

@@ -1,4 +1,4 @@
-//! The least typing of a method, by flags for the places whose ways on are still to be looked at (ECMA-335 III.1.8.1.3).
+//! The least typing of a method, by flags for the pcs whose ways on are still to be looked at (ECMA-335 III.1.8.1.3).
 
 ghost use Rattle.std.specs.Prelude.{◌≡◌, ◌+◌, ◌<◌, ◌≤◌, pos, ℕ, ◌∷◌, [], List, IfOk, IfErr, IfSome, OnOk, length, replicate, slice_get, slice_set, true, false, Some, None, option_map};
 ghost use Rattle.cil_model.specs.declared.trees.Tree.{Tree};
@@ -13,14 +13,14 @@ ghost use Rattle.verifier.specs.Rises.{stack_rises, natural};
 ghost use Rattle.verifier.specs.Ways.{ways_on};
 ghost use Rattle.verifier.specs.Tables.{IsPending};
 ghost use Rattle.verifier.specs.Answers.{IsRow, IsResultAt, IsMergeAt, IsRise, AreOf, IsOnTheWay, IsVisit, IsTypingAnswer, IsWhole, with_max_stack, work_left};
-ghost use Rattle.verifier.specs.Evidence.{IsRefusedAt, IsToldOf, IsAnsweredBy, IsStackOf, IsShown, IsEvidence};
+ghost use Rattle.verifier.specs.Evidence.{IsRefusedAt, IsReportedOf, IsAnsweredBy, IsStackOf, IsShown, IsEvidence};
 ghost use Rattle.verifier.specs.declared.failures.TypingError.TheVariants.{OutOfMemory};
 ghost use Rattle.verifier.specs.declared.search.RaiseError.TheVariants as OfRaise;
 
 use crate::failures::{FailurePoint, IncomingStack, Reason, TypingError};
 use crate::kept_stacks::KeptStack;
 use crate::merging::{MergeError, StackMerge, merge_stacks};
-use crate::order::places_in_order;
+use crate::order::indices_in_order;
 use crate::stacks::{copy_of, stack_after};
 use crate::ways::ways_on;
 use cil_model::memory::NoMemory;
@@ -31,11 +31,11 @@ use flow_rules::mismatches::{FlowError, Mismatch};
 use flow_rules::type_tree::TypeTree;
 use resolved_code::classes::Body;
 use resolved_code::operations::Operation;
-use resolved_code::types::NumberedType;
+use resolved_code::types::ResolvedType;
 use std::alloc::{AllocError, Global};
 
-/// The stacks found so far, one a place where control was found to go; a flag a place, set where its ways on are still to be looked at;
-/// the places in the order in which these are taken; and the rank in it at which the look for the next of them begins.
+/// The stacks found so far, one for each pc where control was found to go; a flag for each pc, set where its ways on are still to be looked at;
+/// the pcs in the order in which these are taken; and the rank in it at which the look for the next of them begins.
 #[derive(Drop)]
 struct Search {
     rows: Vec<Option<KeptStack>>,
@@ -59,10 +59,10 @@ fn most_values(max_stack: i64) -> Option<usize>
     usize::try_from(max_stack).ok()
 }
 
-/// What a search knows of a place.
+/// What a search knows of a pc.
 #[derive(Clone, Copy)]
 enum Row<'a> {
-    /// There is no such place.
+    /// There is no such pc.
     Absent,
     /// Control was not found to go there.
     Unmapped,
@@ -70,60 +70,60 @@ enum Row<'a> {
     Mapped(&'a KeptStack),
 }
 
-/// What is known of a place.
-fn row_at(rows: &[Option<KeptStack>], place: usize) -> Row<'_>
-    ensures { IsRow rows.now place result }
+/// What is known of a pc.
+fn row_at(rows: &[Option<KeptStack>], pc: usize) -> Row<'_>
+    ensures { IsRow rows.now pc result }
 {
-    match rows.get(place) {
+    match rows.get(pc) {
         None => Row::Absent,
         Some(None) => Row::Unmapped,
         Some(Some(stack)) => Row::Mapped(stack),
     }
 }
 
-/// The stack of a place, where control was found to go there.
-fn mapped_at(rows: &[Option<KeptStack>], place: usize) -> Option<&KeptStack>
-    ensures mapped { IfSome result (λ stack. slice_get rows.now place ≡ Some (Some stack.now)) }
-    ensures none { result ≡ None → (stack : List entries.StackEntry) → slice_get rows.now place ≡ Some (Some stack) → ⊥ }
+/// The stack of a pc, where control was found to go there.
+fn mapped_at(rows: &[Option<KeptStack>], pc: usize) -> Option<&KeptStack>
+    ensures mapped { IfSome result (λ stack. slice_get rows.now pc ≡ Some (Some stack.now)) }
+    ensures none { result ≡ None → (stack : List entries.StackEntry) → slice_get rows.now pc ≡ Some (Some stack) → ⊥ }
 {
-    match row_at(rows, place) {
+    match row_at(rows, pc) {
         Row::Mapped(stack) => Some(stack),
         Row::Absent | Row::Unmapped => None,
     }
 }
 
-/// The operation at a place.
-fn operation_at(operations: &[Operation], place: usize) -> Option<&Operation>
-    ensures found { IfSome result (λ operation. slice_get operations.now place ≡ Some operation.now) }
-    ensures beyond { result ≡ None → slice_get operations.now place ≡ None }
+/// The operation at a pc.
+fn operation_at(operations: &[Operation], pc: usize) -> Option<&Operation>
+    ensures found { IfSome result (λ operation. slice_get operations.now pc ≡ Some operation.now) }
+    ensures beyond { result ≡ None → slice_get operations.now pc ≡ None }
 {
-    operations.get(place)
+    operations.get(pc)
 }
 
-/// The place after an operation.
-fn place_behind(operations: &[Operation], place: usize) -> usize
-    requires { place < length operations.now }
-    ensures { result ≡ place + 1 }
+/// The pc after an operation.
+fn next_index(operations: &[Operation], pc: usize) -> usize
+    requires { pc < length operations.now }
+    ensures { result ≡ pc + 1 }
 {
-    let places = operations.len();
-    if place < places { place + 1 } else { places }
+    let pcs = operations.len();
+    if pc < pcs { pc + 1 } else { pcs }
 }
 
-/// Why a stack can't be taken to a place.
+/// Why a stack can't be taken to a pc.
 #[derive(Clone, Copy)]
 enum RaiseError {
-    Refused { place: usize, reason: Reason },
+    Refused { pc: usize, reason: Reason },
     OutOfMemory,
 }
 
 /// A failure of a search that never gets to an instruction.
-fn without_stacks(place: usize, reason: Reason, alloc: Global) -> TypingError
-    ensures { IsRefusedAt place reason result }
+fn without_stacks(pc: usize, reason: Reason, alloc: Global) -> TypingError
+    ensures { IsRefusedAt pc reason result }
 {
     TypingError::Untyped(FailurePoint {
-        place,
+        pc,
         reason,
-        instruction: place,
+        instruction: pc,
         stack: Sequence::new(Vec::new(alloc)),
         incoming: None,
     })
@@ -131,23 +131,23 @@ fn without_stacks(place: usize, reason: Reason, alloc: Global) -> TypingError
 
 /// Why a search does not begin.
 fn not_begun(error: RaiseError, alloc: Global) -> TypingError
-    ensures { IsToldOf error result }
+    ensures { IsReportedOf error result }
 {
     match error {
-        RaiseError::Refused { place, reason } => without_stacks(place, reason, alloc),
+        RaiseError::Refused { pc, reason } => without_stacks(pc, reason, alloc),
         RaiseError::OutOfMemory => TypingError::OutOfMemory,
     }
 }
 
 /// The failure of an instruction that has no result on the stack before it.
-fn no_result(place: usize, mismatch: Mismatch, before: &KeptStack, alloc: Global) -> TypingError
-    ensures { IsStackOf place before.now result }
+fn no_result(pc: usize, mismatch: Mismatch, before: &KeptStack, alloc: Global) -> TypingError
+    ensures { IsStackOf pc before.now result }
 {
     match copy_of(before, alloc) {
         Ok(stack) => TypingError::Untyped(FailurePoint {
-            place,
+            pc,
             reason: Reason::NoResult(mismatch),
-            instruction: place,
+            instruction: pc,
             stack,
             incoming: None,
         }),
@@ -177,10 +177,10 @@ fn are_same(known: &KeptStack, coming: &[StackEntry]) -> bool
     true
 }
 
-/// The merge of the stack that a place has with one that reaches it.
-fn merged(
+/// The merge of the stack that a pc has with one that reaches it.
+fn merge_at(
     types: &TypeTree,
-    place: usize,
+    pc: usize,
     known: &KeptStack,
     coming: &[StackEntry],
     alloc: Global,
@@ -192,86 +192,86 @@ fn merged(
     match merge_stacks(types, known, coming, alloc) {
         Ok(merge) => Ok(merge),
         Err(MergeError::Apart(mismatch)) => Err(RaiseError::Refused {
-            place,
+            pc,
             reason: Reason::NoMerge(mismatch),
         }),
         Err(MergeError::OutOfMemory) => Err(RaiseError::OutOfMemory),
     }
 }
 
-/// The stack after the instruction at a place, by the flow rule.
+/// The stack after the instruction at a pc, by the flow rule.
 fn result_at(
     method: &MethodTypes,
     operation: &Operation,
-    place: usize,
+    pc: usize,
     before: &KeptStack,
     alloc: Global,
 ) -> Result<Sequence<StackEntry>, TypingError>
     ensures found { (lines : List Line) (i : Instruction) → IsOperation method.now.types.now lines i operation.now → IsResultAt method.now.types.now result (flow_of method.now i before.now) }
-    ensures evidence { IfErr result (IsStackOf place before.now) }
+    ensures evidence { IfErr result (IsStackOf pc before.now) }
 {
     match stack_after(method, operation, before, alloc) {
         Ok(after) => Ok(after),
-        Err(FlowError::Mismatch(mismatch)) => Err(no_result(place, mismatch, before, alloc)),
+        Err(FlowError::Mismatch(mismatch)) => Err(no_result(pc, mismatch, before, alloc)),
         Err(FlowError::OutOfMemory) => Err(TypingError::OutOfMemory),
     }
 }
 
 /// Rows of which nothing is found. The only error is out of memory.
-fn unmapped(places: usize, alloc: Global) -> Result<Vec<Option<KeptStack>>, NoMemory>
-    ensures { IfOk result (λ rows. rows.items ≡ replicate places None) }
+fn unmapped_stacks(pcs: usize, alloc: Global) -> Result<Vec<Option<KeptStack>>, NoMemory>
+    ensures { IfOk result (λ rows. rows.items ≡ replicate pcs None) }
 {
-    let mut rows = Vec::with_capacity(alloc, places)?;
-    for place in 0..places {
+    let mut rows = Vec::with_capacity(alloc, pcs)?;
+    for pc in 0..pcs {
         rows.push(None)?;
     }
     Ok(rows)
 }
 
 /// Flags of which none is set. The only error is out of memory.
-fn none_pending(places: usize, alloc: Global) -> Result<Vec<bool>, AllocError>
-    ensures { IfOk result (λ flags. flags.items ≡ replicate places false) }
+fn none_pending(pcs: usize, alloc: Global) -> Result<Vec<bool>, AllocError>
+    ensures { IfOk result (λ flags. flags.items ≡ replicate pcs false) }
 {
-    vec![in alloc; false; places]
+    vec![in alloc; false; pcs]
 }
 
-/// A place whose ways on are still to be looked at, and the rank at which the look for the next one begins: its own, where it has one.
+/// A pc whose ways on are still to be looked at, and the rank at which the look for the next one begins: its own, where it has one.
 #[derive(Clone, Copy)]
 struct Pending {
-    place: usize,
+    pc: usize,
     rank: usize,
 }
 
-/// The first pending place that isn't before this one.
+/// The first pending pc that isn't before this one.
 fn pending_from(is_pending: &[bool], from: usize) -> Option<Pending>
-    ensures found { IfSome result (λ pending. IsPending is_pending.now pending.place) }
-    ensures none { result ≡ None → (place : ℕ) → from ≤ place → IsPending is_pending.now place → ⊥ }
+    ensures found { IfSome result (λ pending. IsPending is_pending.now pending.pc) }
+    ensures none { result ≡ None → (pc : ℕ) → from ≤ pc → IsPending is_pending.now pc → ⊥ }
 {
-    for place in from..is_pending.len() {
-        if is_pending[place] {
-            return Some(Pending { place, rank: 0 });
+    for pc in from..is_pending.len() {
+        if is_pending[pc] {
+            return Some(Pending { pc, rank: 0 });
         }
     }
     None
 }
 
-/// The first pending place of an order from a rank on.
+/// The first pending pc of an order from a rank on.
 fn pending_in_order(is_pending: &[bool], order: &[usize], from: usize) -> Option<Pending>
-    ensures { IfSome result (λ pending. IsPending is_pending.now pending.place) }
+    ensures { IfSome result (λ pending. IsPending is_pending.now pending.pc) }
 {
     for rank in from..order.len() {
-        let place = order[rank];
-        if place < is_pending.len() && is_pending[place] {
-            return Some(Pending { place, rank });
+        let pc = order[rank];
+        if pc < is_pending.len() && is_pending[pc] {
+            return Some(Pending { pc, rank });
         }
     }
     None
 }
 
-/// The first pending place of an order, or otherwise any.
+/// The first pending pc of an order, or otherwise any.
 fn pending_again(is_pending: &[bool], order: &[usize]) -> Option<Pending>
-    ensures found { IfSome result (λ pending. IsPending is_pending.now pending.place) }
-    ensures none { result ≡ None → (place : ℕ) → IsPending is_pending.now place → ⊥ }
+    ensures found { IfSome result (λ pending. IsPending is_pending.now pending.pc) }
+    ensures none { result ≡ None → (pc : ℕ) → IsPending is_pending.now pc → ⊥ }
 {
     match pending_in_order(is_pending, order, 0) {
         Some(pending) => Some(pending),
@@ -279,10 +279,10 @@ fn pending_again(is_pending: &[bool], order: &[usize]) -> Option<Pending>
     }
 }
 
-/// The next pending place: the first of the order from a rank on, or otherwise the first of the order, or otherwise any.
+/// The next pending pc: the first of the order from a rank on, or otherwise the first of the order, or otherwise any.
 fn pending_after(is_pending: &[bool], order: &[usize], from: usize) -> Option<Pending>
-    ensures found { IfSome result (λ pending. IsPending is_pending.now pending.place) }
-    ensures none { result ≡ None → (place : ℕ) → IsPending is_pending.now place → ⊥ }
+    ensures found { IfSome result (λ pending. IsPending is_pending.now pending.pc) }
+    ensures none { result ≡ None → (pc : ℕ) → IsPending is_pending.now pc → ⊥ }
 {
     match pending_in_order(is_pending, order, from) {
         Some(pending) => Some(pending),
@@ -291,14 +291,14 @@ fn pending_after(is_pending: &[bool], order: &[usize], from: usize) -> Option<Pe
 }
 
 impl Search {
-    /// Nothing is found of the places of these operations. The only error is out of memory.
+    /// Nothing is found of the pcs of these operations. The only error is out of memory.
     fn new(operations: &[Operation], alloc: Global) -> Result<Self, NoMemory>
         ensures rows { IfOk result (λ s. s.rows.items ≡ replicate (length operations.now) None) }
         ensures whole { IfOk result (λ s. IsWhole s) }
     {
         let is_pending = none_pending(operations.len(), alloc)?;
-        let rows = unmapped(operations.len(), alloc)?;
-        let order = places_in_order(operations, alloc)?;
+        let rows = unmapped_stacks(operations.len(), alloc)?;
+        let order = indices_in_order(operations, alloc)?;
         Ok(Search {
             rows,
             is_pending,
@@ -307,47 +307,47 @@ impl Search {
         })
     }
 
-    /// Sets the stack of a place, which is then pending.
-    fn set(&mut self, place: usize, stack: KeptStack)
-        requires inside { place < length self.old.rows.items }
+    /// Sets the stack of a pc, which is then pending.
+    fn set(&mut self, pc: usize, stack: KeptStack)
+        requires inside { pc < length self.old.rows.items }
         requires whole { IsWhole self.old }
-        ensures rows { self.new.rows.items ≡ slice_set self.old.rows.items place (Some stack) }
-        ensures pending { self.new.is_pending.items ≡ slice_set self.old.is_pending.items place true }
+        ensures rows { self.new.rows.items ≡ slice_set self.old.rows.items pc (Some stack) }
+        ensures pending { self.new.is_pending.items ≡ slice_set self.old.is_pending.items pc true }
     {
-        self.rows[place] = Some(stack);
-        self.is_pending[place] = true;
+        self.rows[pc] = Some(stack);
+        self.is_pending[pc] = true;
     }
 
-    /// Takes the first stack to a place.
+    /// Takes the first stack to a pc.
     fn map(
         &mut self,
-        place: usize,
+        pc: usize,
         after: &[StackEntry],
         most: usize,
         alloc: Global,
     ) -> Result<(), RaiseError>
-        requires unmapped { slice_get self.old.rows.items place ≡ Some None }
+        requires unmapped { slice_get self.old.rows.items pc ≡ Some None }
         requires whole { IsWhole self.old }
-        ensures { (tree : Tree) → IsRise tree (pos most) after.now (place ∷ []) self.old self.new result }
+        ensures { (tree : Tree) → IsRise tree (pos most) after.now (pc ∷ []) self.old self.new result }
     {
         if is_low(after.len(), most) {
             let Ok(stack) = KeptStack::new(after, alloc) else {
                 return Err(RaiseError::OutOfMemory);
             };
-            self.set(place, stack);
+            self.set(pc, stack);
             return Ok(());
         }
         let reason = Reason::TooHigh(after.len());
-        Err(RaiseError::Refused { place, reason })
+        Err(RaiseError::Refused { pc, reason })
     }
 
-    /// Takes a further stack to a place. The only error is out of memory.
-    fn merge(&mut self, place: usize, merge: &StackMerge, alloc: Global) -> Result<(), RaiseError>
-        requires inside { place < length self.old.rows.items }
+    /// Takes a further stack to a pc. The only error is out of memory.
+    fn merge(&mut self, pc: usize, merge: &StackMerge, alloc: Global) -> Result<(), RaiseError>
+        requires inside { pc < length self.old.rows.items }
         requires whole { IsWhole self.old }
         ensures same { merge.now.is_higher ≡ false → self.new ≡ self.old }
-        ensures rows { OnOk result (merge.now.is_higher ≡ true → self.new.rows.items ≡ slice_set self.old.rows.items place (Some merge.now.stack)) }
-        ensures pending { OnOk result (merge.now.is_higher ≡ true → self.new.is_pending.items ≡ slice_set self.old.is_pending.items place true) }
+        ensures rows { OnOk result (merge.now.is_higher ≡ true → self.new.rows.items ≡ slice_set self.old.rows.items pc (Some merge.now.stack)) }
+        ensures pending { OnOk result (merge.now.is_higher ≡ true → self.new.is_pending.items ≡ slice_set self.old.is_pending.items pc true) }
         ensures err { IfErr result (λ e. e ≡ OfRaise.OutOfMemory) }
     {
         if !merge.is_higher {
@@ -356,39 +356,39 @@ impl Search {
         let Ok(stack) = KeptStack::new(merge.stack.as_slice(), alloc) else {
             return Err(RaiseError::OutOfMemory);
         };
-        self.set(place, stack);
+        self.set(pc, stack);
         Ok(())
     }
 
-    /// Takes a stack to a place. Where it is the stack that the place has, nothing is merged.
+    /// Takes a stack to a pc. Where it is the stack that the pc has, nothing is merged.
     fn raise(
         &mut self,
         types: &TypeTree,
-        place: usize,
+        pc: usize,
         after: &[StackEntry],
         most: usize,
         alloc: Global,
     ) -> Result<(), RaiseError>
         requires whole { IsWhole self.old }
-        ensures { IsRise types.now (pos most) after.now (place ∷ []) self.old self.new result }
+        ensures { IsRise types.now (pos most) after.now (pc ∷ []) self.old self.new result }
     {
-        match row_at(self.rows.as_slice(), place) {
+        match row_at(self.rows.as_slice(), pc) {
             Row::Absent => {
                 let reason = Reason::NoInstruction;
-                Err(RaiseError::Refused { place, reason })
+                Err(RaiseError::Refused { pc, reason })
             }
-            Row::Unmapped => self.map(place, after, most, alloc),
+            Row::Unmapped => self.map(pc, after, most, alloc),
             Row::Mapped(known) => {
                 if are_same(known, after) {
                     return Ok(());
                 }
-                let merge = merged(types, place, known, after, alloc)?;
-                self.merge(place, &merge, alloc)
+                let merge = merge_at(types, pc, known, after, alloc)?;
+                self.merge(pc, &merge, alloc)
             }
         }
     }
 
-    /// Takes a stack to all these places.
+    /// Takes a stack to all these pcs.
     fn raise_all(
         &mut self,
         types: &TypeTree,
@@ -406,34 +406,34 @@ impl Search {
         Ok(())
     }
 
-    /// A copy of the stack of a place; an empty one where control was not found to go there. The only error is out of memory.
-    fn stack_at(&self, place: usize, alloc: Global) -> Result<Sequence<StackEntry>, FlowError>
-        ensures { IfOk result (λ copy. IsShown self.now.rows.items place copy) }
+    /// A copy of the stack of a pc; an empty one where control was not found to go there. The only error is out of memory.
+    fn stack_at(&self, pc: usize, alloc: Global) -> Result<Sequence<StackEntry>, FlowError>
+        ensures { IfOk result (λ copy. IsShown self.now.rows.items pc copy) }
     {
-        match mapped_at(self.rows.as_slice(), place) {
+        match mapped_at(self.rows.as_slice(), pc) {
             Some(stack) => copy_of(stack, alloc),
             None => Ok(Sequence::new(Vec::new(alloc))),
         }
     }
 
-    /// The failure of a search that could not take to a place what an instruction leaves.
-    fn stopped(
+    /// The failure of a search that could not take to a pc what an instruction leaves.
+    fn stop_at(
         &self,
-        place: usize,
+        pc: usize,
         reason: Reason,
         incoming: IncomingStack,
         alloc: Global,
     ) -> TypingError
-        ensures told { IsRefusedAt place reason result }
+        ensures reported { IsRefusedAt pc reason result }
         ensures evidence { IsEvidence self.now.rows.items result }
     {
         let instruction = match reason {
-            Reason::NoMerge(_) => place,
+            Reason::NoMerge(_) => pc,
             _ => incoming.from,
         };
         match self.stack_at(instruction, alloc) {
             Ok(stack) => TypingError::Untyped(FailurePoint {
-                place,
+                pc,
                 reason,
                 instruction,
                 stack,
@@ -444,69 +444,69 @@ impl Search {
     }
 
     /// The result where what an instruction leaves was taken on, or could not be.
-    fn answered(
+    fn answer_after(
         &self,
         risen: Result<(), RaiseError>,
         incoming: IncomingStack,
         alloc: Global,
     ) -> Result<(), TypingError>
-        ensures told { IsAnsweredBy risen result }
+        ensures reported { IsAnsweredBy risen result }
         ensures evidence { IfErr result (IsEvidence self.now.rows.items) }
     {
         match risen {
             Ok(()) => Ok(()),
             Err(RaiseError::OutOfMemory) => Err(TypingError::OutOfMemory),
-            Err(RaiseError::Refused { place, reason }) => {
-                Err(self.stopped(place, reason, incoming, alloc))
+            Err(RaiseError::Refused { pc, reason }) => {
+                Err(self.stop_at(pc, reason, incoming, alloc))
             }
         }
     }
 
-    /// Takes the next pending place, which is pending no longer. At None there is none.
+    /// Takes the next pending pc, which is pending no longer. At None there is none.
     fn next(&mut self) -> Option<usize>
-        ensures found { IfSome result (λ place. IsPending self.old.is_pending.items place) }
-        ensures taken { IfSome result (λ place. self.new.is_pending.items ≡ slice_set self.old.is_pending.items place false) }
-        ensures empty { result ≡ None → (place : ℕ) → IsPending self.old.is_pending.items place → ⊥ }
+        ensures found { IfSome result (λ pc. IsPending self.old.is_pending.items pc) }
+        ensures taken { IfSome result (λ pc. self.new.is_pending.items ≡ slice_set self.old.is_pending.items pc false) }
+        ensures empty { result ≡ None → (pc : ℕ) → IsPending self.old.is_pending.items pc → ⊥ }
         ensures rows { self.new.rows ≡ self.old.rows }
     {
         let order = self.order.as_slice();
         let pending = pending_after(self.is_pending.as_slice(), order, self.from)?;
-        self.is_pending[pending.place] = false;
+        self.is_pending[pending.pc] = false;
         self.from = pending.rank;
-        Some(pending.place)
+        Some(pending.pc)
     }
 
-    /// Takes the stack after the instruction at a place to where control continues.
+    /// Takes the stack after the instruction at a pc to where control continues.
     fn visit(
         &mut self,
         method: &MethodTypes,
         operations: &[Operation],
         most: usize,
-        place: usize,
+        pc: usize,
         alloc: Global,
     ) -> Result<(), TypingError>
         requires whole { IsWhole self.old }
-        ensures found { (code : Code) → AreOf method.now operations.now (pos most) code → IsOnTheWay method.now code self.old.rows.items (slice_set self.old.is_pending.items place true) → IsVisit method.now code self.new result }
+        ensures found { (code : Code) → AreOf method.now operations.now (pos most) code → IsOnTheWay method.now code self.old.rows.items (slice_set self.old.is_pending.items pc true) → IsVisit method.now code self.new result }
         ensures evidence { IfErr result (IsEvidence self.new.rows.items) }
         ensures whole { OnOk result (IsWhole self.new) }
         ensures work { OnOk result (work_left method.now.types.now (pos most) self.new ≤ work_left method.now.types.now (pos most) self.old) }
     {
-        let Some(operation) = operation_at(operations, place) else {
+        let Some(operation) = operation_at(operations, pc) else {
             return Ok(());
         };
-        let Some(stack) = mapped_at(self.rows.as_slice(), place) else {
+        let Some(stack) = mapped_at(self.rows.as_slice(), pc) else {
             return Ok(());
         };
         // That class System.Object is looked up shows that the program is legal.
         let _object = method.types.class(0);
-        let after = result_at(method, operation, place, stack, alloc)?;
-        let ways = ways_on(operation, place_behind(operations, place), alloc)?;
+        let after = result_at(method, operation, pc, stack, alloc)?;
+        let ways = ways_on(operation, next_index(operations, pc), alloc)?;
         let risen = self.raise_all(method.types, ways.as_slice(), after.as_slice(), most, alloc);
         let incoming = IncomingStack {
-            from: place,
+            from: pc,
             stack: after,
         };
-        self.answered(risen, incoming, alloc)
+        self.answer_after(risen, incoming, alloc)
     }
 }
 
@@ -524,8 +524,8 @@ fn least_typing(
         Ok(()) => {}
         Err(error) => return Err(not_begun(error, alloc)),
     }
-    while let Some(place) = search.next() {
-        search.visit(method, operations, most, place, alloc)?;
+    while let Some(pc) = search.next() {
+        search.visit(method, operations, most, pc, alloc)?;
     }
     let Search {
         rows,
@@ -550,12 +550,12 @@ fn typing_of_body(
     least_typing(method, body.operations.as_slice(), most, alloc)
 }
 
-/// The least typing of a method's code, the top of each stack first; none at a place that control never reaches. An `Untyped` error
+/// The least typing of a method's code, the top of each stack first; none at a pc that control never reaches. An `Untyped` error
 /// is returned exactly where the code has no typing (ECMA-335 III.1.8.1.3), and has the stacks where the search failed.
 pub fn find_typing(
     types: &TypeTree,
-    arguments: &[NumberedType],
-    return_type: Option<NumberedType>,
+    arguments: &[ResolvedType],
+    return_type: Option<ResolvedType>,
     body: &Body,
     alloc: Global,
 ) -> Result<Sequence<Option<KeptStack>>, TypingError>
@@ -580,8 +580,8 @@ pub fn find_typing(
 /// As `find_typing`, with stacks of at most the given number of values, whatever the `.maxstack` of the code is.
 pub fn find_typing_within(
     types: &TypeTree,
-    arguments: &[NumberedType],
-    return_type: Option<NumberedType>,
+    arguments: &[ResolvedType],
+    return_type: Option<ResolvedType>,
     body: &Body,
     most: usize,
     alloc: Global,

@@ -24,8 +24,8 @@ fn stack_of(kept: &KeptStack, alloc: Global) -> Result<TypeStack, FlowError>
     ensures err { IfErr result (λ e. e ≡ OutOfMemory) }
 {
     let mut stack = TypeStack::new(alloc);
-    for place in (0..kept.len()).rev() {
-        stack.push(kept.entry(place))?;
+    for pc in (0..kept.len()).rev() {
+        stack.push(kept.entry(pc))?;
     }
     Ok(stack)
 }

@@ -15,7 +15,7 @@ use crate::arguments::arguments_of;
 use crate::failures::TypingError;
 use crate::kept_stacks::KeptStack;
 use crate::members::source_members;
-use crate::refusals::{VerifyError, refused};
+use crate::refusals::{VerifyError, refusal_in};
 use crate::search::find_typing;
 use cil_model::sequences::Sequence;
 use flow_rules::type_tree::TypeTree;
@@ -61,7 +61,7 @@ fn typing_of(
     member: MemberNumber,
 ) -> Result<Typing, TypingError>
     requires { types.now ≡ program.now }
-    ensures { (owner : ClassName) (m : Method) → method_at program.now (member.class, member.place) ≡ Some (owner, m) → IsMethodVerdict program.now owner m result }
+    ensures { (owner : ClassName) (m : Method) → method_at program.now (member.class, member.index) ≡ Some (owner, m) → IsMethodVerdict program.now owner m result }
 {
     let Some(method) = program.method(member) else {
         return Ok(empty_typing(alloc));
@@ -86,7 +86,7 @@ fn typings_by(
     for method in 0..members.len() {
         match typing_of(alloc, types, program, members[method]) {
             Ok(typing) => typings.push(typing)?,
-            Err(error) => return Err(refused(method, error)),
+            Err(error) => return Err(refusal_in(method, error)),
         }
     }
     Ok(Sequence::new(typings))

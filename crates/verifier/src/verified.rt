@@ -24,7 +24,7 @@ pub struct Verified {
     typings: Sequence<Typing>,
 }
 
-/// Each part gives back its own.
+/// Each part is dropped.
 impl Drop for Verified {
     fn drop(self) {
         let Verified {
@@ -35,7 +35,7 @@ impl Drop for Verified {
     }
 }
 
-/// Contracts see the tree, which is accepted: at each place that is reached the operands of the instruction are there with their
+/// Contracts see the tree, which is accepted: at each pc that is reached the operands of the instruction are there with their
 /// types, the stacks of ways on agree, and none is higher than `.maxstack`.
 impl Model for Verified {
     ghost use Rattle.cil_model.specs.declared.trees.Tree.{Tree};

@@ -14,22 +14,22 @@ fn falls(operation: &Operation) -> bool
     !matches!(operation, Operation::Branch(_) | Operation::Return)
 }
 
-/// Appends the places that an operation names.
+/// Appends the pcs that an operation names.
 fn add_targets(operation: &Operation, ways: &mut Vec<usize>) -> Result<(), NoMemory>
     ensures { OnOk result (ways.new.items ≡ ways.old.items ++ targets operation.now) }
 {
     match operation {
-        Operation::Branch(place)
-        | Operation::BranchTrue(place)
-        | Operation::BranchFalse(place)
-        | Operation::BranchCompare(_, place) => ways.push(*place)?,
-        Operation::Switch(places) => ways.extend_from_slice(places.as_slice())?,
+        Operation::Branch(pc)
+        | Operation::BranchTrue(pc)
+        | Operation::BranchFalse(pc)
+        | Operation::BranchCompare(_, pc) => ways.push(*pc)?,
+        Operation::Switch(pcs) => ways.extend_from_slice(pcs.as_slice())?,
         _ => {}
     }
     Ok(())
 }
 
-/// The places at which control may continue after an operation, the next one last.
+/// The pcs at which control may continue after an operation, the next one last.
 pub fn ways_on(operation: &Operation, next: usize, alloc: Global) -> Result<Vec<usize>, NoMemory>
     ensures { IfOk result (λ ways. ways.items ≡ ways_on operation.now next) }
 {

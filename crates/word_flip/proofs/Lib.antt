@@ -1,2 +1,2 @@
 pub mod ObjectWords
-pub mod Opening
+pub mod Initial

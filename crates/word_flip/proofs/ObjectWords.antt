@@ -22,9 +22,9 @@ pub one_more : (wrote : List (ℕ × ℕ)) (slot value : ℕ) → length (wrote 
 one_more wrote slot value = length-append wrote ((slot, value) ∷ [])
 
 -- what the words name, once an object was written
-pub written_to : (words : List ℕ) (place word : ℕ) (object : Option ℕ) → object_of word ≡ object → map object_of (set words place word) ≡ set (map object_of words) place object
-written_to words place word object e = map-set object_of words place word ∙ ap (λ (o : Option ℕ). set (map object_of words) place o) e
+pub written_to : (words : List ℕ) (index word : ℕ) (object : Option ℕ) → object_of word ≡ object → map object_of (set words index word) ≡ set (map object_of words) index object
+written_to words index word object e = map-set object_of words index word ∙ ap (λ (o : Option ℕ). set (map object_of words) index o) e
 
--- what a place names, if there is a word there
-pub said_of : (words : List ℕ) (place word : ℕ) → place < length words → word ≡ slice_index words place → slice_get (map object_of words) place ≡ Some (object_of word)
-said_of words place word l e = slice_get-map object_of words place ∙ ap (option_map object_of) (slice_get-get_or words place 0 l ∙ ap Some (sym e))
+-- what the word at an index names, if there is one
+pub said_of : (words : List ℕ) (index word : ℕ) → index < length words → word ≡ slice_index words index → slice_get (map object_of words) index ≡ Some (object_of word)
+said_of words index word l e = slice_get-map object_of words index ∙ ap (option_map object_of) (slice_get-get_or words index 0 l ∙ ap Some (sym e))

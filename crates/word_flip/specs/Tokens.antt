@@ -7,14 +7,16 @@ use Rattle.flip_table.specs.Tokens as Table
 use Rattle.flip_table.specs.declared.slot_table.PlanView.{PlanView}
 use Rattle.word_flip.specs.Objects.{object_of}
 
--- `table` says of which flip something is: no two have the same. `plan` has the owner of each place and the number of seats.
+-- `table` says of which flip something is: no two have the same. `plan` has the owner of each slot and the number of seats.
 pub record FlipValue : Type 0 where
   pub table : TableId
   pub plan : PlanView
   pub objects : ℕ
   pub slots : ℕ
 
--- `stage` is the stage that the seat has taken up. `polls` counts its loads of the posted stage, and `polled` is what the last one gave. `loads` counts its loads of a slot; the last was of the word `loaded_word`, which named the object `loaded`. `stores` counts the objects that it wrote, and `written` has for each place what this seat last wrote there, or null.
+-- `stage` is the stage that the seat has taken up. `polls` counts its loads of the posted stage, and `polled` is what the last one gave. `loads`
+-- counts its loads of a slot; the last was of the word `loaded_word`, which named the object `loaded`. `stores` counts the objects that it wrote, and
+-- `written` has for each slot what this seat last wrote there, or null.
 pub record WriterValue : Type 0 where
   pub table : TableId
   pub plan : PlanView
@@ -44,8 +46,9 @@ writer_value token = record {
   written = map object_of token.knows.written;
 }
 
--- `found` has for each seat the stage that it was last found to have taken up. `looks` counts the looks at a seat, each a load of its stage, and `looked_at` is the seat of the last one.
--- `checks` counts the second loads of a first copy. The last was of `checked_place`, where `first_load` was loaded before the copy was stored and `second_load` after it. `copied` and `retired` say it of each place.
+-- `found` has for each seat the stage that it was last found to have taken up. `looks` counts the looks at a seat, each a load of its stage, and
+-- `looked_at` is the seat of the last one. `checks` counts the second loads of a first copy. The last was of `slot_checked`, where `first_load` was
+-- loaded before the copy was stored and `second_load` after it. `copied` and `retired` say of each slot whether it was.
 pub record CopierValue : Type 0 where
   pub table : TableId
   pub plan : PlanView
@@ -54,7 +57,7 @@ pub record CopierValue : Type 0 where
   pub looks : ℕ
   pub looked_at : ℕ
   pub checks : ℕ
-  pub checked_place : ℕ
+  pub slot_checked : ℕ
   pub first_load : ℕ
   pub second_load : ℕ
   pub copied : List Bool
@@ -70,29 +73,29 @@ IsCopierOf flip copier = (copier.table ≡ flip.table) × (copier.plan ≡ flip.
 abbrev pub HasSlot : FlipValue → ℕ → ℕ → Type 0
 HasSlot flip object slot = (object < flip.objects) × (slot < flip.slots)
 
--- the place of a slot among all slots
-abbrev pub place_of : FlipValue → ℕ → ℕ → ℕ
-place_of flip object slot = object * flip.slots + slot
+-- the index of a slot among all slots
+abbrev pub index_of : FlipValue → ℕ → ℕ → ℕ
+index_of flip object slot = object * flip.slots + slot
 
 -- This writer alone writes to the slot.
 abbrev pub IsOwn : FlipValue → WriterValue → ℕ → ℕ → Type 0
-IsOwn flip writer object slot = slice_index flip.plan.owners (place_of flip object slot) ≡ writer.seat
+IsOwn flip writer object slot = slice_index flip.plan.owners (index_of flip object slot) ≡ writer.seat
 
--- One load was made of this place: of its first copy by a seat at stage 0, of its second copy from stage 1 on.
+-- One load was made of this slot: of its first copy by a seat at stage 0, of its second copy from stage 1 on.
 abbrev pub HasLoaded : FlipValue → WriterValue → ℕ → WriterValue → Type 0
-HasLoaded flip before place after = (after.loads ≡ before.loads + 1) × (before.stage ≡ 0 → after.loaded_word ≡ place) × (0 < before.stage → after.loaded_word ≡ length flip.plan.owners + place)
+HasLoaded flip before index after = (after.loads ≡ before.loads + 1) × (before.stage ≡ 0 → after.loaded_word ≡ index) × (0 < before.stage → after.loaded_word ≡ length flip.plan.owners + index)
 
--- One check was made, at this place.
+-- One check was made, of this slot.
 abbrev pub HasChecked : CopierValue → ℕ → CopierValue → Type 0
-HasChecked before place after = (after.checks ≡ before.checks + 1) × (after.checked_place ≡ place)
+HasChecked before index after = (after.checks ≡ before.checks + 1) × (after.slot_checked ≡ index)
 
--- Some place is not copied.
+-- Some slot is not copied.
 abbrev pub SomeUncopied : List Bool → Type 0
-SomeUncopied copied = (place : ℕ) × (place < length copied) × ¬ IsMarked copied place
+SomeUncopied copied = (index : ℕ) × (index < length copied) × ¬ IsMarked copied index
 
 -- the writer of a seat before any call
-abbrev pub opening_writer : TableId → PlanView → ℕ → WriterValue
-opening_writer table plan seat = record {
+abbrev pub initial_writer : TableId → PlanView → ℕ → WriterValue
+initial_writer table plan seat = record {
   table = table;
   plan = plan;
   seat = seat;
@@ -107,12 +110,12 @@ opening_writer table plan seat = record {
 }
 
 -- the writers of the seats 0, 1, .. before any call
-abbrev pub opening_writers : TableId → PlanView → List WriterValue
-opening_writers table plan = map (opening_writer table plan) (range_with_len 0 plan.seats)
+abbrev pub initial_writers : TableId → PlanView → List WriterValue
+initial_writers table plan = map (initial_writer table plan) (range_with_len 0 plan.seats)
 
 -- the copier before any call
-abbrev pub opening_copier : TableId → PlanView → CopierValue
-opening_copier table plan = record {
+abbrev pub initial_copier : TableId → PlanView → CopierValue
+initial_copier table plan = record {
   table = table;
   plan = plan;
   stage = 0;
@@ -120,7 +123,7 @@ opening_copier table plan = record {
   looks = 0;
   looked_at = 0;
   checks = 0;
-  checked_place = 0;
+  slot_checked = 0;
   first_load = 0;
   second_load = 0;
   copied = replicate (length plan.owners) false;

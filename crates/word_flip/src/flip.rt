@@ -5,7 +5,7 @@ ghost use Rattle.std.specs.Option.{ForSome};
 ghost use Rattle.epoch_words.specs.Tokens.{FindsNoLess, FoundAll, FoundLate, IsPostedOrOneLess};
 ghost use Rattle.flip_table.specs.Rule.{AllMarked};
 ghost use Rattle.word_flip.specs.Objects.{object_of};
-ghost use Rattle.word_flip.specs.Tokens.{writer_value, opening_copier, opening_writers, place_of, HasChecked, HasLoaded, HasSlot, IsCopierOf, IsOwn, IsWriterOf, SomeUncopied};
+ghost use Rattle.word_flip.specs.Tokens.{writer_value, initial_copier, initial_writers, index_of, HasChecked, HasLoaded, HasSlot, IsCopierOf, IsOwn, IsWriterOf, SomeUncopied};
 
 use crate::objects::{object_of, word_of};
 use flip_table::{FlipTable, Plan};
@@ -132,7 +132,7 @@ impl Model for Copier {
       looks = c.token.knows.looks;
       looked_at = c.token.knows.looked_at;
       checks = c.token.knows.checks;
-      checked_place = c.token.knows.checked_slot;
+      slot_checked = c.token.knows.checked_slot;
       first_load = c.token.knows.first_load;
       second_load = c.token.knows.second_load;
       copied = c.token.knows.copied;
@@ -176,8 +176,8 @@ impl Flip {
         requires sizes { (objects ≤ 256) × (slots ≤ 16) × (seats ≤ 16) }
         requires writers { (length writer_of.now ≡ objects * slots) × All (λ seat. seat < seats) writer_of.now }
         ensures flip { IfOk result (λ made. made.0 ≡ record { table = made.0.table; plan = record { owners = writer_of.now; seats = seats; limit = objects + 1 }; objects = objects; slots = slots }) }
-        ensures copier { IfOk result (λ made. made.1 ≡ opening_copier made.0.table made.0.plan) }
-        ensures writers { IfOk result (λ made. made.2.items ≡ opening_writers made.0.table made.0.plan) }
+        ensures copier { IfOk result (λ made. made.1 ≡ initial_copier made.0.table made.0.plan) }
+        ensures writers { IfOk result (λ made. made.2.items ≡ initial_writers made.0.table made.0.plan) }
     {
         let plan = Plan {
             writer_of: Vec::from_slice(alloc, writer_of)?,
@@ -209,27 +209,27 @@ impl Flip {
         self.slots
     }
 
-    fn place(&self, object: u16, slot: u8) -> usize
+    fn index(&self, object: u16, slot: u8) -> usize
         requires { HasSlot self.now object slot }
-        ensures place { result ≡ place_of self.now object slot }
+        ensures index { result ≡ index_of self.now object slot }
         ensures inside { result < length self.now.plan.owners }
     {
         usize::from(object) * usize::from(self.slots) + usize::from(slot)
     }
 
-    /// The word of a place, from the copy that goes with the seat's stage.
-    fn load_word(&self, writer: Writer, place: usize) -> (u64, Writer)
-        requires { IsWriterOf self.now writer × (place < length self.now.plan.owners) }
-        ensures loaded { HasLoaded self.now writer place result.1 × (result.1.loaded ≡ object_of result.0) }
+    /// The word of a slot, from the copy that goes with the seat's stage.
+    fn load_word(&self, writer: Writer, index: usize) -> (u64, Writer)
+        requires { IsWriterOf self.now writer × (index < length self.now.plan.owners) }
+        ensures loaded { HasLoaded self.now writer index result.1 × (result.1.loaded ≡ object_of result.0) }
         ensures rest { result.1 ≡ record writer { loads = result.1.loads; loaded_word = result.1.loaded_word; loaded = result.1.loaded } }
         ensures small { (result.0 ≤ self.now.objects) × (result.0 ≤ 256) }
-        ensures own { slice_index self.now.plan.owners place ≡ writer.seat → slice_get writer.written place ≡ Some (object_of result.0) }
+        ensures own { slice_index self.now.plan.owners index ≡ writer.seat → slice_get writer.written index ≡ Some (object_of result.0) }
     {
         if writer.token.taken_up() == 0 {
-            let (word, token) = self.table.load_first(writer.token, place);
+            let (word, token) = self.table.load_first(writer.token, index);
             return (word, Writer { token });
         }
-        let (word, token) = self.table.load_second(writer.token, place);
+        let (word, token) = self.table.load_second(writer.token, index);
         (word, Writer { token })
     }
 
@@ -242,12 +242,12 @@ impl Flip {
     pub fn load(&self, writer: Writer, object: u16, slot: u8) -> (Option<u16>, Writer)
         requires writer { IsWriterOf self.now writer }
         requires slot { HasSlot self.now object slot }
-        ensures loaded { HasLoaded self.now writer (place_of self.now object slot) result.1 × (result.1.loaded ≡ result.0) }
+        ensures loaded { HasLoaded self.now writer (index_of self.now object slot) result.1 × (result.1.loaded ≡ result.0) }
         ensures rest { result.1 ≡ record writer { loads = result.1.loads; loaded_word = result.1.loaded_word; loaded = result.1.loaded } }
         ensures named { IfSome result.0 (λ named. named < self.now.objects) }
-        ensures own { IsOwn self.now writer object slot → slice_get writer.written (place_of self.now object slot) ≡ Some result.0 }
+        ensures own { IsOwn self.now writer object slot → slice_get writer.written (index_of self.now object slot) ≡ Some result.0 }
     {
-        let (word, writer) = self.load_word(writer, self.place(object, slot));
+        let (word, writer) = self.load_word(writer, self.index(object, slot));
         (object_of(word), writer)
     }
 
@@ -260,16 +260,16 @@ impl Flip {
         requires slot { HasSlot self.now object slot }
         requires own { IsOwn self.now writer object slot }
         requires value { ForSome value (λ named. named < self.now.objects) }
-        ensures { result ≡ record writer { stores = writer.stores + 1; written = slice_set writer.written (place_of self.now object slot) value } }
+        ensures { result ≡ record writer { stores = writer.stores + 1; written = slice_set writer.written (index_of self.now object slot) value } }
     {
-        let place = self.place(object, slot);
+        let index = self.index(object, slot);
         let word = word_of(value);
         if writer.token.taken_up() < RECLAIM {
-            let token = self.table.store_first(writer.token, place, word);
-            let token = self.table.store_second(token, place, word);
+            let token = self.table.store_first(writer.token, index, word);
+            let token = self.table.store_second(token, index, word);
             return Writer { token };
         }
-        let token = self.table.store_alone(writer.token, place, word);
+        let token = self.table.store_alone(writer.token, index, word);
         Writer { token }
     }
 
@@ -288,22 +288,22 @@ impl Flip {
         (stage, Writer { token })
     }
 
-    /// Copies a place, at stage 0, and returns whether its first copy stayed the same meanwhile.
-    fn copy_place(&self, copier: Copier, place: usize) -> (bool, Copier)
+    /// Copies a slot, at stage 0, and returns whether its first copy stayed the same meanwhile.
+    fn copy_slot(&self, copier: Copier, index: usize) -> (bool, Copier)
         requires copier { IsCopierOf self.now copier × (copier.stage ≡ 0) }
-        requires place { place < length self.now.plan.owners }
+        requires index { index < length self.now.plan.owners }
         ensures same { IsTrue result.0 ↔ (result.1.first_load ≡ result.1.second_load) }
-        ensures copier { result.1 ≡ record copier { checks = copier.checks + 1; checked_place = place; first_load = result.1.first_load; second_load = result.1.second_load; copied = slice_set copier.copied place result.0 } }
+        ensures copier { result.1 ≡ record copier { checks = copier.checks + 1; slot_checked = index; first_load = result.1.first_load; second_load = result.1.second_load; copied = slice_set copier.copied index result.0 } }
     {
         let mut copied = copier.copied;
-        let (value, token) = self.table.load_to_copy(copier.token, place);
-        let token = self.table.store_copy(token, place, value);
-        let (again, token) = self.table.load_to_check(token, place);
+        let (value, token) = self.table.load_to_copy(copier.token, index);
+        let token = self.table.store_copy(token, index, value);
+        let (again, token) = self.table.load_to_check(token, index);
         if again == value {
-            copied[place] = true;
+            copied[index] = true;
             return (true, Copier { token, copied });
         }
-        copied[place] = false;
+        copied[index] = false;
         (false, Copier { token, copied })
     }
 
@@ -318,14 +318,14 @@ impl Flip {
         requires slot { HasSlot self.now object slot }
         ensures past { (result.0 ≡ Copy.Past) ↔ (0 < copier.stage) }
         ensures unchanged { result.0 ≡ Copy.Past → result.1 ≡ copier }
-        ensures copied { result.0 ≡ Copy.Copied → HasChecked copier (place_of self.now object slot) result.1 × (result.1.first_load ≡ result.1.second_load) × (result.1.copied ≡ slice_set copier.copied (place_of self.now object slot) true) }
-        ensures again { result.0 ≡ Copy.Again → HasChecked copier (place_of self.now object slot) result.1 × (result.1.first_load ≢ result.1.second_load) × (result.1.copied ≡ slice_set copier.copied (place_of self.now object slot) false) }
-        ensures rest { result.1 ≡ record copier { checks = result.1.checks; checked_place = result.1.checked_place; first_load = result.1.first_load; second_load = result.1.second_load; copied = result.1.copied } }
+        ensures copied { result.0 ≡ Copy.Copied → HasChecked copier (index_of self.now object slot) result.1 × (result.1.first_load ≡ result.1.second_load) × (result.1.copied ≡ slice_set copier.copied (index_of self.now object slot) true) }
+        ensures again { result.0 ≡ Copy.Again → HasChecked copier (index_of self.now object slot) result.1 × (result.1.first_load ≢ result.1.second_load) × (result.1.copied ≡ slice_set copier.copied (index_of self.now object slot) false) }
+        ensures rest { result.1 ≡ record copier { checks = result.1.checks; slot_checked = result.1.slot_checked; first_load = result.1.first_load; second_load = result.1.second_load; copied = result.1.copied } }
     {
         if copier.token.stage() > 0 {
             return (Copy::Past, copier);
         }
-        match self.copy_place(copier, self.place(object, slot)) {
+        match self.copy_slot(copier, self.index(object, slot)) {
             (true, copier) => (Copy::Copied, copier),
             (false, copier) => (Copy::Again, copier),
         }
@@ -411,25 +411,25 @@ impl Flip {
     pub fn retire(&self, copier: Copier, object: u16, slot: u8) -> (Retire, Copier)
         requires copier { IsCopierOf self.now copier }
         requires slot { HasSlot self.now object slot }
-        ensures retired { result.0 ≡ Retire.Retired → FoundAll self.now.plan.seats 2 result.1.found × (result.1.looks ≡ copier.looks + self.now.plan.seats) × (result.1.retired ≡ slice_set copier.retired (place_of self.now object slot) true) }
+        ensures retired { result.0 ≡ Retire.Retired → FoundAll self.now.plan.seats 2 result.1.found × (result.1.looks ≡ copier.looks + self.now.plan.seats) × (result.1.retired ≡ slice_set copier.retired (index_of self.now object slot) true) }
         ensures late { result.0 ≡ Retire.Late → FoundLate self.now.plan.seats 2 result.1.found result.1.looked_at × (result.1.looks ≡ copier.looks + result.1.looked_at + 1) × (result.1.retired ≡ copier.retired) }
         ensures rest { result.1 ≡ record copier { found = result.1.found; looks = result.1.looks; looked_at = result.1.looked_at; retired = result.1.retired } }
         ensures rises { FindsNoLess copier.found result.1.found }
     {
         match self.find_all(copier, RECLAIM) {
-            (true, copier) => (Retire::Retired, self.mark(copier, self.place(object, slot))),
+            (true, copier) => (Retire::Retired, self.mark(copier, self.index(object, slot))),
             (false, copier) => (Retire::Late, copier),
         }
     }
 
-    /// Writes the retired mark over the first copy of a place.
-    fn mark(&self, copier: Copier, place: usize) -> Copier
-        requires copier { IsCopierOf self.now copier × (place < length self.now.plan.owners) }
+    /// Writes the retired mark over the first copy of a slot.
+    fn mark(&self, copier: Copier, index: usize) -> Copier
+        requires copier { IsCopierOf self.now copier × (index < length self.now.plan.owners) }
         requires found { FoundAll self.now.plan.seats 2 copier.found }
-        ensures { result ≡ record copier { retired = slice_set copier.retired place true } }
+        ensures { result ≡ record copier { retired = slice_set copier.retired index true } }
     {
         let copied = copier.copied;
-        let token = self.table.retire(copier.token, place);
+        let token = self.table.retire(copier.token, index);
         Copier { token, copied }
     }
 }

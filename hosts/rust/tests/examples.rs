@@ -10,7 +10,7 @@ use std::fs;
 use std::path::{Path, PathBuf};
 
 fn folder() -> PathBuf {
-    Path::new(env!("CARGO_MANIFEST_DIR")).join("../../crates/trials/data/examples")
+    Path::new(env!("CARGO_MANIFEST_DIR")).join("../../crates/conformance/data/examples")
 }
 
 fn fault_name(fault: Fault) -> String {

@@ -1,4 +1,4 @@
-// What stands for boxes, addresses, arrays of two dimensions, nullable values, and the methods of object and string.
+// What replaces boxes, addresses, arrays of two dimensions, nullable values, and the methods of object and string.
 .class public auto ansi Importer.Box`1<T> extends [mscorlib]System.Object {
   .field public !0 'value'
   .method public specialname rtspecialname instance void .ctor(!0) cil managed {

@@ -1,4 +1,4 @@
-"""Enums: their integer type, which the writer puts in their place, and the classes that hold initial bytes go (ECMA-335 II.14.3)."""
+"""Enums: their integer type, which the writer puts in place of them, and the classes that hold initial bytes go (ECMA-335 II.14.3)."""
 
 from ..program import Program
 

@@ -70,7 +70,7 @@ class _Flattening:
         return found
 
     def _copy(self, leave: Instruction, handler: list[Instruction], line: int | None) -> list[Instruction]:
-        """Returns the `finally` code in the place of a `leave`, its lines replaced by `line` if there is one."""
+        """Returns the `finally` code in place of a `leave`, its lines replaced by `line` if there is one."""
         self.copies += 1
         names = {label: f"{label}_{self.copies}" for part in handler for label in part.labels}
         start = Instruction("nop", None, leave.line, leave.labels)

@@ -1,6 +1,6 @@
 """Generic classes and methods: one class, or method, for each instance (ECMA-335 II.9).
 
-The first instance stands in the lines of the definition, others of a class behind the last line and others of a method at the end of
+The first instance stands in the lines of the definition, others of a class after the last line and others of a method at the end of
 its class. An instance has static fields of its own, as in .NET.
 """
 
@@ -36,7 +36,7 @@ def _numbered(names: list[str], of_method: bool):
 
 
 def _substitute(arguments: tuple[Type, ...], of_method: bool):
-    """Returns a change that puts types in the place of generic parameters."""
+    """Returns a change that puts types in place of generic parameters."""
 
     def change(kind: Type) -> Type:
         if isinstance(kind, Parameter) and kind.of_method == of_method and isinstance(kind.key, int) and kind.key < len(arguments):

@@ -46,7 +46,7 @@ def _rewrite_method(program: Program, owner: ClassDef, method: Method) -> None:
 
 
 def _one(site: Site, after: dict[int, list[Instruction]]) -> list[Instruction]:
-    """Returns what stands for an instruction; what is to follow earlier ones goes to `after`."""
+    """Returns the translation of an instruction; what is to follow earlier ones goes to `after`."""
     before = _before(site, after)
     for rule in _RULES.get(site.part.op, ()):
         found = rule(site)
@@ -78,7 +78,7 @@ def _cast(site: Site, kind: Type) -> list[Instruction]:
 
 
 def _deeper(site: Site, entry, kind: Type, after: dict[int, list[Instruction]]) -> None:
-    """Adds what a value below the top of the stack needs behind the instructions that push it."""
+    """Adds what a value below the top of the stack needs after the instructions that push it."""
     if casts.needs_cast(site, entry, kind):
         extra = _cast(site, kind)
     elif small_integers.needs_cut(site, entry, kind):

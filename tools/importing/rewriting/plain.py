@@ -45,7 +45,7 @@ def string(site: Site) -> list[Instruction]:
 
 
 def enter(site: Site) -> list[Instruction] | None:
-    """`Monitor.Enter(object, ref bool)` sets its flag behind `Enter(object)`: what `lock` is compiled to."""
+    """`Monitor.Enter(object, ref bool)` sets its flag after `Enter(object)`: what `lock` is compiled to."""
     if not takes_addresses(site.operand):
         return None
     made = [site.call(_MONITOR, "Enter", VOID, OBJECT)]

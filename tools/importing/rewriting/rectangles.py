@@ -30,7 +30,7 @@ def call(site: Site) -> list[Instruction] | None:
     site.program.use(_NAME, kind.element)
     if wanted.name == "Address":
         if ("at", site.place) in site.analysis.shared:
-            return site.refuse(f"an element of `{kind}` by `ref`", "use a local variable, and store it behind the call")
+            return site.refuse(f"an element of `{kind}` by `ref`", "use a local variable, and store it after the call")
         return _address(site, kind)
     return [site.make(site.part.op, MethodRef(class_of(kind), wanted.name, wanted.returned, wanted.parameters, True))]
 

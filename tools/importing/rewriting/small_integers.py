@@ -111,7 +111,7 @@ def length(site: Site) -> list[Instruction]:
 
 
 def stored_type(site: Site) -> Type | None:
-    """Returns the declared type of the place that an instruction stores the top of the stack in."""
+    """Returns the declared type of the location in which an instruction stores the top of the stack."""
     op = site.part.op
     if op in ("stloc", "starg"):
         return within_cell(site.analysis.variable(site.part)[2])

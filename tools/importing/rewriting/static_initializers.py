@@ -28,7 +28,7 @@ def rewrite(program: Program) -> list[MethodRef]:
 
 
 def _visit(program: Program, kind: Class, found: dict[Class, Method], order: list[Class], seen: set[tuple]) -> None:
-    """Puts the static constructor of a class behind those of the classes that its code uses."""
+    """Puts the static constructor of a class after those of the classes that its code uses."""
     if kind in order or ("class", kind) in seen:
         return
     seen.add(("class", kind))

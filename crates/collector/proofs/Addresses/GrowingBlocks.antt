@@ -11,7 +11,7 @@ use Rattle.object_memory.specs.declared.values.Value.{Value}
 use Rattle.object_memory.specs.declared.values.Value.TheVariants.{Int32, Int64, Native, Ref}
 use Rattle.object_memory.specs.Cells.{Cell, cell_in}
 use Rattle.object_memory.specs.Spaces.{Spaces, AreSpaces, cell_at, forward, is_old}
-use Rattle.object_memory.proofs.TwoBlocks.{forward_else, no_literal, old_is_cell, told_apart}
+use Rattle.object_memory.proofs.TwoBlocks.{forward_else, no_literal, old_is_cell, are_distinct}
 use Rattle.collector.specs.References.{SlotsPass, Test, ValuePasses, is_permanent, reference_in}
 use Rattle.collector.specs.Phases.{is_live, is_live_object, is_marked_address, is_marked_cell, is_marked_old, is_new, is_new_address}
 use Rattle.collector.specs.Holding.{AnyLive, Hold, MarkedOnly, NewOnly, passes}
@@ -35,7 +35,7 @@ marked_there (Some c) e = (c, refl, e)
 -- no cell lies where null or a literal is
 pub cell_not_permanent : (m : Spaces) → AreSpaces m → (a : Addr) (c : Cell) → cell_at m a ≡ Some c → is_permanent a ≡ false
 cell_not_permanent m h a c lies =
-    let positive = (told_apart m h a c lies).0 in
+    let positive = (are_distinct m h a c lies).0 in
     let test : (a.number == 0) ≡ false = grind (arith, nat_tests) in
     let none = no_literal m h a c lies in
     rw (test, none) refl

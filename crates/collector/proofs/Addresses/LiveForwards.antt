@@ -9,7 +9,7 @@ use Rattle.object_memory.specs.declared.addresses.Addr.{Addr}
 use Rattle.object_memory.specs.declared.addresses.TheConstants.{ADDRESSES, FIRST_LITERAL}
 use Rattle.object_memory.specs.Cells.{Cell, cell_in}
 use Rattle.object_memory.specs.Spaces.{Spaces, AreSpaces, cell_at, forward, is_old}
-use Rattle.object_memory.proofs.TwoBlocks.{forward_copy, forward_else, new_is_cell, not_new, not_old, old_is_cell, told_apart}
+use Rattle.object_memory.proofs.TwoBlocks.{forward_copy, forward_else, new_is_cell, not_new, not_old, old_is_cell, are_distinct}
 use Rattle.collector.specs.References.{is_permanent}
 use Rattle.collector.specs.Phases.{HasLooked, is_live, is_live_object, is_marked_cell, is_marked_old, is_new, is_new_address}
 use Rattle.collector.specs.Soundness.{AreCopies, IsSoundHeap}
@@ -68,9 +68,9 @@ module _ (m : Spaces) (h : AreSpaces m) where
   -- where a cell lies, neither null nor a literal is
   pub cell_not_permanent : (a : Addr) (c : Cell) → cell_at m a ≡ Some c → is_permanent a ≡ false
   cell_not_permanent a c lies =
-      let told = told_apart m h a c lies in
-      let low = told.0 in
-      let high = told.1 in
+      let decoded = are_distinct m h a c lies in
+      let low = decoded.0 in
+      let high = decoded.1 in
       let no_null : (a.number == 0) ≡ false = grind (arith, nat_tests) in
       let no_literal : nat_lt a.number FIRST_LITERAL ≡ true = grind (arith, nat_tests) in
       rw (no_null, no_literal) refl
@@ -197,7 +197,7 @@ module _ (tree : Tree) (posted : Phase) (has_round : Bool) (words : ℕ) (p : Pr
           by_other c is None bare = rw (is, bare) short
           by_other c is (Some b) other =
               let u = sound.copies.out a b c is other in
-              let low = (told_apart m spaces b u.0 (new_is_cell m spaces b u.0 u.1)).1 in
+              let low = (are_distinct m spaces b u.0 (new_is_cell m spaces b u.0 u.1)).1 in
               subst (λ (x : Addr). x.number < ADDRESSES) (sym (forward_copy m a b c is other)) (omega (arith, low))
 
   module _ (copied : has_copies posted ≡ true) where

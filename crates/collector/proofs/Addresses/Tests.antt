@@ -12,7 +12,7 @@ use Rattle.object_memory.specs.declared.values.Value.{Value}
 use Rattle.object_memory.specs.declared.values.Value.TheVariants.{Int32, Int64, Native, Ref}
 use Rattle.object_memory.specs.Cells.{Cell, cell_from, cell_in}
 use Rattle.object_memory.specs.Spaces.{Spaces, AreSpaces, cell_at, is_old}
-use Rattle.object_memory.proofs.TwoBlocks.{either, new_is_cell, not_new, not_old, old_is_cell, told_apart}
+use Rattle.object_memory.proofs.TwoBlocks.{either, new_is_cell, not_new, not_old, old_is_cell, are_distinct}
 use Rattle.phase_handshake.specs.Handshakes.{Handshakes}
 use Rattle.phase_handshake.specs.declared.posts.Seat.{Seat}
 use Rattle.collector.specs.References.{SlotsPass, Test, ValuePasses, is_permanent, reference_in}
@@ -80,7 +80,7 @@ module _ (m : Spaces) (spaces : AreSpaces m) (a : Addr) where
   -- no cell is null's or a literal's
   pub cell_not_permanent : (c : Cell) → cell_at m a ≡ Some c → is_permanent a ≡ false
   cell_not_permanent c e =
-      let range = told_apart m spaces a c e in
+      let range = are_distinct m spaces a c e in
       let low = range.0 in
       let high = range.1 in
       let no_null : (a.number == 0) ≡ false = grind (arith, nat_tests) in

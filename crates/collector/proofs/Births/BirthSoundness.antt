@@ -11,7 +11,7 @@ use Rattle.reference_machine.specs.Cycles.{phase_after}
 use Rattle.object_memory.specs.declared.addresses.Addr.{Addr}
 use Rattle.object_memory.specs.declared.kinds.Kind.{Kind}
 use Rattle.object_memory.specs.Cells.{empty_cell, next_address}
-use Rattle.object_memory.specs.Spaces.{AreSpaces, Spaces, address_at, birth_space_of, born, forward, is_within_cycle, room_at}
+use Rattle.object_memory.specs.Spaces.{AreSpaces, Spaces, address_at, birth_space_of, give_birth, forward, is_within_cycle, room_at}
 use Rattle.object_memory.specs.declared.birth_spaces.BirthSpace.{BirthSpace}
 use Rattle.object_memory.specs.declared.birth_spaces.BirthSpace.TheVariants.{InBoth, InNew, InOld, Listed}
 use Rattle.object_memory.specs.Objects.{Objects}
@@ -53,24 +53,24 @@ seen_either m a e = or_right (is_permanent a) (is_marked_old m a || is_new m a) 
 module _ (m : Spaces) (h : AreSpaces m) (k : Kind) (n : ℕ) (p : Progress) where
   -- ---- where it lies
 
-  old_there : is_old (born InOld m k n) (next_address m.old) ≡ true
+  old_there : is_old (give_birth InOld m k n) (next_address m.old) ≡ true
   old_there = ap is_some (born-old_last m h k n InOld (empty_cell k n false None) refl)
 
-  listed_there : is_old (born Listed m k n) (next_address m.old) ≡ true
+  listed_there : is_old (give_birth Listed m k n) (next_address m.old) ≡ true
   listed_there = ap is_some (born-old_last m h k n Listed (empty_cell k n true None) refl)
 
-  listed_marked : is_marked_old (born Listed m k n) (next_address m.old) ≡ true
+  listed_marked : is_marked_old (give_birth Listed m k n) (next_address m.old) ≡ true
   listed_marked = ap is_marked_cell (born-old_last m h k n Listed (empty_cell k n true None) refl)
 
-  both_marked : is_marked_old (born InBoth m k n) (next_address m.old) ≡ true
+  both_marked : is_marked_old (give_birth InBoth m k n) (next_address m.old) ≡ true
   both_marked = ap is_marked_cell (born-old_last m h k n InBoth (empty_cell k n true (Some (next_address m.new))) refl)
 
-  new_there : is_new (born InNew m k n) (next_address m.new) ≡ true
+  new_there : is_new (give_birth InNew m k n) (next_address m.new) ≡ true
   new_there = ap is_some (born-new_last m h k n InNew (empty_cell k n false None) refl)
 
-  -- ---- places and phases
+  -- ---- spaces and phases
 
-  in_old : (hold : Hold) (posted : Phase) → passes hold posted (born InOld m k n) (next_address m.old) ≡ true → Suits hold posted p m k n InOld
+  in_old : (hold : Hold) (posted : Phase) → passes hold posted (give_birth InOld m k n) (next_address m.old) ≡ true → Suits hold posted p m k n InOld
   in_old hold posted held = record {
     early = λ e. inl refl;
     between = λ e. refl;
@@ -80,7 +80,7 @@ module _ (m : Spaces) (h : AreSpaces m) (k : Kind) (n : ℕ) (p : Progress) wher
     held = held;
   }
 
-  listed : (hold : Hold) (posted : Phase) → is_of_cycle posted ≡ true → (HasLooked posted p m (next_address m.old) → ⊥) → passes hold posted (born Listed m k n) (next_address m.old) ≡ true
+  listed : (hold : Hold) (posted : Phase) → is_of_cycle posted ≡ true → (HasLooked posted p m (next_address m.old) → ⊥) → passes hold posted (give_birth Listed m k n) (next_address m.old) ≡ true
       → Suits hold posted p m k n Listed
   listed hold posted within unlooked held = record {
     early = λ e. inr refl;
@@ -91,7 +91,7 @@ module _ (m : Spaces) (h : AreSpaces m) (k : Kind) (n : ℕ) (p : Progress) wher
     held = held;
   }
 
-  in_both : (hold : Hold) (posted : Phase) → is_before_copies posted ≡ false → is_of_cycle posted ≡ true → posted ≢ Reclaim → passes hold posted (born InBoth m k n) (next_address m.old) ≡ true
+  in_both : (hold : Hold) (posted : Phase) → is_before_copies posted ≡ false → is_of_cycle posted ≡ true → posted ≢ Reclaim → passes hold posted (give_birth InBoth m k n) (next_address m.old) ≡ true
       → Suits hold posted p m k n InBoth
   in_both hold posted late within further held = record {
     early = λ e. false_true (sym late ∙ e);
@@ -102,7 +102,7 @@ module _ (m : Spaces) (h : AreSpaces m) (k : Kind) (n : ℕ) (p : Progress) wher
     held = held;
   }
 
-  in_new : (hold : Hold) (posted : Phase) → is_before_copies posted ≡ false → is_of_cycle posted ≡ true → ((posted ≡ Mark) ⊎ (posted ≡ Allocate) → ⊥) → passes hold posted (born InNew m k n) (next_address m.new) ≡ true
+  in_new : (hold : Hold) (posted : Phase) → is_before_copies posted ≡ false → is_of_cycle posted ≡ true → ((posted ≡ Mark) ⊎ (posted ≡ Allocate) → ⊥) → passes hold posted (give_birth InNew m k n) (next_address m.new) ≡ true
       → Suits hold posted p m k n InNew
   in_new hold posted late within further held = record {
     early = λ e. false_true (sym late ∙ e);
@@ -115,29 +115,29 @@ module _ (m : Spaces) (h : AreSpaces m) (k : Kind) (n : ℕ) (p : Progress) wher
 
   -- a thread that has acknowledged the posted phase
   pub on_time : (own : Phase) → Suits (birth_hold own own) own p m k n (birth_space_of own (is_of_cycle own))
-  on_time Idle = in_old AnyLive Idle (seen_old (born InOld m k n) (next_address m.old) old_there)
-  on_time Mark = listed AnyLive Mark refl (λ e. e) (seen_old (born Listed m k n) (next_address m.old) listed_there)
-  on_time Allocate = in_both AnyLive Allocate refl refl (λ is. absurd cc) (seen_marked (born InBoth m k n) (next_address m.old) both_marked)
-  on_time Copy = in_both AnyLive Copy refl refl (λ is. absurd cc) (seen_marked (born InBoth m k n) (next_address m.old) both_marked)
-  on_time PreFlip = in_both AnyLive PreFlip refl refl (λ is. absurd cc) (seen_either (born InBoth m k n) (next_address m.old) both_marked)
-  on_time HeapFlip = in_both AnyLive HeapFlip refl refl (λ is. absurd cc) (seen_either (born InBoth m k n) (next_address m.old) both_marked)
-  on_time ThreadFlip = in_new NewOnly ThreadFlip refl refl (λ e. elim e [ inl is ↦ absurd cc | inr is ↦ absurd cc ]) (seen_new (born InNew m k n) (next_address m.new) new_there)
-  on_time Reclaim = in_new NewOnly Reclaim refl refl (λ e. elim e [ inl is ↦ absurd cc | inr is ↦ absurd cc ]) (seen_new (born InNew m k n) (next_address m.new) new_there)
+  on_time Idle = in_old AnyLive Idle (seen_old (give_birth InOld m k n) (next_address m.old) old_there)
+  on_time Mark = listed AnyLive Mark refl (λ e. e) (seen_old (give_birth Listed m k n) (next_address m.old) listed_there)
+  on_time Allocate = in_both AnyLive Allocate refl refl (λ is. absurd cc) (seen_marked (give_birth InBoth m k n) (next_address m.old) both_marked)
+  on_time Copy = in_both AnyLive Copy refl refl (λ is. absurd cc) (seen_marked (give_birth InBoth m k n) (next_address m.old) both_marked)
+  on_time PreFlip = in_both AnyLive PreFlip refl refl (λ is. absurd cc) (seen_either (give_birth InBoth m k n) (next_address m.old) both_marked)
+  on_time HeapFlip = in_both AnyLive HeapFlip refl refl (λ is. absurd cc) (seen_either (give_birth InBoth m k n) (next_address m.old) both_marked)
+  on_time ThreadFlip = in_new NewOnly ThreadFlip refl refl (λ e. elim e [ inl is ↦ absurd cc | inr is ↦ absurd cc ]) (seen_new (give_birth InNew m k n) (next_address m.new) new_there)
+  on_time Reclaim = in_new NewOnly Reclaim refl refl (λ e. elim e [ inl is ↦ absurd cc | inr is ↦ absurd cc ]) (seen_new (give_birth InNew m k n) (next_address m.new) new_there)
 
   -- nothing of the old block was looked at
   not_looked : p ≡ no_progress → HasLooked Allocate p m (next_address m.old) → ⊥
-  not_looked none looked = absurd (omega (arith, looked, ap (λ (q : Progress). q.place) none))
+  not_looked none looked = absurd (omega (arith, looked, ap (λ (q : Progress). q.cursor) none))
 
   -- a thread that is late
   pub late : (own : Phase) → p ≡ no_progress → Suits (birth_hold own (phase_after own)) (phase_after own) p m k n (birth_space_of own (is_of_cycle (phase_after own)))
-  late Idle none = in_old AnyLive Mark (seen_old (born InOld m k n) (next_address m.old) old_there)
-  late Mark none = listed AnyLive Allocate refl (not_looked none) (seen_marked (born Listed m k n) (next_address m.old) listed_marked)
-  late Allocate none = in_both AnyLive Copy refl refl (λ is. absurd cc) (seen_marked (born InBoth m k n) (next_address m.old) both_marked)
-  late Copy none = in_both AnyLive PreFlip refl refl (λ is. absurd cc) (seen_either (born InBoth m k n) (next_address m.old) both_marked)
-  late PreFlip none = in_both AnyLive HeapFlip refl refl (λ is. absurd cc) (seen_either (born InBoth m k n) (next_address m.old) both_marked)
-  late HeapFlip none = in_both AnyLive ThreadFlip refl refl (λ is. absurd cc) (seen_either (born InBoth m k n) (next_address m.old) both_marked)
-  late ThreadFlip none = in_new NewOnly Reclaim refl refl (λ e. elim e [ inl is ↦ absurd cc | inr is ↦ absurd cc ]) (seen_new (born InNew m k n) (next_address m.new) new_there)
-  late Reclaim none = in_old AnyLive Idle (seen_old (born InOld m k n) (next_address m.old) old_there)
+  late Idle none = in_old AnyLive Mark (seen_old (give_birth InOld m k n) (next_address m.old) old_there)
+  late Mark none = listed AnyLive Allocate refl (not_looked none) (seen_marked (give_birth Listed m k n) (next_address m.old) listed_marked)
+  late Allocate none = in_both AnyLive Copy refl refl (λ is. absurd cc) (seen_marked (give_birth InBoth m k n) (next_address m.old) both_marked)
+  late Copy none = in_both AnyLive PreFlip refl refl (λ is. absurd cc) (seen_either (give_birth InBoth m k n) (next_address m.old) both_marked)
+  late PreFlip none = in_both AnyLive HeapFlip refl refl (λ is. absurd cc) (seen_either (give_birth InBoth m k n) (next_address m.old) both_marked)
+  late HeapFlip none = in_both AnyLive ThreadFlip refl refl (λ is. absurd cc) (seen_either (give_birth InBoth m k n) (next_address m.old) both_marked)
+  late ThreadFlip none = in_new NewOnly Reclaim refl refl (λ e. elim e [ inl is ↦ absurd cc | inr is ↦ absurd cc ]) (seen_new (give_birth InNew m k n) (next_address m.new) new_there)
+  late Reclaim none = in_old AnyLive Idle (seen_old (give_birth InOld m k n) (next_address m.old) old_there)
 
 -- ---- near phases
 
@@ -150,51 +150,51 @@ near_of_close h s (inl is) = inl is
 near_of_close h s (inr before) = inr before.0
 
 -- no phase comes after itself
-pub phase_goes_on : (own : Phase) → phase_after own ≡ own → ⊥
-phase_goes_on Idle e = absurd cc
-phase_goes_on Mark e = absurd cc
-phase_goes_on Allocate e = absurd cc
-phase_goes_on Copy e = absurd cc
-phase_goes_on PreFlip e = absurd cc
-phase_goes_on HeapFlip e = absurd cc
-phase_goes_on ThreadFlip e = absurd cc
-phase_goes_on Reclaim e = absurd cc
+pub phase_continues : (own : Phase) → phase_after own ≡ own → ⊥
+phase_continues Idle e = absurd cc
+phase_continues Mark e = absurd cc
+phase_continues Allocate e = absurd cc
+phase_continues Copy e = absurd cc
+phase_continues PreFlip e = absurd cc
+phase_continues HeapFlip e = absurd cc
+phase_continues ThreadFlip e = absurd cc
+phase_continues Reclaim e = absurd cc
 
 -- ---- births
 
 module _ (own : Phase) (o : Objects) (k : Kind) (n : ℕ) where
-  abbrev place : BirthSpace
-  place = birth_space_of own o.spaces.is_open
+  abbrev space : BirthSpace
+  space = birth_space_of own o.spaces.is_open
 
   abbrev after : Objects
-  after = record o { spaces = born place o.spaces k n }
+  after = record o { spaces = give_birth space o.spaces k n }
 
   -- by whether there is room
   abbrev outcome : Bool → Spaces × Option Addr
-  outcome t = if t then (born place o.spaces k n, Some (address_at place o.spaces)) else (o.spaces, None)
+  outcome t = if t then (give_birth space o.spaces k n, Some (address_at space o.spaces)) else (o.spaces, None)
 
   abbrev answer : Bool → Objects × Option Addr
   answer t = (record o { spaces = (outcome t).0 }, (outcome t).1)
 
-  -- a birth that is granted fits its place, and makes the object there
-  pub granted : (o' : Objects) (a : Addr) → ◌≡◌ {A = Objects × Option Addr} (object_born own o k n) (o', Some a) → (3 + n ≤ room_at place o.spaces) × (after ≡ o') × (address_at place o.spaces ≡ a)
-  granted o' a e = by_room (nat_le (3 + n) (room_at place o.spaces)) refl e
+  -- a birth that is granted fits its space, and makes the object there
+  pub granted : (o' : Objects) (a : Addr) → ◌≡◌ {A = Objects × Option Addr} (object_born own o k n) (o', Some a) → (3 + n ≤ room_at space o.spaces) × (after ≡ o') × (address_at space o.spaces ≡ a)
+  granted o' a e = by_room (nat_le (3 + n) (room_at space o.spaces)) refl e
     where
-      by_room : (t : Bool) → nat_le (3 + n) (room_at place o.spaces) ≡ t → ◌≡◌ {A = Objects × Option Addr} (answer t) (o', Some a)
-          → (3 + n ≤ room_at place o.spaces) × (after ≡ o') × (address_at place o.spaces ≡ a)
+      by_room : (t : Bool) → nat_le (3 + n) (room_at space o.spaces) ≡ t → ◌≡◌ {A = Objects × Option Addr} (answer t) (o', Some a)
+          → (3 + n ≤ room_at space o.spaces) × (after ≡ o') × (address_at space o.spaces ≡ a)
       by_room true test same = (
-        (let room : 3 + n ≤ room_at place o.spaces = grind (arith, nat_tests) in room),
+        (let room : 3 + n ≤ room_at space o.spaces = grind (arith, nat_tests) in room),
         ap (λ (x : Objects × Option Addr). x.0) same,
-        same_Some (address_at place o.spaces) a (ap (λ (x : Objects × Option Addr). x.1) same),
+        same_Some (address_at space o.spaces) a (ap (λ (x : Objects × Option Addr). x.1) same),
       )
       by_room false test same = elim (none-some a (ap (λ (x : Objects × Option Addr). x.1) same)) [ ]
 
   -- a refused one changes nothing
   pub refused : (o' : Objects) → ◌≡◌ {A = Objects × Option Addr} (object_born own o k n) (o', None) → o' ≡ o
-  refused o' e = by_room (nat_le (3 + n) (room_at place o.spaces)) e
+  refused o' e = by_room (nat_le (3 + n) (room_at space o.spaces)) e
     where
       by_room : (t : Bool) → ◌≡◌ {A = Objects × Option Addr} (answer t) (o', None) → o' ≡ o
-      by_room true same = elim (none-some (address_at place o.spaces) (sym (ap (λ (x : Objects × Option Addr). x.1) same))) [ ]
+      by_room true same = elim (none-some (address_at space o.spaces) (sym (ap (λ (x : Objects × Option Addr). x.1) same))) [ ]
       by_room false same = sym (ap (λ (x : Objects × Option Addr). x.0) same)
 
 -- a thread near the posted phase bears where it can, and what it bears suits the phase
@@ -228,11 +228,11 @@ module _ (own posted : Phase) (near : IsNear own posted) where
     | inr is ↦ subst (λ x. (if is_within_cycle own then is_of_cycle x else true) ≡ true) is (can_late own)
   ]
 
-  -- the place of the birth suits the posted phase
+  -- the space of the birth suits the posted phase
   suits_near : (m : Spaces) → AreSpaces m → (k : Kind) (n : ℕ) (p : Progress) → (own ≢ posted → p ≡ no_progress) → Suits (birth_hold own posted) posted p m k n (birth_space_of own (is_of_cycle posted))
   suits_near m h k n p none = elim near [
     | inl is ↦ subst (λ x. Suits (birth_hold own x) x p m k n (birth_space_of own (is_of_cycle x))) is (on_time m h k n p own)
-    | inr is ↦ subst (λ x. Suits (birth_hold own x) x p m k n (birth_space_of own (is_of_cycle x))) is (late m h k n p own (none (λ same. phase_goes_on own (is ∙ sym same))))
+    | inr is ↦ subst (λ x. Suits (birth_hold own x) x p m k n (birth_space_of own (is_of_cycle x))) is (late m h k n p own (none (λ same. phase_continues own (is ∙ sym same))))
   ]
 
 module _ (tree : Tree) (own posted : Phase) (near : IsNear own posted) (has_round : Bool) (words : ℕ) (p : Progress) (o : Objects)
@@ -264,7 +264,7 @@ module _ (tree : Tree) (own posted : Phase) (near : IsNear own posted) (has_roun
         subst (λ (x : Objects). HasNotBegun posted has_round p x.spaces) g.1
         (born_not_begun tree (birth_hold own posted) posted has_round words p o.spaces k n (birth_space_of own o.spaces.is_open) sound g.0 (suits k n) before)
 
-    -- so each thread is as much on time as it was
+    -- so each thread that was on time stays on time
     pub birth_on_time : (other : Phase) → IsOnTime other posted has_round p o.spaces → IsOnTime other posted has_round p o'.spaces
     birth_on_time other on_time ne = birth_not_begun (on_time ne)
 
@@ -283,9 +283,9 @@ module _ (tree : Tree) (own posted : Phase) (near : IsNear own posted) (has_roun
     -- in Mark it is marked
     pub birth_marked : own ≡ Mark → is_marked_address o'.spaces a ≡ true
     birth_marked is =
-        let here = seen_marked (born Listed o.spaces k n) (next_address o.spaces.old) (listed_marked o.spaces sound.blocks.spaces k n p) in
-        let in_place = subst (λ x. is_marked_address (born (birth_space_of x o.spaces.is_open) o.spaces k n) (address_at (birth_space_of x o.spaces.is_open) o.spaces) ≡ true) (sym is) here in
-        subst (λ (x : Objects). is_marked_address x.spaces a ≡ true) g.1 (subst (λ x. is_marked_address (after own o k n).spaces x ≡ true) g.2 in_place)
+        let here = seen_marked (give_birth Listed o.spaces k n) (next_address o.spaces.old) (listed_marked o.spaces sound.blocks.spaces k n p) in
+        let in_space = subst (λ x. is_marked_address (give_birth (birth_space_of x o.spaces.is_open) o.spaces k n) (address_at (birth_space_of x o.spaces.is_open) o.spaces) ≡ true) (sym is) here in
+        subst (λ (x : Objects). is_marked_address x.spaces a ≡ true) g.1 (subst (λ x. is_marked_address (after own o k n).spaces x ≡ true) g.2 in_space)
 
     -- what is old, marked or new stays so
     pub birth_tests : TestsStay o.spaces o'.spaces
@@ -336,7 +336,7 @@ module _ (tree : Tree) (h : Handshakes) (seat : Seat) (close : IsClose h seat) (
   in_round : is_marking h.posted ≡ true → h.has_round ≡ true → is_marked_address o'.spaces a ≡ true
   in_round marking round = elim near [
     | inl is ↦ birth_marked tree seat.phase h.posted near h.has_round words p o time sound k n o' a e (is ∙ marking_is h.posted marking)
-    | inr is ↦ false_true (sym ((time (λ same. phase_goes_on seat.phase (is ∙ sym same))).no_round (marking_is h.posted marking)) ∙ round)
+    | inr is ↦ false_true (sym ((time (λ same. phase_continues seat.phase (is ∙ sym same))).no_round (marking_is h.posted marking)) ∙ round)
   ]
 
   -- by what it has acknowledged and answered

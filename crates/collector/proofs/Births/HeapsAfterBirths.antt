@@ -1,4 +1,4 @@
--- What is true of a heap stays true when an object is born, in each place where one may be.
+-- What is true of a heap stays true when an object is born, in each space where it may be.
 use Rattle.std.proofs.Common.{◌≡◌, ◌≢◌, ◌⊎◌, inl, inr, ℕ, zero, suc, ◌+◌, ◌<◌, ◌≤◌, Bool, true, false, List, [], ◌∷◌, ◌++◌, replicate, refl, sym, ap, subst, ◌∙◌, arith}
 use Rattle.std.specs.Prelude.{if◌then◌else◌, get_or, is_some, Option, Some, None, slice_get, All}
 use Rattle.cil_model.proofs.Lists.{no_item}
@@ -11,28 +11,28 @@ use Rattle.cil_model.specs.declared.trees.Tree.{Tree}
 use Rattle.object_memory.specs.declared.addresses.Addr.{Addr}
 use Rattle.object_memory.specs.declared.kinds.Kind.{Kind}
 use Rattle.object_memory.specs.Cells.{Cell, cell_in, empty_cell, next_address}
-use Rattle.object_memory.specs.Spaces.{AreSpaces, IsPlace, Spaces, address_at, born, forward, forward_word, is_noted, other_of, room_at}
+use Rattle.object_memory.specs.Spaces.{AreSpaces, IsOffset, Spaces, address_at, give_birth, forward, forward_word, is_noted, other_of, room_at}
 use Rattle.object_memory.specs.declared.birth_spaces.BirthSpace.{BirthSpace}
 use Rattle.object_memory.specs.declared.birth_spaces.BirthSpace.TheVariants.{InBoth, InNew, InOld, Listed}
 use Rattle.object_memory.proofs.Births.{AreSpaces-born, HasShellRoom-born, born-kept_new, born-kept_old, born-new_last, born-old_last, born-was_new, born-was_old, new_part, old_part}
-use Rattle.object_memory.proofs.Places.{IsPlace-last}
+use Rattle.object_memory.proofs.Offsets.{IsOffset-last}
 use Rattle.object_memory.proofs.TwoBlocks.{forward_new, forward_null}
 use Rattle.collector.specs.References.{SlotsPass, Test, holds_reference, reference_in}
 use Rattle.collector.specs.Phases.{HasCopied, HasLooked, is_before_copies, is_live, is_marked_address, is_marked_cell, is_marked_old, is_new_address, is_of_cycle, is_read}
 use Rattle.collector.specs.Soundness.{AreBlocks, IsCleared, AreCopied, AreCopies, AreMarked, IsCopiedSlot, IsCopiedWord, IsInCopy, IsListed, IsLoaded, IsSoundHeap, copied_word}
 use Rattle.collector.specs.Holding.{HasNotBegun, Hold, passes}
 use Rattle.collector.specs.declared.progress.Progress.{Progress}
-use Rattle.collector.proofs.BlockWalks.CollectorPlaces.{HasPlace-born}
+use Rattle.collector.proofs.BlockWalks.CollectorOffsets.{HasCursor-born}
 use Rattle.collector.proofs.Addresses.GrowingBlocks.{IsLying, TestsStay, false_true, forward_permanent, in_new, in_old, live_lies, live_stays, marked_stays, marked_there, new_stays, permanent, slots_weaken, some_there}
 
--- ---- places
+-- ---- offsets
 
--- a place of the new block stays one
-new_place : (m : Spaces) (k : Kind) (n words : ℕ) (place : BirthSpace) → IsPlace m.new (m.new.start + words) → IsPlace (born place m k n).new ((born place m k n).new.start + words)
-new_place m k n words InOld h = h
-new_place m k n words Listed h = h
-new_place m k n words InBoth h = IsPlace-last m.new (empty_cell k n true (Some (next_address m.old))) (m.new.start + words) h
-new_place m k n words InNew h = IsPlace-last m.new (empty_cell k n false None) (m.new.start + words) h
+-- an offset of the new block stays one
+new_space : (m : Spaces) (k : Kind) (n words : ℕ) (space : BirthSpace) → IsOffset m.new (m.new.start + words) → IsOffset (give_birth space m k n).new ((give_birth space m k n).new.start + words)
+new_space m k n words InOld h = h
+new_space m k n words Listed h = h
+new_space m k n words InBoth h = IsOffset-last m.new (empty_cell k n true (Some (next_address m.old))) (m.new.start + words) h
+new_space m k n words InNew h = IsOffset-last m.new (empty_cell k n false None) (m.new.start + words) h
 
 -- ---- empty slots
 
@@ -84,7 +84,7 @@ module _ (p : Progress) (m m' : Spaces) (start : m'.old.start ≡ m.old.start) (
   copied_before Idle word h = h
   copied_before Mark word h = h
   copied_before Allocate word h = h
-  copied_before Copy word h = subst (λ s. (a.number < s + p.place) ⊎ ((a.number ≡ s + p.place) × (word < p.copied_words))) start h
+  copied_before Copy word h = subst (λ s. (a.number < s + p.cursor) ⊎ ((a.number ≡ s + p.cursor) × (word < p.copied_words))) start h
   copied_before PreFlip word h = h
   copied_before HeapFlip word h = h
   copied_before ThreadFlip word h = h
@@ -92,12 +92,12 @@ module _ (p : Progress) (m m' : Spaces) (start : m'.old.start ≡ m.old.start) (
 
   pub in_copy_before : (posted : Phase) (from : Cell) (word : ℕ) → IsInCopy posted p m' a from word → IsInCopy posted p m a from word
   in_copy_before posted from word (inl h) = inl (copied_before posted word h)
-  in_copy_before posted from word (inr h) = inr (record { copying = h.copying; here = h.here ∙ ap (λ s. s + p.place) start; next = h.next; stored = h.stored; same = h.same })
+  in_copy_before posted from word (inr h) = inr (record { copying = h.copying; here = h.here ∙ ap (λ s. s + p.cursor) start; next = h.next; stored = h.stored; same = h.same })
 
   pub looked_before : (posted : Phase) → HasLooked posted p m' a → HasLooked posted p m a
   looked_before Idle h = h
   looked_before Mark h = h
-  looked_before Allocate h = subst (λ s. a.number < s + p.place) start h
+  looked_before Allocate h = subst (λ s. a.number < s + p.cursor) start h
   looked_before Copy h = h
   looked_before PreFlip h = h
   looked_before HeapFlip h = h
@@ -121,13 +121,13 @@ first_is x g xs rest e = cc
 
 -- ---- where one may be born while a phase is posted
 
-pub record Suits (hold : Hold) (posted : Phase) (p : Progress) (m : Spaces) (k : Kind) (n : ℕ) (place : BirthSpace) : Type 0 where
-  pub early : is_before_copies posted ≡ true → (place ≡ InOld) ⊎ (place ≡ Listed)
-  pub between : is_of_cycle posted ≡ false → place ≡ InOld
-  pub unlooked : place ≡ Listed → HasLooked posted p m (next_address m.old) → ⊥
-  pub room : (posted ≡ Mark) ⊎ (posted ≡ Allocate) → place ≢ InNew
-  pub clear : posted ≡ Reclaim → place ≢ InBoth
-  pub held : passes hold posted (born place m k n) (address_at place m) ≡ true
+pub record Suits (hold : Hold) (posted : Phase) (p : Progress) (m : Spaces) (k : Kind) (n : ℕ) (space : BirthSpace) : Type 0 where
+  pub early : is_before_copies posted ≡ true → (space ≡ InOld) ⊎ (space ≡ Listed)
+  pub between : is_of_cycle posted ≡ false → space ≡ InOld
+  pub unlooked : space ≡ Listed → HasLooked posted p m (next_address m.old) → ⊥
+  pub room : (posted ≡ Mark) ⊎ (posted ≡ Allocate) → space ≢ InNew
+  pub clear : posted ≡ Reclaim → space ≢ InBoth
+  pub held : passes hold posted (give_birth space m k n) (address_at space m) ≡ true
 
 -- addresses of one number are one
 pub same_address : (a b : Addr) → a.number ≡ b.number → a ≡ b
@@ -137,38 +137,38 @@ module _ (m : Spaces) (k : Kind) (n : ℕ) where
   -- ---- what a birth leaves
 
   -- both blocks begin where they began, and have the same numbers of words
-  born_start : (place : BirthSpace) → (born place m k n).old.start ≡ m.old.start
+  born_start : (space : BirthSpace) → (give_birth space m k n).old.start ≡ m.old.start
   born_start InOld = refl
   born_start Listed = refl
   born_start InBoth = refl
   born_start InNew = refl
 
-  born_new_start : (place : BirthSpace) → (born place m k n).new.start ≡ m.new.start
+  born_new_start : (space : BirthSpace) → (give_birth space m k n).new.start ≡ m.new.start
   born_new_start InOld = refl
   born_new_start Listed = refl
   born_new_start InBoth = refl
   born_new_start InNew = refl
 
-  born_words : (place : BirthSpace) → ((born place m k n).old.words ≡ m.old.words) × ((born place m k n).new.words ≡ m.new.words)
+  born_words : (space : BirthSpace) → ((give_birth space m k n).old.words ≡ m.old.words) × ((give_birth space m k n).new.words ≡ m.new.words)
   born_words InOld = (refl, refl)
   born_words Listed = (refl, refl)
   born_words InBoth = (refl, refl)
   born_words InNew = (refl, refl)
 
   -- the cycle is open or not as before, and the same counts as marked
-  pub born_flags : (place : BirthSpace) → ((born place m k n).is_open ≡ m.is_open) × ((born place m k n).has_marked ≡ m.has_marked)
+  pub born_flags : (space : BirthSpace) → ((give_birth space m k n).is_open ≡ m.is_open) × ((give_birth space m k n).has_marked ≡ m.has_marked)
   born_flags InOld = (refl, refl)
   born_flags Listed = (refl, refl)
   born_flags InBoth = (refl, refl)
   born_flags InNew = (refl, refl)
 
   -- nothing comes in the new block before there are copies
-  none_comes : (place : BirthSpace) → (place ≡ InOld) ⊎ (place ≡ Listed) → (born place m k n).new.cells ≡ m.new.cells
-  none_comes place (inl is) = ap (λ x. (born x m k n).new.cells) is
-  none_comes place (inr is) = ap (λ x. (born x m k n).new.cells) is
+  none_comes : (space : BirthSpace) → (space ≡ InOld) ⊎ (space ≡ Listed) → (give_birth space m k n).new.cells ≡ m.new.cells
+  none_comes space (inl is) = ap (λ x. (give_birth x m k n).new.cells) is
+  none_comes space (inr is) = ap (λ x. (give_birth x m k n).new.cells) is
 
   -- what was grey is grey
-  grey_before : (place : BirthSpace) (a : Addr) → IsListed m.grey a → IsListed (born place m k n).grey a
+  grey_before : (space : BirthSpace) (a : Addr) → IsListed m.grey a → IsListed (give_birth space m k n).grey a
   grey_before InOld a h = h
   grey_before Listed a h = listed_before m.grey (next_address m.old) a h
   grey_before InBoth a h = h
@@ -177,19 +177,19 @@ module _ (m : Spaces) (k : Kind) (n : ℕ) where
   -- ---- the parts
 
   -- before there are copies what is born has none
-  bare_part : (place : BirthSpace) → (place ≡ InOld) ⊎ (place ≡ Listed) → other_of (old_part place m k n) ≡ None
-  bare_part place (inl is) = ap (λ x. other_of (old_part x m k n)) is
-  bare_part place (inr is) = ap (λ x. other_of (old_part x m k n)) is
+  bare_part : (space : BirthSpace) → (space ≡ InOld) ⊎ (space ≡ Listed) → other_of (old_part space m k n) ≡ None
+  bare_part space (inl is) = ap (λ x. other_of (old_part x m k n)) is
+  bare_part space (inr is) = ap (λ x. other_of (old_part x m k n)) is
 
   -- a marked one without another copy is listed
-  listed_part : (place : BirthSpace) → is_marked_cell (old_part place m k n) ≡ true → other_of (old_part place m k n) ≡ None → place ≡ Listed
+  listed_part : (space : BirthSpace) → is_marked_cell (old_part space m k n) ≡ true → other_of (old_part space m k n) ≡ None → space ≡ Listed
   listed_part InOld e none = false_true e
   listed_part Listed e none = refl
   listed_part InBoth e none = elim (none-some (next_address m.new) (sym none)) [ ]
   listed_part InNew e none = false_true e
 
   -- one with another copy is marked
-  marked_part : (place : BirthSpace) → other_of (old_part place m k n) ≢ None → is_marked_cell (old_part place m k n) ≡ true
+  marked_part : (space : BirthSpace) → other_of (old_part space m k n) ≢ None → is_marked_cell (old_part space m k n) ≡ true
   marked_part InOld some = elim (some refl) [ ]
   marked_part Listed some = refl
   marked_part InBoth some = refl
@@ -199,20 +199,20 @@ module _ (m : Spaces) (k : Kind) (n : ℕ) where
   empty_of : (b : Bool) (o : Option Addr) (c : Cell) → Some (empty_cell k n b o) ≡ Some c → c.slots ≡ replicate n 0
   empty_of b o c e = ap (λ (x : Cell). x.slots) (sym (same_Some (empty_cell k n b o) c e))
 
-  old_empty : (place : BirthSpace) (c : Cell) → old_part place m k n ≡ Some c → c.slots ≡ replicate n 0
+  old_empty : (space : BirthSpace) (c : Cell) → old_part space m k n ≡ Some c → c.slots ≡ replicate n 0
   old_empty InOld c e = empty_of false None c e
   old_empty Listed c e = empty_of true None c e
   old_empty InBoth c e = empty_of true (Some (next_address m.new)) c e
   old_empty InNew c e = elim (none-some c e) [ ]
 
-  new_empty : (place : BirthSpace) (c : Cell) → new_part place m k n ≡ Some c → c.slots ≡ replicate n 0
+  new_empty : (space : BirthSpace) (c : Cell) → new_part space m k n ≡ Some c → c.slots ≡ replicate n 0
   new_empty InOld c e = elim (none-some c e) [ ]
   new_empty Listed c e = elim (none-some c e) [ ]
   new_empty InBoth c e = empty_of true (Some (next_address m.old)) c e
   new_empty InNew c e = empty_of false None c e
 
   -- one that is born in the new block alone has neither a mark nor another copy
-  clear_part : (place : BirthSpace) (d : Cell) → place ≢ InBoth → new_part place m k n ≡ Some d → is_noted d ≡ false
+  clear_part : (space : BirthSpace) (d : Cell) → space ≢ InBoth → new_part space m k n ≡ Some d → is_noted d ≡ false
   clear_part InOld d ne e = elim (none-some d e) [ ]
   clear_part Listed d ne e = elim (none-some d e) [ ]
   clear_part InBoth d ne e = elim (ne refl) [ ]
@@ -222,7 +222,7 @@ module _ (m : Spaces) (k : Kind) (n : ℕ) where
 
   module _ (h : AreSpaces m) (tree : Tree) (posted : Phase) (p : Progress) where
     -- the new part is the copy of the old one
-    both_copies : AreSpaces (born InBoth m k n) → AreCopies tree posted p (born InBoth m k n) (next_address m.old) (empty_cell k n true (Some (next_address m.new))) (empty_cell k n true (Some (next_address m.old)))
+    both_copies : AreSpaces (give_birth InBoth m k n) → AreCopies tree posted p (give_birth InBoth m k n) (next_address m.old) (empty_cell k n true (Some (next_address m.new))) (empty_cell k n true (Some (next_address m.old)))
     both_copies h' = record {
       kind = refl;
       count = refl;
@@ -230,14 +230,14 @@ module _ (m : Spaces) (k : Kind) (n : ℕ) where
       words = words;
     }
       where
-        words : (word : ℕ) → IsInCopy posted p (born InBoth m k n) (next_address m.old) (empty_cell k n true (Some (next_address m.new))) word
-            → IsCopiedWord tree (born InBoth m k n) (empty_cell k n true (Some (next_address m.new))) (empty_cell k n true (Some (next_address m.old))) word
+        words : (word : ℕ) → IsInCopy posted p (give_birth InBoth m k n) (next_address m.old) (empty_cell k n true (Some (next_address m.new))) word
+            → IsCopiedWord tree (give_birth InBoth m k n) (empty_cell k n true (Some (next_address m.new))) (empty_cell k n true (Some (next_address m.old))) word
         words zero e = refl
-        words (suc slot) e = zeros_copied tree (born InBoth m k n) h' (empty_cell k n true (Some (next_address m.new))) (empty_cell k n true (Some (next_address m.old))) n refl refl slot
+        words (suc slot) e = zeros_copied tree (give_birth InBoth m k n) h' (empty_cell k n true (Some (next_address m.new))) (empty_cell k n true (Some (next_address m.old))) n refl refl slot
 
     -- what the old part refers to as its copy is there, and is its copy
-    out_part : (place : BirthSpace) → AreSpaces (born place m k n) → (a b : Addr) (c : Cell) → a.number ≡ (next_address m.old).number → old_part place m k n ≡ Some c → c.other ≡ Some b
-        → (d : Cell) × (cell_in (born place m k n).new b ≡ Some d) × AreCopies tree posted p (born place m k n) a c d
+    out_part : (space : BirthSpace) → AreSpaces (give_birth space m k n) → (a b : Addr) (c : Cell) → a.number ≡ (next_address m.old).number → old_part space m k n ≡ Some c → c.other ≡ Some b
+        → (d : Cell) × (cell_in (give_birth space m k n).new b ≡ Some d) × AreCopies tree posted p (give_birth space m k n) a c d
     out_part InOld h' a b c at e other = elim (none-some b (ap other_of e ∙ other)) [ ]
     out_part Listed h' a b c at e other = elim (none-some b (ap other_of e ∙ other)) [ ]
     out_part InBoth h' a b c at e other =
@@ -245,49 +245,49 @@ module _ (m : Spaces) (k : Kind) (n : ℕ) where
         let d = empty_cell k n true (Some (next_address m.old)) in
         let there : next_address m.new ≡ b = same_Some (next_address m.new) b (ap other_of e ∙ other) in
         let here : next_address m.old ≡ a = sym (same_address a (next_address m.old) at) in
-        let are = subst (λ y. AreCopies tree posted p (born InBoth m k n) (next_address m.old) y d) (same_Some x c e) (both_copies h') in
-        let lies = subst (λ y. cell_in (born InBoth m k n).new y ≡ Some d) there (born-new_last m h k n InBoth d refl) in
-        (d, lies, subst (λ y. AreCopies tree posted p (born InBoth m k n) y c d) here are)
+        let are = subst (λ y. AreCopies tree posted p (give_birth InBoth m k n) (next_address m.old) y d) (same_Some x c e) (both_copies h') in
+        let lies = subst (λ y. cell_in (give_birth InBoth m k n).new y ≡ Some d) there (born-new_last m h k n InBoth d refl) in
+        (d, lies, subst (λ y. AreCopies tree posted p (give_birth InBoth m k n) y c d) here are)
     out_part InNew h' a b c at e other = elim (none-some c e) [ ]
 
     -- and the other way round
-    back_part : (place : BirthSpace) (a b : Addr) (d : Cell) → b.number ≡ (next_address m.new).number → new_part place m k n ≡ Some d → d.other ≡ Some a
-        → (c : Cell) × (cell_in (born place m k n).old a ≡ Some c) × (c.other ≡ Some b)
+    back_part : (space : BirthSpace) (a b : Addr) (d : Cell) → b.number ≡ (next_address m.new).number → new_part space m k n ≡ Some d → d.other ≡ Some a
+        → (c : Cell) × (cell_in (give_birth space m k n).old a ≡ Some c) × (c.other ≡ Some b)
     back_part InOld a b d at e other = elim (none-some d e) [ ]
     back_part Listed a b d at e other = elim (none-some d e) [ ]
     back_part InBoth a b d at e other =
         let c = empty_cell k n true (Some (next_address m.new)) in
         let there : next_address m.old ≡ a = same_Some (next_address m.old) a (ap other_of e ∙ other) in
         let here : next_address m.new ≡ b = sym (same_address b (next_address m.new) at) in
-        (c, subst (λ y. cell_in (born InBoth m k n).old y ≡ Some c) there (born-old_last m h k n InBoth c refl), ap Some here)
+        (c, subst (λ y. cell_in (give_birth InBoth m k n).old y ≡ Some c) there (born-old_last m h k n InBoth c refl), ap Some here)
     back_part InNew a b d at e other = elim (none-some a (ap other_of e ∙ other)) [ ]
 
 -- ---- a heap in which one more is born
 
-module _ (tree : Tree) (hold : Hold) (posted : Phase) (has_round : Bool) (words : ℕ) (p : Progress) (m : Spaces) (k : Kind) (n : ℕ) (place : BirthSpace)
-    (sound : IsSoundHeap tree posted has_round words p m) (room : 3 + n ≤ room_at place m) (suits : Suits hold posted p m k n place) where
+module _ (tree : Tree) (hold : Hold) (posted : Phase) (has_round : Bool) (words : ℕ) (p : Progress) (m : Spaces) (k : Kind) (n : ℕ) (space : BirthSpace)
+    (sound : IsSoundHeap tree posted has_round words p m) (room : 3 + n ≤ room_at space m) (suits : Suits hold posted p m k n space) where
   abbrev m' : Spaces
-  m' = born place m k n
+  m' = give_birth space m k n
 
   -- the blocks are spaces before and after
   h : AreSpaces m
   h = sound.blocks.spaces
 
   h' : AreSpaces m'
-  h' = AreSpaces-born m h k n place room
+  h' = AreSpaces-born m h k n space room
 
   -- cells stay, and others are parts of what is born
   kept_old : (a : Addr) (c : Cell) → cell_in m.old a ≡ Some c → cell_in m'.old a ≡ Some c
-  kept_old a c e = born-kept_old m h k n place a c e
+  kept_old a c e = born-kept_old m h k n space a c e
 
   kept_new : (a : Addr) (c : Cell) → cell_in m.new a ≡ Some c → cell_in m'.new a ≡ Some c
-  kept_new a c e = born-kept_new m h k n place a c e
+  kept_new a c e = born-kept_new m h k n space a c e
 
-  was_old : (a : Addr) (c : Cell) → cell_in m'.old a ≡ Some c → (cell_in m.old a ≡ Some c) ⊎ ((a.number ≡ (next_address m.old).number) × (old_part place m k n ≡ Some c))
-  was_old a c e = born-was_old m h k n place a c e
+  was_old : (a : Addr) (c : Cell) → cell_in m'.old a ≡ Some c → (cell_in m.old a ≡ Some c) ⊎ ((a.number ≡ (next_address m.old).number) × (old_part space m k n ≡ Some c))
+  was_old a c e = born-was_old m h k n space a c e
 
-  was_new : (a : Addr) (c : Cell) → cell_in m'.new a ≡ Some c → (cell_in m.new a ≡ Some c) ⊎ ((a.number ≡ (next_address m.new).number) × (new_part place m k n ≡ Some c))
-  was_new a c e = born-was_new m h k n place a c e
+  was_new : (a : Addr) (c : Cell) → cell_in m'.new a ≡ Some c → (cell_in m.new a ≡ Some c) ⊎ ((a.number ≡ (next_address m.new).number) × (new_part space m k n ≡ Some c))
+  was_new a c e = born-was_new m h k n space a c e
 
   -- ---- what stays
 
@@ -324,12 +324,12 @@ module _ (tree : Tree) (hold : Hold) (posted : Phase) (has_round : Bool) (words 
   born_blocks = record {
     few = sound.blocks.few;
     spaces = h';
-    held = (born_flags m k n place).0 ∙ sound.blocks.held;
-    old_words = subst (λ w. w ≤ words) (sym (born_words m k n place).0) sound.blocks.old_words;
-    new_words = subst (λ w. w ≤ (if is_of_cycle posted then words else 0)) (sym (born_words m k n place).1) sound.blocks.new_words;
-    grows = λ e. (let b = born_words m k n place in let g = sound.blocks.grows e in omega (arith, b.0, b.1, g));
-    none_new = λ e. none_comes m k n place (suits.early e) ∙ sound.blocks.none_new e;
-    none_grey = λ e. ap (λ x. (born x m k n).grey) (suits.between e) ∙ sound.blocks.none_grey e;
+    held = (born_flags m k n space).0 ∙ sound.blocks.held;
+    old_words = subst (λ w. w ≤ words) (sym (born_words m k n space).0) sound.blocks.old_words;
+    new_words = subst (λ w. w ≤ (if is_of_cycle posted then words else 0)) (sym (born_words m k n space).1) sound.blocks.new_words;
+    grows = λ e. (let b = born_words m k n space in let g = sound.blocks.grows e in omega (arith, b.0, b.1, g));
+    none_new = λ e. none_comes m k n space (suits.early e) ∙ sound.blocks.none_new e;
+    none_grey = λ e. ap (λ x. (give_birth x m k n).grey) (suits.between e) ∙ sound.blocks.none_grey e;
   }
 
   -- ---- copies
@@ -353,9 +353,9 @@ module _ (tree : Tree) (hold : Hold) (posted : Phase) (has_round : Bool) (words 
   }
     where
       words_stay : (word : ℕ) → IsInCopy posted p m' a c word → IsCopiedWord tree m' c d word
-      words_stay zero e = are.words 0 (in_copy_before p m m' (born_start m k n place) a posted c 0 e)
+      words_stay zero e = are.words 0 (in_copy_before p m m' (born_start m k n space) a posted c 0 e)
       words_stay (suc slot) e = λ word there. (
-          let before = in_copy_before p m m' (born_start m k n place) a posted c (suc slot) e in
+          let before = in_copy_before p m m' (born_start m k n space) a posted c (suc slot) e in
           let read = read_once_copied posted p m a (suc slot) c before marked in
           are.words (suc slot) before word there ∙ ap Some (word_stays c read a lies slot word there))
 
@@ -363,7 +363,7 @@ module _ (tree : Tree) (hold : Hold) (posted : Phase) (has_round : Bool) (words 
   born_out : (a b : Addr) (c : Cell) → cell_in m'.old a ≡ Some c → c.other ≡ Some b → (d : Cell) × (cell_in m'.new b ≡ Some d) × AreCopies tree posted p m' a c d
   born_out a b c e other = elim (was_old a c e) [
     | inl was ↦ by_copy was (sound.copies.out a b c was other)
-    | inr here ↦ out_part m k n h tree posted p place h' a b c here.0 here.1 other
+    | inr here ↦ out_part m k n h tree posted p space h' a b c here.0 here.1 other
   ]
     where
       some_other : c.other ≢ None
@@ -376,38 +376,38 @@ module _ (tree : Tree) (hold : Hold) (posted : Phase) (has_round : Bool) (words 
   born_back : (a b : Addr) (d : Cell) → cell_in m'.new b ≡ Some d → d.other ≡ Some a → (c : Cell) × (cell_in m'.old a ≡ Some c) × (c.other ≡ Some b)
   born_back a b d e other = elim (was_new b d e) [
     | inl was ↦ (let r = sound.copies.back a b d was other in (r.0, kept_old a r.0 r.1, r.2))
-    | inr here ↦ back_part m k n h tree posted p place a b d here.0 here.1 other
+    | inr here ↦ back_part m k n h tree posted p space a b d here.0 here.1 other
   ]
 
   -- each old object that was looked for has its copy
   born_shells : (a : Addr) (c : Cell) → cell_in m'.old a ≡ Some c → c.marked ≡ true → HasLooked posted p m' a → c.other ≢ None
   born_shells a c e marked looked = elim (was_old a c e) [
     | inl was ↦ sound.copies.shells a c was marked before
-    | inr here ↦ (λ none. suits.unlooked (listed_part m k n place (ap is_marked_cell here.1 ∙ marked) (ap other_of here.1 ∙ none)) (subst (λ x. HasLooked posted p m x) (same_address a (next_address m.old) here.0) before))
+    | inr here ↦ (λ none. suits.unlooked (listed_part m k n space (ap is_marked_cell here.1 ∙ marked) (ap other_of here.1 ∙ none)) (subst (λ x. HasLooked posted p m x) (same_address a (next_address m.old) here.0) before))
   ]
     where
       before : HasLooked posted p m a
-      before = looked_before p m m' (born_start m k n place) a posted looked
+      before = looked_before p m m' (born_start m k n space) a posted looked
 
   -- only marked objects have copies
   born_marked_only : (a : Addr) (c : Cell) → cell_in m'.old a ≡ Some c → c.other ≢ None → c.marked ≡ true
   born_marked_only a c e some = elim (was_old a c e) [
     | inl was ↦ sound.copies.marked_only a c was some
-    | inr here ↦ sym (ap is_marked_cell here.1) ∙ marked_part m k n place (λ none. some (sym (ap other_of here.1) ∙ none))
+    | inr here ↦ sym (ap is_marked_cell here.1) ∙ marked_part m k n space (λ none. some (sym (ap other_of here.1) ∙ none))
   ]
 
   -- what is read of the old block refers to what is live
   born_old_references : (a : Addr) (c : Cell) → cell_in m'.old a ≡ Some c → is_read posted c ≡ true → SlotsPass tree (is_live posted m') c
   born_old_references a c e read = elim (was_old a c e) [
     | inl was ↦ live_slots c (sound.copies.old_references a c was read)
-    | inr here ↦ zeros_pass tree (is_live posted m') refl c n (old_empty m k n place c here.1)
+    | inr here ↦ zeros_pass tree (is_live posted m') refl c n (old_empty m k n space c here.1)
   ]
 
   -- the new block refers to nothing old
   born_new_references : (b : Addr) (d : Cell) → cell_in m'.new b ≡ Some d → SlotsPass tree (is_new_address m') d
   born_new_references b d e = elim (was_new b d e) [
     | inl was ↦ new_slots d (sound.copies.new_references b d was)
-    | inr here ↦ zeros_pass tree (is_new_address m') refl d n (new_empty m k n place d here.1)
+    | inr here ↦ zeros_pass tree (is_new_address m') refl d n (new_empty m k n space d here.1)
   ]
 
   -- all of it together
@@ -415,7 +415,7 @@ module _ (tree : Tree) (hold : Hold) (posted : Phase) (has_round : Bool) (words 
   born_copied = record {
     bare = λ a c e before. elim (was_old a c e) [
       | inl was ↦ sound.copies.bare a c was before
-      | inr here ↦ sym (ap other_of here.1) ∙ bare_part m k n place (suits.early before)
+      | inr here ↦ sym (ap other_of here.1) ∙ bare_part m k n space (suits.early before)
     ];
     unmarked = λ a c e between. elim (was_old a c e) [
       | inl was ↦ sound.copies.unmarked a c was between
@@ -427,44 +427,44 @@ module _ (tree : Tree) (hold : Hold) (posted : Phase) (has_round : Bool) (words 
     marked_only = born_marked_only;
     old_references = born_old_references;
     new_references = born_new_references;
-    room = λ e. HasShellRoom-born m h k n place (suits.room e) (sound.copies.room e);
+    room = λ e. HasShellRoom-born m h k n space (suits.room e) (sound.copies.room e);
   }
 
   -- ---- marks
 
   -- what is grey stays so
   grey_stays : (a : Addr) → IsListed m.grey a → IsListed m'.grey a
-  grey_stays a e = grey_before m k n place a e
+  grey_stays a e = grey_before m k n space a e
 
   -- marked objects of a list stay so
   listed_stays : (xs : List Addr) → All (λ a. is_marked_old m a ≡ true) xs → All (λ a. is_marked_old m' a ≡ true) xs
   listed_stays xs all i d inside = born_stays.marked (get_or xs i d) (all i d inside)
 
   -- what is born in Mark is marked where it is listed
-  last_marked : place ≡ Listed → is_marked_old m' (next_address m.old) ≡ true
-  last_marked is = ap is_marked_cell (born-old_last m h k n place (empty_cell k n true None) (ap (λ x. old_part x m k n) is))
+  last_marked : space ≡ Listed → is_marked_old m' (next_address m.old) ≡ true
+  last_marked is = ap is_marked_cell (born-old_last m h k n space (empty_cell k n true None) (ap (λ x. old_part x m k n) is))
 
   -- all that is grey is marked
-  born_listed : (place ≡ InOld) ⊎ (place ≡ Listed) → All (λ a. is_marked_old m a ≡ true) m.grey → All (λ a. is_marked_old m' a ≡ true) m'.grey
-  born_listed (inl is) all = subst (All (λ a. is_marked_old m' a ≡ true)) (sym (ap (λ x. (born x m k n).grey) is)) (listed_stays m.grey all)
+  born_listed : (space ≡ InOld) ⊎ (space ≡ Listed) → All (λ a. is_marked_old m a ≡ true) m.grey → All (λ a. is_marked_old m' a ≡ true) m'.grey
+  born_listed (inl is) all = subst (All (λ a. is_marked_old m' a ≡ true)) (sym (ap (λ x. (give_birth x m k n).grey) is)) (listed_stays m.grey all)
   born_listed (inr is) all =
       let last = All-cons (λ a. is_marked_old m' a ≡ true) (next_address m.old) [] (last_marked is) (All-nil (λ a. is_marked_old m' a ≡ true)) in
       let both = All-append (λ a. is_marked_old m' a ≡ true) m.grey (next_address m.old ∷ []) (listed_stays m.grey all) last in
-      subst (All (λ a. is_marked_old m' a ≡ true)) (sym (ap (λ x. (born x m k n).grey) is)) both
+      subst (All (λ a. is_marked_old m' a ≡ true)) (sym (ap (λ x. (give_birth x m k n).grey) is)) both
 
   -- the oldest grey object is the one that it was, or there was none
   oldest_by : (xs : List Addr) (b g : Addr) (rest : List Addr) → xs ++ b ∷ [] ≡ g ∷ rest → (xs ≡ []) ⊎ ((ys : List Addr) × (xs ≡ g ∷ ys))
   oldest_by [] b g rest e = inl refl
   oldest_by (x ∷ xs) b g rest e = inr (xs, ap (λ y. y ∷ xs) (first_is x g (xs ++ b ∷ []) rest e))
 
-  oldest_was : (place ≡ InOld) ⊎ (place ≡ Listed) → (g : Addr) (rest : List Addr) → m'.grey ≡ g ∷ rest → (m.grey ≡ []) ⊎ ((ys : List Addr) × (m.grey ≡ g ∷ ys))
-  oldest_was (inl is) g rest e = inr (rest, sym (ap (λ x. (born x m k n).grey) is) ∙ e)
-  oldest_was (inr is) g rest e = oldest_by m.grey (next_address m.old) g rest (sym (ap (λ x. (born x m k n).grey) is) ∙ e)
+  oldest_was : (space ≡ InOld) ⊎ (space ≡ Listed) → (g : Addr) (rest : List Addr) → m'.grey ≡ g ∷ rest → (m.grey ≡ []) ⊎ ((ys : List Addr) × (m.grey ≡ g ∷ ys))
+  oldest_was (inl is) g rest e = inr (rest, sym (ap (λ x. (give_birth x m k n).grey) is) ∙ e)
+  oldest_was (inr is) g rest e = oldest_by m.grey (next_address m.old) g rest (sym (ap (λ x. (give_birth x m k n).grey) is) ∙ e)
 
   -- where nothing is grey nothing was
-  none_was : (place ≡ InOld) ⊎ (place ≡ Listed) → m'.grey ≡ [] → m.grey ≡ []
-  none_was (inl is) e = sym (ap (λ x. (born x m k n).grey) is) ∙ e
-  none_was (inr is) e = none_by m.grey (sym (ap (λ x. (born x m k n).grey) is) ∙ e)
+  none_was : (space ≡ InOld) ⊎ (space ≡ Listed) → m'.grey ≡ [] → m.grey ≡ []
+  none_was (inl is) e = sym (ap (λ x. (give_birth x m k n).grey) is) ∙ e
+  none_was (inr is) e = none_by m.grey (sym (ap (λ x. (give_birth x m k n).grey) is) ∙ e)
     where
       none_by : (xs : List Addr) → xs ++ next_address m.old ∷ [] ≡ [] → xs ≡ []
       none_by [] g = refl
@@ -476,12 +476,12 @@ module _ (tree : Tree) (hold : Hold) (posted : Phase) (has_round : Bool) (words 
     marks = sound.marks marking
 
     -- what is born has one copy
-    alone : (place ≡ InOld) ⊎ (place ≡ Listed)
+    alone : (space ≡ InOld) ⊎ (space ≡ Listed)
     alone = suits.early (ap is_before_copies marking)
 
     -- it refers to marked objects alone
-    born_passes : (a : Addr) (c : Cell) → old_part place m k n ≡ Some c → SlotsPass tree (is_marked_address m') c
-    born_passes a c part = zeros_pass tree (is_marked_address m') refl c n (old_empty m k n place c part)
+    born_passes : (a : Addr) (c : Cell) → old_part space m k n ≡ Some c → SlotsPass tree (is_marked_address m') c
+    born_passes a c part = zeros_pass tree (is_marked_address m') refl c n (old_empty m k n space c part)
 
     -- a marked object that is not grey refers to marked ones alone
     born_black : (a : Addr) (c : Cell) → cell_in m'.old a ≡ Some c → c.marked ≡ true → IsListed m'.grey a ⊎ SlotsPass tree (is_marked_address m') c
@@ -506,7 +506,7 @@ module _ (tree : Tree) (hold : Hold) (posted : Phase) (has_round : Bool) (words 
     -- and each marked one where nothing was marked since the newest round was posted
     born_closed : has_round ≡ true → m'.has_marked ≡ false → (a : Addr) (c : Cell) → cell_in m'.old a ≡ Some c → c.marked ≡ true → SlotsPass tree (is_marked_address m') c
     born_closed round clean a c e marked = elim (was_old a c e) [
-      | inl was ↦ marked_slots c (marks.closed round (sym (born_flags m k n place).1 ∙ clean) a c was marked)
+      | inl was ↦ marked_slots c (marks.closed round (sym (born_flags m k n space).1 ∙ clean) a c was marked)
       | inr here ↦ born_passes a c here.1
     ]
 
@@ -524,40 +524,40 @@ module _ (tree : Tree) (hold : Hold) (posted : Phase) (has_round : Bool) (words 
     born_all_grey : ((a : Addr) → is_marked_old m a ≡ true → IsListed m.grey a) → (a : Addr) → is_marked_old m' a ≡ true → IsListed m'.grey a
     born_all_grey all a e = by_cell (marked_there (cell_in m'.old a) e)
       where
-        by_place : (place ≡ InOld) ⊎ (place ≡ Listed) → (c : Cell) → c.marked ≡ true → a ≡ next_address m.old → old_part place m k n ≡ Some c → IsListed m'.grey a
-        by_place (inl is) c marked at part = false_true (sym (ap (λ x. is_marked_cell (old_part x m k n)) is) ∙ ap is_marked_cell part ∙ marked)
-        by_place (inr is) c marked at part = subst (λ xs. IsListed xs a) (sym (ap (λ x. (born x m k n).grey) is)) (subst (IsListed (m.grey ++ next_address m.old ∷ [])) (sym at) (listed_last m.grey (next_address m.old)))
+        by_index : (space ≡ InOld) ⊎ (space ≡ Listed) → (c : Cell) → c.marked ≡ true → a ≡ next_address m.old → old_part space m k n ≡ Some c → IsListed m'.grey a
+        by_index (inl is) c marked at part = false_true (sym (ap (λ x. is_marked_cell (old_part x m k n)) is) ∙ ap is_marked_cell part ∙ marked)
+        by_index (inr is) c marked at part = subst (λ xs. IsListed xs a) (sym (ap (λ x. (give_birth x m k n).grey) is)) (subst (IsListed (m.grey ++ next_address m.old ∷ [])) (sym at) (listed_last m.grey (next_address m.old)))
 
         by_cell : (c : Cell) × (cell_in m'.old a ≡ Some c) × (c.marked ≡ true) → IsListed m'.grey a
         by_cell r = elim (was_old a r.0 r.1) [
           | inl was ↦ grey_stays a (all a (ap is_marked_cell was ∙ r.2))
-          | inr here ↦ by_place alone r.0 r.2 (same_address a (next_address m.old) here.0) here.1
+          | inr here ↦ by_index alone r.0 r.2 (same_address a (next_address m.old) here.0) here.1
         ]
 
   -- ---- the heap
 
-  -- the new objects before the place of the collector are cleared
+  -- the new objects before the cursor of the collector are cleared
   born_cleared : posted ≡ Reclaim → IsCleared p m'
   born_cleared last = record {
-    place = new_place m k n p.place place (sound.cleared last).place;
+    offset = new_space m k n p.cursor space (sound.cleared last).offset;
     objects = λ b d e less. elim (was_new b d e) [
-      | inl was ↦ (sound.cleared last).objects b d was (subst (λ s. b.number < s + p.place) (born_new_start m k n place) less)
-      | inr here ↦ clear_part m k n place d (suits.clear last) here.1
+      | inl was ↦ (sound.cleared last).objects b d was (subst (λ s. b.number < s + p.cursor) (born_new_start m k n space) less)
+      | inr here ↦ clear_part m k n space d (suits.clear last) here.1
     ];
   }
 
   -- what the collector has loaded is live still
   born_loaded : posted ≡ Copy → IsLoaded tree p m'
   born_loaded copying is c lies slot next holds =
-      let one = sound.place.words copying (λ none. absurd (omega (arith, next, none))) in
-      let there = subst (λ s. cell_in m'.old (record { number = s + p.place }) ≡ Some c) (born_start m k n place) lies in
-      let same : one.0 ≡ c = same_Some one.0 c (sym (kept_old (record { number = m.old.start + p.place }) one.0 one.1) ∙ there) in
+      let one = sound.cursor.words copying (λ none. absurd (omega (arith, next, none))) in
+      let there = subst (λ s. cell_in m'.old (record { number = s + p.cursor }) ≡ Some c) (born_start m k n space) lies in
+      let same : one.0 ≡ c = same_Some one.0 c (sym (kept_old (record { number = m.old.start + p.cursor }) one.0 one.1) ∙ there) in
       let held = ap (λ (z : Cell). holds_reference tree z.kind slot) same ∙ holds in
       live_stays m m' born_stays (reference_in p.attempt.word) Copy (sound.loaded copying is one.0 one.1 slot next held)
 
   -- the heap is sound
   pub born_heap : IsSoundHeap tree posted has_round words p m'
-  born_heap = record { blocks = born_blocks; copies = born_copied; place = HasPlace-born posted p m sound.place place k n; loaded = born_loaded; marks = born_marked; cleared = born_cleared }
+  born_heap = record { blocks = born_blocks; copies = born_copied; cursor = HasCursor-born posted p m sound.cursor space k n; loaded = born_loaded; marks = born_marked; cleared = born_cleared }
 
   -- where the collector has not begun, it has not begun still
   pub born_not_begun : HasNotBegun posted has_round p m → HasNotBegun posted has_round p m'

@@ -1,14 +1,14 @@
--- Places of a block after a change of a cell, and what a walk over its cells finds.
+-- Offsets of a block after a change of a cell, and what a walk over its cells finds.
 use Rattle.std.proofs.Common.{◌≡◌, ℕ, ◌+◌, ◌≤◌, Bool, true, false, List, [], ◌∷◌, ◌++◌, refl, sym, ap, ◌∙◌, arith}
 use Rattle.std.specs.Prelude.{◌==◌, nat_lt, if◌then◌else◌, Some, None}
 use Rattle.std.proofs.lemmas.List.Sums.{sum_by-cons}
 use Rattle.std.proofs.lemmas.Bool.Decides.{nat_tests}
 use Rattle.object_memory.specs.declared.addresses.Addr.{Addr}
 use Rattle.object_memory.specs.Cells.{Cell, Cells, size, used_words, cell_from, change_from, cell_in, change_in}
-use Rattle.object_memory.specs.Spaces.{IsPlace, found_from, found_in}
+use Rattle.object_memory.specs.Spaces.{IsOffset, found_from, found_in}
 use Rattle.object_memory.proofs.Blocks.{range_in}
 
--- ---- places
+-- ---- offsets
 
 -- a list in two parts, of which the first one takes this number of words
 abbrev Parts : List Cell → ℕ → Type 0
@@ -24,15 +24,15 @@ module _ (f : Cell → Cell) (keeps : (c : Cell) → size (f c) ≡ size c) wher
       by_test true rest = (f d ∷ ds, after, refl, omega (arith, keeps d, sum_by-cons size (f d) ds, sum_by-cons size d ds))
       by_test false rest = (d ∷ rest.0, rest.1, ap (λ cs. d ∷ cs) rest.2, omega (arith, rest.3, sum_by-cons size d rest.0, sum_by-cons size d ds))
 
-  -- a place stays one where a cell changes
-  pub IsPlace-change : (s : Cells) (a : Addr) (p : ℕ) → IsPlace s p → IsPlace (change_in f s a) p
-  IsPlace-change s a p h =
+  -- an offset stays one where a cell changes
+  pub IsOffset-change : (s : Cells) (a : Addr) (p : ℕ) → IsOffset s p → IsOffset (change_in f s a) p
+  IsOffset-change s a p h =
       let r = parts_changed s.start h.before h.after a.number in
       record { before = r.0; after = r.1; split = ap (λ cs. change_from f s.start cs a.number) h.split ∙ r.2; at = omega (arith, h.at, r.3) }
 
-place_from : (at : ℕ) (cs : List Cell) (a : ℕ) (c : Cell) → cell_from at cs a ≡ Some c → (xs : List Cell) × (ys : List Cell) × (cs ≡ xs ++ ys) × (a ≡ at + used_words xs)
-place_from at [] a c e = absurd cc
-place_from at (x ∷ xs) a c e = by_test (a == at) refl e (place_from (at + size x) xs a c)
+offset_from : (at : ℕ) (cs : List Cell) (a : ℕ) (c : Cell) → cell_from at cs a ≡ Some c → (xs : List Cell) × (ys : List Cell) × (cs ≡ xs ++ ys) × (a ≡ at + used_words xs)
+offset_from at [] a c e = absurd cc
+offset_from at (x ∷ xs) a c e = by_test (a == at) refl e (offset_from (at + size x) xs a c)
   where
     by_test : (t : Bool) → (a == at) ≡ t → (if t then Some x else cell_from (at + size x) xs a) ≡ Some c
         → (cell_from (at + size x) xs a ≡ Some c → (us : List Cell) × (vs : List Cell) × (xs ≡ us ++ vs) × (a ≡ at + size x + used_words us))
@@ -40,18 +40,18 @@ place_from at (x ∷ xs) a c e = by_test (a == at) refl e (place_from (at + size
     by_test true test g rest = ([], x ∷ xs, refl, (let here : a ≡ at = grind (arith, nat_tests) in omega (arith, here)))
     by_test false test g rest = let r = rest g in (x ∷ r.0, r.1, ap (λ cs. x ∷ cs) r.2, omega (arith, r.3, sum_by-cons size x r.0))
 
--- where a cell lies is a place
-pub IsPlace-cell : (s : Cells) (a : Addr) (c : Cell) → cell_in s a ≡ Some c → IsPlace s a.number
-IsPlace-cell s a c e = let r = place_from s.start s.cells a.number c e in record { before = r.0; after = r.1; split = r.2; at = r.3 }
+-- where a cell lies is an offset
+pub IsOffset-cell : (s : Cells) (a : Addr) (c : Cell) → cell_in s a ≡ Some c → IsOffset s a.number
+IsOffset-cell s a c e = let r = offset_from s.start s.cells a.number c e in record { before = r.0; after = r.1; split = r.2; at = r.3 }
 
 -- ---- walks
 
--- what a walk finds: a cell with the property, before each other one that lies at the place or after it
+-- what a walk finds: a cell with the property, before each other one that lies at the offset or after it
 pub record IsFound (q : Cell → Bool) (s : Cells) (p r : ℕ) : Type 0 where
   pub cell : Cell
   pub lies : cell_in s (record { number = r }) ≡ Some cell
   pub holds : q cell ≡ true
-  pub behind : p ≤ r
+  pub following : p ≤ r
   pub first : (a : Addr) (c : Cell) → cell_in s a ≡ Some c → q c ≡ true → p ≤ a.number → r ≤ a.number
 
 low_from : (at : ℕ) (cs : List Cell) (a : ℕ) (c : Cell) → cell_from at cs a ≡ Some c → at ≤ a
@@ -70,14 +70,14 @@ module _ (q : Cell → Bool) where
       far = let low = low_from (at + size x) xs r h.0 h.1 in grind (arith, nat_tests)
 
       by_test : (a : ℕ) (d : Cell) (t : Bool) → (a == at) ≡ t → (if t then Some x else cell_from (at + size x) xs a) ≡ Some d → q d ≡ true → p ≤ a → r ≤ a
-      by_test a d true test lies holds behind =
+      by_test a d true test lies holds following =
           let same : x ≡ d = cc in
           let here : a ≡ at = grind (arith, nat_tests) in
-          elim (not_first (omega (arith, here, behind)) (ap q same ∙ holds)) [ ]
-      by_test a d false test lies holds behind = h.4 a d lies holds behind
+          elim (not_first (omega (arith, here, following)) (ap q same ∙ holds)) [ ]
+      by_test a d false test lies holds following = h.4 a d lies holds following
 
       first : (a : ℕ) (d : Cell) → cell_from at (x ∷ xs) a ≡ Some d → q d ≡ true → p ≤ a → r ≤ a
-      first a d lies holds behind = by_test a d (a == at) refl lies holds behind
+      first a d lies holds following = by_test a d (a == at) refl lies holds following
 
   found_is_from : (at : ℕ) (cs : List Cell) (p r : ℕ) → found_from q at cs p ≡ Some r → Found at cs p r
   found_is_from at [] p r e = absurd cc
@@ -89,14 +89,14 @@ module _ (q : Cell → Bool) where
       by_tests false true test holds g rest =
           let same : at ≡ r = cc in
           let here : (r == at) ≡ true = grind (arith, nat_tests) in
-          let behind : p ≤ at = grind (arith, nat_tests) in
-          (x, rw here refl, holds, omega (arith, same, behind), λ a d lies h low. omega (arith, same, low_from at (x ∷ xs) a d lies))
+          let following : p ≤ at = grind (arith, nat_tests) in
+          (x, rw here refl, holds, omega (arith, same, following), λ a d lies h low. omega (arith, same, low_from at (x ∷ xs) a d lies))
       by_tests false false test holds g rest = found_later at x xs p r (λ low h. absurd cc) (rest g)
 
   pub found_is : (s : Cells) (p r : ℕ) → found_in q s p ≡ Some r → IsFound q s p r
   found_is s p r e =
       let h = found_is_from s.start s.cells p r e in
-      record { cell = h.0; lies = h.1; holds = h.2; behind = h.3; first = λ a c lies holds low. h.4 a.number c lies holds low }
+      record { cell = h.0; lies = h.1; holds = h.2; following = h.3; first = λ a c lies holds low. h.4 a.number c lies holds low }
 
   none_from : (at : ℕ) (cs : List Cell) (p : ℕ) → found_from q at cs p ≡ None → (a : ℕ) (c : Cell) → cell_from at cs a ≡ Some c → p ≤ a → q c ≡ false
   none_from at [] p e a c lies low = absurd cc
@@ -112,6 +112,6 @@ module _ (q : Cell → Bool) where
       by_tests false false true test fails here g h rest = let same : x ≡ c = cc in ap q (sym same) ∙ fails
       by_tests false false false test fails here g h rest = rest g h
 
-  -- where nothing is found no cell at the place or after it has the property
+  -- where nothing is found no cell at the offset or after it has the property
   pub found_none : (s : Cells) (p : ℕ) → found_in q s p ≡ None → (a : Addr) (c : Cell) → cell_in s a ≡ Some c → p ≤ a.number → q c ≡ false
   found_none s p e a c lies low = none_from s.start s.cells p e a.number c lies low

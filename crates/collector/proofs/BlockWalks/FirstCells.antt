@@ -1,4 +1,4 @@
--- The first cell with a property from a place on: where one is found, and where none is.
+-- The first cell with a property from an offset on: where one is found, and where none is.
 use Rattle.std.proofs.Common.{◌≡◌, ◌⊎◌, inl, inr, ℕ, ◌+◌, ◌<◌, ◌≤◌, Bool, true, false, List, [], ◌∷◌, refl, sym, ap, subst, ◌∙◌, arith}
 use Rattle.std.specs.Prelude.{◌==◌, nat_lt, if◌then◌else◌, Some, None}
 use Rattle.std.proofs.lemmas.Bool.Decides.{nat_tests}
@@ -9,12 +9,12 @@ use Rattle.object_memory.specs.Spaces.{found_from, found_in}
 use Rattle.object_memory.proofs.Blocks.{range_in}
 
 module _ (q : Cell → Bool) where
-  -- the cell that is found has the property, and none between the place and it has
+  -- the cell that is found has the property, and none between the offset and it has
   record FoundFrom (at : ℕ) (cs : List Cell) (p r : ℕ) : Type 0 where
     cell : Cell
     lies : cell_from at cs r ≡ Some cell
     holds : q cell ≡ true
-    behind : p ≤ r
+    following : p ≤ r
     before : (a : ℕ) (d : Cell) → cell_from at cs a ≡ Some d → p ≤ a → a < r → q d ≡ false
 
   -- no cell lies before the first one
@@ -42,7 +42,7 @@ module _ (q : Cell → Bool) where
     cell = f.cell;
     lies = later_lies at c cs r f.cell f.lies;
     holds = f.holds;
-    behind = f.behind;
+    following = f.following;
     before = λ a d e from upto. elim (first_or_later at c cs a d e) [
       | inl here ↦ elim skip [ inl early ↦ absurd (omega (arith, early, here.0, from)) | inr fails ↦ ap q (sym here.1) ∙ fails ]
       | inr later ↦ f.before a d later.1 from upto
@@ -55,7 +55,7 @@ module _ (q : Cell → Bool) where
     cell = c;
     lies = (let test : (at == at) ≡ true = grind (arith, nat_tests) in rw test refl);
     holds = holds;
-    behind = from;
+    following = from;
     before = λ a d e from' upto. absurd (omega (arith, low at (c ∷ cs) a d e, upto));
   }
 
@@ -86,19 +86,19 @@ module _ (q : Cell → Bool) where
 
 -- ---- blocks
 
--- where a walk stops there is a cell with the property, from the place on, and none between
+-- where a walk stops there is a cell with the property, from the offset on, and none between
 pub record IsFound (q : Cell → Bool) (s : Cells) (p r : ℕ) : Type 0 where
   pub cell : Cell
   pub lies : cell_in s (record { number = r }) ≡ Some cell
   pub holds : q cell ≡ true
-  pub behind : p ≤ r
+  pub following : p ≤ r
   pub before : (a : Addr) (d : Cell) → cell_in s a ≡ Some d → p ≤ a.number → a.number < r → q d ≡ false
 
 pub found_is : (q : Cell → Bool) (s : Cells) (p r : ℕ) → found_in q s p ≡ Some r → IsFound q s p r
 found_is q s p r e =
     let f = found_by q s.start s.cells p r e in
-    record { cell = f.cell; lies = f.lies; holds = f.holds; behind = f.behind; before = λ a d lies from upto. f.before a.number d lies from upto }
+    record { cell = f.cell; lies = f.lies; holds = f.holds; following = f.following; before = λ a d lies from upto. f.before a.number d lies from upto }
 
--- where it finds none, none from the place on has it
+-- where it finds none, none from the offset on has it
 pub none_found : (q : Cell → Bool) (s : Cells) (p : ℕ) → found_in q s p ≡ None → (a : Addr) (d : Cell) → cell_in s a ≡ Some d → p ≤ a.number → q d ≡ false
 none_found q s p e a d lies from = none_by q s.start s.cells p e a.number d lies from

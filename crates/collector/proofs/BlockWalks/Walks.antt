@@ -2,53 +2,53 @@
 use Rattle.std.proofs.Common.{◌≡◌, ℕ, ◌+◌, ◌-◌, Bool, true, false, refl, sym, ap, subst, ◌∙◌, arith}
 use Rattle.std.specs.Prelude.{is_some, Option, Some, None, option_map}
 use Rattle.object_memory.specs.declared.addresses.Addr.{Addr}
-use Rattle.object_memory.specs.Cells.{Cell, Cells, size, cell_in, address_behind, begins_behind}
-use Rattle.object_memory.specs.Spaces.{IsPlace, clear, found_in, is_noted}
+use Rattle.object_memory.specs.Cells.{Cell, Cells, size, cell_in, address_after_cell, begins_after}
+use Rattle.object_memory.specs.Spaces.{IsOffset, clear, found_in, is_noted}
 use Rattle.object_memory.specs.Objects.{Objects}
-use Rattle.object_memory.proofs.Places.{found_end, found_here, found_step, place-behind, place-last}
+use Rattle.object_memory.proofs.Offsets.{found_end, found_here, found_step, offset-following, offset-last}
 use Rattle.collector.specs.Conditions.{found_at}
 use Rattle.collector.specs.Flips.{cleared_at, cleared_on}
 use Rattle.collector.specs.declared.progress.Progress.{Progress}
 use Rattle.collector.specs.declared.walks.Found.{Found}
 
--- a walk has come from a place to another, and passed no cell with the property
+-- a walk has come from an offset to another, and passed no cell with the property
 pub record HasPassed (q : Cell → Bool) (s : Cells) (from at : ℕ) : Type 0 where
-  pub place : IsPlace s (s.start + at)
+  pub offset : IsOffset s (s.start + at)
   pub found : found_in q s (s.start + at) ≡ found_in q s (s.start + from)
 
-none_begins : (s : Cells) (n : ℕ) → begins_behind s n ≡ None → cell_in s (address_behind s n) ≡ None
-none_begins s n e = by_cell (cell_in s (address_behind s n)) e
+none_begins : (s : Cells) (n : ℕ) → begins_after s n ≡ None → cell_in s (address_after_cell s n) ≡ None
+none_begins s n e = by_cell (cell_in s (address_after_cell s n)) e
   where
-    by_cell : (o : Option Cell) → option_map (λ (c : Cell). address_behind s n) o ≡ None → o ≡ None
+    by_cell : (o : Option Cell) → option_map (λ (c : Cell). address_after_cell s n) o ≡ None → o ≡ None
     by_cell None e = refl
     by_cell (Some c) e = absurd cc
 
 module _ (q : Cell → Bool) (s : Cells) (from at : ℕ) (h : HasPassed q s from at) where
-  module _ (a : Addr) (c : Cell) (is : a ≡ address_behind s at) (there : cell_in s a ≡ Some c) where
+  module _ (a : Addr) (c : Cell) (is : a ≡ address_after_cell s at) (there : cell_in s a ≡ Some c) where
     here : cell_in s (record { number = s.start + at }) ≡ Some c
     here = subst (λ x. cell_in s x ≡ Some c) is there
 
     -- a cell without the property is passed
     pub passed : q c ≡ false → HasPassed q s from (at + size c)
     passed fails =
-        let behind : s.start + at + size c ≡ s.start + (at + size c) = omega arith in
+        let following : s.start + at + size c ≡ s.start + (at + size c) = omega arith in
         record {
-          place = subst (IsPlace s) behind (place-behind s (s.start + at) c h.place here);
-          found = ap (found_in q s) (sym behind) ∙ sym (found_step q s (s.start + at) c here fails) ∙ h.found;
+          offset = subst (IsOffset s) following (offset-following s (s.start + at) c h.offset here);
+          found = ap (found_in q s) (sym following) ∙ sym (found_step q s (s.start + at) c here fails) ∙ h.found;
         }
 
     -- one with the property is found
-    pub found_now : q c ≡ true → ◌≡◌ {A = Option Found} (Some (record { place = at; object = a })) (option_map (found_at s) (found_in q s (s.start + from)))
+    pub found_now : q c ≡ true → ◌≡◌ {A = Option Found} (Some (record { offset = at; object = a })) (option_map (found_at s) (found_in q s (s.start + from)))
     found_now holds =
         let where' : at ≡ s.start + at - s.start = omega arith in
-        let one : ◌≡◌ {A = Found} (record { place = at; object = a }) (record { place = s.start + at - s.start; object = address_behind s at }) =
-        ap (λ (n : ℕ). record { place = n; object = a }) where' ∙ ap (λ (x : Addr). record { place = s.start + at - s.start; object = x }) is in
+        let one : ◌≡◌ {A = Found} (record { offset = at; object = a }) (record { offset = s.start + at - s.start; object = address_after_cell s at }) =
+        ap (λ (n : ℕ). record { offset = n; object = a }) where' ∙ ap (λ (x : Addr). record { offset = s.start + at - s.start; object = x }) is in
         ap Some one ∙ sym (ap (option_map (found_at s)) (sym h.found ∙ found_here q s (s.start + at) c here holds))
 
   -- at the end there is none
-  pub found_none : begins_behind s at ≡ None → ◌≡◌ {A = Option Found} None (option_map (found_at s) (found_in q s (s.start + from)))
+  pub found_none : begins_after s at ≡ None → ◌≡◌ {A = Option Found} None (option_map (found_at s) (found_in q s (s.start + from)))
   found_none e =
-      let end = place-last s (s.start + at) h.place (none_begins s at e) in
+      let end = offset-last s (s.start + at) h.offset (none_begins s at e) in
       sym (ap (option_map (found_at s)) (sym h.found ∙ ap (found_in q s) end ∙ found_end q s))
 
 -- what was found determines where
@@ -72,15 +72,15 @@ noted_unmarked c e = rw e refl
 abbrev Outcome : Type 0
 Outcome = Progress × Objects × Bool
 
-pub cleared_done : (p : Progress) (o : Objects) (f : Found) (c : Cell) → ◌≡◌ {A = Option Found} (Some f) (option_map (found_at o.spaces.new) (found_in is_noted o.spaces.new (o.spaces.new.start + p.place)))
-    → cell_in o.spaces.new f.object ≡ Some c → ◌≡◌ {A = Outcome} (record p { place = f.place + size c }, record o { spaces = clear o.spaces f.object }, true) (cleared_on p o)
-cleared_done p o f c found at = by_found (found_in is_noted o.spaces.new (o.spaces.new.start + p.place)) found
+pub cleared_done : (p : Progress) (o : Objects) (f : Found) (c : Cell) → ◌≡◌ {A = Option Found} (Some f) (option_map (found_at o.spaces.new) (found_in is_noted o.spaces.new (o.spaces.new.start + p.cursor)))
+    → cell_in o.spaces.new f.object ≡ Some c → ◌≡◌ {A = Outcome} (record p { cursor = f.offset + size c }, record o { spaces = clear o.spaces f.object }, true) (cleared_on p o)
+cleared_done p o f c found at = by_found (found_in is_noted o.spaces.new (o.spaces.new.start + p.cursor)) found
   where
     by_found : (x : Option ℕ) → ◌≡◌ {A = Option Found} (Some f) (option_map (found_at o.spaces.new) x)
-        → ◌≡◌ {A = Outcome} (record p { place = f.place + size c }, record o { spaces = clear o.spaces f.object }, true) (cleared_at p o x)
+        → ◌≡◌ {A = Outcome} (record p { cursor = f.offset + size c }, record o { spaces = clear o.spaces f.object }, true) (cleared_at p o x)
     by_found None e = absurd cc
     by_found (Some n) e =
         let same : f ≡ found_at o.spaces.new n = cc in
         let object : f.object ≡ record { number = n } = ap (λ (x : Found). x.object) same in
         let there : cell_in o.spaces.new (record { number = n }) ≡ Some c = subst (λ a. cell_in o.spaces.new a ≡ Some c) object at in
-        rw there (ap (λ (x : Found). (record p { place = x.place + size c }, record o { spaces = clear o.spaces x.object }, true)) same)
+        rw there (ap (λ (x : Found). (record p { cursor = x.offset + size c }, record o { spaces = clear o.spaces x.object }, true)) same)

@@ -1,4 +1,4 @@
--- The work of Allocate keeps the heap sound: an object that is marked gets its copy, the place moves on, and at the end of it each marked object has one.
+-- The work of Allocate keeps the heap sound: an object that is marked gets its copy, the cursor moves on, and at the end of it each marked object has one.
 use Rattle.std.proofs.Common.{◌≡◌, ◌≢◌, ◌⊎◌, inl, inr, ℕ, zero, suc, ◌+◌, ◌<◌, ◌≤◌, Bool, true, false, length, refl, sym, ap, subst, ◌∙◌, arith}
 use Rattle.std.specs.Prelude.{◌&&◌, is_none, if◌then◌else◌, replicate, Option, Some, None, slice_get}
 use Rattle.std.proofs.lemmas.List.{length-replicate}
@@ -7,20 +7,20 @@ use Rattle.cil_model.specs.declared.phases.Phase.TheVariants.{Allocate, Copy}
 use Rattle.cil_model.specs.declared.trees.Tree.{Tree}
 use Rattle.object_memory.specs.declared.addresses.Addr.{Addr}
 use Rattle.object_memory.specs.Cells.{Cell, size, used_words, free_words, next_address, cell_in, slots_in}
-use Rattle.object_memory.specs.Spaces.{Spaces, AreSpaces, HasShellRoom, IsPlace, set_other, shell_of, with_shell}
+use Rattle.object_memory.specs.Spaces.{Spaces, AreSpaces, HasShellRoom, IsOffset, set_other, shell_of, with_shell}
 use Rattle.object_memory.specs.Objects.{Objects}
 use Rattle.object_memory.proofs.Blocks.{range_in}
-use Rattle.object_memory.proofs.Places.{cell, end, at_place, below_next}
+use Rattle.object_memory.proofs.Offsets.{cell, end, at_offset, below_next}
 use Rattle.object_memory.proofs.Rooms.{shell_fits, size-shell, HasShellRoom-shell}
 use Rattle.object_memory.proofs.TwoBlocks.{own, still, after_in, before_in}
 use Rattle.object_memory.proofs.TwoCopies.{AreSpaces-shell, shell-old, shell-new, shell-kept_new, shell-was_new}
 use Rattle.collector.specs.References.{SlotsPass}
 use Rattle.collector.specs.Phases.{HasCopied, HasLooked, is_live, is_marked_old, is_new_address, no_progress}
 use Rattle.collector.specs.Soundness.{AreBlocks, AreCopies, AreCopied, IsSoundHeap}
-use Rattle.collector.specs.Copying.{address_behind, looked_on, needs_copy, shell_step}
+use Rattle.collector.specs.Copying.{address_after_cell, looked_on, needs_copy, shell_step}
 use Rattle.collector.specs.declared.progress.Progress.{Progress}
-use Rattle.collector.proofs.BlockWalks.ChangedBlocks.{IsPlace-change}
-use Rattle.collector.proofs.BlockWalks.CollectorPlaces.{HasPlace-begun}
+use Rattle.collector.proofs.BlockWalks.ChangedBlocks.{IsOffset-change}
+use Rattle.collector.proofs.BlockWalks.CollectorOffsets.{HasCursor-begun}
 use Rattle.collector.proofs.Copying.CopyTests.{marks_stay, new_stays, permanent_or, same_address, slots_weaken, some_is_other}
 
 -- ---- slots of a copy without words
@@ -173,35 +173,35 @@ module _ (tree : Tree) (has_round : Bool) (words : ℕ) (p : Progress) (m : Spac
     shell_sound = record {
       blocks = shell_blocks;
       copies = shell_copied;
-      place = record { place = λ posted. IsPlace-change (set_other b) (λ z. refl) m.old a (m.old.start + p.place) (sound.place.place posted); attempts = λ posted. absurd cc; words = λ posted. absurd cc };
+      cursor = record { offset = λ posted. IsOffset-change (set_other b) (λ z. refl) m.old a (m.old.start + p.cursor) (sound.cursor.offset posted); attempts = λ posted. absurd cc; words = λ posted. absurd cc };
       loaded = λ posted. absurd cc;
       marks = λ posted. absurd cc;
       cleared = λ posted. absurd cc;
     }
 
-  -- ---- the place moves on
+  -- ---- the cursor moves on
 
-  module _ (c : Cell) (lies : cell_in m.old (address_behind m.old p.place) ≡ Some c) (done : c.marked ≡ true → c.other ≢ None) where
+  module _ (c : Cell) (lies : cell_in m.old (address_after_cell m.old p.cursor) ≡ Some c) (done : c.marked ≡ true → c.other ≢ None) where
     abbrev next : Progress
-    next = record p { place = p.place + size c }
+    next = record p { cursor = p.cursor + size c }
 
     next_shells : (x : Addr) (d : Cell) → cell_in m.old x ≡ Some d → d.marked ≡ true → HasLooked Allocate next m x → d.other ≢ None
-    next_shells x d at dark looked = by_case (below_next m.old (m.old.start + p.place) c lies x d at (omega (arith, looked)))
+    next_shells x d at dark looked = by_case (below_next m.old (m.old.start + p.cursor) c lies x d at (omega (arith, looked)))
       where
-        by_case : (x.number < m.old.start + p.place) ⊎ (x.number ≡ m.old.start + p.place) → d.other ≢ None
+        by_case : (x.number < m.old.start + p.cursor) ⊎ (x.number ≡ m.old.start + p.cursor) → d.other ≢ None
         by_case (inl before) = sound.copies.shells x d at dark before
         by_case (inr same) =
-            let there : cell_in m.old (address_behind m.old p.place) ≡ Some d = subst (λ z. cell_in m.old z ≡ Some d) (same_address x (address_behind m.old p.place) same) at in
+            let there : cell_in m.old (address_after_cell m.old p.cursor) ≡ Some d = subst (λ z. cell_in m.old z ≡ Some d) (same_address x (address_after_cell m.old p.cursor) same) at in
             let is : c ≡ d = same_Some c d (sym lies ∙ there) in
             subst (λ (z : Cell). z.other ≢ None) is (done (ap (λ (z : Cell). z.marked) is ∙ dark))
 
-    next_place : IsPlace m.old (m.old.start + next.place)
-    next_place = elim (at_place m.old (m.old.start + p.place) (sound.place.place (inl refl))) [
-      | cell d there behind ↦ (
+    next_offset : IsOffset m.old (m.old.start + next.cursor)
+    next_offset = elim (at_offset m.old (m.old.start + p.cursor) (sound.cursor.offset (inl refl))) [
+      | cell d there following ↦ (
           let is : d ≡ c = same_Some d c (sym there ∙ lies) in
-          let far : m.old.start + p.place + size d ≡ m.old.start + next.place = (let same = ap size is in omega (arith, same)) in
-          subst (IsPlace m.old) far behind)
-      | end is ↦ absurd (omega (arith, is, (range_in m.old (address_behind m.old p.place) c lies).1))
+          let far : m.old.start + p.cursor + size d ≡ m.old.start + next.cursor = (let same = ap size is in omega (arith, same)) in
+          subst (IsOffset m.old) far following)
+      | end is ↦ absurd (omega (arith, is, (range_in m.old (address_after_cell m.old p.cursor) c lies).1))
     ]
 
     next_copied : AreCopied tree Allocate next m
@@ -221,7 +221,7 @@ module _ (tree : Tree) (has_round : Bool) (words : ℕ) (p : Progress) (m : Spac
     next_sound = record {
       blocks = sound.blocks;
       copies = next_copied;
-      place = record { place = λ posted. next_place; attempts = λ posted. absurd cc; words = λ posted. absurd cc };
+      cursor = record { offset = λ posted. next_offset; attempts = λ posted. absurd cc; words = λ posted. absurd cc };
       loaded = λ posted. absurd cc;
       marks = λ posted. absurd cc;
       cleared = λ posted. absurd cc;
@@ -241,25 +241,25 @@ needs_parts c h = by_tests c.marked c.other refl refl h
 needs_none : (c : Cell) → needs_copy c ≡ false → c.marked ≡ true → c.other ≢ None
 needs_none c h marked bare = let wrong : true ≡ false = sym (rw (marked, bare) refl) ∙ h in absurd cc
 
-looked_by_need : (p : Progress) (o : Objects) (c : Cell) (t : Bool) → cell_in o.spaces.old (address_behind o.spaces.old p.place) ≡ Some c → needs_copy c ≡ t
-    → ((if t then record o { spaces = with_shell o.spaces (address_behind o.spaces.old p.place) c } else o) ≡ o)
-    ⊎ ((d : Cell) × (cell_in o.spaces.old (address_behind o.spaces.old p.place) ≡ Some d) × (d.marked ≡ true) × (d.other ≡ None)
-    × ((if t then record o { spaces = with_shell o.spaces (address_behind o.spaces.old p.place) c } else o) ≡ record o { spaces = with_shell o.spaces (address_behind o.spaces.old p.place) d }))
+looked_by_need : (p : Progress) (o : Objects) (c : Cell) (t : Bool) → cell_in o.spaces.old (address_after_cell o.spaces.old p.cursor) ≡ Some c → needs_copy c ≡ t
+    → ((if t then record o { spaces = with_shell o.spaces (address_after_cell o.spaces.old p.cursor) c } else o) ≡ o)
+    ⊎ ((d : Cell) × (cell_in o.spaces.old (address_after_cell o.spaces.old p.cursor) ≡ Some d) × (d.marked ≡ true) × (d.other ≡ None)
+    × ((if t then record o { spaces = with_shell o.spaces (address_after_cell o.spaces.old p.cursor) c } else o) ≡ record o { spaces = with_shell o.spaces (address_after_cell o.spaces.old p.cursor) d }))
 looked_by_need p o c true lies needs = let parts = needs_parts c needs in inr (c, lies, parts.0, parts.1, refl)
 looked_by_need p o c false lies needs = inl refl
 
-looked_by_cell : (p : Progress) (o : Objects) (r : Option Cell) → cell_in o.spaces.old (address_behind o.spaces.old p.place) ≡ r
+looked_by_cell : (p : Progress) (o : Objects) (r : Option Cell) → cell_in o.spaces.old (address_after_cell o.spaces.old p.cursor) ≡ r
     → ((shell_step p o r).1 ≡ o)
-    ⊎ ((c : Cell) × (cell_in o.spaces.old (address_behind o.spaces.old p.place) ≡ Some c) × (c.marked ≡ true) × (c.other ≡ None)
-    × ((shell_step p o r).1 ≡ record o { spaces = with_shell o.spaces (address_behind o.spaces.old p.place) c }))
+    ⊎ ((c : Cell) × (cell_in o.spaces.old (address_after_cell o.spaces.old p.cursor) ≡ Some c) × (c.marked ≡ true) × (c.other ≡ None)
+    × ((shell_step p o r).1 ≡ record o { spaces = with_shell o.spaces (address_after_cell o.spaces.old p.cursor) c }))
 looked_by_cell p o None lies = inl refl
 looked_by_cell p o (Some c) lies = looked_by_need p o c (needs_copy c) lies refl
 
--- the objects after a step: they stay, or the object at the place has got its copy
+-- the objects after a step: they stay, or the object at the cursor has got its copy
 pub looked_cases : (p : Progress) (o : Objects) → ((looked_on p o).1 ≡ o)
-    ⊎ ((c : Cell) × (cell_in o.spaces.old (address_behind o.spaces.old p.place) ≡ Some c) × (c.marked ≡ true) × (c.other ≡ None)
-    × ((looked_on p o).1 ≡ record o { spaces = with_shell o.spaces (address_behind o.spaces.old p.place) c }))
-looked_cases p o = looked_by_cell p o (cell_in o.spaces.old (address_behind o.spaces.old p.place)) refl
+    ⊎ ((c : Cell) × (cell_in o.spaces.old (address_after_cell o.spaces.old p.cursor) ≡ Some c) × (c.marked ≡ true) × (c.other ≡ None)
+    × ((looked_on p o).1 ≡ record o { spaces = with_shell o.spaces (address_after_cell o.spaces.old p.cursor) c }))
+looked_cases p o = looked_by_cell p o (cell_in o.spaces.old (address_after_cell o.spaces.old p.cursor)) refl
 
 module _ (tree : Tree) (has_round : Bool) (words : ℕ) (p : Progress) (o : Objects) (sound : IsSoundHeap tree Allocate has_round words p o.spaces) where
   -- a copy always fits
@@ -268,24 +268,24 @@ module _ (tree : Tree) (has_round : Bool) (words : ℕ) (p : Progress) (o : Obje
       let fits = shell_fits o.spaces sound.blocks.spaces (sound.copies.room (inr refl)) a c lies (needs_parts c needs).1 in
       rw lies (omega (arith, fits, size-shell a c))
 
-  step_by_need : (c : Cell) → cell_in o.spaces.old (address_behind o.spaces.old p.place) ≡ Some c → (t : Bool) → needs_copy c ≡ t
-      → IsSoundHeap tree Allocate has_round words (record p { place = p.place + size c }) (if t then record o { spaces = with_shell o.spaces (address_behind o.spaces.old p.place) c } else o).spaces
+  step_by_need : (c : Cell) → cell_in o.spaces.old (address_after_cell o.spaces.old p.cursor) ≡ Some c → (t : Bool) → needs_copy c ≡ t
+      → IsSoundHeap tree Allocate has_round words (record p { cursor = p.cursor + size c }) (if t then record o { spaces = with_shell o.spaces (address_after_cell o.spaces.old p.cursor) c } else o).spaces
   step_by_need c lies true needs =
       let parts = needs_parts c needs in
-      let a = address_behind o.spaces.old p.place in
+      let a = address_after_cell o.spaces.old p.cursor in
       let b = next_address o.spaces.new in
       let shelled = shell_sound tree has_round words p o.spaces sound a c lies parts.0 parts.1 in
       let there = shell-old o.spaces sound.blocks.spaces (sound.copies.room (inr refl)) a c lies parts.1 in
       next_sound tree has_round words p (with_shell o.spaces a c) shelled (set_other b c) there (λ marked wrong. absurd cc)
   step_by_need c lies false needs = next_sound tree has_round words p o.spaces sound c lies (needs_none c needs)
 
-  step_by_cell : (r : Option Cell) → cell_in o.spaces.old (address_behind o.spaces.old p.place) ≡ r → IsSoundHeap tree Allocate has_round words (shell_step p o r).0 (shell_step p o r).1.spaces
+  step_by_cell : (r : Option Cell) → cell_in o.spaces.old (address_after_cell o.spaces.old p.cursor) ≡ r → IsSoundHeap tree Allocate has_round words (shell_step p o r).0 (shell_step p o r).1.spaces
   step_by_cell None lies = sound
   step_by_cell (Some c) lies = step_by_need c lies (needs_copy c) refl
 
   -- a step of Allocate keeps the heap sound
   pub looked_sound : IsSoundHeap tree Allocate has_round words (looked_on p o).0 (looked_on p o).1.spaces
-  looked_sound = step_by_cell (cell_in o.spaces.old (address_behind o.spaces.old p.place)) refl
+  looked_sound = step_by_cell (cell_in o.spaces.old (address_after_cell o.spaces.old p.cursor)) refl
 
   -- ---- the end
 
@@ -294,11 +294,11 @@ module _ (tree : Tree) (has_round : Bool) (words : ℕ) (p : Progress) (o : Obje
   none_left (Some c) e = absurd cc
 
   module _ (over : (looked_on p o).2 ≡ false) where
-    -- the place is after all old objects
-    at_end : o.spaces.old.start + p.place ≡ o.spaces.old.start + used_words o.spaces.old.cells
-    at_end = elim (at_place o.spaces.old (o.spaces.old.start + p.place) (sound.place.place (inl refl))) [
-      | cell d there behind ↦ (
-          let none = none_left (cell_in o.spaces.old (address_behind o.spaces.old p.place)) over in
+    -- the cursor is after all old objects
+    at_end : o.spaces.old.start + p.cursor ≡ o.spaces.old.start + used_words o.spaces.old.cells
+    at_end = elim (at_offset o.spaces.old (o.spaces.old.start + p.cursor) (sound.cursor.offset (inl refl))) [
+      | cell d there following ↦ (
+          let none = none_left (cell_in o.spaces.old (address_after_cell o.spaces.old p.cursor)) over in
           let wrong : Some d ≡ None = sym there ∙ none in
           absurd cc)
       | end is ↦ is
@@ -345,7 +345,7 @@ module _ (tree : Tree) (has_round : Bool) (words : ℕ) (p : Progress) (o : Obje
         new_references = sound.copies.new_references;
         room = λ posted. elim posted [ inl wrong ↦ absurd cc | inr wrong ↦ absurd cc ];
       };
-      place = HasPlace-begun Copy o.spaces;
+      cursor = HasCursor-begun Copy o.spaces;
       loaded = λ copying is. absurd cc;
       marks = λ posted. absurd cc;
       cleared = λ posted. absurd cc;

@@ -28,7 +28,7 @@ use Rattle.collector.specs.declared.progress.Stage.TheVariants.{Loaded}
 
 -- ---- lists
 
--- what is at another place stays
+-- what is at another index stays
 set_elsewhere : {X : Type 0} (xs : List X) (n k : ℕ) (y : X) → n ≢ k → slice_get (slice_set xs n y) k ≡ slice_get xs k
 set_elsewhere [] n k y ne = refl
 set_elsewhere (x ∷ xs) zero zero y ne = absurd (ne refl)

@@ -8,12 +8,12 @@ use Rattle.object_memory.specs.declared.addresses.Addr.{Addr}
 use Rattle.object_memory.specs.Cells.{Cell, cell_in, slots_in, free_words}
 use Rattle.object_memory.specs.Spaces.{Spaces, AreSpaces, HasShellRoom, found_in, has_other}
 use Rattle.object_memory.specs.Objects.{Objects, with_slot}
-use Rattle.object_memory.proofs.Places.{found_here}
+use Rattle.object_memory.proofs.Offsets.{found_here}
 use Rattle.object_memory.proofs.Rooms.{shell_fits, size-shell}
 use Rattle.collector.specs.Conditions.{found_at}
 use Rattle.collector.specs.Marking.{word_of}
-use Rattle.collector.specs.Attempts.{has_loaded, spent, with_loaded}
-use Rattle.collector.specs.Copying.{before_word, behind_word, copied_at, copied_on, needs_copy, word_begun, word_step, word_stored}
+use Rattle.collector.specs.Attempts.{has_loaded, attempt_cost, with_loaded}
+use Rattle.collector.specs.Copying.{before_word, after_word, copied_at, copied_on, needs_copy, word_begun, word_step, word_stored}
 use Rattle.collector.specs.Soundness.{copied_word}
 use Rattle.collector.specs.declared.progress.Attempt.{Attempt}
 use Rattle.collector.specs.declared.progress.Progress.{Progress}
@@ -74,28 +74,28 @@ has_some (Some b) some = refl
 
 -- what of an object with two copies is under way: words that are copied, and an attempt at the next one
 abbrev pub IsUnderWay : Progress → Spaces → Type 0
-IsUnderWay p m = (c : Cell) × (cell_in m.old (record { number = m.old.start + p.place }) ≡ Some c) × (c.other ≢ None) × (p.copied_words ≤ length c.slots)
+IsUnderWay p m = (c : Cell) × (cell_in m.old (record { number = m.old.start + p.cursor }) ≡ Some c) × (c.other ≢ None) × (p.copied_words ≤ length c.slots)
 
--- an object whose words are copied next has one to come, and where an attempt is under way it is the one at the place
-module _ (p : Progress) (m : Spaces) (f : Found) (c : Cell) (found : ◌≡◌ {A = Option Found} (Some f) (option_map (found_at m.old) (found_in has_other m.old (m.old.start + p.place)))) (at : cell_in m.old f.object ≡ Some c) where
-  pub at_place_is : IsUnderWay p m → (cell_in m.old (record { number = m.old.start + p.place }) ≡ Some c) × (p.copied_words ≤ length c.slots)
-  at_place_is within =
-      let here = found_here has_other m.old (m.old.start + p.place) within.0 within.1 (has_some within.0.other within.2) in
-      let both : ◌≡◌ {A = Option Found} (Some f) (Some (found_at m.old (m.old.start + p.place))) = found ∙ ap (option_map (found_at m.old)) here in
-      let same : f ≡ found_at m.old (m.old.start + p.place) = cc in
-      let there : cell_in m.old (record { number = m.old.start + p.place }) ≡ Some c = sym (ap (λ (x : Found). cell_in m.old x.object) same) ∙ at in
+-- an object whose words are copied next has one to come, and where an attempt is under way it is the one at the cursor
+module _ (p : Progress) (m : Spaces) (f : Found) (c : Cell) (found : ◌≡◌ {A = Option Found} (Some f) (option_map (found_at m.old) (found_in has_other m.old (m.old.start + p.cursor)))) (at : cell_in m.old f.object ≡ Some c) where
+  pub at_offset_is : IsUnderWay p m → (cell_in m.old (record { number = m.old.start + p.cursor }) ≡ Some c) × (p.copied_words ≤ length c.slots)
+  at_offset_is within =
+      let here = found_here has_other m.old (m.old.start + p.cursor) within.0 within.1 (has_some within.0.other within.2) in
+      let both : ◌≡◌ {A = Option Found} (Some f) (Some (found_at m.old (m.old.start + p.cursor))) = found ∙ ap (option_map (found_at m.old)) here in
+      let same : f ≡ found_at m.old (m.old.start + p.cursor) = cc in
+      let there : cell_in m.old (record { number = m.old.start + p.cursor }) ≡ Some c = sym (ap (λ (x : Found). cell_in m.old x.object) same) ∙ at in
       let cells : Some c ≡ Some within.0 = sym there ∙ within.1 in
       let one : c ≡ within.0 = cc in
       (there, subst (λ (x : Cell). p.copied_words ≤ length x.slots) (sym one) within.3)
 
-  pub words_left : (p.copied_words + spent p.attempt ≢ 0 → IsUnderWay p m) → p.copied_words ≤ length c.slots
+  pub words_left : (p.copied_words + attempt_cost p.attempt ≢ 0 → IsUnderWay p m) → p.copied_words ≤ length c.slots
   words_left words = by_test (p.copied_words == 0) refl
     where
       by_test : (t : Bool) → (p.copied_words == 0) ≡ t → p.copied_words ≤ length c.slots
       by_test true e = (let none = eqb-true p.copied_words 0 e in omega (arith, none))
       by_test false e =
           let some : p.copied_words ≢ 0 = λ none. never (sym e ∙ eq-eqb p.copied_words 0 none) in
-          (at_place_is (words (λ none. some (omega (arith, none))))).1
+          (at_offset_is (words (λ none. some (omega (arith, none))))).1
 
 -- ---- a step of Copy
 
@@ -106,9 +106,9 @@ module _ (tree : Tree) (p : Progress) (o : Objects) (f : Found) (c : Cell) (b : 
   abbrev done : Addr → Outcome
   done a = ((word_step p.attempt.stage tree p o a c b).0, (word_step p.attempt.stage tree p o a c b).1, true)
 
-  pub word_done : ◌≡◌ {A = Option Found} (Some f) (option_map (found_at o.spaces.old) (found_in has_other o.spaces.old (o.spaces.old.start + p.place))) → cell_in o.spaces.old f.object ≡ Some c
+  pub word_done : ◌≡◌ {A = Option Found} (Some f) (option_map (found_at o.spaces.old) (found_in has_other o.spaces.old (o.spaces.old.start + p.cursor))) → cell_in o.spaces.old f.object ≡ Some c
       → c.other ≡ Some b → ◌≡◌ {A = Outcome} (done f.object) (copied_on tree p o)
-  word_done found at other = by_found (found_in has_other o.spaces.old (o.spaces.old.start + p.place)) found
+  word_done found at other = by_found (found_in has_other o.spaces.old (o.spaces.old.start + p.cursor)) found
     where
       step_is : (n : ℕ) → cell_in o.spaces.old (record { number = n }) ≡ Some c → ◌≡◌ {A = Outcome} (copied_at tree p o (Some n)) (done (record { number = n }))
       step_is n there = rw (there, other) refl
@@ -130,7 +130,7 @@ module _ (tree : Tree) (p : Progress) (o : Objects) (a : Addr) (c : Cell) (b : A
   abbrev begun : Bool → Progress × Objects
   begun u =
       if◌then◌else◌ {A = Progress × Objects} u (before_word p o.spaces.old a (with_loaded c p.copied_words p.attempt), o)
-      (behind_word p o.spaces.old a c p.copied_words, word_stored tree o (with_loaded c p.copied_words p.attempt) c b p.copied_words)
+      (after_word p o.spaces.old a c p.copied_words, word_stored tree o (with_loaded c p.copied_words p.attempt) c b p.copied_words)
 
   -- it is loaded alone
   pub begun_loads : t.failed_checks < MOST_FAILED_CHECKS → ◌≡◌ {A = Progress × Objects} (before_word p o.spaces.old a t, o) (word_begun tree p o a c b)
@@ -140,8 +140,8 @@ module _ (tree : Tree) (p : Progress) (o : Objects) (a : Addr) (c : Cell) (b : A
       ap (λ (x : Attempt). (before_word p o.spaces.old a x, o)) is ∙ ap begun (sym test)
 
   -- or stored at once
-  pub begun_stores : MOST_FAILED_CHECKS ≤ t.failed_checks → ◌≡◌ {A = Progress × Objects} (behind_word p o.spaces.old a c p.copied_words, word_stored tree o t c b p.copied_words) (word_begun tree p o a c b)
+  pub begun_stores : MOST_FAILED_CHECKS ≤ t.failed_checks → ◌≡◌ {A = Progress × Objects} (after_word p o.spaces.old a c p.copied_words, word_stored tree o t c b p.copied_words) (word_begun tree p o a c b)
   begun_stores more =
       let same = checks in
       let test : nat_lt p.attempt.failed_checks MOST_FAILED_CHECKS ≡ false = le-ltb p.attempt.failed_checks MOST_FAILED_CHECKS (omega (arith, same, more)) in
-      ap (λ (x : Attempt). (behind_word p o.spaces.old a c p.copied_words, word_stored tree o x c b p.copied_words)) is ∙ ap begun (sym test)
+      ap (λ (x : Attempt). (after_word p o.spaces.old a c p.copied_words, word_stored tree o x c b p.copied_words)) is ∙ ap begun (sym test)

@@ -20,11 +20,11 @@ use Rattle.collector.specs.declared.progress.Progress.{Progress}
 use Rattle.collector.specs.declared.progress.Stage.{Stage}
 use Rattle.collector.specs.declared.progress.Stage.TheVariants.{Loaded, Stored}
 use Rattle.collector.specs.declared.walks.Found.{Found}
-use Rattle.collector.proofs.Addresses.ObjectsInHeaps.{cell_there, live_in_copy, new_slots, readable, told}
-use Rattle.collector.proofs.Copying.CopiesStepByStep.{at_place_is, other_some, word_done, words_left}
+use Rattle.collector.proofs.Addresses.ObjectsInHeaps.{cell_there, live_in_copy, new_slots, readable, decoded}
+use Rattle.collector.proofs.Copying.CopiesStepByStep.{at_offset_is, other_some, word_done, words_left}
 
 module _ (layout : Layout) (tree : Tree) (laid : IsLayout tree layout) (has_round : Bool) (words : ℕ) (p : Progress) (o : Objects) (sound : IsSoundHeap tree Copy has_round words p o.spaces) (f : Found)
-    (found : ◌≡◌ {A = Option Found} (Some f) (option_map (found_at o.spaces.old) (found_in has_other o.spaces.old (o.spaces.old.start + p.place)))) (there : IsSome (cell_in o.spaces.old f.object))
+    (found : ◌≡◌ {A = Option Found} (Some f) (option_map (found_at o.spaces.old) (found_in has_other o.spaces.old (o.spaces.old.start + p.cursor)))) (there : IsSome (cell_in o.spaces.old f.object))
     (b : Addr) (other : ◌≡◌ {A = Option (Option Addr)} (option_map (λ (x : Cell). x.other) (cell_at o.spaces f.object)) (Some (Some b))) where
   abbrev k : ℕ
   k = p.copied_words
@@ -33,7 +33,7 @@ module _ (layout : Layout) (tree : Tree) (laid : IsLayout tree layout) (has_roun
   from = cell_there o.spaces.old f.object there
 
   refers : from.0.other ≡ Some b
-  refers = sym (told (λ (x : Cell). x.other) (cell_at o.spaces f.object) from.0 (Some b) (old_is_cell o.spaces f.object from.0 from.1) other)
+  refers = sym (decoded (λ (x : Cell). x.other) (cell_at o.spaces f.object) from.0 (Some b) (old_is_cell o.spaces f.object from.0 from.1) other)
 
   to : (d : Cell) × (cell_in o.spaces.new b ≡ Some d) × AreCopies tree Copy p o.spaces f.object from.0 d
   to = sound.copies.out f.object b from.0 from.1 refers
@@ -43,11 +43,11 @@ module _ (layout : Layout) (tree : Tree) (laid : IsLayout tree layout) (has_roun
   both_there = (there, ap is_some (new_is_cell o.spaces sound.blocks.spaces b to.0 to.1))
 
   few_here : k ≤ length from.0.slots
-  few_here = words_left p o.spaces f from.0 found from.1 (sound.place.words refl)
+  few_here = words_left p o.spaces f from.0 found from.1 (sound.cursor.words refl)
 
   -- a word is to come
   pub few_words : (c : Cell) → cell_in o.spaces.old f.object ≡ Some c → k ≤ length c.slots
-  few_words c lies = words_left p o.spaces f c found lies (sound.place.words refl)
+  few_words c lies = words_left p o.spaces f c found lies (sound.cursor.words refl)
 
   in_copy : k ≤ length (slots_at o.spaces b)
   in_copy = (let few = few_here in let slots = ap length (new_slots o.spaces sound.blocks.spaces b to.0 to.1) in let count = to.2.count in omega (arith, few, slots, count))
@@ -64,8 +64,8 @@ module _ (layout : Layout) (tree : Tree) (laid : IsLayout tree layout) (has_roun
   pub loaded_forwardable : p.attempt.stage ≡ Loaded → 0 < k → IsForwardable layout o f.object (k - 1) p.attempt.word × (k ≤ length (slots_at o.spaces b))
   loaded_forwardable loaded some =
       let stage = ap stage_number loaded in
-      let within = sound.place.words refl (λ none. absurd (omega (arith, none, stage))) in
-      let lies = (at_place_is p o.spaces f from.0 found from.1 within).0 in
+      let within = sound.cursor.words refl (λ none. absurd (omega (arith, none, stage))) in
+      let lies = (at_offset_is p o.spaces f from.0 found from.1 within).0 in
       let next : k ≡ suc (k - 1) = omega (arith, some) in (
         record {
           tree = tree;
@@ -77,14 +77,14 @@ module _ (layout : Layout) (tree : Tree) (laid : IsLayout tree layout) (has_roun
         in_copy,
       )
 
-  place_is : f.place ≡ f.object.number - o.spaces.old.start
-  place_is = by_found (found_in has_other o.spaces.old (o.spaces.old.start + p.place)) found
+  offset_is : f.offset ≡ f.object.number - o.spaces.old.start
+  offset_is = by_found (found_in has_other o.spaces.old (o.spaces.old.start + p.cursor)) found
     where
-      by_found : (x : Option ℕ) → ◌≡◌ {A = Option Found} (Some f) (option_map (found_at o.spaces.old) x) → f.place ≡ f.object.number - o.spaces.old.start
+      by_found : (x : Option ℕ) → ◌≡◌ {A = Option Found} (Some f) (option_map (found_at o.spaces.old) x) → f.offset ≡ f.object.number - o.spaces.old.start
       by_found None e = absurd cc
       by_found (Some n) e =
           let same : f ≡ found_at o.spaces.old n = cc in
-          ap (λ (x : Found). x.place) same ∙ ap (λ (x : Found). x.object.number - o.spaces.old.start) (sym same)
+          ap (λ (x : Found). x.offset) same ∙ ap (λ (x : Found). x.object.number - o.spaces.old.start) (sym same)
 
   abbrev Outcome : Type 0
   Outcome = Progress × Objects × Bool
@@ -94,9 +94,9 @@ module _ (layout : Layout) (tree : Tree) (laid : IsLayout tree layout) (has_roun
 
   -- what was loaded is stored, whichever program's layout it is
   pub loaded_done : p.attempt.stage ≡ Loaded → (any : Tree) (heap : Objects) → ((c : Cell) → cell_in o.spaces.old f.object ≡ Some c → heap ≡ word_stored any o p.attempt c b k) →
-      ◌≡◌ {A = Outcome} (record p { place = f.place; attempt = record p.attempt { stage = Stored } }, heap, true) (copied_on any p o)
+      ◌≡◌ {A = Outcome} (record p { cursor = f.offset; attempt = record p.attempt { stage = Stored } }, heap, true) (copied_on any p o)
   loaded_done loaded any heap stored =
-      ap (λ n. (record p { place = n; attempt = record p.attempt { stage = Stored } }, heap, true)) place_is
+      ap (λ n. (record p { cursor = n; attempt = record p.attempt { stage = Stored } }, heap, true)) offset_is
       ∙ ap (λ (x : Objects). (before_word p o.spaces.old f.object (record p.attempt { stage = Stored }), x, true)) (stored from.0 from.1)
       ∙ ap (by_stage any) (sym loaded)
       ∙ word_done any p o f from.0 b found from.1 refers

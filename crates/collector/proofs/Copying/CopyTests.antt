@@ -7,7 +7,7 @@ use Rattle.cil_model.specs.declared.trees.Tree.{Tree}
 use Rattle.object_memory.specs.declared.addresses.Addr.{Addr}
 use Rattle.object_memory.specs.Cells.{Cell, Cells, size, cell_in, change_in, literal_number}
 use Rattle.object_memory.specs.Spaces.{Spaces, AreSpaces}
-use Rattle.object_memory.proofs.TwoBlocks.{own, still, after_in, before_in, old_is_cell, told_apart, no_literal}
+use Rattle.object_memory.proofs.TwoBlocks.{own, still, after_in, before_in, old_is_cell, are_distinct, no_literal}
 use Rattle.collector.specs.References.{Test, SlotsPass, is_permanent, reference_in}
 use Rattle.collector.specs.Phases.{is_marked_cell, is_new, is_new_address}
 
@@ -40,7 +40,7 @@ permanent_no_cell m h a permanent = by_cell (cell_in m.old a) refl
   where
     by_kind : (c : Cell) → cell_in m.old a ≡ Some c → ((a.number == 0) ≡ true) ⊎ (is_some (literal_number a) ≡ true) → cell_in m.old a ≡ None
     by_kind c e (inl zero') =
-        let above = (told_apart m h a c (old_is_cell m a c e)).0 in
+        let above = (are_distinct m h a c (old_is_cell m a c e)).0 in
         absurd (grind (arith, nat_tests))
     by_kind c e (inr literal) =
         let none = no_literal m h a c (old_is_cell m a c e) in

@@ -8,28 +8,28 @@ use Rattle.cil_model.specs.declared.phases.Phase.TheVariants.{Copy, PreFlip}
 use Rattle.cil_model.specs.declared.trees.Tree.{Tree}
 use Rattle.object_memory.specs.declared.addresses.Addr.{Addr}
 use Rattle.object_memory.specs.Cells.{Cell, Cells, size, cell_in, change_in}
-use Rattle.object_memory.specs.Spaces.{Spaces, AreSpaces, IsPlace, change_at, found_in, has_other}
+use Rattle.object_memory.specs.Spaces.{Spaces, AreSpaces, IsOffset, change_at, found_in, has_other}
 use Rattle.object_memory.specs.Objects.{Objects, with_cell}
 use Rattle.object_memory.proofs.Blocks.{range_in, unchanged_in}
-use Rattle.object_memory.proofs.Places.{cell, end, at_place, below_next, found_here}
+use Rattle.object_memory.proofs.Offsets.{cell, end, at_offset, below_next, found_here}
 use Rattle.object_memory.proofs.TwoBlocks.{own, still, AreSpaces-change, after_in, before_in, change-new_alone, not_old}
 use Rattle.collector.specs.References.{SlotsPass, holds_reference, reference_in}
-use Rattle.collector.specs.Attempts.{has_loaded, most_spent, no_attempt, spent, stage_number, with_loaded}
+use Rattle.collector.specs.Attempts.{has_loaded, most_spent, no_attempt, attempt_cost, stage_number, with_loaded}
 use Rattle.collector.specs.Marking.{word_of}
 use Rattle.collector.specs.Phases.{HasCopied, is_live, is_marked_old, is_new, is_new_address, no_progress}
-use Rattle.collector.specs.Soundness.{AreBlocks, AreCopies, AreCopied, HasPlace, IsCopiedWord, IsInCopy, IsLoaded, IsSoundHeap, copied_word}
-use Rattle.collector.specs.Copying.{before_word, behind_word, copied_at, copied_on, object_copied, word_step, word_stored}
+use Rattle.collector.specs.Soundness.{AreBlocks, AreCopies, AreCopied, HasCursor, IsCopiedWord, IsInCopy, IsLoaded, IsSoundHeap, copied_word}
+use Rattle.collector.specs.Copying.{before_word, after_word, copied_at, copied_on, object_copied, word_step, word_stored}
 use Rattle.collector.specs.declared.progress.Attempt.{Attempt}
 use Rattle.collector.specs.declared.progress.Progress.{Progress}
 use Rattle.collector.specs.declared.progress.Stage.{Stage}
 use Rattle.collector.specs.declared.progress.Stage.TheVariants.{Begins, Loaded, Stored}
 use Rattle.collector.specs.declared.progress.TheConstants.{MOST_FAILED_CHECKS}
-use Rattle.collector.proofs.BlockWalks.ChangedBlocks.{IsFound, IsPlace-cell, found_is, found_none}
+use Rattle.collector.proofs.BlockWalks.ChangedBlocks.{IsFound, IsOffset-cell, found_is, found_none}
 use Rattle.collector.proofs.Copying.CopyTests.{new_stays, other_there, permanent_or, same_address, slots_weaken, some_is_other, some_there}
 use Rattle.collector.proofs.Copying.CopiedWords.{are_copies, filled, filled_alike, filled_count, filled_keeps, filled_kind, filled_other, filled_own, filled_passes, filled_size, just_loaded, loaded_checks, loaded_stage, word_stored_is}
-use Rattle.collector.proofs.Addresses.ObjectsInHeaps.{word_told}
+use Rattle.collector.proofs.Addresses.ObjectsInHeaps.{word_decoded}
 use Rattle.collector.proofs.Copying.VisibleCopies.{forward_word_is_new}
-use Rattle.collector.proofs.BlockWalks.CollectorPlaces.{HasPlace-begun}
+use Rattle.collector.proofs.BlockWalks.CollectorOffsets.{HasCursor-begun}
 
 has_some : (c : Cell) → c.other ≢ None → has_other c ≡ true
 has_some c ne = let o = other_there c.other ne in ap is_some o.1
@@ -45,14 +45,14 @@ pub record IsNext (p : Progress) (m : Spaces) (at : ℕ) : Type 0 where
   pub there : cell_in m.new other ≡ Some copy
   pub count : length copy.slots ≡ length cell.slots
   pub few : p.copied_words ≤ length cell.slots
-  pub behind : m.old.start + p.place ≤ at
+  pub following : m.old.start + p.cursor ≤ at
 
 module _ (tree : Tree) (has_round : Bool) (words : ℕ) (p : Progress) (m : Spaces) (sound : IsSoundHeap tree Copy has_round words p m) where
   abbrev k : ℕ
   k = p.copied_words
 
   abbrev from : ℕ
-  from = m.old.start + p.place
+  from = m.old.start + p.cursor
 
   -- ---- the next word
 
@@ -71,9 +71,9 @@ module _ (tree : Tree) (has_round : Bool) (words : ℕ) (p : Progress) (m : Spac
     to = sound.copies.out a b c lies other
 
     -- an object of which a part is copied, or with whose next word the collector has begun, is the next one
-    begun : k + spent p.attempt ≢ 0 → (at ≡ from) × (k ≤ length c.slots)
+    begun : k + attempt_cost p.attempt ≢ 0 → (at ≡ from) × (k ≤ length c.slots)
     begun ne =
-        let r = sound.place.words refl ne in
+        let r = sound.cursor.words refl ne in
         let first = found_here has_other m.old from r.0 r.1 (has_some r.0 r.2) in
         let here : at ≡ from = same_Some at from (sym found ∙ first) in
         let there : cell_in m.old (record { number = from }) ≡ Some c = subst (λ (n : ℕ). cell_in m.old (record { number = n }) ≡ Some c) here lies in
@@ -98,21 +98,21 @@ module _ (tree : Tree) (has_round : Bool) (words : ℕ) (p : Progress) (m : Spac
       there = to.1;
       count = to.2.count;
       few = few;
-      behind = is.behind;
+      following = is.following;
     }
 
     some_other : c.other ≢ None
     some_other = some_is_other c.other b other
 
-    -- objects with another copy before this one lie before the place
+    -- objects with another copy before this one lie before the cursor
     earlier : (x : Addr) (e : Cell) → cell_in m.old x ≡ Some e → e.other ≢ None → x.number < at → x.number < from
     earlier x e there some before = by_test (nat_lt x.number from) refl
       where
         by_test : (t : Bool) → nat_lt x.number from ≡ t → x.number < from
         by_test true test = grind (arith, nat_tests)
         by_test false test =
-            let behind : from ≤ x.number = grind (arith, nat_tests) in
-            absurd (omega (arith, before, is.first x e there (has_some e some) behind))
+            let following : from ≤ x.number = grind (arith, nat_tests) in
+            absurd (omega (arith, before, is.first x e there (has_some e some) following))
 
     here_is : m.old.start + (at - m.old.start) ≡ at
     here_is = omega (arith, low)
@@ -134,15 +134,15 @@ module _ (tree : Tree) (has_round : Bool) (words : ℕ) (p : Progress) (m : Spac
       before_copied x e word there some (inl less) = inl (earlier x e there some (omega (arith, less, low)))
       before_copied x e word there some (inr (same, less)) = copied_here x word (omega (arith, same, low)) less
 
-      before_place : spent t ≤ most_spent → HasPlace Copy q m
-      before_place most = record {
-        place = λ posted. subst (IsPlace m.old) (sym here_is) (IsPlace-cell m.old a c lies);
+      before_offset : attempt_cost t ≤ most_spent → HasCursor Copy q m
+      before_offset most = record {
+        offset = λ posted. subst (IsOffset m.old) (sym here_is) (IsOffset-cell m.old a c lies);
         attempts = λ posted. most;
         words = λ posted some. (c, subst (λ (n : ℕ). cell_in m.old (record { number = n }) ≡ Some c) (sym here_is) lies, some_other, few);
       }
 
       -- the heap is sound there, where nothing is stored
-      before_sound : t.stage ≢ Stored → spent t ≤ most_spent → IsLoaded tree q m → IsSoundHeap tree Copy has_round words q m
+      before_sound : t.stage ≢ Stored → attempt_cost t ≤ most_spent → IsLoaded tree q m → IsSoundHeap tree Copy has_round words q m
       before_sound not_stored most loaded = record {
         blocks = sound.blocks;
         copies = record {
@@ -156,7 +156,7 @@ module _ (tree : Tree) (has_round : Bool) (words : ℕ) (p : Progress) (m : Spac
           new_references = sound.copies.new_references;
           room = λ posted. elim posted [ inl wrong ↦ absurd cc | inr wrong ↦ absurd cc ];
         };
-        place = before_place most;
+        cursor = before_offset most;
         loaded = λ posted. loaded;
         marks = λ posted. absurd cc;
         cleared = λ posted. absurd cc;
@@ -186,7 +186,7 @@ module _ (tree : Tree) (has_round : Bool) (words : ℕ) (p : Progress) (m : Spac
         word_live (suc n) slot next short holds =
             let same : n ≡ slot = omega (arith, next) in
             let held = subst (λ i. holds_reference tree c.kind i ≡ true) (sym same) holds in
-            sound.copies.old_references a c lies marked n (word_of c n) (word_told c n (omega (arith, short))) held
+            sound.copies.old_references a c lies marked n (word_of c n) (word_decoded c n (omega (arith, short))) held
 
         live : IsLoaded tree (before_word p m.old a (with_loaded c k p.attempt)) m
         live loaded d there slot next holds =
@@ -199,7 +199,7 @@ module _ (tree : Tree) (has_round : Bool) (words : ℕ) (p : Progress) (m : Spac
     failed_sound stored =
         before_sound (record no_attempt { failed_checks = p.attempt.failed_checks + 1 })
         (λ is. absurd cc)
-        (let stage = ap stage_number stored in let most = sound.place.attempts refl in omega (arith, stage, most))
+        (let stage = ap stage_number stored in let most = sound.cursor.attempts refl in omega (arith, stage, most))
         (λ is. absurd cc)
 
     -- ---- the word is stored
@@ -211,11 +211,11 @@ module _ (tree : Tree) (has_round : Bool) (words : ℕ) (p : Progress) (m : Spac
       abbrev stored_at : Progress
       stored_at = before_word p m.old a (record u { stage = Stored })
 
-      one_spent : k + spent u ≢ 0
+      one_spent : k + attempt_cost u ≢ 0
       one_spent e = (let stage = ap stage_number loaded in absurd (omega (arith, e, stage)))
 
-      at_place_is : at ≡ from
-      at_place_is = (begun one_spent).0
+      at_offset_is : at ≡ from
+      at_offset_is = (begun one_spent).0
 
       abbrev f : Cell → Cell
       f = filled tree m c u k
@@ -245,7 +245,7 @@ module _ (tree : Tree) (has_round : Bool) (words : ℕ) (p : Progress) (m : Spac
 
       -- no copied word of this object is the one that is stored
       not_next : (word : ℕ) → HasCopied Copy p m a word → word < k
-      not_next word (inl less) = absurd (omega (arith, less, at_place_is))
+      not_next word (inl less) = absurd (omega (arith, less, at_offset_is))
       not_next word (inr (same, less)) = less
 
       -- both copies of this object
@@ -323,7 +323,7 @@ module _ (tree : Tree) (has_round : Bool) (words : ℕ) (p : Progress) (m : Spac
       -- a stored reference is new
       now_new : (slot : ℕ) → k ≡ suc slot → holds_reference tree c.kind slot ≡ true → is_new_address m (reference_in (copied_word tree m c slot u.word)) ≡ true
       now_new slot next holds =
-          let there = subst (λ (n : ℕ). cell_in m.old (record { number = n }) ≡ Some c) at_place_is lies in
+          let there = subst (λ (n : ℕ). cell_in m.old (record { number = n }) ≡ Some c) at_offset_is lies in
           let live = sound.loaded refl loaded c there slot next holds in
           rw holds (forward_word_is_new tree Copy p m sound.blocks.spaces sound.copies refl u.word live)
 
@@ -367,9 +367,9 @@ module _ (tree : Tree) (has_round : Bool) (words : ℕ) (p : Progress) (m : Spac
       after_sound = record {
         blocks = filled_blocks;
         copies = filled_copied;
-        place = (
-            let h = before_place (record u { stage = Stored }) (let stage = ap stage_number loaded in let most = sound.place.attempts refl in omega (arith, stage, most)) in
-            record { place = h.place; attempts = h.attempts; words = h.words });
+        cursor = (
+            let h = before_offset (record u { stage = Stored }) (let stage = ap stage_number loaded in let most = sound.cursor.attempts refl in omega (arith, stage, most)) in
+            record { offset = h.offset; attempts = h.attempts; words = h.words });
         loaded = λ posted is. absurd cc;
         marks = λ posted. absurd cc;
         cleared = λ posted. absurd cc;
@@ -381,7 +381,7 @@ module _ (tree : Tree) (has_round : Bool) (words : ℕ) (p : Progress) (m : Spac
     -- ---- after the word
 
     abbrev next : Bool → Progress
-    next t = if t then record p { place = at - m.old.start; copied_words = k + 1; attempt = no_attempt } else record p { place = at - m.old.start + size c; copied_words = 0; attempt = no_attempt }
+    next t = if t then record p { cursor = at - m.old.start; copied_words = k + 1; attempt = no_attempt } else record p { cursor = at - m.old.start + size c; copied_words = 0; attempt = no_attempt }
 
     -- of this object those words are copied that were, and the next one
     here_by : (x : Addr) (word : ℕ) → x.number ≡ at → word ≤ k → HasCopied Copy p m x word ⊎ ((x.number ≡ at) × (word ≡ k))
@@ -410,23 +410,23 @@ module _ (tree : Tree) (has_round : Bool) (words : ℕ) (p : Progress) (m : Spac
     next_stage true = refl
     next_stage false = refl
 
-    next_place : (t : Bool) → IsPlace m.old (m.old.start + (next t).place)
-    next_place true = subst (IsPlace m.old) (sym here_is) (IsPlace-cell m.old a c lies)
-    next_place false = elim (at_place m.old at (IsPlace-cell m.old a c lies)) [
-      | cell d there behind ↦ (
+    next_offset : (t : Bool) → IsOffset m.old (m.old.start + (next t).cursor)
+    next_offset true = subst (IsOffset m.old) (sym here_is) (IsOffset-cell m.old a c lies)
+    next_offset false = elim (at_offset m.old at (IsOffset-cell m.old a c lies)) [
+      | cell d there following ↦ (
           let equal : d ≡ c = same_Some d c (sym there ∙ lies) in
           let long = ap size equal in
           let far : at + size d ≡ m.old.start + (at - m.old.start + size c) = omega (arith, low, long) in
-          subst (IsPlace m.old) far behind)
+          subst (IsOffset m.old) far following)
       | end last ↦ absurd (omega (arith, last, (range_in m.old a c lies).1))
     ]
 
-    next_spent : (t : Bool) → spent (next t).attempt ≤ most_spent
+    next_spent : (t : Bool) → attempt_cost (next t).attempt ≤ most_spent
     next_spent true = omega arith
     next_spent false = omega arith
 
-    next_words : (t : Bool) → nat_lt k (length c.slots) ≡ t → (next t).copied_words + spent (next t).attempt ≢ 0
-        → (d : Cell) × (cell_in m.old (record { number = m.old.start + (next t).place }) ≡ Some d) × (d.other ≢ None) × ((next t).copied_words ≤ length d.slots)
+    next_words : (t : Bool) → nat_lt k (length c.slots) ≡ t → (next t).copied_words + attempt_cost (next t).attempt ≢ 0
+        → (d : Cell) × (cell_in m.old (record { number = m.old.start + (next t).cursor }) ≡ Some d) × (d.other ≢ None) × ((next t).copied_words ≤ length d.slots)
     next_words true test ne =
         let there : cell_in m.old (record { number = m.old.start + (at - m.old.start) }) ≡ Some c = subst (λ (n : ℕ). cell_in m.old (record { number = n }) ≡ Some c) (sym here_is) lies in
         let less : k < length c.slots = grind (arith, nat_tests) in
@@ -435,7 +435,7 @@ module _ (tree : Tree) (has_round : Bool) (words : ℕ) (p : Progress) (m : Spac
 
     -- where the check finds what was loaded
     module _ (stored : p.attempt.stage ≡ Stored) (found_same : has_loaded p.attempt c k ≡ true) where
-      two_spent : k + spent p.attempt ≢ 0
+      two_spent : k + attempt_cost p.attempt ≢ 0
       two_spent e = (let stage = ap stage_number stored in absurd (omega (arith, e, stage)))
 
       -- the word is in the copy
@@ -474,13 +474,13 @@ module _ (tree : Tree) (has_round : Bool) (words : ℕ) (p : Progress) (m : Spac
             new_references = sound.copies.new_references;
             room = λ posted. elim posted [ inl wrong ↦ absurd cc | inr wrong ↦ absurd cc ];
           };
-          place = record { place = λ posted. next_place t; attempts = λ posted. next_spent t; words = λ posted. next_words t test };
+          cursor = record { offset = λ posted. next_offset t; attempts = λ posted. next_spent t; words = λ posted. next_words t test };
           loaded = λ posted is. (let wrong : Begins ≡ Loaded = sym (next_stage t) ∙ is in absurd cc);
           marks = λ posted. absurd cc;
           cleared = λ posted. absurd cc;
         }
 
-      passed_sound : IsSoundHeap tree Copy has_round words (behind_word p m.old a c k) m
+      passed_sound : IsSoundHeap tree Copy has_round words (after_word p m.old a c k) m
       passed_sound = passed_by (nat_lt k (length c.slots)) refl
 
 -- ---- a step
@@ -504,10 +504,10 @@ unfailed tree has_round words p m sound = record {
     new_references = sound.copies.new_references;
     room = λ posted. elim posted [ inl wrong ↦ absurd cc | inr wrong ↦ absurd cc ];
   };
-  place = record {
-    place = sound.place.place;
-    attempts = λ posted. (let most = sound.place.attempts refl in omega (arith, most));
-    words = λ posted some. sound.place.words refl (λ none. some (omega (arith, none)));
+  cursor = record {
+    offset = sound.cursor.offset;
+    attempts = λ posted. (let most = sound.cursor.attempts refl in omega (arith, most));
+    words = λ posted some. sound.cursor.words refl (λ none. some (omega (arith, none)));
   };
   loaded = sound.loaded;
   marks = λ posted. absurd cc;
@@ -525,7 +525,7 @@ unfailed tree has_round words p m sound = record {
     was_in x e word (inl done) = inl done
     was_in x e word (inr h) = inr (record { copying = h.copying; here = h.here; next = h.next; stored = h.stored; same = same_loaded e word h.same })
 
-module _ (tree : Tree) (has_round : Bool) (words : ℕ) (p : Progress) (m : Spaces) (sound : IsSoundHeap tree Copy has_round words p m) (at : ℕ) (found : found_in has_other m.old (m.old.start + p.place) ≡ Some at)
+module _ (tree : Tree) (has_round : Bool) (words : ℕ) (p : Progress) (m : Spaces) (sound : IsSoundHeap tree Copy has_round words p m) (at : ℕ) (found : found_in has_other m.old (m.old.start + p.cursor) ≡ Some at)
     (c : Cell) (lies : cell_in m.old (record { number = at }) ≡ Some c) (b : Addr) (other : c.other ≡ Some b) where
   abbrev here : Addr
   here = record { number = at }
@@ -572,18 +572,18 @@ module _ (tree : Tree) (has_round : Bool) (words : ℕ) (p : Progress) (m : Spac
   start_stays : n.old.start ≡ m.old.start
   start_stays = refl
 
-  sound3 : IsSoundHeap tree Copy has_round words (behind_word p2 n.old here c word) n
+  sound3 : IsSoundHeap tree Copy has_round words (after_word p2 n.old here c word) n
   sound3 = passed_sound tree has_round words p2 n sound2 at (found_again n.old lies_still) c lies_still b other refl (just_loaded c word p0.attempt Stored)
 
-  pub at_once_sound : IsSoundHeap tree Copy has_round words (behind_word p m.old here c word) (change_at (filled tree m c (with_loaded c word p.attempt) word) m b)
+  pub at_once_sound : IsSoundHeap tree Copy has_round words (after_word p m.old here c word) (change_at (filled tree m c (with_loaded c word p.attempt) word) m b)
   at_once_sound =
-      subst (λ (g : Cell → Cell). IsSoundHeap tree Copy has_round words (behind_word p m.old here c word) (change_at g m b)) (filled_alike tree m c p0.attempt p.attempt word)
-      (subst (λ z. IsSoundHeap tree Copy has_round words z n) (behind_same (nat_lt word (length c.slots))) sound3)
+      subst (λ (g : Cell → Cell). IsSoundHeap tree Copy has_round words (after_word p m.old here c word) (change_at g m b)) (filled_alike tree m c p0.attempt p.attempt word)
+      (subst (λ z. IsSoundHeap tree Copy has_round words z n) (after_same (nat_lt word (length c.slots))) sound3)
     where
-      behind_same : (t : Bool) → (if t then record p2 { place = at - m.old.start; copied_words = word + 1; attempt = no_attempt } else record p2 { place = at - m.old.start + size c; copied_words = 0; attempt = no_attempt })
-          ≡ (if t then record p { place = at - m.old.start; copied_words = word + 1; attempt = no_attempt } else record p { place = at - m.old.start + size c; copied_words = 0; attempt = no_attempt })
-      behind_same true = refl
-      behind_same false = refl
+      after_same : (t : Bool) → (if t then record p2 { cursor = at - m.old.start; copied_words = word + 1; attempt = no_attempt } else record p2 { cursor = at - m.old.start + size c; copied_words = 0; attempt = no_attempt })
+          ≡ (if t then record p { cursor = at - m.old.start; copied_words = word + 1; attempt = no_attempt } else record p { cursor = at - m.old.start + size c; copied_words = 0; attempt = no_attempt })
+      after_same true = refl
+      after_same false = refl
 
 module _ (tree : Tree) (p : Progress) (o : Objects) where
   -- a step at the object that is found
@@ -598,7 +598,7 @@ module _ (tree : Tree) (p : Progress) (o : Objects) where
 
   module _ (at : ℕ) (c : Cell) (b : Addr) (lies : cell_in o.spaces.old (record { number = at }) ≡ Some c) (other : c.other ≡ Some b) where
     begun_by : (t : Bool) → IsStep (if◌then◌else◌ {A = Progress × Objects} t (before_word p o.spaces.old (record { number = at }) (with_loaded c p.copied_words p.attempt), o)
-        (behind_word p o.spaces.old (record { number = at }) c p.copied_words, word_stored tree o (with_loaded c p.copied_words p.attempt) c b p.copied_words)).1
+        (after_word p o.spaces.old (record { number = at }) c p.copied_words, word_stored tree o (with_loaded c p.copied_words p.attempt) c b p.copied_words)).1
     begun_by true = none_stored refl
     begun_by false = one_stored at c b (with_loaded c p.copied_words p.attempt) lies other (word_stored_is tree o (with_loaded c p.copied_words p.attempt) c b p.copied_words)
 
@@ -607,20 +607,20 @@ module _ (tree : Tree) (p : Progress) (o : Objects) where
     stage_by Loaded = one_stored at c b p.attempt lies other (word_stored_is tree o p.attempt c b p.copied_words)
     stage_by Stored = none_stored refl
 
-  cases_by : (r : Option ℕ) → found_in has_other o.spaces.old (o.spaces.old.start + p.place) ≡ r → IsStep (copied_at tree p o r).1
+  cases_by : (r : Option ℕ) → found_in has_other o.spaces.old (o.spaces.old.start + p.cursor) ≡ r → IsStep (copied_at tree p o r).1
   cases_by None found = none_stored refl
   cases_by (Some at) found =
-      let x = found_other o.spaces.old (o.spaces.old.start + p.place) at (found_is has_other o.spaces.old (o.spaces.old.start + p.place) at found) in
+      let x = found_other o.spaces.old (o.spaces.old.start + p.cursor) at (found_is has_other o.spaces.old (o.spaces.old.start + p.cursor) at found) in
       subst (λ (z : Progress × Objects × Bool). IsStep z.1) (sym (copied_is at x.0 x.1 x.2 x.3)) (stage_by at x.0 x.1 x.2 x.3 p.attempt.stage)
 
   pub copied_cases : IsStep (copied_on tree p o).1
-  copied_cases = cases_by (found_in has_other o.spaces.old (o.spaces.old.start + p.place)) refl
+  copied_cases = cases_by (found_in has_other o.spaces.old (o.spaces.old.start + p.cursor)) refl
 
   -- where there was no step nothing is found
-  none_by : (r : Option ℕ) → found_in has_other o.spaces.old (o.spaces.old.start + p.place) ≡ r → (copied_at tree p o r).2 ≡ false → r ≡ None
+  none_by : (r : Option ℕ) → found_in has_other o.spaces.old (o.spaces.old.start + p.cursor) ≡ r → (copied_at tree p o r).2 ≡ false → r ≡ None
   none_by None found over = refl
   none_by (Some at) found over =
-      let x = found_other o.spaces.old (o.spaces.old.start + p.place) at (found_is has_other o.spaces.old (o.spaces.old.start + p.place) at found) in
+      let x = found_other o.spaces.old (o.spaces.old.start + p.cursor) at (found_is has_other o.spaces.old (o.spaces.old.start + p.cursor) at found) in
       let wrong : true ≡ false = sym (ap (λ (z : Progress × Objects × Bool). z.2) (copied_is at x.0 x.1 x.2 x.3)) ∙ over in
       absurd cc
 
@@ -628,7 +628,7 @@ module _ (tree : Tree) (has_round : Bool) (words : ℕ) (p : Progress) (o : Obje
   abbrev IsSoundAfter : Progress × Objects → Type 0
   IsSoundAfter z = IsSoundHeap tree Copy has_round words z.0 z.1.spaces
 
-  module _ (at : ℕ) (found : found_in has_other o.spaces.old (o.spaces.old.start + p.place) ≡ Some at) (c : Cell) (b : Addr) (lies : cell_in o.spaces.old (record { number = at }) ≡ Some c) (other : c.other ≡ Some b) where
+  module _ (at : ℕ) (found : found_in has_other o.spaces.old (o.spaces.old.start + p.cursor) ≡ Some at) (c : Cell) (b : Addr) (lies : cell_in o.spaces.old (record { number = at }) ≡ Some c) (other : c.other ≡ Some b) where
     abbrev object : Addr
     object = record { number = at }
 
@@ -638,12 +638,12 @@ module _ (tree : Tree) (has_round : Bool) (words : ℕ) (p : Progress) (o : Obje
 
     begun_sound : (t : Bool) → nat_lt p.attempt.failed_checks MOST_FAILED_CHECKS ≡ t
         → IsSoundAfter (if◌then◌else◌ {A = Progress × Objects} t (before_word p o.spaces.old object (with_loaded c p.copied_words p.attempt), o)
-        (behind_word p o.spaces.old object c p.copied_words, word_stored tree o (with_loaded c p.copied_words p.attempt) c b p.copied_words))
+        (after_word p o.spaces.old object c p.copied_words, word_stored tree o (with_loaded c p.copied_words p.attempt) c b p.copied_words))
     begun_sound true test = loaded_sound tree has_round words p o.spaces sound at found c lies b other (grind (arith, nat_tests))
-    begun_sound false test = in_cell (behind_word p o.spaces.old object c p.copied_words) (with_loaded c p.copied_words p.attempt) (at_once_sound tree has_round words p o.spaces sound at found c lies b other)
+    begun_sound false test = in_cell (after_word p o.spaces.old object c p.copied_words) (with_loaded c p.copied_words p.attempt) (at_once_sound tree has_round words p o.spaces sound at found c lies b other)
 
     checked_sound : p.attempt.stage ≡ Stored → (t : Bool) → has_loaded p.attempt c p.copied_words ≡ t
-        → IsSoundHeap tree Copy has_round words (if t then behind_word p o.spaces.old object c p.copied_words else before_word p o.spaces.old object (record no_attempt { failed_checks = p.attempt.failed_checks + 1 })) o.spaces
+        → IsSoundHeap tree Copy has_round words (if t then after_word p o.spaces.old object c p.copied_words else before_word p o.spaces.old object (record no_attempt { failed_checks = p.attempt.failed_checks + 1 })) o.spaces
     checked_sound done true same = passed_sound tree has_round words p o.spaces sound at found c lies b other done same
     checked_sound done false same = failed_sound tree has_round words p o.spaces sound at found c lies b other done
 
@@ -652,23 +652,23 @@ module _ (tree : Tree) (has_round : Bool) (words : ℕ) (p : Progress) (o : Obje
     stage_sound Loaded is = in_cell (before_word p o.spaces.old object (record p.attempt { stage = Stored })) p.attempt (stored_sound tree has_round words p o.spaces sound at found c lies b other is)
     stage_sound Stored is = checked_sound is (has_loaded p.attempt c p.copied_words) refl
 
-  step_by : (r : Option ℕ) → found_in has_other o.spaces.old (o.spaces.old.start + p.place) ≡ r → IsSoundHeap tree Copy has_round words (copied_at tree p o r).0 (copied_at tree p o r).1.spaces
+  step_by : (r : Option ℕ) → found_in has_other o.spaces.old (o.spaces.old.start + p.cursor) ≡ r → IsSoundHeap tree Copy has_round words (copied_at tree p o r).0 (copied_at tree p o r).1.spaces
   step_by None found = sound
   step_by (Some at) found =
-      let x = found_other o.spaces.old (o.spaces.old.start + p.place) at (found_is has_other o.spaces.old (o.spaces.old.start + p.place) at found) in
+      let x = found_other o.spaces.old (o.spaces.old.start + p.cursor) at (found_is has_other o.spaces.old (o.spaces.old.start + p.cursor) at found) in
       subst (λ (z : Progress × Objects × Bool). IsSoundHeap tree Copy has_round words z.0 z.1.spaces)
       (sym (copied_is tree p o at x.0 x.1 x.2 x.3))
       (stage_sound at found x.0 x.1 x.2 x.3 p.attempt.stage refl)
 
   -- what is found has its copy
-  pub found_next : (at : ℕ) → found_in has_other o.spaces.old (o.spaces.old.start + p.place) ≡ Some at → IsNext p o.spaces at
+  pub found_next : (at : ℕ) → found_in has_other o.spaces.old (o.spaces.old.start + p.cursor) ≡ Some at → IsNext p o.spaces at
   found_next at found =
-      let x = found_other o.spaces.old (o.spaces.old.start + p.place) at (found_is has_other o.spaces.old (o.spaces.old.start + p.place) at found) in
+      let x = found_other o.spaces.old (o.spaces.old.start + p.cursor) at (found_is has_other o.spaces.old (o.spaces.old.start + p.cursor) at found) in
       next_object tree has_round words p o.spaces sound at found x.0 x.2 x.1 x.3
 
   -- a step of Copy keeps the heap sound
   pub copied_sound : IsSoundHeap tree Copy has_round words (copied_on tree p o).0 (copied_on tree p o).1.spaces
-  copied_sound = step_by (found_in has_other o.spaces.old (o.spaces.old.start + p.place)) refl
+  copied_sound = step_by (found_in has_other o.spaces.old (o.spaces.old.start + p.cursor)) refl
 
   -- ---- the end
 
@@ -677,18 +677,18 @@ module _ (tree : Tree) (has_round : Bool) (words : ℕ) (p : Progress) (o : Obje
   pre_flip_live x h = permanent_or x (is_marked_old o.spaces x) (is_marked_old o.spaces x || is_new o.spaces x) (or_left (is_marked_old o.spaces x) (is_new o.spaces x)) h
 
   module _ (over : (copied_on tree p o).2 ≡ false) where
-    none_left : found_in has_other o.spaces.old (o.spaces.old.start + p.place) ≡ None
-    none_left = none_by tree p o (found_in has_other o.spaces.old (o.spaces.old.start + p.place)) refl over
+    none_left : found_in has_other o.spaces.old (o.spaces.old.start + p.cursor) ≡ None
+    none_left = none_by tree p o (found_in has_other o.spaces.old (o.spaces.old.start + p.cursor)) refl over
 
-    -- each object with another copy lies before the place
-    all_before : (x : Addr) (e : Cell) → cell_in o.spaces.old x ≡ Some e → e.other ≢ None → x.number < o.spaces.old.start + p.place
-    all_before x e there some = by_test (nat_lt x.number (o.spaces.old.start + p.place)) refl
+    -- each object with another copy lies before the cursor
+    all_before : (x : Addr) (e : Cell) → cell_in o.spaces.old x ≡ Some e → e.other ≢ None → x.number < o.spaces.old.start + p.cursor
+    all_before x e there some = by_test (nat_lt x.number (o.spaces.old.start + p.cursor)) refl
       where
-        by_test : (t : Bool) → nat_lt x.number (o.spaces.old.start + p.place) ≡ t → x.number < o.spaces.old.start + p.place
+        by_test : (t : Bool) → nat_lt x.number (o.spaces.old.start + p.cursor) ≡ t → x.number < o.spaces.old.start + p.cursor
         by_test true test = grind (arith, nat_tests)
         by_test false test =
-            let behind : o.spaces.old.start + p.place ≤ x.number = grind (arith, nat_tests) in
-            let wrong : true ≡ false = sym (has_some e some) ∙ found_none has_other o.spaces.old (o.spaces.old.start + p.place) none_left x e there behind in
+            let following : o.spaces.old.start + p.cursor ≤ x.number = grind (arith, nat_tests) in
+            let wrong : true ≡ false = sym (has_some e some) ∙ found_none has_other o.spaces.old (o.spaces.old.start + p.cursor) none_left x e there following in
             absurd cc
 
     whole : (x y : Addr) (e d : Cell) → cell_in o.spaces.old x ≡ Some e → e.other ≡ Some y → AreCopies tree Copy p o.spaces x e d → AreCopies tree PreFlip no_progress o.spaces x e d
@@ -699,7 +699,7 @@ module _ (tree : Tree) (has_round : Bool) (words : ℕ) (p : Progress) (o : Obje
       words = λ word is. h.words word (inl (inl before));
     }
       where
-        before : x.number < o.spaces.old.start + p.place
+        before : x.number < o.spaces.old.start + p.cursor
         before = all_before x e there (some_is_other e.other y some)
 
     -- where no step of Copy is left, PreFlip can be posted
@@ -726,7 +726,7 @@ module _ (tree : Tree) (has_round : Bool) (words : ℕ) (p : Progress) (o : Obje
         new_references = sound.copies.new_references;
         room = λ posted. elim posted [ inl wrong ↦ absurd cc | inr wrong ↦ absurd cc ];
       };
-      place = HasPlace-begun PreFlip o.spaces;
+      cursor = HasCursor-begun PreFlip o.spaces;
       loaded = λ posted. absurd cc;
       marks = λ posted. absurd cc;
       cleared = λ posted. absurd cc;

@@ -14,7 +14,7 @@ use Rattle.object_memory.proofs.TwoCopies.{shell-kept_new, shell-was_new}
 use Rattle.collector.specs.References.{is_permanent}
 use Rattle.collector.specs.Phases.{is_live, is_marked_cell, is_marked_old}
 use Rattle.collector.specs.Soundness.{IsSoundHeap}
-use Rattle.collector.specs.Copying.{address_behind, copied_on, looked_on}
+use Rattle.collector.specs.Copying.{address_after_cell, copied_on, looked_on}
 use Rattle.collector.specs.declared.progress.Attempt.{Attempt}
 use Rattle.collector.specs.declared.progress.Progress.{Progress}
 use Rattle.collector.proofs.Copying.CopyTests.{marks_same, same_address}
@@ -88,14 +88,14 @@ module _ (p : Progress) (o : Objects) where
   looked_old x c there = elim (looked_cases p o) [
     | inl same ↦ (c, ap (λ (z : Objects). cell_in z.spaces.old x) same ∙ there, same_still c c refl)
     | inr h ↦ (
-        let r = shell_stays o.spaces (address_behind o.spaces.old p.place) h.0 h.1 h.3 x c there in
+        let r = shell_stays o.spaces (address_after_cell o.spaces.old p.cursor) h.0 h.1 h.3 x c there in
         (r.0, ap (λ (z : Objects). cell_in z.spaces.old x) h.4 ∙ r.1, r.2))
   ]
 
   pub looked_was_old : (x : Addr) (d : Cell) → cell_in (looked_on p o).1.spaces.old x ≡ Some d → (c : Cell) × (cell_in o.spaces.old x ≡ Some c) × IsStill c d
   looked_was_old x d there = elim (looked_cases p o) [
     | inl same ↦ (d, sym (ap (λ (z : Objects). cell_in z.spaces.old x) same) ∙ there, same_still d d refl)
-    | inr h ↦ shell_was o.spaces (address_behind o.spaces.old p.place) h.0 h.1 h.3 x d (sym (ap (λ (z : Objects). cell_in z.spaces.old x) h.4) ∙ there)
+    | inr h ↦ shell_was o.spaces (address_after_cell o.spaces.old p.cursor) h.0 h.1 h.3 x d (sym (ap (λ (z : Objects). cell_in z.spaces.old x) h.4) ∙ there)
   ]
 
   pub looked_else : IsElseStill o (looked_on p o).1
@@ -112,7 +112,7 @@ module _ (p : Progress) (o : Objects) where
     | inl same ↦ ap (λ (z : Objects). is_marked_old z.spaces x) same
     | inr h ↦
         ap (λ (z : Objects). is_marked_old z.spaces x) h.4
-        ∙ marks_same (set_other (next_address o.spaces.new)) (λ z. refl) (λ z. refl) o.spaces.old (address_behind o.spaces.old p.place) x
+        ∙ marks_same (set_other (next_address o.spaces.new)) (λ z. refl) (λ z. refl) o.spaces.old (address_after_cell o.spaces.old p.cursor) x
   ])
 
   module _ (tree : Tree) (has_round : Bool) (words : ℕ) (sound : IsSoundHeap tree Allocate has_round words p o.spaces) where
@@ -122,18 +122,18 @@ module _ (p : Progress) (o : Objects) where
       | inl same ↦ ap (λ (z : Objects). cell_in z.spaces.new y) same ∙ there
       | inr h ↦
           ap (λ (z : Objects). cell_in z.spaces.new y) h.4
-          ∙ shell-kept_new o.spaces sound.blocks.spaces (sound.copies.room (inr refl)) (address_behind o.spaces.old p.place) h.0 h.1 h.3 y d there
+          ∙ shell-kept_new o.spaces sound.blocks.spaces (sound.copies.room (inr refl)) (address_after_cell o.spaces.old p.cursor) h.0 h.1 h.3 y d there
     ]
 
     -- and what comes is the copy of a marked object that had none
     pub looked_was_new : (y : Addr) (d : Cell) → cell_in (looked_on p o).1.spaces.new y ≡ Some d → (cell_in o.spaces.new y ≡ Some d)
-        ⊎ ((c : Cell) × (cell_in o.spaces.old (address_behind o.spaces.old p.place) ≡ Some c) × (c.marked ≡ true) × (c.other ≡ None)
-        × (y.number ≡ (next_address o.spaces.new).number) × (d ≡ shell_of (address_behind o.spaces.old p.place) c))
+        ⊎ ((c : Cell) × (cell_in o.spaces.old (address_after_cell o.spaces.old p.cursor) ≡ Some c) × (c.marked ≡ true) × (c.other ≡ None)
+        × (y.number ≡ (next_address o.spaces.new).number) × (d ≡ shell_of (address_after_cell o.spaces.old p.cursor) c))
     looked_was_new y d there = elim (looked_cases p o) [
       | inl same ↦ inl (sym (ap (λ (z : Objects). cell_in z.spaces.new y) same) ∙ there)
       | inr h ↦ (
           let now = sym (ap (λ (z : Objects). cell_in z.spaces.new y) h.4) ∙ there in
-          elim (shell-was_new o.spaces sound.blocks.spaces (sound.copies.room (inr refl)) (address_behind o.spaces.old p.place) h.0 h.1 h.3 y d now) [
+          elim (shell-was_new o.spaces sound.blocks.spaces (sound.copies.room (inr refl)) (address_after_cell o.spaces.old p.cursor) h.0 h.1 h.3 y d now) [
             | inl was ↦ inl was
             | inr is ↦ inr (h.0, h.1, h.2, h.3, is.0, is.1)
           ])

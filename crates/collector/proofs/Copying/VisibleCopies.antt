@@ -12,7 +12,7 @@ use Rattle.object_memory.specs.declared.addresses.Addr.{Addr}
 use Rattle.object_memory.specs.declared.addresses.TheConstants.{ADDRESSES}
 use Rattle.object_memory.specs.Cells.{Cell, cell_in}
 use Rattle.object_memory.specs.Spaces.{Spaces, AreSpaces, forward, forward_word}
-use Rattle.object_memory.proofs.TwoBlocks.{forward_bare, forward_copy, forward_else, forward_new, new_is_cell, not_new, told_apart}
+use Rattle.object_memory.proofs.TwoBlocks.{forward_bare, forward_copy, forward_else, forward_new, new_is_cell, not_new, are_distinct}
 use Rattle.collector.specs.References.{is_permanent, reference_in}
 use Rattle.collector.specs.Phases.{HasCopied, HasLooked, is_live, is_live_object, is_marked_cell, is_marked_old, is_new, is_new_address}
 use Rattle.collector.specs.Soundness.{AreCopies, AreCopied, IsCopiedSlot, copied_word}
@@ -145,7 +145,7 @@ module _ (tree : Tree) (posted : Phase) (p : Progress) (m : Spaces) (spaces : Ar
       by_other c None lies other = subst (λ (x : Addr). x.number < ADDRESSES) (sym (forward_bare m a c lies other)) short
       by_other c (Some b) lies other =
           let r = copies.out a b c lies other in
-          let low = (told_apart m spaces b r.0 (new_is_cell m spaces b r.0 r.1)).1 in
+          let low = (are_distinct m spaces b r.0 (new_is_cell m spaces b r.0 r.1)).1 in
           subst (λ (x : Addr). x.number < ADDRESSES) (sym (forward_copy m a b c lies other)) (omega (arith, low))
 
       by_cell : (r : Option Cell) → cell_in m.old a ≡ r → (forward m a).number < ADDRESSES

@@ -17,8 +17,8 @@ use Rattle.collector.specs.Phases.{HasCopied, HasLooked, is_live, is_marked_addr
 use Rattle.collector.specs.Soundness.{AreBlocks, AreCopied, AreCopies, AreMarked, IsCopiedWord, IsInCopy, IsListed, IsLoaded, IsSoundHeap, copied_word}
 use Rattle.collector.specs.Holding.{HasNotBegun}
 use Rattle.collector.specs.declared.progress.Progress.{Progress}
-use Rattle.collector.proofs.BlockWalks.ChangedBlocks.{IsPlace-change}
-use Rattle.collector.proofs.BlockWalks.CollectorPlaces.{HasPlace-change}
+use Rattle.collector.proofs.BlockWalks.ChangedBlocks.{IsOffset-change}
+use Rattle.collector.proofs.BlockWalks.CollectorOffsets.{HasCursor-change}
 use Rattle.collector.proofs.Addresses.Disjunctions.{false_is_true}
 use Rattle.collector.proofs.Addresses.TagChanges.{AreAlike, KeepsTags, changed_is, keeps_size, live_stays, marked_address_stays, new_address_stays, only_at, only_keeps_tags, same_address, twice, twice_alike}
 
@@ -234,8 +234,8 @@ module _ (tree : Tree) (posted : Phase) (has_round : Bool) (words : ℕ) (p : Pr
 
     loaded_stays : posted ≡ Copy → IsLoaded tree p n
     loaded_stays copying is c lies slot next holds =
-        let o = old_before (record { number = m.old.start + p.place }) c lies in
-        let held : holds_reference tree o.0.kind slot ≡ true = ap (λ k. holds_reference tree k slot) (sym ((old_tags (record { number = m.old.start + p.place })).kind o.0) ∙ ap (λ (z : Cell). z.kind) o.2) ∙ holds in
+        let o = old_before (record { number = m.old.start + p.cursor }) c lies in
+        let held : holds_reference tree o.0.kind slot ≡ true = ap (λ k. holds_reference tree k slot) (sym ((old_tags (record { number = m.old.start + p.cursor })).kind o.0) ∙ ap (λ (z : Cell). z.kind) o.2) ∙ holds in
         live_stays m n alike Copy (reference_in p.attempt.word) ∙ sound.loaded copying is o.0 o.1 slot next held
 
     -- marks
@@ -304,11 +304,11 @@ module _ (tree : Tree) (posted : Phase) (has_round : Bool) (words : ℕ) (p : Pr
     heap_stays = record {
       blocks = blocks;
       copies = copies;
-      place = HasPlace-change posted p m n sound.place f keeps.count keeps.other a refl;
+      cursor = HasCursor-change posted p m n sound.cursor f keeps.count keeps.other a refl;
       loaded = loaded_stays;
       marks = marks_stay;
       cleared = λ last. record {
-        place = IsPlace-change g (keeps_size g keeps') m.new b (m.new.start + p.place) (sound.cleared last).place;
+        offset = IsOffset-change g (keeps_size g keeps') m.new b (m.new.start + p.cursor) (sound.cleared last).offset;
         objects = λ x d lies early. (
             let o = new_before x d lies in
             let same : is_noted d ≡ is_noted o.0 = ap is_noted (sym o.2) ∙ noted_by o.0.marked (G x o.0).marked o.0.other (G x o.0).other ((new_tags x).marked o.0) ((new_tags x).other o.0) in

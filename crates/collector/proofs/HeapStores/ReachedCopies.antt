@@ -78,7 +78,7 @@ way_late HeapFlip p nothing = in_both refl refl
 way_late ThreadFlip p nothing = in_both refl refl
 way_late Reclaim p nothing = in_old refl refl (λ e. false_is_true e)
 
--- phases are even and odd in turn
+-- phases alternate between even and odd
 abbrev phase_parity : Phase → Bool
 phase_parity Idle = true
 phase_parity Mark = false
@@ -119,10 +119,10 @@ none_done Mark p m alone nothing x c lies word done = done
 none_done Allocate p m alone nothing x c lies word done = done
 none_done Copy p m alone nothing x c lies word done =
     let none = nothing refl in
-    let place : p.place ≡ 0 = ap (λ (q : Progress). q.place) none in
+    let offset : p.cursor ≡ 0 = ap (λ (q : Progress). q.cursor) none in
     let copied : p.copied_words ≡ 0 = ap (λ (q : Progress). q.copied_words) none in
     elim done [
-      | inl before ↦ absurd (omega (arith, place, before, (range_in m.old x c lies).0))
+      | inl before ↦ absurd (omega (arith, offset, before, (range_in m.old x c lies).0))
       | inr here ↦ absurd (omega (arith, copied, here.1))
     ]
 none_done PreFlip p m alone nothing x c lies word done = false_is_true alone
@@ -177,7 +177,7 @@ module _ (tree : Tree) (posted : Phase) (has_round : Bool) (words : ℕ) (p : Pr
   same_cell x y c d is is' e = same_Some c d (sym is ∙ e ∙ is')
 
   same_kind : (s : Option Cell) (c d : Cell) (kind : Kind) → s ≡ Some c → c.kind ≡ kind → s ≡ Some d → d.kind ≡ kind
-  same_kind s c d kind is told is' = ap (λ (x : Cell). x.kind) (same_Some d c (sym is' ∙ is)) ∙ told
+  same_kind s c d kind is decoded is' = ap (λ (x : Cell). x.kind) (same_Some d c (sym is' ∙ is)) ∙ decoded
 
   -- where no word is copied, the copies are alike after any change that keeps tags
   uncopied_alike : IsUncopied posted p m → (f g : Cell → Cell) → KeepsTags f → KeepsTags g → (a b x y : Addr) (c d : Cell) → cell_in m.old x ≡ Some c → AreCopies tree posted p m x c d
@@ -188,7 +188,7 @@ module _ (tree : Tree) (posted : Phase) (has_round : Bool) (words : ℕ) (p : Pr
 
   -- ---- an old object alone
 
-  module _ (f : Cell → Cell) (keeps : KeepsTags f) (kind : Kind) (a : Addr) (c : Cell) (told : c.kind ≡ kind) where
+  module _ (f : Cell → Cell) (keeps : KeepsTags f) (kind : Kind) (a : Addr) (c : Cell) (decoded : c.kind ≡ kind) where
     old_stays : cell_in m.old a ≡ Some c → IsUncopied posted p m
         → ((d : Cell) → d.kind ≡ kind → AreStored tree (is_live posted m) d (f d))
         → (posted ≡ Mark → HasNotBegun posted has_round p m ⊎ ((d : Cell) → d.kind ≡ kind → AreStored tree (is_marked_address m) d (f d)))
@@ -196,10 +196,10 @@ module _ (tree : Tree) (posted : Phase) (has_round : Bool) (words : ℕ) (p : Pr
     old_stays lies none old marks =
         heap_stays tree posted has_round words p m f f keeps keeps a a sound
         (record {
-          old = λ d is read. old d (same_kind (cell_in m.old a) c d kind lies told is);
+          old = λ d is read. old d (same_kind (cell_in m.old a) c d kind lies decoded is);
           new = λ d is. none_is_some d (sym (not_new m spaces a c lies) ∙ is);
           copies = λ x y d e is other is' were. uncopied_alike none f f keeps keeps a a x y d e is were;
-          marks = λ mark. elim (marks mark) [ inl late ↦ inl late | inr right ↦ inr (λ d is. right d (same_kind (cell_in m.old a) c d kind lies told is)) ];
+          marks = λ mark. elim (marks mark) [ inl late ↦ inl late | inr right ↦ inr (λ d is. right d (same_kind (cell_in m.old a) c d kind lies decoded is)) ];
         })
 
     -- ---- a new object alone
@@ -211,7 +211,7 @@ module _ (tree : Tree) (posted : Phase) (has_round : Bool) (words : ℕ) (p : Pr
         heap_stays tree posted has_round words p m f f keeps keeps a a sound
         (record {
           old = λ d is. none_is_some d (sym (not_old m spaces a c lies) ∙ is);
-          new = λ d is. new d (same_kind (cell_in m.new a) c d kind lies told is);
+          new = λ d is. new d (same_kind (cell_in m.new a) c d kind lies decoded is);
           copies = copies;
           marks = λ mark. inr (λ d is. none_is_some d (sym (not_old m spaces a c lies) ∙ is));
         })
@@ -238,11 +238,11 @@ module _ (tree : Tree) (posted : Phase) (has_round : Bool) (words : ℕ) (p : Pr
     not_mark : {A : Type 0} → posted ≡ Mark → A
     not_mark e = false_is_true (sym (ap has_copies e) ∙ copied)
 
-    module _ (a b : Addr) (c d : Cell) (twins : AreTwins m a b c d) (told : c.kind ≡ kind) (told' : d.kind ≡ kind) where
+    module _ (a b : Addr) (c d : Cell) (twins : AreTwins m a b c d) (decoded : c.kind ≡ kind) (decoded' : d.kind ≡ kind) where
       by_tests : posted ≢ Reclaim → (x y : Addr) (u v : Cell) → cell_in m.old x ≡ Some u → u.other ≡ Some y → cell_in m.new y ≡ Some v → AreCopies tree posted p m x u v → (s t : Bool) → (a.number == x.number) ≡ s → (b.number == y.number) ≡ t
           → AreCopies tree posted p m x (if s then f u else u) (if t then g v else v)
       by_tests before x y u v is other is' were true true here here' =
-          right.copies refl x u v (same_kind (cell_in m.old a) c u kind twins.old told (ap (cell_in m.old) (same_address a x here) ∙ is)) were
+          right.copies refl x u v (same_kind (cell_in m.old a) c u kind twins.old decoded (ap (cell_in m.old) (same_address a x here) ∙ is)) were
       by_tests before x y u v is other is' were true false here here' =
           let same = same_cell (cell_in m.old a) (cell_in m.old x) c u twins.old is (ap (cell_in m.old) (same_address a x here)) in
           other_address b y here' (same_Some b y (sym twins.out ∙ ap (λ (z : Cell). z.other) same ∙ other))
@@ -261,14 +261,14 @@ module _ (tree : Tree) (posted : Phase) (has_round : Bool) (words : ℕ) (p : Pr
       twins_stay =
           heap_stays tree posted has_round words p m f g right.keeps_old right.keeps_new a b sound
           (record {
-            old = λ u is read. right.old u (same_kind (cell_in m.old a) c u kind twins.old told is);
-            new = λ v is. right.new refl v (same_kind (cell_in m.new b) d v kind twins.new told' is);
+            old = λ u is read. right.old u (same_kind (cell_in m.old a) c u kind twins.old decoded is);
+            new = λ v is. right.new refl v (same_kind (cell_in m.new b) d v kind twins.new decoded' is);
             copies = twins_alike;
             marks = λ mark. not_mark mark;
           })
 
     -- the two copies of a live object, through the address of either
-    module _ (a : Addr) (c : Cell) (told : c.kind ≡ kind) (live : is_live posted m a ≡ true) where
+    module _ (a : Addr) (c : Cell) (decoded : c.kind ≡ kind) (live : is_live posted m a ≡ true) where
       through_old_stays : cell_in m.old a ≡ Some c → IsSoundWith (with_both f g o a).spaces
       through_old_stays lies = elim (live_marked_or_new posted m a copied (live_cell tree posted has_round words p m sound a c (old_is_cell m a c lies) live)) [
         | inl marked ↦ with_copy (marked_copy tree posted has_round words p m sound copied a c lies (sym (ap is_marked_cell lies) ∙ marked))
@@ -277,12 +277,12 @@ module _ (tree : Tree) (posted : Phase) (has_round : Bool) (words : ℕ) (p : Pr
         where
           with_copy : (b : Addr) × (d : Cell) × (c.other ≡ Some b) × (cell_in m.new b ≡ Some d) × AreCopies tree posted p m a c d → IsSoundWith (with_both f g o a).spaces
           with_copy (b, d, out, new, were) =
-              let told' : d.kind ≡ kind = were.kind ∙ told in
+              let decoded' : d.kind ≡ kind = were.kind ∙ decoded in
               elim (reclaim_or posted) [
                 | inl last ↦ false_is_true (sym (old_not_new m spaces a c lies) ∙ subst (λ q. is_live_object q m a ≡ true) last (live_cell tree posted has_round words p m sound a c (old_is_cell m a c lies) live))
                 | inr before ↦
                     let twins : AreTwins m a b c d = record { old = lies; new = new; out = out; back = were.back (inl before) } in
-                    subst (λ (q : Objects). IsSoundWith q.spaces) (sym (through_old f g (keeps_size f right.keeps_old) (keeps_size g right.keeps_new) o spaces a b c d twins)) (twins_stay a b c d twins told told')
+                    subst (λ (q : Objects). IsSoundWith q.spaces) (sym (through_old f g (keeps_size f right.keeps_old) (keeps_size g right.keeps_new) o spaces a b c d twins)) (twins_stay a b c d twins decoded decoded')
               ]
 
       through_new_stays : cell_in m.new a ≡ Some c → IsSoundWith (with_both f g o a).spaces
@@ -295,14 +295,14 @@ module _ (tree : Tree) (posted : Phase) (has_round : Bool) (words : ℕ) (p : Pr
           by_other None bare =
               let alone = change_copies-alone g f (keeps_size g right.keeps_new) (keeps_size f right.keeps_old) m a c (new_is_cell m spaces a c lies) bare in
               let is : (with_both f g o a).spaces ≡ change_at g m a = ap (λ t. if t then change_copies f g m a else change_copies g f m a) not_there ∙ alone in
-              subst IsSoundWith (sym is) (new_stays g right.keeps_new kind a c told lies (λ before. bare) (right.new refl))
+              subst IsSoundWith (sym is) (new_stays g right.keeps_new kind a c decoded lies (λ before. bare) (right.new refl))
           by_other (Some q) other =
               let u = sound.copies.back q a c lies other in
               let v = sound.copies.out q a u.0 u.1 u.2 in
               let same : v.0 ≡ c = same_Some v.0 c (sym v.1 ∙ lies) in
-              let kinds : u.0.kind ≡ kind = sym v.2.kind ∙ ap (λ (z : Cell). z.kind) same ∙ told in
+              let kinds : u.0.kind ≡ kind = sym v.2.kind ∙ ap (λ (z : Cell). z.kind) same ∙ decoded in
               let twins : AreTwins m q a u.0 c = record { old = u.1; new = lies; out = u.2; back = other } in
-              subst (λ (z : Objects). IsSoundWith z.spaces) (sym (through_new f g (keeps_size f right.keeps_old) (keeps_size g right.keeps_new) o spaces q a u.0 c twins)) (twins_stay q a u.0 c twins kinds told)
+              subst (λ (z : Objects). IsSoundWith z.spaces) (sym (through_new f g (keeps_size f right.keeps_old) (keeps_size g right.keeps_new) o spaces q a u.0 c twins)) (twins_stay q a u.0 c twins kinds decoded)
 
       both_stay : object_cell o a ≡ Some c → IsSoundWith (with_both f g o a).spaces
       both_stay lies = elim (either m a c lies) [ inl old ↦ through_old_stays old | inr new ↦ through_new_stays new ]

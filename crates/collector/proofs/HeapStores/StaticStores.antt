@@ -8,7 +8,7 @@ use Rattle.reference_machine.specs.Cycles.{phase_after}
 use Rattle.object_memory.specs.declared.values.Value.{Value}
 use Rattle.object_memory.specs.Spaces.{Spaces}
 use Rattle.object_memory.specs.Objects.{Objects}
-use Rattle.barriers.specs.Barriers.{forwarded, stored_static, with_marked}
+use Rattle.barriers.specs.Barriers.{forward_value, stored_static, with_marked}
 use Rattle.collector.specs.References.{ValuePasses}
 use Rattle.collector.specs.Phases.{is_live, is_new_address}
 use Rattle.collector.specs.Soundness.{IsSoundHeap}
@@ -26,8 +26,8 @@ value_for_static Idle o v = v
 value_for_static Mark o v = v
 value_for_static Allocate o v = v
 value_for_static Copy o v = v
-value_for_static PreFlip o v = forwarded o v
-value_for_static HeapFlip o v = forwarded o v
+value_for_static PreFlip o v = forward_value o v
+value_for_static HeapFlip o v = forward_value o v
 value_for_static ThreadFlip o v = v
 value_for_static Reclaim o v = v
 
@@ -84,7 +84,7 @@ module _ (tree : Tree) (has_round : Bool) (words : ℕ) (p : Progress) (o : Obje
   new_fits posted m false u late new = value_weakens (is_new_address m) (is_live posted m) (λ a. new_is_live posted m a late) u new
 
   -- the forward of what is live
-  forward_fits : (own posted : Phase) → has_copies posted ≡ true → IsBesideHeap tree own posted has_round words p o → ValuePasses (is_live posted o.spaces) v → ValuePasses (is_new_address o.spaces) (forwarded o v)
+  forward_fits : (own posted : Phase) → has_copies posted ≡ true → IsBesideHeap tree own posted has_round words p o → ValuePasses (is_live posted o.spaces) v → ValuePasses (is_new_address o.spaces) (forward_value o v)
   forward_fits own posted copied thread live = forwarded_passes tree own posted has_round words p o thread.sound copied v live
 
   -- the static fields aren't scanned while a thread is late
@@ -105,13 +105,13 @@ module _ (tree : Tree) (has_round : Bool) (words : ℕ) (p : Progress) (o : Obje
   mark_late thread held = value_weakens (is_live Allocate o.spaces) (is_live Allocate (with_marked o v).spaces) (live_grows o.spaces (with_marked o v).spaces (value_mark_grows o v) Allocate) v held
 
   pre_flip_now : IsFit PreFlip PreFlip
-  pre_flip_now thread held = new_fits PreFlip o.spaces false (forwarded o v) refl (forward_fits PreFlip PreFlip refl thread held)
+  pre_flip_now thread held = new_fits PreFlip o.spaces false (forward_value o v) refl (forward_fits PreFlip PreFlip refl thread held)
 
   pre_flip_late : IsFit PreFlip HeapFlip
-  pre_flip_late thread held = new_fits HeapFlip o.spaces (nat_lt number p.flipped_statics) (forwarded o v) refl (forward_fits PreFlip HeapFlip refl thread held)
+  pre_flip_late thread held = new_fits HeapFlip o.spaces (nat_lt number p.flipped_statics) (forward_value o v) refl (forward_fits PreFlip HeapFlip refl thread held)
 
   heap_flip_now : IsFit HeapFlip HeapFlip
-  heap_flip_now thread held = new_fits HeapFlip o.spaces (nat_lt number p.flipped_statics) (forwarded o v) refl (forward_fits HeapFlip HeapFlip refl thread held)
+  heap_flip_now thread held = new_fits HeapFlip o.spaces (nat_lt number p.flipped_statics) (forward_value o v) refl (forward_fits HeapFlip HeapFlip refl thread held)
 
   heap_flip_late : IsFit HeapFlip ThreadFlip
   heap_flip_late thread held = forward_fits HeapFlip ThreadFlip refl thread held

@@ -15,7 +15,7 @@ use Rattle.object_memory.specs.Spaces.{Spaces, AreSpaces, forward}
 use Rattle.object_memory.specs.Objects.{Objects, object_cell, with_literal_monitor, with_slot}
 use Rattle.object_memory.specs.Values.{value_word}
 use Rattle.object_memory.proofs.TwoBlocks.{no_literal}
-use Rattle.barriers.specs.Barriers.{forwarded, reaches_both, stored_int, stored_monitor, stored_value, with_marked}
+use Rattle.barriers.specs.Barriers.{forward_value, reaches_both, stored_int, stored_monitor, stored_value, with_marked}
 use Rattle.phase_handshake.specs.Handshakes.{Handshakes}
 use Rattle.phase_handshake.specs.declared.posts.Seat.{Seat}
 use Rattle.collector.specs.References.{ValuePasses, holds_reference, reference_in}
@@ -74,7 +74,7 @@ is_forwarding Reclaim = false
 
 -- what the new copy gets
 abbrev pub value_for_new : Phase → Objects → Value → Value
-value_for_new own o v = if is_forwarding own then forwarded o v else v
+value_for_new own o v = if is_forwarding own then forward_value o v else v
 
 -- threads are flipped while one is in ThreadFlip
 pub flipping_beside : (posted : Phase) → IsBeside ThreadFlip posted → is_flipping posted ≡ true
@@ -95,34 +95,34 @@ module _ (tree : Tree) (own posted : Phase) (has_round : Bool) (words : ℕ) (p 
   spaces = sound.blocks.spaces
 
   -- what is new is its own forward
-  pub forwarded_new : (v : Value) → ValuePasses (is_new_address m) v → forwarded o v ≡ v
+  pub forwarded_new : (v : Value) → ValuePasses (is_new_address m) v → forward_value o v ≡ v
   forwarded_new (Ref a) new = ap (λ (x : Addr). Ref x) (new_forward m spaces a new)
   forwarded_new (Int32 n) new = refl
   forwarded_new (Int64 n) new = refl
   forwarded_new (Native n) new = refl
 
   -- the forward of what is live is new
-  pub forwarded_passes : has_copies posted ≡ true → (v : Value) → ValuePasses (is_live posted m) v → ValuePasses (is_new_address m) (forwarded o v)
+  pub forwarded_passes : has_copies posted ≡ true → (v : Value) → ValuePasses (is_live posted m) v → ValuePasses (is_new_address m) (forward_value o v)
   forwarded_passes copied (Ref a) live = live_forward tree posted has_round words p m sound copied a live
   forwarded_passes copied (Int32 n) live = tt
   forwarded_passes copied (Int64 n) live = tt
   forwarded_passes copied (Native n) live = tt
 
   -- a forward is as short as any address
-  pub forwarded_short : (v : Value) → IsShort v → IsShort (forwarded o v)
+  pub forwarded_short : (v : Value) → IsShort v → IsShort (forward_value o v)
   forwarded_short (Ref a) short = forward_short tree posted has_round words p m sound a short
   forwarded_short (Int32 n) short = tt
   forwarded_short (Int64 n) short = tt
   forwarded_short (Native n) short = tt
 
-  forwarded_reference : (v : Value) → is_reference (forwarded o v) ≡ is_reference v
+  forwarded_reference : (v : Value) → is_reference (forward_value o v) ≡ is_reference v
   forwarded_reference (Ref a) = refl
   forwarded_reference (Int32 n) = refl
   forwarded_reference (Int64 n) = refl
   forwarded_reference (Native n) = refl
 
   -- the forward is what the collector copies
-  forwarded_word : (c : Cell) (slot : ℕ) (v : Value) → IsShort v → is_reference v ≡ holds_reference tree c.kind slot → value_word (forwarded o v) ≡ copied_word tree m c slot (value_word v)
+  forwarded_word : (c : Cell) (slot : ℕ) (v : Value) → IsShort v → is_reference v ≡ holds_reference tree c.kind slot → value_word (forward_value o v) ≡ copied_word tree m c slot (value_word v)
   forwarded_word c slot (Ref a) short same =
       ap (λ (x : Addr). (forward m x).number) (sym (reference_again a short))
       ∙ ap (λ t. if t then (forward m (reference_in a.number)).number else a.number) same
@@ -135,7 +135,7 @@ module _ (tree : Tree) (own posted : Phase) (has_round : Bool) (words : ℕ) (p 
     live = value_weakens (passes (held_by own posted) posted m) (is_live posted m) (held_is_live own posted m) v value.held
 
     -- what the new copy gets is the forward of the value in each phase
-    is_forward : (q : Phase) → q ≡ own → IsBeside own posted → reaches_both q ≡ true → value_for_new q o v ≡ forwarded o v
+    is_forward : (q : Phase) → q ≡ own → IsBeside own posted → reaches_both q ≡ true → value_for_new q o v ≡ forward_value o v
     is_forward Idle is beside both = false_is_true both
     is_forward Mark is beside both = false_is_true both
     is_forward Allocate is beside both = false_is_true both
@@ -149,30 +149,30 @@ module _ (tree : Tree) (own posted : Phase) (has_round : Bool) (words : ℕ) (p 
     is_forward Reclaim is beside both = false_is_true both
 
     module _ (beside : IsBeside own posted) (way : Way own posted p) (marks : posted ≡ Mark → HasNotBegun posted has_round p m ⊎ ValuePasses (is_marked_address m) v) where
-      other_is : reaches_both own ≡ true → value_for_new own o v ≡ forwarded o v
+      other_is : reaches_both own ≡ true → value_for_new own o v ≡ forward_value o v
       other_is both = is_forward own refl beside both
 
-      told_reference : (c : Cell) → c.kind ≡ kind → is_reference v ≡ holds_reference tree c.kind slot
-      told_reference c told = value.reference ∙ ap (λ k. holds_reference tree k slot) (sym told)
+      decoded_reference : (c : Cell) → c.kind ≡ kind → is_reference v ≡ holds_reference tree c.kind slot
+      decoded_reference c decoded = value.reference ∙ ap (λ k. holds_reference tree k slot) (sym decoded)
 
-      new_stored : reaches_both own ≡ true → (d : Cell) → d.kind ≡ kind → AreStored tree (is_new_address m) d (store_slot slot (value_word (forwarded o v)) d)
-      new_stored both d told =
+      new_stored : reaches_both own ≡ true → (d : Cell) → d.kind ≡ kind → AreStored tree (is_new_address m) d (store_slot slot (value_word (forward_value o v)) d)
+      new_stored both d decoded =
           let copied = way_copies own posted p way both in
-          word_stored tree (is_new_address m) d slot (value_word (forwarded o v))
-          (passes_in_slot tree (is_new_address m) d.kind slot (forwarded o v) (forwarded_short v value.short) (forwarded_reference v ∙ told_reference d told) (forwarded_passes copied v live))
+          word_stored tree (is_new_address m) d slot (value_word (forward_value o v))
+          (passes_in_slot tree (is_new_address m) d.kind slot (forward_value o v) (forwarded_short v value.short) (forwarded_reference v ∙ decoded_reference d decoded) (forwarded_passes copied v live))
 
       -- a value that is held is right for the slot, and its forward for that of the new copy
       pub value_right : IsRight tree posted has_round p m kind (reaches_both own) (store_slot slot (value_word v)) (store_slot slot (value_word (value_for_new own o v)))
       value_right = record {
         keeps_old = slot_keeps_tags slot (value_word v);
         keeps_new = slot_keeps_tags slot (value_word (value_for_new own o v));
-        old = λ c told. word_stored tree (is_live posted m) c slot (value_word v) (passes_in_slot tree (is_live posted m) c.kind slot v value.short (told_reference c told) live);
+        old = λ c decoded. word_stored tree (is_live posted m) c slot (value_word v) (passes_in_slot tree (is_live posted m) c.kind slot v value.short (decoded_reference c decoded) live);
         marks = λ mark. elim (marks mark) [
           | inl late ↦ inl late
-          | inr marked ↦ inr (λ c told. word_stored tree (is_marked_address m) c slot (value_word v) (passes_in_slot tree (is_marked_address m) c.kind slot v value.short (told_reference c told) marked))
+          | inr marked ↦ inr (λ c decoded. word_stored tree (is_marked_address m) c slot (value_word v) (passes_in_slot tree (is_marked_address m) c.kind slot v value.short (decoded_reference c decoded) marked))
         ];
-        new = λ both d told. subst (λ (u : Value). AreStored tree (is_new_address m) d (store_slot slot (value_word u) d)) (sym (other_is both)) (new_stored both d told);
-        copies = λ both x c d told were. slots_alike tree posted p m slot (value_word v) (value_word (value_for_new own o v)) x c d were (ap value_word (other_is both) ∙ forwarded_word c slot v value.short (told_reference c told));
+        new = λ both d decoded. subst (λ (u : Value). AreStored tree (is_new_address m) d (store_slot slot (value_word u) d)) (sym (other_is both)) (new_stored both d decoded);
+        copies = λ both x c d decoded were. slots_alike tree posted p m slot (value_word v) (value_word (value_for_new own o v)) x c d were (ap value_word (other_is both) ∙ forwarded_word c slot v value.short (decoded_reference c decoded));
       }
 
 -- ---- values
@@ -274,16 +274,16 @@ module _ (tree : Tree) (own posted : Phase) (has_round : Bool) (words : ℕ) (p 
   -- a word in a slot that holds no reference
   module _ (slot word : ℕ) (hidden : holds_reference tree c.kind slot ≡ false) where
     hidden_in : (d : Cell) → d.kind ≡ c.kind → holds_reference tree d.kind slot ≡ false
-    hidden_in d told = ap (λ k. holds_reference tree k slot) told ∙ hidden
+    hidden_in d decoded = ap (λ k. holds_reference tree k slot) decoded ∙ hidden
 
     word_right : IsRight tree posted has_round p o.spaces c.kind (reaches_both own) (store_slot slot word) (store_slot slot word)
     word_right = record {
       keeps_old = slot_keeps_tags slot word;
       keeps_new = slot_keeps_tags slot word;
-      old = λ d told. word_stored tree (is_live posted o.spaces) d slot word (λ link. false_is_true (sym (hidden_in d told) ∙ link));
-      marks = λ mark. inr (λ d told. word_stored tree (is_marked_address o.spaces) d slot word (λ link. false_is_true (sym (hidden_in d told) ∙ link)));
-      new = λ both d told. word_stored tree (is_new_address o.spaces) d slot word (λ link. false_is_true (sym (hidden_in d told) ∙ link));
-      copies = λ both x d e told were. slots_alike tree posted p o.spaces slot word word x d e were (sym (ap (λ t. if t then (forward o.spaces (reference_in word)).number else word) (hidden_in d told)));
+      old = λ d decoded. word_stored tree (is_live posted o.spaces) d slot word (λ link. false_is_true (sym (hidden_in d decoded) ∙ link));
+      marks = λ mark. inr (λ d decoded. word_stored tree (is_marked_address o.spaces) d slot word (λ link. false_is_true (sym (hidden_in d decoded) ∙ link)));
+      new = λ both d decoded. word_stored tree (is_new_address o.spaces) d slot word (λ link. false_is_true (sym (hidden_in d decoded) ∙ link));
+      copies = λ both x d e decoded were. slots_alike tree posted p o.spaces slot word word x d e were (sym (ap (λ t. if t then (forward o.spaces (reference_in word)).number else word) (hidden_in d decoded)));
     }
 
     -- the heap is sound after a store of the word
@@ -296,10 +296,10 @@ module _ (tree : Tree) (own posted : Phase) (has_round : Bool) (words : ℕ) (p 
     monitor_right = record {
       keeps_old = monitor_keeps_tags monitor;
       keeps_new = monitor_keeps_tags monitor;
-      old = λ d told. monitor_stored tree (is_live posted o.spaces) d monitor;
-      marks = λ mark. inr (λ d told. monitor_stored tree (is_marked_address o.spaces) d monitor);
-      new = λ both d told. monitor_stored tree (is_new_address o.spaces) d monitor;
-      copies = λ both x d e told were. monitors_alike tree posted p o.spaces monitor x d e were;
+      old = λ d decoded. monitor_stored tree (is_live posted o.spaces) d monitor;
+      marks = λ mark. inr (λ d decoded. monitor_stored tree (is_marked_address o.spaces) d monitor);
+      new = λ both d decoded. monitor_stored tree (is_new_address o.spaces) d monitor;
+      copies = λ both x d e decoded were. monitors_alike tree posted p o.spaces monitor x d e were;
     }
 
     -- the heap is sound after a store of the monitor

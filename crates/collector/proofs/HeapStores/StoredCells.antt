@@ -16,7 +16,7 @@ use Rattle.object_memory.specs.Objects.{Objects, object_cell, with_slot}
 use Rattle.object_memory.specs.Values.{value_word}
 use Rattle.object_memory.proofs.TwoBlocks.{change-other, change-own, no_literal, slot_keeps}
 use Rattle.object_memory.proofs.TwoCopies.{change_copies-alone, change_copies-else, change_copies-other, change_copies-own}
-use Rattle.barriers.specs.Barriers.{forwarded, reaches_both, stored_int, stored_monitor, stored_static, stored_value, with_marked}
+use Rattle.barriers.specs.Barriers.{forward_value, reaches_both, stored_int, stored_monitor, stored_static, stored_value, with_marked}
 use Rattle.collector.specs.Soundness.{IsSoundHeap}
 use Rattle.collector.specs.declared.progress.Progress.{Progress}
 use Rattle.collector.proofs.Addresses.Disjunctions.{false_is_true}
@@ -192,9 +192,9 @@ module _ (tree : Tree) (posted : Phase) (has_round : Bool) (words : ℕ) (p : Pr
     value_reached Mark x d (inl same) there = marking_reached x d same there
     value_reached Mark x d (inr other) there = false_is_true other.0
     value_reached Allocate x d reached there = (store_slot slot (value_word (value_shown Allocate o x v)) d, unmarked_reached false v x d reached there, inl refl)
-    value_reached Copy x d reached there = (store_slot slot (value_word (value_shown Copy o x v)) d, unmarked_reached true (forwarded o v) x d reached there, inl refl)
-    value_reached PreFlip x d reached there = (store_slot slot (value_word (value_shown PreFlip o x v)) d, unmarked_reached true (forwarded o v) x d reached there, inl refl)
-    value_reached HeapFlip x d reached there = (store_slot slot (value_word (value_shown HeapFlip o x v)) d, unmarked_reached true (forwarded o v) x d reached there, inl refl)
+    value_reached Copy x d reached there = (store_slot slot (value_word (value_shown Copy o x v)) d, unmarked_reached true (forward_value o v) x d reached there, inl refl)
+    value_reached PreFlip x d reached there = (store_slot slot (value_word (value_shown PreFlip o x v)) d, unmarked_reached true (forward_value o v) x d reached there, inl refl)
+    value_reached HeapFlip x d reached there = (store_slot slot (value_word (value_shown HeapFlip o x v)) d, unmarked_reached true (forward_value o v) x d reached there, inl refl)
     value_reached ThreadFlip x d reached there = (store_slot slot (value_word (value_shown ThreadFlip o x v)) d, unmarked_reached true v x d reached there, inl refl)
     value_reached Reclaim x d reached there = (store_slot slot (value_word (value_shown Reclaim o x v)) d, unmarked_reached false v x d reached there, inl refl)
 
@@ -203,9 +203,9 @@ module _ (tree : Tree) (posted : Phase) (has_round : Bool) (words : ℕ) (p : Pr
     value_unreached Idle x d unreached there = (d, unmarked_unreached false v x unreached ∙ there, inl refl)
     value_unreached Mark x d unreached there = marking_unreached x d (λ same. unreached (inl same)) there
     value_unreached Allocate x d unreached there = (d, unmarked_unreached false v x unreached ∙ there, inl refl)
-    value_unreached Copy x d unreached there = (d, unmarked_unreached true (forwarded o v) x unreached ∙ there, inl refl)
-    value_unreached PreFlip x d unreached there = (d, unmarked_unreached true (forwarded o v) x unreached ∙ there, inl refl)
-    value_unreached HeapFlip x d unreached there = (d, unmarked_unreached true (forwarded o v) x unreached ∙ there, inl refl)
+    value_unreached Copy x d unreached there = (d, unmarked_unreached true (forward_value o v) x unreached ∙ there, inl refl)
+    value_unreached PreFlip x d unreached there = (d, unmarked_unreached true (forward_value o v) x unreached ∙ there, inl refl)
+    value_unreached HeapFlip x d unreached there = (d, unmarked_unreached true (forward_value o v) x unreached ∙ there, inl refl)
     value_unreached ThreadFlip x d unreached there = (d, unmarked_unreached true v x unreached ∙ there, inl refl)
     value_unreached Reclaim x d unreached there = (d, unmarked_unreached false v x unreached ∙ there, inl refl)
 

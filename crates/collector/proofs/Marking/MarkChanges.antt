@@ -15,7 +15,7 @@ use Rattle.collector.specs.Phases.{is_live, is_live_object, is_marked_address, i
 use Rattle.collector.specs.Soundness.{AreBlocks, AreCopied, AreMarked, IsSoundHeap}
 use Rattle.collector.specs.Holding.{AnyLive, Hold, MarkedOnly, NewOnly, passes}
 use Rattle.collector.specs.declared.progress.Progress.{Progress}
-use Rattle.collector.proofs.BlockWalks.CollectorPlaces.{HasPlace-else}
+use Rattle.collector.proofs.BlockWalks.CollectorOffsets.{HasCursor-else}
 use Rattle.collector.proofs.Addresses.Tests.{mark_is, marked_cell, never, none_is_new, old_cell, old_is}
 
 -- ---- blocks that differ in marks alone
@@ -177,7 +177,7 @@ module _ (tree : Tree) (has_round : Bool) (words : ℕ) (p : Progress) (m n : Sp
   IsSoundHeap-darker round_then q marks = record {
     blocks = AreBlocks-darker m n darker words sound.blocks;
     copies = AreCopied-darker q;
-    place = HasPlace-else Mark q n (λ e. absurd cc) (λ e. absurd cc);
+    cursor = HasCursor-else Mark q n (λ e. absurd cc) (λ e. absurd cc);
     loaded = λ e. absurd cc;
     marks = λ posted. marks;
     cleared = λ posted. absurd cc;

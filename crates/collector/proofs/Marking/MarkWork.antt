@@ -156,7 +156,7 @@ module _ (tree : Tree) (has_round : Bool) (words : ℕ) (p : Progress) (o : Obje
         → (slot word : ℕ) → slot < p.scanned_slots + 1 → slice_get d.slots slot ≡ Some word → holds_reference tree d.kind slot ≡ true → is_marked_address scanned.spaces (reference_in word) ≡ true
     scan_oldest_then h others d list is slot word near there held = elim (cases_lt slot p.scanned_slots) [
       | inl before ↦ (scan_marks p.scanned_slots).oldest h others d list is slot word before there held
-      | inr behind ↦ at_last (omega (arith, near, behind))
+      | inr following ↦ at_last (omega (arith, near, following))
     ]
       where
         first : g ≡ h

@@ -23,7 +23,7 @@ use Rattle.collector.specs.Phases.{is_live, is_live_object, is_marked_address, i
 use Rattle.collector.specs.Soundness.{AreBlocks, AreCopied, AreMarked, IsListed, IsSoundHeap}
 use Rattle.collector.specs.Holding.{AnyLive, HasNotBegun, Hold, MarkedOnly, NewOnly, passes}
 use Rattle.collector.specs.declared.progress.Progress.{Progress}
-use Rattle.collector.proofs.BlockWalks.CollectorPlaces.{HasPlace-else}
+use Rattle.collector.proofs.BlockWalks.CollectorOffsets.{HasCursor-else}
 use Rattle.collector.proofs.Addresses.Disjunctions.{false_is_true, either_true, or_first, or_second, or_more, or_both}
 use Rattle.collector.proofs.Addresses.TagChanges.{AreAlike, same_address}
 use Rattle.collector.proofs.Addresses.LiveForwards.{permanent_not_old}
@@ -269,7 +269,7 @@ module _ (m : Spaces) (q : Addr) where
         only (suc k) d inside = absurd (omega (arith, inside))
 
     white_sound : IsSoundHeap tree Mark has_round words p n
-    white_sound = record { blocks = blocks; copies = copies; place = HasPlace-else Mark p n (λ e. absurd cc) (λ e. absurd cc); loaded = λ copying. absurd cc; marks = λ mark. white_marks; cleared = λ last. absurd cc }
+    white_sound = record { blocks = blocks; copies = copies; cursor = HasCursor-else Mark p n (λ e. absurd cc) (λ e. absurd cc); loaded = λ copying. absurd cc; marks = λ mark. white_marks; cleared = λ last. absurd cc }
 
 -- ---- any address is marked
 

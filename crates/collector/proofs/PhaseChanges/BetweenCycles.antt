@@ -7,7 +7,7 @@ use Rattle.cil_model.proofs.Lists.{none_is_some}
 use Rattle.object_memory.specs.declared.addresses.Addr.{Addr}
 use Rattle.object_memory.specs.Cells.{Cell, cell_from, cell_in}
 use Rattle.object_memory.specs.Spaces.{Spaces}
-use Rattle.collector.proofs.BlockWalks.CollectorPlaces.{HasPlace-else}
+use Rattle.collector.proofs.BlockWalks.CollectorOffsets.{HasCursor-else}
 use Rattle.collector.specs.References.{SlotsPass}
 use Rattle.collector.specs.Phases.{is_live}
 use Rattle.collector.specs.Soundness.{AreBlocks, IsSoundHeap}
@@ -51,7 +51,7 @@ module _ (tree : Tree) (has_round : Bool) (words : ℕ) (p : Progress) (m : Spac
       new_references = λ b d lies. absurd (nothing_new blocks b d lies);
       room = λ e. absurd (idle_is_not Idle e refl);
     };
-    place = HasPlace-else Idle p m (λ e. absurd cc) (λ e. absurd cc);
+    cursor = HasCursor-else Idle p m (λ e. absurd cc) (λ e. absurd cc);
     loaded = λ e. absurd cc;
     marks = λ e. absurd (idle_is_not Idle (inl e) refl);
     cleared = λ e. absurd cc;

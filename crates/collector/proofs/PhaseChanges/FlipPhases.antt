@@ -11,18 +11,18 @@ use Rattle.object_memory.specs.declared.addresses.Addr.{Addr}
 use Rattle.object_memory.specs.declared.values.Value.{Value}
 use Rattle.object_memory.specs.declared.values.Value.TheVariants.{Int32, Int64, Native, Ref}
 use Rattle.object_memory.specs.Cells.{Cell, cell_in}
-use Rattle.object_memory.specs.Spaces.{IsPlace, Spaces, forward}
+use Rattle.object_memory.specs.Spaces.{IsOffset, Spaces, forward}
 use Rattle.object_memory.specs.Objects.{Objects}
 use Rattle.object_memory.proofs.Blocks.{range_in}
 use Rattle.object_memory.proofs.TwoBlocks.{forward_copy, forward_new}
-use Rattle.barriers.specs.Barriers.{forwarded}
+use Rattle.barriers.specs.Barriers.{forward_value}
 use Rattle.collector.specs.References.{SlotsPass, ValuePasses, is_permanent}
 use Rattle.collector.specs.Phases.{HasCopied, HasLooked, is_before_copies, is_live, is_marked_old, is_new, is_new_address, is_of_cycle, is_read, no_progress}
 use Rattle.collector.specs.Soundness.{AreBlocks, IsCleared, AreCopied, AreCopies, IsSoundHeap}
 use Rattle.collector.specs.Holding.{HasNotBegun}
 use Rattle.collector.specs.declared.progress.Progress.{Progress}
-use Rattle.object_memory.proofs.Places.{IsPlace-start}
-use Rattle.collector.proofs.BlockWalks.CollectorPlaces.{HasPlace-else}
+use Rattle.object_memory.proofs.Offsets.{IsOffset-start}
+use Rattle.collector.proofs.BlockWalks.CollectorOffsets.{HasCursor-else}
 use Rattle.collector.proofs.Addresses.GrowingBlocks.{forward_permanent, marked_there, some_there}
 
 -- ---- the same heap in a further phase
@@ -74,7 +74,7 @@ module _ (tree : Tree) (posted next : Phase) (has_round : Bool) (words : ℕ) (p
 
   -- the heap is sound
   pub sound_on : IsSoundHeap tree next has_round words p' m
-  sound_on = record { blocks = blocks_on; copies = copied_on; place = HasPlace-else next p' m making filling; loaded = λ is. elim (filling is) [ ]; marks = λ is. elim (marking is) [ ]; cleared = cleared }
+  sound_on = record { blocks = blocks_on; copies = copied_on; cursor = HasCursor-else next p' m making filling; loaded = λ is. elim (filling is) [ ]; marks = λ is. elim (marking is) [ ]; cleared = cleared }
 
 -- whether the phase after one comes with the same heap, whose copies are made
 abbrev pub is_flip : Phase → Bool
@@ -90,7 +90,7 @@ is_flip Reclaim = false
 -- nothing is before the first object
 none_cleared : (m : Spaces) → IsCleared no_progress m
 none_cleared m = record {
-  place = (let same : m.new.start ≡ m.new.start + 0 = omega arith in subst (IsPlace m.new) same (IsPlace-start m.new));
+  offset = (let same : m.new.start ≡ m.new.start + 0 = omega arith in subst (IsOffset m.new) same (IsOffset-start m.new));
   objects = λ b d lies less. absurd (omega (arith, (range_in m.new b d lies).0, less));
 }
 
@@ -213,12 +213,12 @@ module _ (tree : Tree) (posted : Phase) (has_round : Bool) (words : ℕ) (p : Pr
 
 module _ (tree : Tree) (posted : Phase) (has_round : Bool) (words : ℕ) (p : Progress) (o : Objects) (sound : IsSoundHeap tree posted has_round words p o.spaces) (all : are_all_copied posted ≡ true) where
   -- a value that is live is new once it is forwarded
-  pub forwarded_is_new : (v : Value) → ValuePasses (is_live posted o.spaces) v → ValuePasses (is_new_address o.spaces) (forwarded o v)
+  pub forwarded_is_new : (v : Value) → ValuePasses (is_live posted o.spaces) v → ValuePasses (is_new_address o.spaces) (forward_value o v)
   forwarded_is_new (Ref a) live = forward_is_new tree posted has_round words p o.spaces sound all a live
   forwarded_is_new (Int32 x) live = tt
   forwarded_is_new (Int64 x) live = tt
   forwarded_is_new (Native x) live = tt
 
   -- after the flip of a thread's frames all that they hold is new
-  pub all_forwarded_are_new : (vs : List Value) → All (ValuePasses (is_live posted o.spaces)) vs → All (ValuePasses (is_new_address o.spaces)) (map (forwarded o) vs)
-  all_forwarded_are_new vs live = All-map (ValuePasses (is_new_address o.spaces)) (forwarded o) vs (λ i d inside. forwarded_is_new (get_or vs i d) (live i d inside))
+  pub all_forwarded_are_new : (vs : List Value) → All (ValuePasses (is_live posted o.spaces)) vs → All (ValuePasses (is_new_address o.spaces)) (map (forward_value o) vs)
+  all_forwarded_are_new vs live = All-map (ValuePasses (is_new_address o.spaces)) (forward_value o) vs (λ i d inside. forwarded_is_new (get_or vs i d) (live i d inside))

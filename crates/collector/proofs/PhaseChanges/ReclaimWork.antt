@@ -8,17 +8,17 @@ use Rattle.cil_model.specs.declared.phases.Phase.TheVariants.{Idle, Reclaim}
 use Rattle.cil_model.specs.declared.trees.Tree.{Tree}
 use Rattle.object_memory.specs.declared.addresses.Addr.{Addr}
 use Rattle.object_memory.specs.Cells.{Cell, cell_in, change_in, size, store_copies}
-use Rattle.object_memory.specs.Spaces.{AreSpaces, Spaces, IsPlace, cell_at, clear, closed, forward, found_in, is_noted}
+use Rattle.object_memory.specs.Spaces.{AreSpaces, Spaces, IsOffset, cell_at, clear, close_cycle, forward, found_in, is_noted}
 use Rattle.object_memory.specs.Objects.{Objects, object_cell}
 use Rattle.object_memory.proofs.Blocks.{range_in}
-use Rattle.object_memory.proofs.Places.{at_place, below_next, cell, end}
+use Rattle.object_memory.proofs.Offsets.{at_offset, below_next, cell, end}
 use Rattle.object_memory.proofs.TwoBlocks.{AreSpaces-change, AreSpaces-closed, IsAfter, after_in, before_in, change-new_alone, closed-new, closed-was, either, new_is_cell, old_is_cell, own, still}
 use Rattle.collector.specs.References.{SlotsPass}
-use Rattle.collector.proofs.BlockWalks.ChangedBlocks.{IsPlace-cell, IsPlace-change}
-use Rattle.collector.proofs.BlockWalks.CollectorPlaces.{HasPlace-begun, HasPlace-else}
+use Rattle.collector.proofs.BlockWalks.ChangedBlocks.{IsOffset-cell, IsOffset-change}
+use Rattle.collector.proofs.BlockWalks.CollectorOffsets.{HasCursor-begun, HasCursor-else}
 use Rattle.collector.specs.Phases.{is_live, is_new_address, no_progress}
 use Rattle.collector.specs.Soundness.{AreBlocks, IsCleared, AreCopied, AreCopies, IsSoundHeap}
-use Rattle.collector.specs.Flips.{cleared_at, cleared_on, retired}
+use Rattle.collector.specs.Flips.{cleared_at, cleared_on, retire_old}
 use Rattle.collector.specs.Holding.{Hold, passes}
 use Rattle.collector.specs.declared.progress.Progress.{Progress}
 use Rattle.collector.proofs.Addresses.GrowingBlocks.{TestsStay, new_stays, passes_stays, slots_weaken, some_there}
@@ -41,7 +41,7 @@ pub record ShowsSame (c d : Cell) : Type 0 where
 -- ---- one object is cleared
 
 module _ (tree : Tree) (has_round : Bool) (words : ℕ) (p : Progress) (m : Spaces) (sound : IsSoundHeap tree Reclaim has_round words p m)
-    (at : ℕ) (found : IsFound is_noted m.new (m.new.start + p.place) at) where
+    (at : ℕ) (found : IsFound is_noted m.new (m.new.start + p.cursor) at) where
   abbrev there : Addr
   there = record { number = at }
 
@@ -50,7 +50,7 @@ module _ (tree : Tree) (has_round : Bool) (words : ℕ) (p : Progress) (m : Spac
   m' = record m { new = change_in cleared_cell m.new there }
 
   abbrev p' : Progress
-  p' = record p { place = at - m.new.start + size found.cell }
+  p' = record p { cursor = at - m.new.start + size found.cell }
 
   -- a clearing is that change
   clear_is : clear m there ≡ m'
@@ -133,16 +133,16 @@ module _ (tree : Tree) (has_round : Bool) (words : ℕ) (p : Progress) (m : Spac
       by_after c was (own same equal) = subst (SlotsPass tree (is_new_address m')) (sym equal) (further c was)
       by_after c was (still ne equal) = subst (SlotsPass tree (is_new_address m')) (sym equal) (further c was)
 
-  -- all before the next place are cleared
-  objects_cleared : (b : Addr) (d : Cell) → cell_in m'.new b ≡ Some d → b.number < m'.new.start + p'.place → is_noted d ≡ false
+  -- all before the next cursor are cleared
+  objects_cleared : (b : Addr) (d : Cell) → cell_in m'.new b ≡ Some d → b.number < m'.new.start + p'.cursor → is_noted d ≡ false
   objects_cleared b d lies less = let was = after b d lies in by_after was.0 was.1 was.2
     where
       early : (c : Cell) → cell_in m.new b ≡ Some c → b.number < at → is_noted c ≡ false
-      early c was under = by_place (nat_lt b.number (m.new.start + p.place)) refl
+      early c was under = by_index (nat_lt b.number (m.new.start + p.cursor)) refl
         where
-          by_place : (t : Bool) → nat_lt b.number (m.new.start + p.place) ≡ t → is_noted c ≡ false
-          by_place true test = (sound.cleared refl).objects b c was (let near : b.number < m.new.start + p.place = grind (arith, nat_tests) in near)
-          by_place false test = found.before b c was (let far : m.new.start + p.place ≤ b.number = grind (arith, nat_tests) in far) under
+          by_index : (t : Bool) → nat_lt b.number (m.new.start + p.cursor) ≡ t → is_noted c ≡ false
+          by_index true test = (sound.cleared refl).objects b c was (let near : b.number < m.new.start + p.cursor = grind (arith, nat_tests) in near)
+          by_index false test = found.before b c was (let far : m.new.start + p.cursor ≤ b.number = grind (arith, nat_tests) in far) under
 
       near : b.number < at + size found.cell
       near = omega (arith, less, (range_in m.new there found.cell found.lies).0)
@@ -156,17 +156,17 @@ module _ (tree : Tree) (has_round : Bool) (words : ℕ) (p : Progress) (m : Spac
 
   -- all of it together
   -- which is where an object begins, or after all of them
-  next_place : IsPlace m.new (m.new.start + p'.place)
-  next_place = elim (at_place m.new at (IsPlace-cell m.new there found.cell found.lies)) [
-    | cell d lies behind ↦ (
+  next_offset : IsOffset m.new (m.new.start + p'.cursor)
+  next_offset = elim (at_offset m.new at (IsOffset-cell m.new there found.cell found.lies)) [
+    | cell d lies following ↦ (
         let is : size d ≡ size found.cell = ap size (same_Some d found.cell (sym lies ∙ found.lies)) in
-        let far : at + size d ≡ m.new.start + p'.place = (let range = range_in m.new there found.cell found.lies in omega (arith, is, range.0)) in
-        subst (IsPlace m.new) far behind)
+        let far : at + size d ≡ m.new.start + p'.cursor = (let range = range_in m.new there found.cell found.lies in omega (arith, is, range.0)) in
+        subst (IsOffset m.new) far following)
     | end is ↦ absurd (omega (arith, is, (range_in m.new there found.cell found.lies).1))
   ]
 
   clear_cleared : IsCleared p' m'
-  clear_cleared = record { place = IsPlace-change cleared_cell cleared_size m.new there (m.new.start + p'.place) next_place; objects = objects_cleared }
+  clear_cleared = record { offset = IsOffset-change cleared_cell cleared_size m.new there (m.new.start + p'.cursor) next_offset; objects = objects_cleared }
 
   clear_copied : AreCopied tree Reclaim p' m'
   clear_copied = record {
@@ -183,7 +183,7 @@ module _ (tree : Tree) (has_round : Bool) (words : ℕ) (p : Progress) (m : Spac
 
   -- the heap is sound
   one_sound : IsSoundHeap tree Reclaim has_round words p' (clear m there)
-  one_sound = subst (IsSoundHeap tree Reclaim has_round words p') (sym clear_is) (record { blocks = clear_blocks; copies = clear_copied; place = HasPlace-else Reclaim p' m' (λ is. absurd cc) (λ is. absurd cc); loaded = λ is. absurd cc; marks = λ is. absurd cc; cleared = λ is. clear_cleared })
+  one_sound = subst (IsSoundHeap tree Reclaim has_round words p') (sym clear_is) (record { blocks = clear_blocks; copies = clear_copied; cursor = HasCursor-else Reclaim p' m' (λ is. absurd cc) (λ is. absurd cc); loaded = λ is. absurd cc; marks = λ is. absurd cc; cleared = λ is. clear_cleared })
 
   -- what is old, marked or new stays so
   one_stays : TestsStay m (clear m there)
@@ -217,7 +217,7 @@ module _ (tree : Tree) (has_round : Bool) (words : ℕ) (p : Progress) (o : Obje
   abbrev step_to : ℕ → Option Cell → Progress × Objects × Bool
   step_to at x =
       option_map_or
-      (λ (c : Cell). (record p { place = at - m.new.start + size c }, record o { spaces = clear m (record { number = at }) }, true))
+      (λ (c : Cell). (record p { cursor = at - m.new.start + size c }, record o { spaces = clear m (record { number = at }) }, true))
       x
       (p, o, false)
 
@@ -226,72 +226,72 @@ module _ (tree : Tree) (has_round : Bool) (words : ℕ) (p : Progress) (o : Obje
   step_is at c lies = ap (step_to at) lies
 
   -- by what is found
-  sound_by : (x : Option ℕ) → found_in is_noted m.new (m.new.start + p.place) ≡ x → IsSoundHeap tree Reclaim has_round words (cleared_at p o x).0 (cleared_at p o x).1.spaces
+  sound_by : (x : Option ℕ) → found_in is_noted m.new (m.new.start + p.cursor) ≡ x → IsSoundHeap tree Reclaim has_round words (cleared_at p o x).0 (cleared_at p o x).1.spaces
   sound_by None is = sound
   sound_by (Some at) is =
-      let found = found_is is_noted m.new (m.new.start + p.place) at is in
+      let found = found_is is_noted m.new (m.new.start + p.cursor) at is in
       subst (λ (x : Progress × Objects × Bool). IsSoundHeap tree Reclaim has_round words x.0 x.1.spaces) (sym (step_is at found.cell found.lies)) (one_sound tree has_round words p m sound at found)
 
   -- it keeps the heap sound
   pub cleared_sound : IsSoundHeap tree Reclaim has_round words (cleared_on p o).0 (cleared_on p o).1.spaces
-  cleared_sound = sound_by (found_in is_noted m.new (m.new.start + p.place)) refl
+  cleared_sound = sound_by (found_in is_noted m.new (m.new.start + p.cursor)) refl
 
-  stays_by : (x : Option ℕ) → found_in is_noted m.new (m.new.start + p.place) ≡ x → TestsStay m (cleared_at p o x).1.spaces
+  stays_by : (x : Option ℕ) → found_in is_noted m.new (m.new.start + p.cursor) ≡ x → TestsStay m (cleared_at p o x).1.spaces
   stays_by None is = record { old = λ a e. e; marked = λ a e. e; new = λ a e. e }
   stays_by (Some at) is =
-      let found = found_is is_noted m.new (m.new.start + p.place) at is in
+      let found = found_is is_noted m.new (m.new.start + p.cursor) at is in
       subst (λ (x : Progress × Objects × Bool). TestsStay m x.1.spaces) (sym (step_is at found.cell found.lies)) (one_stays tree has_round words p m sound at found)
 
   -- what is old, marked or new stays so
   pub cleared_tests : TestsStay m (cleared_on p o).1.spaces
-  cleared_tests = stays_by (found_in is_noted m.new (m.new.start + p.place)) refl
+  cleared_tests = stays_by (found_in is_noted m.new (m.new.start + p.cursor)) refl
 
   -- and what may be held, for each hold
   pub cleared_stays : (hold : Hold) (a : Addr) → passes hold Reclaim m a ≡ true → passes hold Reclaim (cleared_on p o).1.spaces a ≡ true
   cleared_stays hold a pass = passes_stays m (cleared_on p o).1.spaces cleared_tests a hold Reclaim pass
 
-  forward_by : (x : Option ℕ) → found_in is_noted m.new (m.new.start + p.place) ≡ x → (a : Addr) → forward (cleared_at p o x).1.spaces a ≡ forward m a
+  forward_by : (x : Option ℕ) → found_in is_noted m.new (m.new.start + p.cursor) ≡ x → (a : Addr) → forward (cleared_at p o x).1.spaces a ≡ forward m a
   forward_by None is a = refl
   forward_by (Some at) is a =
-      let found = found_is is_noted m.new (m.new.start + p.place) at is in
+      let found = found_is is_noted m.new (m.new.start + p.cursor) at is in
       subst (λ (x : Progress × Objects × Bool). forward x.1.spaces a ≡ forward m a) (sym (step_is at found.cell found.lies)) (one_forward tree has_round words p m sound at found a)
 
   -- forwards stay
   pub cleared_forward : (a : Addr) → forward (cleared_on p o).1.spaces a ≡ forward m a
-  cleared_forward a = forward_by (found_in is_noted m.new (m.new.start + p.place)) refl a
+  cleared_forward a = forward_by (found_in is_noted m.new (m.new.start + p.cursor)) refl a
 
-  shows_by : (x : Option ℕ) → found_in is_noted m.new (m.new.start + p.place) ≡ x → (b : Addr) (c : Cell) → cell_at m b ≡ Some c → (d : Cell) × (object_cell (cleared_at p o x).1 b ≡ Some d) × ShowsSame c d
+  shows_by : (x : Option ℕ) → found_in is_noted m.new (m.new.start + p.cursor) ≡ x → (b : Addr) (c : Cell) → cell_at m b ≡ Some c → (d : Cell) × (object_cell (cleared_at p o x).1 b ≡ Some d) × ShowsSame c d
   shows_by None is b c lies = (c, lies, record { kind = refl; slots = refl; monitor = refl })
   shows_by (Some at) is b c lies =
-      let found = found_is is_noted m.new (m.new.start + p.place) at is in
+      let found = found_is is_noted m.new (m.new.start + p.cursor) at is in
       subst (λ (x : Progress × Objects × Bool). (d : Cell) × (object_cell x.1 b ≡ Some d) × ShowsSame c d) (sym (step_is at found.cell found.lies)) (one_shows tree has_round words p m sound at found b c lies)
 
   -- each object shows what it showed
   pub cleared_shows : (b : Addr) (c : Cell) → object_cell o b ≡ Some c → (d : Cell) × (object_cell (cleared_on p o).1 b ≡ Some d) × ShowsSame c d
-  cleared_shows b c lies = shows_by (found_in is_noted m.new (m.new.start + p.place)) refl b c lies
+  cleared_shows b c lies = shows_by (found_in is_noted m.new (m.new.start + p.cursor)) refl b c lies
 
   -- ---- the end of the cycle
 
   -- a step that does nothing has found nothing
-  none_left_by : (x : Option ℕ) → found_in is_noted m.new (m.new.start + p.place) ≡ x → (cleared_at p o x).2 ≡ false → found_in is_noted m.new (m.new.start + p.place) ≡ None
+  none_left_by : (x : Option ℕ) → found_in is_noted m.new (m.new.start + p.cursor) ≡ x → (cleared_at p o x).2 ≡ false → found_in is_noted m.new (m.new.start + p.cursor) ≡ None
   none_left_by None is e = is
   none_left_by (Some at) is e =
-      let found = found_is is_noted m.new (m.new.start + p.place) at is in
+      let found = found_is is_noted m.new (m.new.start + p.cursor) at is in
       let works : (cleared_at p o (Some at)).2 ≡ true = ap (λ (x : Progress × Objects × Bool). x.2) (step_is at found.cell found.lies) in
       absurd (let both : true ≡ false = sym works ∙ e in cc)
 
   -- where none is left to clear, no new object has a mark or another copy
   module _ (done : (cleared_on p o).2 ≡ false) where
-    -- each one is before the place of the collector, or was not found
+    -- each one is before the cursor of the collector, or was not found
     all_cleared : (b : Addr) (d : Cell) → cell_in m.new b ≡ Some d → is_noted d ≡ false
-    all_cleared b d lies = by_place (nat_lt b.number (m.new.start + p.place)) refl
+    all_cleared b d lies = by_index (nat_lt b.number (m.new.start + p.cursor)) refl
       where
-        none : found_in is_noted m.new (m.new.start + p.place) ≡ None
-        none = none_left_by (found_in is_noted m.new (m.new.start + p.place)) refl done
+        none : found_in is_noted m.new (m.new.start + p.cursor) ≡ None
+        none = none_left_by (found_in is_noted m.new (m.new.start + p.cursor)) refl done
 
-        by_place : (t : Bool) → nat_lt b.number (m.new.start + p.place) ≡ t → is_noted d ≡ false
-        by_place true test = (sound.cleared refl).objects b d lies (let near : b.number < m.new.start + p.place = grind (arith, nat_tests) in near)
-        by_place false test = none_found is_noted m.new (m.new.start + p.place) none b d lies (let far : m.new.start + p.place ≤ b.number = grind (arith, nat_tests) in far)
+        by_index : (t : Bool) → nat_lt b.number (m.new.start + p.cursor) ≡ t → is_noted d ≡ false
+        by_index true test = (sound.cleared refl).objects b d lies (let near : b.number < m.new.start + p.cursor = grind (arith, nat_tests) in near)
+        by_index false test = none_found is_noted m.new (m.new.start + p.cursor) none b d lies (let far : m.new.start + p.cursor ≤ b.number = grind (arith, nat_tests) in far)
 
     -- what a cell has that is not noted
     noted_parts : (marked : Bool) (other : Option Addr) → (if marked then true else is_some other) ≡ false → (marked ≡ false) × (other ≡ None)
@@ -303,7 +303,7 @@ module _ (tree : Tree) (has_round : Bool) (words : ℕ) (p : Progress) (o : Obje
     parts b d lies = noted_parts d.marked d.other (all_cleared b d lies)
 
     -- the blocks are as they should be between cycles
-    closed_blocks : AreBlocks Idle words (closed m)
+    closed_blocks : AreBlocks Idle words (close_cycle m)
     closed_blocks = record {
       few = sound.blocks.few;
       spaces = AreSpaces-closed m sound.blocks.spaces;
@@ -316,7 +316,7 @@ module _ (tree : Tree) (has_round : Bool) (words : ℕ) (p : Progress) (o : Obje
     }
 
     -- no object has a copy, and all that is referred to is there
-    closed_copied : AreCopied tree Idle no_progress (closed m)
+    closed_copied : AreCopied tree Idle no_progress (close_cycle m)
     closed_copied = record {
       bare = λ a c lies e. (parts a c lies).1;
       unmarked = λ a c lies e. (parts a c lies).0;
@@ -330,19 +330,19 @@ module _ (tree : Tree) (has_round : Bool) (words : ℕ) (p : Progress) (o : Obje
     }
 
     -- the heap of the new block alone is sound between cycles
-    pub retired_sound : IsSoundHeap tree Idle has_round words no_progress (retired o).spaces
-    retired_sound = record { blocks = closed_blocks; copies = closed_copied; place = HasPlace-begun Idle (closed m); loaded = λ is. absurd cc; marks = λ is. absurd cc; cleared = λ is. absurd cc }
+    pub retired_sound : IsSoundHeap tree Idle has_round words no_progress (retire_old o).spaces
+    retired_sound = record { blocks = closed_blocks; copies = closed_copied; cursor = HasCursor-begun Idle (close_cycle m); loaded = λ is. absurd cc; marks = λ is. absurd cc; cleared = λ is. absurd cc }
 
 -- ---- what may be held between cycles
 
 -- each new address is then one of the only block
-pub retired_live : (o : Objects) (a : Addr) → is_new_address o.spaces a ≡ true → is_live Idle (retired o).spaces a ≡ true
+pub retired_live : (o : Objects) (a : Addr) → is_new_address o.spaces a ≡ true → is_live Idle (retire_old o).spaces a ≡ true
 retired_live o a e = e
 
 -- with the same cell
-pub retired_cell : (o : Objects) → AreSpaces o.spaces → (a : Addr) (c : Cell) → cell_in o.spaces.new a ≡ Some c → object_cell (retired o) a ≡ Some c
+pub retired_cell : (o : Objects) → AreSpaces o.spaces → (a : Addr) (c : Cell) → cell_in o.spaces.new a ≡ Some c → object_cell (retire_old o) a ≡ Some c
 retired_cell o h a c lies = closed-new o.spaces h a c lies
 
 -- and no others
-pub retired_was : (o : Objects) → AreSpaces o.spaces → (a : Addr) (c : Cell) → object_cell (retired o) a ≡ Some c → cell_in o.spaces.new a ≡ Some c
+pub retired_was : (o : Objects) → AreSpaces o.spaces → (a : Addr) (c : Cell) → object_cell (retire_old o) a ≡ Some c → cell_in o.spaces.new a ≡ Some c
 retired_was o h a c lies = closed-was o.spaces h a c lies

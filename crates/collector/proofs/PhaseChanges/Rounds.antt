@@ -10,7 +10,7 @@ use Rattle.cil_model.specs.declared.phases.Phase.TheVariants.{Idle, Mark, Alloca
 use Rattle.cil_model.specs.declared.trees.Tree.{Tree}
 use Rattle.object_memory.specs.declared.addresses.Addr.{Addr}
 use Rattle.object_memory.specs.Cells.{Cell, cell_in}
-use Rattle.object_memory.specs.Spaces.{AreSpaces, Spaces, opened}
+use Rattle.object_memory.specs.Spaces.{AreSpaces, Spaces, open_cycle}
 use Rattle.object_memory.specs.Objects.{Objects, no_objects}
 use Rattle.object_memory.proofs.Blocks.{range_in}
 use Rattle.object_memory.proofs.TwoBlocks.{AreSpaces-opened}
@@ -23,7 +23,7 @@ use Rattle.collector.specs.Marking.{is_closed, is_none_grey}
 use Rattle.collector.specs.Holding.{HasNotBegun}
 use Rattle.collector.specs.declared.progress.Progress.{Progress}
 use Rattle.collector.proofs.Addresses.Tests.{marked_cell, never, none_is_new}
-use Rattle.collector.proofs.BlockWalks.CollectorPlaces.{HasPlace-begun, HasPlace-else}
+use Rattle.collector.proofs.BlockWalks.CollectorOffsets.{HasCursor-begun, HasCursor-else}
 use Rattle.collector.proofs.Marking.MarkChanges.{AreCopied-in_mark, AreDarker-same, IsSoundHeap-darker}
 
 -- each marked old object refers to marked ones alone
@@ -61,7 +61,7 @@ module _ (words literals : ℕ) (few : words ≤ MOST_WORDS) where
       new_references = λ b d e. no_cell d e;
       room = λ posted. elim posted [ inl e ↦ absurd (apart_mark e) | inr e ↦ absurd (apart_allocate e) ];
     };
-    place = HasPlace-else Idle p empty (λ e. absurd cc) (λ e. absurd cc);
+    cursor = HasCursor-else Idle p empty (λ e. absurd cc) (λ e. absurd cc);
     loaded = λ e. absurd cc;
     marks = λ posted. absurd (apart_mark posted);
     cleared = λ posted. absurd cc;
@@ -80,9 +80,9 @@ module _ (tree : Tree) (has_round : Bool) (words : ℕ) (p : Progress) (m : Spac
   opened_unmarked : (a : Addr) (c : Cell) → cell_in m.old a ≡ Some c → c.marked ≡ true → ⊥
   opened_unmarked a c e marked = never (sym (sound.copies.unmarked a c e refl) ∙ marked)
 
-  opened_marks : AreMarked tree false no_progress (opened m next)
+  opened_marks : AreMarked tree false no_progress (open_cycle m next)
   opened_marks = record {
-    listed = All-nil (λ a. is_marked_old (opened m next) a ≡ true);
+    listed = All-nil (λ a. is_marked_old (open_cycle m next) a ≡ true);
     black = λ a c e marked. absurd (opened_unmarked a c e marked);
     fresh = λ none. refl;
     oldest = λ g rest c list lies slot word near there held. absurd (omega (arith, near));
@@ -90,7 +90,7 @@ module _ (tree : Tree) (has_round : Bool) (words : ℕ) (p : Progress) (m : Spac
   }
 
   -- a cycle opens in Mark, with nothing done
-  pub IsSoundHeap-opened : IsSoundHeap tree Mark false words no_progress (opened m next)
+  pub IsSoundHeap-opened : IsSoundHeap tree Mark false words no_progress (open_cycle m next)
   IsSoundHeap-opened = record {
     blocks = record {
       few = sound.blocks.few;
@@ -102,22 +102,22 @@ module _ (tree : Tree) (has_round : Bool) (words : ℕ) (p : Progress) (m : Spac
       none_new = λ early. refl;
       none_grey = λ between. refl;
     };
-    copies = AreCopied-in_mark tree no_progress (opened m next) refl
+    copies = AreCopied-in_mark tree no_progress (open_cycle m next) refl
         (λ a c e. sound.copies.bare a c e refl)
         (λ a c e. sound.copies.old_references a c e refl)
         (HasShellRoom-opened m next grows);
-    place = HasPlace-begun Mark (opened m next);
+    cursor = HasCursor-begun Mark (open_cycle m next);
     loaded = λ e. absurd cc;
     marks = λ posted. opened_marks;
     cleared = λ posted. absurd cc;
   }
 
   -- and the collector has not begun
-  pub HasNotBegun-opened : HasNotBegun Mark false no_progress (opened m next)
+  pub HasNotBegun-opened : HasNotBegun Mark false no_progress (open_cycle m next)
   HasNotBegun-opened = record {
     nothing = refl;
     no_round = λ posted. refl;
-    all_grey = λ posted a h. let c = marked_cell (opened m next) a h in absurd (opened_unmarked a c.0 c.1 c.2);
+    all_grey = λ posted a h. let c = marked_cell (open_cycle m next) a h in absurd (opened_unmarked a c.0 c.1 c.2);
   }
 
 -- nor has it of any other phase that it posts
@@ -173,7 +173,7 @@ module _ (tree : Tree) (has_round : Bool) (words : ℕ) (p : Progress) (m : Spac
       new_references = λ b d e. absurd (none-some d (sym (none_is_new m b none_new) ∙ e));
       room = λ early. sound.copies.room (inl refl);
     };
-    place = HasPlace-begun Allocate m;
+    cursor = HasCursor-begun Allocate m;
     loaded = λ e. absurd cc;
     marks = λ posted. absurd (apart posted);
     cleared = λ posted. absurd cc;

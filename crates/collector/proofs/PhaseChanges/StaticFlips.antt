@@ -8,9 +8,9 @@ use Rattle.cil_model.specs.declared.phases.Phase.{Phase}
 use Rattle.cil_model.specs.declared.phases.Phase.TheVariants.{HeapFlip, Idle, PreFlip, Reclaim, ThreadFlip}
 use Rattle.cil_model.specs.declared.trees.Tree.{Tree}
 use Rattle.object_memory.specs.declared.values.Value.{Value}
-use Rattle.object_memory.specs.Spaces.{Spaces, closed}
+use Rattle.object_memory.specs.Spaces.{Spaces, close_cycle}
 use Rattle.object_memory.specs.Objects.{Objects}
-use Rattle.barriers.specs.Barriers.{forwarded}
+use Rattle.barriers.specs.Barriers.{forward_value}
 use Rattle.collector.specs.References.{ValuePasses}
 use Rattle.collector.specs.Phases.{no_progress}
 use Rattle.collector.specs.Soundness.{IsSoundHeap}
@@ -31,7 +31,7 @@ statics_stay posted m m' p statics stay pass number v there =
 
 -- ---- lists
 
--- after a change of one place the item there is the new one, and each other one was there
+-- after a change at one index the item there is the new one, and each other one was there
 pub set_here_or_there : {X : Type 0} (xs : List X) (n i : ℕ) (y x : X) → slice_get (slice_set xs n y) i ≡ Some x → ((i ≡ n) × (x ≡ y)) ⊎ ((i ≢ n) × (slice_get xs i ≡ Some x))
 set_here_or_there [] n i y x e = elim (none-some x e) [ ]
 set_here_or_there (z ∷ zs) zero zero y x e = inl (refl, sym (same_Some y x e))
@@ -61,13 +61,13 @@ module _ (tree : Tree) (has_round : Bool) (words : ℕ) (p : Progress) (o : Obje
   live_test number v test there = subst (λ t. ValuePasses (passes (if t then NewOnly else AnyLive) HeapFlip m) v) test (pass number v there)
 
   -- the field that is flipped holds what is new, and each other one what it held
-  step_passes : (v : Value) → slice_get statics p.flipped_statics ≡ Some v → StaticsPass HeapFlip m further (slice_set statics p.flipped_statics (forwarded o v))
-  step_passes v is number w there = elim (set_here_or_there statics p.flipped_statics number (forwarded o v) w there) [
+  step_passes : (v : Value) → slice_get statics p.flipped_statics ≡ Some v → StaticsPass HeapFlip m further (slice_set statics p.flipped_statics (forward_value o v))
+  step_passes v is number w there = elim (set_here_or_there statics p.flipped_statics number (forward_value o v) w there) [
     | inl here ↦ own here.0 here.1
     | inr was ↦ by_test (nat_lt number p.flipped_statics) refl was.0 was.1
   ]
     where
-      own : number ≡ p.flipped_statics → w ≡ forwarded o v → ValuePasses (static_may_hold HeapFlip m further number) w
+      own : number ≡ p.flipped_statics → w ≡ forward_value o v → ValuePasses (static_may_hold HeapFlip m further number) w
       own at same =
           let now : nat_lt number (p.flipped_statics + 1) ≡ true = grind (arith, nat_tests) in
           let before : nat_lt p.flipped_statics p.flipped_statics ≡ false = grind (arith, nat_tests) in
@@ -127,5 +127,5 @@ pub statics_to_reclaim : (m : Spaces) (p q : Progress) (statics : List Value) �
 statics_to_reclaim m p q statics pass number v there = pass number v there
 
 -- the end of the cycle
-pub statics_to_idle : (m : Spaces) (p q : Progress) (statics : List Value) → StaticsPass Reclaim m p statics → StaticsPass Idle (closed m) q statics
+pub statics_to_idle : (m : Spaces) (p q : Progress) (statics : List Value) → StaticsPass Reclaim m p statics → StaticsPass Idle (close_cycle m) q statics
 statics_to_idle m p q statics pass number v there = pass number v there

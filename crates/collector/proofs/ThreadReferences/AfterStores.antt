@@ -12,7 +12,7 @@ use Rattle.object_memory.specs.Cells.{Cell, literal_number, store_monitor, store
 use Rattle.object_memory.specs.Spaces.{Spaces, change_copies, is_old}
 use Rattle.object_memory.specs.Objects.{Objects, with_literal_monitor}
 use Rattle.object_memory.specs.Values.{value_word}
-use Rattle.barriers.specs.Barriers.{forwarded, reaches_both, stored_int, stored_monitor, stored_static, stored_value, with_both_monitors, with_marked}
+use Rattle.barriers.specs.Barriers.{forward_value, reaches_both, stored_int, stored_monitor, stored_static, stored_value, with_both_monitors, with_marked}
 use Rattle.collector.specs.Soundness.{IsListed, IsSoundHeap}
 use Rattle.collector.specs.Holding.{HasNotBegun, Hold, passes}
 use Rattle.collector.specs.declared.progress.Progress.{Progress}
@@ -90,9 +90,9 @@ module _ (o : Objects) (a : Addr) (slot : ℕ) (v : Value) where
   value_alike Idle = slots_changed false o a slot (value_word v) (value_word v)
   value_alike Mark = slots_changed false (with_marked o v) a slot (value_word v) (value_word v)
   value_alike Allocate = slots_changed false o a slot (value_word v) (value_word v)
-  value_alike Copy = slots_changed true o a slot (value_word v) (value_word (forwarded o v))
-  value_alike PreFlip = slots_changed true o a slot (value_word v) (value_word (forwarded o v))
-  value_alike HeapFlip = slots_changed true o a slot (value_word v) (value_word (forwarded o v))
+  value_alike Copy = slots_changed true o a slot (value_word v) (value_word (forward_value o v))
+  value_alike PreFlip = slots_changed true o a slot (value_word v) (value_word (forward_value o v))
+  value_alike HeapFlip = slots_changed true o a slot (value_word v) (value_word (forward_value o v))
   value_alike ThreadFlip = slots_changed true o a slot (value_word v) (value_word v)
   value_alike Reclaim = slots_changed false o a slot (value_word v) (value_word v)
 

@@ -4,7 +4,7 @@ use Rattle.std.specs.Prelude.{Option}
 use Rattle.cil_model.specs.declared.phases.Phase.{Phase}
 use Rattle.cil_model.specs.declared.phases.Phase.TheVariants.{Allocate, Copy, HeapFlip, Idle, Mark, PreFlip, Reclaim, ThreadFlip}
 use Rattle.object_memory.specs.declared.addresses.Addr.{Addr}
-use Rattle.object_memory.specs.Spaces.{Spaces, closed}
+use Rattle.object_memory.specs.Spaces.{Spaces, close_cycle}
 use Rattle.phase_handshake.specs.Handshakes.{Handshakes, posted_next}
 use Rattle.phase_handshake.specs.declared.posts.Seat.{Seat}
 use Rattle.collector.specs.Holding.{may_hold}
@@ -30,7 +30,7 @@ module _ (has_round : Bool) (seats : List (Option Seat)) (answered : Bool) (m : 
   flip_by Reclaim e held = absurd cc
 
   -- after the last phase the new block is the only one
-  end_by : (posted : Phase) → posted ≡ Reclaim → may_hold (posts posted) m (seat_in posted) a ≡ true → may_hold (posted_next (posts posted)) (closed m) (seat_in posted) a ≡ true
+  end_by : (posted : Phase) → posted ≡ Reclaim → may_hold (posts posted) m (seat_in posted) a ≡ true → may_hold (posted_next (posts posted)) (close_cycle m) (seat_in posted) a ≡ true
   end_by Idle e held = absurd cc
   end_by Mark e held = absurd cc
   end_by Allocate e held = absurd cc
@@ -53,5 +53,5 @@ module _ (h : Handshakes) (seat : Seat) (seen : seat.phase ≡ h.posted) (m : Sp
   flip_keeps_held e held = subst (λ x. may_hold (posted_next h) m (seat_at x) a ≡ true) (sym seen) (flip_by h.has_round h.seats seat.answered m a h.posted e (now held))
 
   -- the end of the cycle, after Reclaim
-  pub end_keeps_held : h.posted ≡ Reclaim → may_hold h m seat a ≡ true → may_hold (posted_next h) (closed m) seat a ≡ true
-  end_keeps_held e held = subst (λ x. may_hold (posted_next h) (closed m) (seat_at x) a ≡ true) (sym seen) (end_by h.has_round h.seats seat.answered m a h.posted e (now held))
+  pub end_keeps_held : h.posted ≡ Reclaim → may_hold h m seat a ≡ true → may_hold (posted_next h) (close_cycle m) seat a ≡ true
+  end_keeps_held e held = subst (λ x. may_hold (posted_next h) (close_cycle m) (seat_at x) a ≡ true) (sym seen) (end_by h.has_round h.seats seat.answered m a h.posted e (now held))

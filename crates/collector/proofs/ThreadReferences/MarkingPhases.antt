@@ -5,7 +5,7 @@ use Rattle.std.proofs.lemmas.Bool.{and_parts}
 use Rattle.cil_model.specs.declared.phases.Phase.{Phase}
 use Rattle.cil_model.specs.declared.phases.Phase.TheVariants.{Idle, Mark, Allocate, Copy, PreFlip, HeapFlip, ThreadFlip, Reclaim}
 use Rattle.object_memory.specs.declared.addresses.Addr.{Addr}
-use Rattle.object_memory.specs.Spaces.{Spaces, opened}
+use Rattle.object_memory.specs.Spaces.{Spaces, open_cycle}
 use Rattle.object_memory.specs.Objects.{Objects}
 use Rattle.phase_handshake.specs.Handshakes.{Handshakes, has_answered, posted_round, seat_of}
 use Rattle.phase_handshake.specs.declared.posts.Seat.{Seat}
@@ -129,16 +129,16 @@ stays_held-static posted m n p number darker a held = stays_passing m n darker (
 
 -- what a thread may hold between cycles it may hold where one opens
 pub opened_held : (h k : Handshakes) (m : Spaces) (words : ℕ) (seat next : Seat) → h.posted ≡ Idle → k.posted ≡ Mark → k.has_round ≡ false → (a : Addr)
-    → may_hold h m seat a ≡ true → may_hold k (opened m words) next a ≡ true
+    → may_hold h m seat a ≡ true → may_hold k (open_cycle m words) next a ≡ true
 opened_held h k m words seat next was now round a held =
     let live : is_live Idle m a ≡ true = subst (λ x. is_live x m a ≡ true) was (may_hold_live h m seat a held) in
-    may_hold_any k (opened m words) next a
+    may_hold_any k (open_cycle m words) next a
     (rw now (no_end (is_flipping next.phase)))
     (rw (now, round) refl)
     (rw now live)
 
 pub opened_held-static : (m : Spaces) (words : ℕ) (p : Progress) (number : ℕ) (a : Addr) → static_may_hold Idle m p number a ≡ true
-    → static_may_hold Mark (opened m words) no_progress number a ≡ true
+    → static_may_hold Mark (open_cycle m words) no_progress number a ≡ true
 opened_held-static m words p number a held = held
 
 -- ---- a round is posted

@@ -41,15 +41,15 @@ use Rattle.threads_monitors.specs.declared.mutators.Mutator.{Mutator}
 use Rattle.simulation.specs.instructions.barriers.Barriers.{is_monitor_storable}
 use Rattle.threads_monitors.specs.Monitors.{with_entry}
 use Rattle.threads_monitors.specs.declared.effects.Effect.TheVariants.{Raises}
-use Rattle.simulation.specs.instructions.Calls.{call_turn}
+use Rattle.simulation.specs.instructions.Calls.{call_transition}
 use Rattle.simulation.specs.instructions.Frames.{given}
-use Rattle.simulation.specs.instructions.ObjectTurns.{ObjectTurn, beside}
-use Rattle.simulation.specs.instructions.BuiltInTurns.{carried, is_countable, reference_from}
-use Rattle.simulation.specs.interpreter.Calls.{CallTurn, act_turn, beside_console, call_answer, called_as, chosen, chosen_by, class_at, class_of_kind, receiver, run_turn, top_reference, run_on}
-use Rattle.simulation.specs.interpreter.Instructions.{Answer, HasSmallConstant, IsAt, IsDone, MachineTurn, answer_of, line_at, of_calls, operation_turn}
+use Rattle.simulation.specs.instructions.ObjectTransitions.{ObjectTransition, beside}
+use Rattle.simulation.specs.instructions.BuiltInTransitions.{carry, is_countable, reference_from}
+use Rattle.simulation.specs.interpreter.Calls.{CallTransition, act_transition, beside_console, call_answer, called_as, chosen_method, chosen_by, class_at, class_of_kind, receiver, run_transition, top_reference, run_on}
+use Rattle.simulation.specs.interpreter.Instructions.{Answer, HasSmallConstant, IsAt, IsDone, MachineTransition, answer_of, line_at, of_calls, operation_transition}
 use Rattle.simulation.proofs.interpreter.Linking.{call_does, virtual_does}
 use Rattle.simulation.specs.interpreter.declared.outcomes.Outcome.TheVariants.{Comes, Joins}
-use Rattle.simulation.specs.MachineContents.{Content, mutator_of}
+use Rattle.simulation.specs.MachineStates.{MachineState, mutator_of}
 use Rattle.simulation.specs.Ready.{IsAnswerable, IsReady}
 use Rattle.interleaving_core.specs.Waits.{HasObject, action_at, called_member}
 
@@ -67,11 +67,11 @@ calls_of tree lines _ _ (call flag r owner method named finds) = plainly flag r 
 calls_of tree lines _ _ (call_virtual c name signature owner method named finds) = virtually c name signature owner method finds
 calls_of tree lines _ _ _ = nothing _ _ refl refl
 
--- ---- the action at a frame's place
+-- ---- the action at a frame's pc
 
 module _ (tree : Tree) (m : Frames) (op : Operation) (at : IsAt tree m op) where
   line_is : line_at tree m ≡ Some at.line
-  line_is = ap (option_and_then (λ (x : ClassName × Method). slice_get (lines_of x.1) m.running.place)) at.found_is ∙ at.line_is
+  line_is = ap (option_and_then (λ (x : ClassName × Method). slice_get (lines_of x.1) m.running.pc)) at.found_is ∙ at.line_is
 
   pub action_is : action_at tree m ≡ called_action tree at.line.instruction
   action_is = ap (option_and_then (λ (l : Line). called_action tree l.instruction)) line_is
@@ -86,14 +86,14 @@ module _ (tree : Tree) (m : Frames) (op : Operation) (at : IsAt tree m op) where
       by_calls _ _ (nothing i o none' e') e = none'
 
   -- and else it is that of the method of the member's number
-  pub member_acts : (method : MemberNumber) → called_member op ≡ Some method → (found : ClassName × Method) × (method_at tree (method.class, method.place) ≡ Some found) × (action_at tree m ≡ action_of found.0 found.1)
+  pub member_acts : (method : MemberNumber) → called_member op ≡ Some method → (found : ClassName × Method) × (method_at tree (method.class, method.index) ≡ Some found) × (action_at tree m ≡ action_of found.0 found.1)
   member_acts method is = by_calls at.line.instruction op (calls_of tree (lines_of at.found.1) at.line.instruction op at.stands) is action_is
     where
       Acting : Option Action → Type 0
-      Acting a = (found : ClassName × Method) × (method_at tree (method.class, method.place) ≡ Some found) × (a ≡ action_of found.0 found.1)
+      Acting a = (found : ClassName × Method) × (method_at tree (method.class, method.index) ≡ Some found) × (a ≡ action_of found.0 found.1)
 
       found_acts : (flag : Bool) (r : MethodReference) (k : MemberNumber) → IsMethod tree flag r k → k ≡ method → (a : Option Action) → a ≡ action_found (find_method tree flag r) → Acting a
-      found_acts flag r k finds same a e = ((finds.declared_in, finds.found), subst (λ (x : MemberNumber). method_at tree (x.class, x.place) ≡ Some (finds.declared_in, finds.found)) same finds.numbered, e ∙ ap action_found finds.finds)
+      found_acts flag r k finds same a e = ((finds.declared_in, finds.found), subst (λ (x : MemberNumber). method_at tree (x.class, x.index) ≡ Some (finds.declared_in, finds.found)) same finds.numbered, e ∙ ap action_found finds.finds)
 
       by_calls : (i : Instruction) (o : Operation) → Calls tree i o → called_member o ≡ Some method → action_at tree m ≡ called_action tree i → Acting (action_at tree m)
       by_calls _ _ (plainly flag r owner k finds) e a = found_acts flag r k finds (same_Some k method e) (action_at tree m) a
@@ -121,17 +121,17 @@ module _ (tree : Tree) (mutator : Mutator) (m : Frames) (o : Objects) (ss : List
   stack_is (Int64 z ∷ rest) e = none_is_some x e
   stack_is (Native z ∷ rest) e = none_is_some x e
 
-  abbrev acted : MachineTurn
-  acted = of_calls o ss pr (act_turn tree mutator a m o pr)
+  abbrev acted : MachineTransition
+  acted = of_calls o ss pr (act_transition tree mutator a m o pr)
 
-  run_is : (found : ClassName × Method) → action_of found.0 found.1 ≡ Some a → run_turn tree mutator found m o pr ≡ act_turn tree mutator a m o pr
-  run_is found acts = ap (λ k. option_map_or (λ b. act_turn tree mutator b m o pr) k otherwise) acts
+  run_is : (found : ClassName × Method) → action_of found.0 found.1 ≡ Some a → run_transition tree mutator found m o pr ≡ act_transition tree mutator a m o pr
+  run_is found acts = ap (λ k. option_map_or (λ b. act_transition tree mutator b m o pr) k otherwise) acts
     where
-      otherwise : CallTurn
-      otherwise = given (number_of tree found) (λ n. beside_console pr (beside o (call_turn (called_as found n) m)))
+      otherwise : CallTransition
+      otherwise = given (number_of tree found) (λ n. beside_console pr (beside o (call_transition (called_as found n) m)))
 
   plain_is : (flag : Bool) (r : MethodReference) (owner : ℕ) (method : MemberNumber) → IsMethod tree flag r method → called_action tree (Named.Call flag r) ≡ Some a →
-      operation_turn tree mutator (Resolved.Call flag owner method) m o ss pr ≡ acted
+      operation_transition tree mutator (Resolved.Call flag owner method) m o ss pr ≡ acted
   plain_is flag r owner method finds acts =
       let own : action_of finds.declared_in finds.found ≡ Some a = sym (ap action_found finds.finds) ∙ acts in
       call_does tree mutator m o ss pr method (finds.declared_in, finds.found) finds.numbered flag owner ∙ ap (of_calls o ss pr) (run_is (finds.declared_in, finds.found) own)
@@ -145,8 +145,8 @@ module _ (tree : Tree) (mutator : Mutator) (m : Frames) (o : Objects) (ss : List
       itself d = ap (λ b. if b then (if is_interface tree found.0 then interface_target tree found.1.name found.1.signature d found.0 else class_target tree found.1.name found.1.signature d found.0) else Some found) plain
 
   virtual_is : (c : ClassName) (name : List ℕ) (signature : Signature) (owner : ℕ) (method : MemberNumber) → IsMethod tree true (virtual_reference c name signature) method → called_action tree (Named.CallVirtual c name signature) ≡ Some a →
-      IsSome (operation_turn tree mutator (Resolved.CallVirtual owner method) m o ss pr) → operation_turn tree mutator (Resolved.CallVirtual owner method) m o ss pr ≡ acted
-  virtual_is c name signature owner method finds acts there = whole ∙ by_run (chosen tree o x found) refl (subst IsSome whole there)
+      IsSome (operation_transition tree mutator (Resolved.CallVirtual owner method) m o ss pr) → operation_transition tree mutator (Resolved.CallVirtual owner method) m o ss pr ≡ acted
+  virtual_is c name signature owner method finds acts there = whole ∙ by_run (chosen_method tree o x found) refl (subst IsSome whole there)
     where
       found : ClassName × Method
       found = (finds.declared_in, finds.found)
@@ -157,24 +157,24 @@ module _ (tree : Tree) (mutator : Mutator) (m : Frames) (o : Objects) (ss : List
       declared : IsDeclared tree finds.declared_in finds.found
       declared = found_is_declared tree true (virtual_reference c name signature) finds.declared_in finds.found finds.finds
 
-      go : Addr → CallTurn
+      go : Addr → CallTransition
       go y = run_on tree mutator found y m o pr
 
-      runs : ClassName × Method → CallTurn
-      runs run = run_turn tree mutator run m o pr
+      runs : ClassName × Method → CallTransition
+      runs run = run_transition tree mutator run m o pr
 
       called : receiver m.running.stack (length (argument_types finds.found finds.declared_in)) ≡ Some x
       called =
           let stack = stack_is m.running.stack top in
           ap (receiver m.running.stack) (ap length (acts_as_member tree finds.declared_in finds.found a declared own).takes) ∙ ap (λ l. receiver l 1) stack.1
 
-      whole : operation_turn tree mutator (Resolved.CallVirtual owner method) m o ss pr ≡ of_calls o ss pr (given (chosen tree o x found) runs)
+      whole : operation_transition tree mutator (Resolved.CallVirtual owner method) m o ss pr ≡ of_calls o ss pr (given (chosen_method tree o x found) runs)
       whole =
           virtual_does tree mutator m o ss pr method found finds.numbered owner
           ∙ ap (λ k. of_calls o ss pr (given k go)) called
-          ∙ ap (λ b. of_calls o ss pr (if b then Some (call_answer m o pr (Comes (Raises NullReference))) else given (chosen tree o x found) runs)) nonzero
+          ∙ ap (λ b. of_calls o ss pr (if b then Some (call_answer m o pr (Comes (Raises NullReference))) else given (chosen_method tree o x found) runs)) nonzero
 
-      by_run : (r : Option (ClassName × Method)) → chosen tree o x found ≡ r → IsSome (of_calls o ss pr (given r runs)) → of_calls o ss pr (given r runs) ≡ acted
+      by_run : (r : Option (ClassName × Method)) → chosen_method tree o x found ≡ r → IsSome (of_calls o ss pr (given r runs)) → of_calls o ss pr (given r runs) ≡ acted
       by_run None e there' = absurd cc
       by_run (Some run) e there' =
           let same : run ≡ found = option_and_then_some (chosen_by tree found) (class_at o x) run e (λ k lies h. chosen_itself found run (acting_is_not_virtual tree finds.declared_in finds.found a declared own) k h) in
@@ -182,16 +182,16 @@ module _ (tree : Tree) (mutator : Mutator) (m : Frames) (o : Objects) (ss : List
 
 -- ---- what a ready thread is about to do can be done
 
-module _ (c : Content) (t left : ℕ) (m : Frames) (ready : IsReady c t m) (answers : (a : Answer) → IsDone c.tree (mutator_of c t) m c.objects c.statics c.printed a → IsAnswerable c t left a a.outcome) where
+module _ (c : MachineState) (t left : ℕ) (m : Frames) (ready : IsReady c t m) (answers : (a : Answer) → IsDone c.tree (mutator_of c t) m c.objects c.statics c.printed a → IsAnswerable c t left a a.outcome) where
   module _ (op : Operation) (at : IsAt c.tree m op) (x : Addr) (top : top_reference m.running.stack ≡ Some x) (apart : x ≢ null) where
-    turn_of : (a : Action) → action_at c.tree m ≡ Some a → HasSmallConstant op × (operation_turn c.tree (mutator_of c t) op m c.objects c.statics c.printed ≡ of_calls c.objects c.statics c.printed (act_turn c.tree (mutator_of c t) a m c.objects c.printed))
-    turn_of a acts = by_calls at.line.instruction op (calls_of c.tree (lines_of at.found.1) at.line.instruction op at.stands) (sym (action_is c.tree m op at) ∙ acts) (ready.there op at)
+    transition_of : (a : Action) → action_at c.tree m ≡ Some a → HasSmallConstant op × (operation_transition c.tree (mutator_of c t) op m c.objects c.statics c.printed ≡ of_calls c.objects c.statics c.printed (act_transition c.tree (mutator_of c t) a m c.objects c.printed))
+    transition_of a acts = by_calls at.line.instruction op (calls_of c.tree (lines_of at.found.1) at.line.instruction op at.stands) (sym (action_is c.tree m op at) ∙ acts) (ready.there op at)
       where
         nonzero : IsNot0 x
         nonzero = not_null_number x apart
 
-        by_calls : (i : Instruction) (o : Operation) → Calls c.tree i o → called_action c.tree i ≡ Some a → (HasSmallConstant o → IsSome (operation_turn c.tree (mutator_of c t) o m c.objects c.statics c.printed)) →
-            HasSmallConstant o × (operation_turn c.tree (mutator_of c t) o m c.objects c.statics c.printed ≡ of_calls c.objects c.statics c.printed (act_turn c.tree (mutator_of c t) a m c.objects c.printed))
+        by_calls : (i : Instruction) (o : Operation) → Calls c.tree i o → called_action c.tree i ≡ Some a → (HasSmallConstant o → IsSome (operation_transition c.tree (mutator_of c t) o m c.objects c.statics c.printed)) →
+            HasSmallConstant o × (operation_transition c.tree (mutator_of c t) o m c.objects c.statics c.printed ≡ of_calls c.objects c.statics c.printed (act_transition c.tree (mutator_of c t) a m c.objects c.printed))
         by_calls _ _ (plainly flag r owner method finds) e there = (tt, plain_is c.tree (mutator_of c t) m c.objects c.statics c.printed a x top nonzero flag r owner method finds e)
         by_calls _ _ (virtually k name signature owner method finds) e there = (tt, virtual_is c.tree (mutator_of c t) m c.objects c.statics c.printed a x top nonzero k name signature owner method finds e (there tt))
         by_calls _ _ (nothing i o none' e') e there = none_is_some a (sym none' ∙ e)
@@ -199,13 +199,13 @@ module _ (c : Content) (t left : ℕ) (m : Frames) (ready : IsReady c t m) (answ
     -- a monitor, where it enters
     enters : action_at c.tree m ≡ Some Enter → IsSome (monitor_at c.objects x)
     enters acts =
-        let turn = turn_of Enter acts in
-        by_stack m.running.stack top (subst IsSome turn.1 (ready.there op at turn.0))
+        let transition = transition_of Enter acts in
+        by_stack m.running.stack top (subst IsSome transition.1 (ready.there op at transition.0))
       where
-        goes : Addr → Frames → ObjectTurn
-        goes a n = if (a.number == 0) || (is_countable (monitor_at c.objects a) && is_monitor_storable (mutator_of c t).phase c.objects a) then carried m n (with_entry (mutator_of c t) c.objects a) else None
+        goes : Addr → Frames → ObjectTransition
+        goes a n = if (a.number == 0) || (is_countable (monitor_at c.objects a) && is_monitor_storable (mutator_of c t).phase c.objects a) then carry m n (with_entry (mutator_of c t) c.objects a) else None
 
-        by_monitor : (y : Addr) (n : Frames) → y ≡ x → (b d : Bool) → b ≡ false → (w : Option Monitor) → IsSome (of_calls c.objects c.statics c.printed (beside_console c.printed (if b || (is_countable w && d) then carried m n (with_entry (mutator_of c t) c.objects y) else None))) → IsSome w
+        by_monitor : (y : Addr) (n : Frames) → y ≡ x → (b d : Bool) → b ≡ false → (w : Option Monitor) → IsSome (of_calls c.objects c.statics c.printed (beside_console c.printed (if b || (is_countable w && d) then carry m n (with_entry (mutator_of c t) c.objects y) else None))) → IsSome w
         by_monitor y n same true d e w there = not_both true e refl
         by_monitor y n same false d e None there = absurd cc
         by_monitor y n same false d e (Some w) there = refl
@@ -223,15 +223,15 @@ module _ (c : Content) (t left : ℕ) (m : Frames) (ready : IsReady c t m) (answ
     -- and the slot that identifies a thread, where it joins
     joins : action_at c.tree m ≡ Some Join → 0 < length (object_slots c.objects x)
     joins acts =
-        let turn = turn_of Join acts in
+        let transition = transition_of Join acts in
         let answer : Answer = answer_of m c.objects c.statics c.printed (Joins x) in
-        let asked : of_calls c.objects c.statics c.printed (act_turn c.tree (mutator_of c t) Join m c.objects c.printed) ≡ Some answer =
+        let asked : of_calls c.objects c.statics c.printed (act_transition c.tree (mutator_of c t) Join m c.objects c.printed) ≡ Some answer =
         ap (λ k. of_calls c.objects c.statics c.printed (option_map (λ b. call_answer m c.objects c.printed (Joins b)) k)) top in
-        (answers answer (record { operation = op; at = at; constant = turn.0; is = sym (turn.1 ∙ asked) })).slot apart
+        (answers answer (record { operation = op; at = at; constant = transition.0; is = sym (transition.1 ∙ asked) })).slot apart
 
   pub has_object : HasObject c.tree c.objects m
   has_object = record {
-    place = ready.place;
+    pc = ready.pc;
     monitor = λ op at acts x top apart. enters op at x top apart acts;
     slot = λ op at acts x top apart. joins op at x top apart acts;
   }

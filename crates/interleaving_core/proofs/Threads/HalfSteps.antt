@@ -14,14 +14,14 @@ use Rattle.simulation.specs.instructions.barriers.Barriers.{stored_int}
 use Rattle.threads_monitors.specs.Frames.{Frames}
 use Rattle.threads_monitors.specs.Threads.{is_live, is_live_at, start_fault, with_start}
 use Rattle.threads_monitors.specs.declared.effects.Effect.{Effect}
-use Rattle.threads_monitors.specs.declared.effects.Effect.TheVariants.{GoesOn, Raises}
-use Rattle.threads_monitors.specs.declared.threads.Standing.{Standing}
-use Rattle.threads_monitors.specs.declared.threads.Standing.TheVariants.{Live, Ended}
+use Rattle.threads_monitors.specs.declared.effects.Effect.TheVariants.{Continues, Raises}
+use Rattle.threads_monitors.specs.declared.threads.ThreadStatus.{ThreadStatus}
+use Rattle.threads_monitors.specs.declared.threads.ThreadStatus.TheVariants.{Live, Ended}
 use Rattle.threads_monitors.specs.declared.threads.Thread.{Thread}
 use Rattle.simulation.specs.interpreter.declared.outcomes.Outcome.{Outcome}
 use Rattle.simulation.specs.interpreter.declared.outcomes.Outcome.TheVariants.{Starts}
-use Rattle.simulation.specs.MachineContents.{Content, mutator_of}
-use Rattle.simulation.specs.Turns.{IsStandingTurn, IsThreadTurn, IsTurn, finish, finished, left_by, live_thread, started, thread_for}
+use Rattle.simulation.specs.MachineStates.{MachineState, mutator_of}
+use Rattle.simulation.specs.Transitions.{IsStatusTransition, IsThreadTransition, IsTransition, finish, finish_step, left_by, live_thread, start_thread, thread_for}
 use Rattle.simulation.specs.Ready.{CanFinish, IsAnswerable}
 use Rattle.interleaving_core.specs.Finishing.{IsInstructed}
 use Rattle.interleaving_core.proofs.Threads.StartRequests.{start_changes_nothing}
@@ -29,20 +29,20 @@ use Rattle.cil_model.proofs.Lists.{none_is_some, get_before, set_is_there, set_i
 
 -- ---- live threads
 
-pub thread_is : (thread : Thread) (m : Frames) → thread.standing ≡ Live m → thread ≡ live_thread thread.steps_left m
-thread_is thread m e = ap (λ (s : Standing). record { standing = s; steps_left = thread.steps_left }) e
+pub thread_is : (thread : Thread) (m : Frames) → thread.thread_status ≡ Live m → thread ≡ live_thread thread.steps_left m
+thread_is thread m e = ap (λ (s : ThreadStatus). record { thread_status = s; steps_left = thread.steps_left }) e
 
 pub live_there : (threads : List Thread) (n : ℕ) → is_live_at threads n ≡ true → (left : ℕ) × (m : Frames) × (slice_get threads n ≡ Some (live_thread left m))
 live_there threads n live = by_thread (slice_get threads n) refl live
   where
-    by_standing : (s : Standing) (left : ℕ) → slice_get threads n ≡ Some (record { standing = s; steps_left = left }) → is_live (record { standing = s; steps_left = left }) ≡ true
+    by_thread_status : (s : ThreadStatus) (left : ℕ) → slice_get threads n ≡ Some (record { thread_status = s; steps_left = left }) → is_live (record { thread_status = s; steps_left = left }) ≡ true
         → (l : ℕ) × (m : Frames) × (slice_get threads n ≡ Some (live_thread l m))
-    by_standing (Live m) left is h = (left, m, is)
-    by_standing (Ended e) left is h = absurd cc
+    by_thread_status (Live m) left is h = (left, m, is)
+    by_thread_status (Ended e) left is h = absurd cc
 
     by_thread : (o : Option Thread) → slice_get threads n ≡ o → option_map_or is_live o false ≡ true → (l : ℕ) × (m : Frames) × (slice_get threads n ≡ Some (live_thread l m))
     by_thread None is h = absurd cc
-    by_thread (Some t) is h = by_standing t.standing t.steps_left is h
+    by_thread (Some t) is h = by_thread_status t.thread_status t.steps_left is h
 
 -- a thread that is live is so by the list too
 pub live_by : (threads : List Thread) (n left : ℕ) (m : Frames) → slice_get threads n ≡ Some (live_thread left m) → is_live_at threads n ≡ true
@@ -53,12 +53,12 @@ live_by threads n left m is = ap (λ o. option_map_or is_live o false) is
 with_start_keeps : (phase : Phase) (threads : List Thread) (o : Objects) (a : Addr) (new : Thread) (n : ℕ) (t : Thread) → slice_get threads n ≡ Some t → slice_get (with_start phase threads o a new).0 n ≡ Some t
 with_start_keeps phase threads o a new n t is = by_fault (start_fault threads o a)
   where
-    by_fault : (f : Option Fault) → slice_get (option_map_or {U = List Thread × Objects × Effect} (λ x. (threads, o, Raises x)) f (threads ++ new ∷ [], stored_int phase o a 0 (length threads + 1), GoesOn)).0 n ≡ Some t
+    by_fault : (f : Option Fault) → slice_get (option_map_or {U = List Thread × Objects × Effect} (λ x. (threads, o, Raises x)) f (threads ++ new ∷ [], stored_int phase o a 0 (length threads + 1), Continues)).0 n ≡ Some t
     by_fault None = get_before threads (new ∷ []) n t is
     by_fault (Some x) = is
 
 pub started_keeps : (phase : Phase) (tree : Tree) (limits : Limits) (threads : List Thread) (o : Objects) (a : Addr) (n : ℕ) (t : Thread) (after : List Thread × Objects × Effect) → slice_get threads n ≡ Some t
-    → Some after ≡ started phase tree limits threads o a → slice_get after.0 n ≡ Some t
+    → Some after ≡ start_thread phase tree limits threads o a → slice_get after.0 n ≡ Some t
 started_keeps phase tree limits threads o a n t after is done = by_fault (start_fault threads o a) (thread_for tree limits o a) done
   where
     by_fault : (f : Option Fault) (new : Option Thread) → Some after ≡ option_map_or (λ x. Some (threads, o, Raises x)) f (option_map (with_start phase threads o a) new) → slice_get after.0 n ≡ Some t
@@ -68,22 +68,22 @@ started_keeps phase tree limits threads o a n t after is done = by_fault (start_
 
 -- ---- both halves
 
-module _ (c : Content) (t : ℕ) (outcome : Outcome) (after : Content) (half : IsInstructed c t outcome after) where
+module _ (c : MachineState) (t : ℕ) (outcome : Outcome) (after : MachineState) (half : IsInstructed c t outcome after) where
   pub thread_left : slice_get after.threads t ≡ Some (live_thread half.left half.answer.frames)
-  thread_left = ap (λ (x : Content). slice_get x.threads t) half.is ∙ set_is_there c.threads t (live_thread half.left half.answer.frames) (live_thread half.left half.frames) half.there
+  thread_left = ap (λ (x : MachineState). slice_get x.threads t) half.is ∙ set_is_there c.threads t (live_thread half.left half.answer.frames) (live_thread half.left half.frames) half.there
 
   pub live_left : is_live_at after.threads t ≡ true
   live_left = live_by after.threads t half.left half.answer.frames thread_left
 
   -- a thread whose instruction was done and whose step was counted made a step
-  pub turn_of_halves : (final : Content) (report : Report) → ((left : ℕ) (m : Frames) → slice_get after.threads t ≡ Some (live_thread left m) → finish after t left m outcome ≡ Some (final, report)) → IsTurn c (Step t) (final, report)
-  turn_of_halves final report counts =
+  pub transition_of_halves : (final : MachineState) (report : Report) → ((left : ℕ) (m : Frames) → slice_get after.threads t ≡ Some (live_thread left m) → finish after t left m outcome ≡ Some (final, report)) → IsTransition c (Step t) (final, report)
+  transition_of_halves final report counts =
       let second : finish (left_by c t half.left half.answer) t half.left half.answer.frames outcome ≡ Some (final, report) =
-      subst (λ (x : Content). finish x t half.left half.answer.frames outcome ≡ Some (final, report)) half.is (counts half.left half.answer.frames thread_left) in
-      let whole : finished c t half.left half.answer half.answer.outcome ≡ Some (final, report) =
-      subst (λ (x : Outcome). finished c t half.left half.answer x ≡ Some (final, report)) (sym half.comes) second in
-      let turn : IsStandingTurn c t half.left (Live half.frames) (final, report) = (half.answer, half.done, whole) in
-      subst (λ (x : Option Thread). IsThreadTurn c t x (final, report)) (sym half.there) turn
+      subst (λ (x : MachineState). finish x t half.left half.answer.frames outcome ≡ Some (final, report)) half.is (counts half.left half.answer.frames thread_left) in
+      let whole : finish_step c t half.left half.answer half.answer.outcome ≡ Some (final, report) =
+      subst (λ (x : Outcome). finish_step c t half.left half.answer x ≡ Some (final, report)) (sym half.comes) second in
+      let transition : IsStatusTransition c t half.left (Live half.frames) (final, report) = (half.answer, half.done, whole) in
+      subst (λ (x : Option Thread). IsThreadTransition c t x (final, report)) (sym half.there) transition
 
   -- where the rest is refused all is as it was
   pub refused_back : (object : Addr) → outcome ≡ Starts object → after ≡ c
@@ -94,16 +94,16 @@ module _ (c : Content) (t : ℕ) (outcome : Outcome) (after : Content) (half : I
 -- ---- what was asked for can be answered
 
 pub same_frames : (left l : ℕ) (m n : Frames) → live_thread left m ≡ live_thread l n → m ≡ n
-same_frames left l m n e = same_live m n (ap (λ (x : Thread). x.standing) e)
+same_frames left l m n e = same_live m n (ap (λ (x : Thread). x.thread_status) e)
   where
     same_live : (x y : Frames) → Live x ≡ Live y → x ≡ y
     same_live x y h = cc
 
-module _ (c : Content) (t : ℕ) (outcome : Outcome) (after : Content) (half : IsInstructed c t outcome after) (answerable : IsAnswerable c t half.left half.answer half.answer.outcome) where
+module _ (c : MachineState) (t : ℕ) (outcome : Outcome) (after : MachineState) (half : IsInstructed c t outcome after) (answerable : IsAnswerable c t half.left half.answer half.answer.outcome) where
   pub can_finish : (left : ℕ) (m : Frames) → slice_get after.threads t ≡ Some (live_thread left m) → CanFinish after t m outcome
   can_finish left m is =
       let asked : CanFinish (left_by c t half.left half.answer) t half.answer.frames outcome = subst (IsAnswerable c t half.left half.answer) half.comes answerable in
-      let there : CanFinish after t half.answer.frames outcome = subst (λ (x : Content). CanFinish x t half.answer.frames outcome) (sym half.is) asked in
+      let there : CanFinish after t half.answer.frames outcome = subst (λ (x : MachineState). CanFinish x t half.answer.frames outcome) (sym half.is) asked in
       let same : half.answer.frames ≡ m =
       same_frames half.left left half.answer.frames m (same_Some (live_thread half.left half.answer.frames) (live_thread left m) (sym (thread_left c t outcome after half) ∙ is)) in
       subst (λ (x : Frames). CanFinish after t x outcome) same there

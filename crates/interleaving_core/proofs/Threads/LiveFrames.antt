@@ -13,23 +13,23 @@ use Rattle.threads_monitors.specs.Threads.{is_live}
 use Rattle.threads_monitors.specs.declared.threads.Thread.{Thread}
 use Rattle.simulation.specs.interpreter.Local.{AreLocalSteps, frames_over}
 use Rattle.simulation.specs.Lending.{RunsFrame, with_live}
-use Rattle.simulation.specs.MachineContents.{Content, frame_room}
-use Rattle.simulation.specs.StandsFor.{IsThread, Represents, StandsAlike}
-use Rattle.simulation.specs.Turns.{live_thread}
+use Rattle.simulation.specs.MachineStates.{MachineState, frame_room}
+use Rattle.simulation.specs.Refines.{IsThread, Represents, StandsAlike}
+use Rattle.simulation.specs.Transitions.{live_thread}
 use Rattle.simulation.proofs.ListLaws.AgreeingLists.{agree_at}
 use Rattle.simulation.proofs.Threads.LocalInstructions.{local_ready, local_represents}
-use Rattle.interleaving_core.specs.Loans.{CanGoOnLocally}
-use Rattle.interleaving_core.specs.Views.{IsSound, content_of}
+use Rattle.interleaving_core.specs.Loans.{CanContinueLocally}
+use Rattle.interleaving_core.specs.Views.{IsSound, machine_state_of}
 use Rattle.interleaving_core.specs.declared.engine.Engine.{Engine}
 use Rattle.interleaving_core.proofs.Threads.LiveThreads.{live_have_steps}
 
-module _ (c : Content) (s : State) (r : Represents c s) (t left : ℕ) (m : Frames) (there : slice_get c.threads t ≡ Some (live_thread left m)) where
+module _ (c : MachineState) (s : State) (r : Represents c s) (t left : ℕ) (m : Frames) (there : slice_get c.threads t ≡ Some (live_thread left m)) where
   pub live_room : m.room ≡ frame_room
   live_room =
       let at = agree_at (IsThread c.tree c.limits r.stands.name) c.threads s.threads r.stands.by.threads t (live_thread left m) there in
-      by_end at.0 at.0.ended at.2.standing
+      by_end at.0 at.0.ended at.2.thread_status
     where
-      by_end : (u : StateThread) (ended : Option End) → StandsAlike c.tree c.limits r.stands.name (live_thread left m).standing u.frames ended → m.room ≡ frame_room
+      by_end : (u : StateThread) (ended : Option End) → StandsAlike c.tree c.limits r.stands.name (live_thread left m).thread_status u.frames ended → m.room ≡ frame_room
       by_end u None h = h.room
       by_end u (Some e) h = absurd h
 
@@ -44,18 +44,18 @@ module _ (c : Content) (s : State) (r : Represents c s) (t left : ℕ) (m : Fram
     there = there ∙ ap (λ n. Some (live_thread left (frames_over m.running m.below m.depth n))) live_room;
   }
 
-  pub top_goes_on : CanGoOnLocally c.tree left m.running
-  top_goes_on n g less steps = local_ready c t left m.running top_runs s r n g less steps
+  pub top_continues : CanContinueLocally c.tree left m.running
+  top_continues n g less steps = local_ready c t left m.running top_runs s r n g less steps
 
 -- a machine advances to one that represents a state
-pub lent_sound : (e e' : Engine) → IsSound e → (t left n : ℕ) (f g : Frame) → (at : RunsFrame (content_of e) t left f) → n < left → AreLocalSteps (content_of e).tree frame_room n f g
-    → content_of e' ≡ with_live (content_of e) t (left - n) (frames_over g at.below at.depth frame_room) → IsSound e'
+pub lent_sound : (e e' : Engine) → IsSound e → (t left n : ℕ) (f g : Frame) → (at : RunsFrame (machine_state_of e) t left f) → n < left → AreLocalSteps (machine_state_of e).tree frame_room n f g
+    → machine_state_of e' ≡ with_live (machine_state_of e) t (left - n) (frames_over g at.below at.depth frame_room) → IsSound e'
 lent_sound e e' sound t left n f g at less steps is =
-    let more = local_represents (content_of e) t left f at sound.state sound.represents n g less steps in
+    let more = local_represents (machine_state_of e) t left f at sound.state sound.represents n g less steps in
     record {
       state = more.0;
-      represents = subst (λ (x : Content). Represents x more.0) (sym is) more.1;
-      few = subst (λ (x : Content). length x.threads ≤ MOST_THREADS) (sym is) (subst (λ k. k ≤ MOST_THREADS) (sym (length-set e.threads.items t (live_thread (left - n) (frames_over g at.below at.depth frame_room)))) sound.few);
+      represents = subst (λ (x : MachineState). Represents x more.0) (sym is) more.1;
+      few = subst (λ (x : MachineState). length x.threads ≤ MOST_THREADS) (sym is) (subst (λ k. k ≤ MOST_THREADS) (sym (length-set e.threads.items t (live_thread (left - n) (frames_over g at.below at.depth frame_room)))) sound.few);
     }
 
 -- ---- a thread that was read
@@ -68,7 +68,7 @@ pub none_there : (threads : List Thread) (t i : ℕ) (found : Option (Bor Thread
 none_there threads t i found looks same is = ap (slice_get threads) (sym same) ∙ sym looks ∙ ap (option_map (λ (x : Bor Thread). x.now)) is
 
 -- a live thread of such frames runs this one
-pub runs_frame : (c : Content) (t left : ℕ) (f : Frame) (m : Frames) (thread : Thread) → slice_get c.threads t ≡ Some thread → thread ≡ live_thread left m → m.running ≡ f → m.room ≡ frame_room → RunsFrame c t left f
+pub runs_frame : (c : MachineState) (t left : ℕ) (f : Frame) (m : Frames) (thread : Thread) → slice_get c.threads t ≡ Some thread → thread ≡ live_thread left m → m.running ≡ f → m.room ≡ frame_room → RunsFrame c t left f
 runs_frame c t left f m thread there is same room = record {
   below = m.below;
   depth = m.depth;

@@ -34,17 +34,17 @@ use Rattle.threads_monitors.specs.Frames.{Frames, with_stack}
 use Rattle.threads_monitors.specs.declared.effects.Effect.{Effect}
 use Rattle.threads_monitors.specs.declared.effects.Effect.TheVariants.{Raises}
 use Rattle.threads_monitors.specs.declared.mutators.Mutator.{Mutator}
-use Rattle.threads_monitors.specs.declared.threads.Standing.{Standing}
-use Rattle.threads_monitors.specs.declared.threads.Standing.TheVariants.{Live, Ended}
+use Rattle.threads_monitors.specs.declared.threads.ThreadStatus.{ThreadStatus}
+use Rattle.threads_monitors.specs.declared.threads.ThreadStatus.TheVariants.{Live, Ended}
 use Rattle.threads_monitors.specs.declared.threads.Thread.{Thread}
 use Rattle.simulation.specs.loaded_program.MethodNumbers.{number_of}
-use Rattle.simulation.specs.instructions.BuiltInTurns.{line_of, printed}
-use Rattle.simulation.specs.instructions.Calls.{call_turn}
-use Rattle.simulation.specs.instructions.Frames.{Turn, given, onward, top_of}
-use Rattle.simulation.specs.instructions.ObjectTurns.{ObjectTurn, StaticTurn, beside}
-use Rattle.simulation.specs.interpreter.Calls.{CallTurn, act_turn, beside_console, call_answer, called_as, chosen, chosen_by, class_at, receiver, run_turn, top_reference, run_on}
+use Rattle.simulation.specs.instructions.BuiltInTransitions.{line_of, print_bytes}
+use Rattle.simulation.specs.instructions.Calls.{call_transition}
+use Rattle.simulation.specs.instructions.Frames.{Transition, given, onward, top_of}
+use Rattle.simulation.specs.instructions.ObjectTransitions.{ObjectTransition, StaticTransition, beside}
+use Rattle.simulation.specs.interpreter.Calls.{CallTransition, act_transition, beside_console, call_answer, called_as, chosen_method, chosen_by, class_at, receiver, run_transition, top_reference, run_on}
 use Rattle.simulation.specs.loaded_program.declared.instructions.LinkedInstruction.TheVariants as Linked
-use Rattle.simulation.specs.interpreter.Instructions.{Answer, IsDone, answer_of, of_calls, of_frames, of_objects, of_statics, operation_turn, linked_turn, MachineTurn}
+use Rattle.simulation.specs.interpreter.Instructions.{Answer, IsDone, answer_of, of_calls, of_frames, of_objects, of_statics, operation_transition, linked_transition, MachineTransition}
 use Rattle.object_memory.specs.Cells.{literal}
 use Rattle.object_memory.specs.declared.addresses.TheConstants.{FIRST_LITERAL}
 use Rattle.simulation.specs.loaded_program.declared.instructions.LinkedInstruction.{LinkedInstruction}
@@ -53,9 +53,9 @@ use Rattle.simulation.specs.loaded_program.Operands.{array_held, class_in, held_
 use Rattle.simulation.proofs.interpreter.Linking.{call_does, virtual_does}
 use Rattle.simulation.specs.interpreter.declared.outcomes.Outcome.{Outcome}
 use Rattle.simulation.specs.interpreter.declared.outcomes.Outcome.TheVariants.{Comes, Starts, Joins}
-use Rattle.simulation.specs.MachineContents.{Content, mutator_of}
-use Rattle.simulation.specs.Turns.{IsStandingTurn, IsThreadTurn, IsTurn}
-use Rattle.interleaving_core.specs.Prints.{next_print, print_by, print_in, standing_print}
+use Rattle.simulation.specs.MachineStates.{MachineState, mutator_of}
+use Rattle.simulation.specs.Transitions.{IsStatusTransition, IsThreadTransition, IsTransition}
+use Rattle.interleaving_core.specs.Prints.{next_print, print_by, print_in, status_print}
 use Rattle.interleaving_core.specs.Waits.{called_member}
 use Rattle.interleaving_core.proofs.Threads.AwaitedObjects.{Calls, plainly, virtually, nothing, action_is, calls_of}
 
@@ -73,7 +73,7 @@ module _ (tree : Tree) (found run : ClassName × Method) (declared : IsDeclared 
       itself : (d : ClassName) → target tree d found.0 found.1 ≡ Some found
       itself d = ap (λ b. if b then (if is_interface tree found.0 then interface_target tree found.1.name found.1.signature d found.0 else class_target tree found.1.name found.1.signature d found.0) else Some found) plain
 
-  -- what is chosen in the place of a virtual one does not act
+  -- what is chosen in place of a virtual one does not act
   virtual_acts : is_virtual found.1.kind ≡ true → (k : Option ℕ) → chosen_by tree found k ≡ Some run → action_of found.0 found.1 ≡ Some a
   virtual_acts virtual None e = none_is_some run (sym (ap (λ b. if b then None else Some found) virtual) ∙ e)
   virtual_acts virtual (Some n) e = option_and_then_some (λ d. target tree d found.0 found.1) (class_name tree n) run e (λ d there h. virtual_target_does_not_act tree d found.0 found.1 run.0 run.1 a declared virtual h acts)
@@ -99,19 +99,19 @@ module _ (tree : Tree) (mutator : Mutator) (m : Frames) (o : Objects) (ss : List
   line_within line is = let same : length answer.printed ≡ length c + length line = ap length is ∙ length-append c line in omega (arith, same)
 
   -- what leaves the printed bytes as they are
-  frames_keep : (turn : Turn) → Some answer ≡ of_frames o ss c turn → answer.printed ≡ c
+  frames_keep : (transition : Transition) → Some answer ≡ of_frames o ss c transition → answer.printed ≡ c
   frames_keep None e = none_is_some answer (sym e)
   frames_keep (Some t) e = ap (λ (x : Answer). x.printed) (same_Some answer (answer_of t.0 o ss c (Comes t.1)) e)
 
-  objects_keep : (turn : ObjectTurn) → Some answer ≡ of_objects o ss c turn → answer.printed ≡ c
+  objects_keep : (transition : ObjectTransition) → Some answer ≡ of_objects o ss c transition → answer.printed ≡ c
   objects_keep None e = none_is_some answer (sym e)
   objects_keep (Some t) e = ap (λ (x : Answer). x.printed) (same_Some answer (answer_of t.0 t.1 ss c (Comes t.2)) e)
 
-  statics_keep : (turn : StaticTurn) → Some answer ≡ of_statics o ss c turn → answer.printed ≡ c
+  statics_keep : (transition : StaticTransition) → Some answer ≡ of_statics o ss c transition → answer.printed ≡ c
   statics_keep None e = none_is_some answer (sym e)
   statics_keep (Some t) e = ap (λ (x : Answer). x.printed) (same_Some answer (answer_of t.0 t.1.0 t.1.1 c (Comes t.2)) e)
 
-  console_keeps : (turn : ObjectTurn) → Some answer ≡ of_calls o ss c (beside_console c turn) → answer.printed ≡ c
+  console_keeps : (transition : ObjectTransition) → Some answer ≡ of_calls o ss c (beside_console c transition) → answer.printed ≡ c
   console_keeps None e = none_is_some answer (sym e)
   console_keeps (Some t) e = ap (λ (x : Answer). x.printed) (same_Some answer (answer_of t.0 t.1 ss c (Comes t.2)) e)
 
@@ -120,8 +120,8 @@ module _ (tree : Tree) (mutator : Mutator) (m : Frames) (o : Objects) (ss : List
   asks_keep what (Some a) e = ap (λ (x : Answer). x.printed) (same_Some answer (answer_of m o ss c (what a)) e)
 
   -- what is linked for operands that are found
-  abbrev linked_answer : LinkedInstruction → MachineTurn
-  linked_answer l = linked_turn tree mutator l m o ss c
+  abbrev linked_answer : LinkedInstruction → MachineTransition
+  linked_answer l = linked_transition tree mutator l m o ss c
 
   mapped_keep : {X : Type 0} (f : X → LinkedInstruction) → ((x : X) → Some answer ≡ linked_answer (f x) → answer.printed ≡ c) → (x : Option X) → Some answer ≡ given (option_map f x) linked_answer → answer.printed ≡ c
   mapped_keep f keep None e = none_is_some answer (sym e)
@@ -136,7 +136,7 @@ module _ (tree : Tree) (mutator : Mutator) (m : Frames) (o : Objects) (ss : List
   string_keeps a false e = none_is_some answer (sym e)
 
   -- an instruction that calls no method by its number
-  quiet : (op : Operation) → called_member op ≡ None → Some answer ≡ operation_turn tree mutator op m o ss c → answer.printed ≡ c
+  quiet : (op : Operation) → called_member op ≡ None → Some answer ≡ operation_transition tree mutator op m o ss c → answer.printed ≡ c
   quiet (LoadString n) h e = string_keeps (literal n) (nat_lt n FIRST_LITERAL) e
   quiet (LoadField owner field) h e =
       then_keep (λ slot. option_map (λ kind. Linked.LoadField slot kind) (held_at tree field)) (λ slot. mapped_keep (λ kind. Linked.LoadField slot kind) (λ kind. objects_keep _) (held_at tree field)) (slot_at tree field) e
@@ -162,26 +162,26 @@ module _ (tree : Tree) (mutator : Mutator) (m : Frames) (o : Objects) (ss : List
   quiet _ h e = frames_keep _ e
 
   -- a built-in member
-  writes : (stack : List Value) → Some answer ≡ of_calls o ss c (option_map (λ (t : Frames × List ℕ × Effect). call_answer t.0 o t.1 (Comes t.2)) (top_of stack m (λ v n. given (line_of (literals_of tree) v) (λ line. printed line c n)))) → Within (print_by tree Write stack)
+  writes : (stack : List Value) → Some answer ≡ of_calls o ss c (option_map (λ (t : Frames × List ℕ × Effect). call_answer t.0 o t.1 (Comes t.2)) (top_of stack m (λ v n. given (line_of (literals_of tree) v) (λ line. print_bytes line c n)))) → Within (print_by tree Write stack)
   writes [] e = none_is_some answer (sym e)
   writes (v ∷ rest) e = by_line (line_of (literals_of tree) v) e
     where
       on : List ℕ → Option (Frames × Effect) → Option (Frames × List ℕ × Effect)
-      on line turn = option_map (λ (t : Frames × Effect). (t.0, c ++ line, t.1)) turn
+      on line transition = option_map (λ (t : Frames × Effect). (t.0, c ++ line, t.1)) transition
 
-      by_turn : (line : List ℕ) (turn : Option (Frames × Effect)) → Some answer ≡ of_calls o ss c (option_map (λ (t : Frames × List ℕ × Effect). call_answer t.0 o t.1 (Comes t.2)) (on line turn)) → answer.printed ≡ c ++ line
-      by_turn line None e' = none_is_some answer (sym e')
-      by_turn line (Some t) e' = ap (λ (x : Answer). x.printed) (same_Some answer (answer_of t.0 o ss (c ++ line) (Comes t.1)) e')
+      by_transition : (line : List ℕ) (transition : Option (Frames × Effect)) → Some answer ≡ of_calls o ss c (option_map (λ (t : Frames × List ℕ × Effect). call_answer t.0 o t.1 (Comes t.2)) (on line transition)) → answer.printed ≡ c ++ line
+      by_transition line None e' = none_is_some answer (sym e')
+      by_transition line (Some t) e' = ap (λ (x : Answer). x.printed) (same_Some answer (answer_of t.0 o ss (c ++ line) (Comes t.1)) e')
 
-      by_line : (l : Option (List ℕ)) → Some answer ≡ of_calls o ss c (option_map (λ (t : Frames × List ℕ × Effect). call_answer t.0 o t.1 (Comes t.2)) (given l (λ line. printed line c (with_stack m rest)))) → Within (unwrap_or l [])
+      by_line : (l : Option (List ℕ)) → Some answer ≡ of_calls o ss c (option_map (λ (t : Frames × List ℕ × Effect). call_answer t.0 o t.1 (Comes t.2)) (given l (λ line. print_bytes line c (with_stack m rest)))) → Within (unwrap_or l [])
       by_line None e' = none_is_some answer (sym e')
-      by_line (Some line) e' = line_within line (by_turn line (onward (with_stack m rest)) e')
+      by_line (Some line) e' = line_within line (by_transition line (onward (with_stack m rest)) e')
 
   constructs : (stack : List Value) → Some answer ≡ of_calls o ss c (top_of stack m (λ v n. beside_console c (beside o (onward n)))) → answer.printed ≡ c
   constructs [] e = none_is_some answer (sym e)
   constructs (v ∷ rest) e = console_keeps (beside o (onward (with_stack m rest))) e
 
-  acts : (a : Action) → Some answer ≡ of_calls o ss c (act_turn tree mutator a m o c) → Within (print_by tree a m.running.stack)
+  acts : (a : Action) → Some answer ≡ of_calls o ss c (act_transition tree mutator a m o c) → Within (print_by tree a m.running.stack)
   acts Construct e = same_within (constructs m.running.stack e) []
   acts Write e = writes m.running.stack e
   acts Enter e = same_within (console_keeps _ e) []
@@ -194,29 +194,29 @@ module _ (tree : Tree) (mutator : Mutator) (m : Frames) (o : Objects) (ss : List
   print_of k = option_map_or (λ a. print_by tree a m.running.stack) k []
 
   -- a method that runs
-  runs : (found : ClassName × Method) (k : Option Action) → Some answer ≡ of_calls o ss c (option_map_or (λ a. act_turn tree mutator a m o c) k (given (number_of tree found) (λ n. beside_console c (beside o (call_turn (called_as found n) m))))) → Within (print_of k)
+  runs : (found : ClassName × Method) (k : Option Action) → Some answer ≡ of_calls o ss c (option_map_or (λ a. act_transition tree mutator a m o c) k (given (number_of tree found) (λ n. beside_console c (beside o (call_transition (called_as found n) m))))) → Within (print_of k)
   runs found None e = by_number (number_of tree found) e
     where
-      by_number : (n : Option ℕ) → Some answer ≡ of_calls o ss c (given n (λ n. beside_console c (beside o (call_turn (called_as found n) m)))) → Within []
+      by_number : (n : Option ℕ) → Some answer ≡ of_calls o ss c (given n (λ n. beside_console c (beside o (call_transition (called_as found n) m)))) → Within []
       by_number None e' = none_is_some answer (sym e')
-      by_number (Some n) e' = same_within (console_keeps (beside o (call_turn (called_as found n) m)) e') []
+      by_number (Some n) e' = same_within (console_keeps (beside o (call_transition (called_as found n) m)) e') []
   runs found (Some a) e = acts a e
 
   -- call
-  called : (flag : Bool) (owner : ℕ) (method : MemberNumber) (found : ClassName × Method) → method_at tree (method.class, method.place) ≡ Some found →
-      Some answer ≡ operation_turn tree mutator (Call flag owner method) m o ss c → Within (print_of (action_of found.0 found.1))
+  called : (flag : Bool) (owner : ℕ) (method : MemberNumber) (found : ClassName × Method) → method_at tree (method.class, method.index) ≡ Some found →
+      Some answer ≡ operation_transition tree mutator (Call flag owner method) m o ss c → Within (print_of (action_of found.0 found.1))
   called flag owner method found numbered e = runs found (action_of found.0 found.1) (e ∙ call_does tree mutator m o ss c method found numbered flag owner)
 
   -- callvirt
-  called_virtually : (owner : ℕ) (method : MemberNumber) (found : ClassName × Method) → IsDeclared tree found.0 found.1 → method_at tree (method.class, method.place) ≡ Some found →
-      Some answer ≡ operation_turn tree mutator (CallVirtual owner method) m o ss c → Within (print_of (action_of found.0 found.1))
+  called_virtually : (owner : ℕ) (method : MemberNumber) (found : ClassName × Method) → IsDeclared tree found.0 found.1 → method_at tree (method.class, method.index) ≡ Some found →
+      Some answer ≡ operation_transition tree mutator (CallVirtual owner method) m o ss c → Within (print_of (action_of found.0 found.1))
   called_virtually owner method found declared numbered e =
       by_receiver (receiver m.running.stack (length (argument_types found.1 found.0))) (e ∙ virtual_does tree mutator m o ss c method found numbered owner)
     where
-      go : Addr → CallTurn
+      go : Addr → CallTransition
       go y = run_on tree mutator found y m o c
 
-      by_run : (y : Addr) (r : Option (ClassName × Method)) → chosen tree o y found ≡ r → Some answer ≡ of_calls o ss c (given r (λ run. run_turn tree mutator run m o c)) → Within (print_of (action_of found.0 found.1))
+      by_run : (y : Addr) (r : Option (ClassName × Method)) → chosen_method tree o y found ≡ r → Some answer ≡ of_calls o ss c (given r (λ run. run_transition tree mutator run m o c)) → Within (print_of (action_of found.0 found.1))
       by_run y None is e' = none_is_some answer (sym e')
       by_run y (Some run) is e' = by_action (action_of run.0 run.1) refl (runs run (action_of run.0 run.1) e')
         where
@@ -225,21 +225,21 @@ module _ (tree : Tree) (mutator : Mutator) (m : Frames) (o : Objects) (ss : List
           by_action (Some a) some h =
               option_and_then_some (chosen_by tree found) (class_at o y) run is (λ k lies e''. subst (λ x. Within (print_of x)) (sym (chosen_acts tree found run declared a some k e'')) h)
 
-      by_null : (y : Addr) (b : Bool) → Some answer ≡ of_calls o ss c (if b then Some (call_answer m o c (Comes (Raises NullReference))) else given (chosen tree o y found) (λ run. run_turn tree mutator run m o c)) → Within (print_of (action_of found.0 found.1))
+      by_null : (y : Addr) (b : Bool) → Some answer ≡ of_calls o ss c (if b then Some (call_answer m o c (Comes (Raises NullReference))) else given (chosen_method tree o y found) (λ run. run_transition tree mutator run m o c)) → Within (print_of (action_of found.0 found.1))
       by_null y true e' = same_within (ap (λ (x : Answer). x.printed) (same_Some answer (answer_of m o ss c (Comes (Raises NullReference))) e')) (print_of (action_of found.0 found.1))
-      by_null y false e' = by_run y (chosen tree o y found) refl e'
+      by_null y false e' = by_run y (chosen_method tree o y found) refl e'
 
       by_receiver : (r : Option Addr) → Some answer ≡ of_calls o ss c (given r go) → Within (print_of (action_of found.0 found.1))
       by_receiver None e' = none_is_some answer (sym e')
       by_receiver (Some y) e' = by_null y (y.number == 0) e'
 
-  -- any instruction at the frame's place
+  -- any instruction at the frame's pc
   done_within : IsDone tree mutator m o ss c answer → Within (print_in tree m)
   done_within done =
       subst (λ k. Within (print_of k)) (sym (action_is tree m done.operation done.at))
       (by_calls done.at.line.instruction done.operation (calls_of tree (lines_of done.at.found.1) done.at.line.instruction done.operation done.at.stands) done.is)
     where
-      by_calls : (i : Instruction) (op : Operation) → Calls tree i op → Some answer ≡ operation_turn tree mutator op m o ss c → Within (print_of (called_action tree i))
+      by_calls : (i : Instruction) (op : Operation) → Calls tree i op → Some answer ≡ operation_transition tree mutator op m o ss c → Within (print_of (called_action tree i))
       by_calls _ _ (plainly flag r owner method finds) e =
           subst (λ k. Within (print_of (action_found k))) (sym finds.finds) (called flag owner method (finds.declared_in, finds.found) finds.numbered e)
       by_calls _ _ (virtually d name signature owner method finds) e =
@@ -249,20 +249,20 @@ module _ (tree : Tree) (mutator : Mutator) (m : Frames) (o : Objects) (ss : List
 
 -- ---- any event
 
-module _ (c : Content) (after : Content × Report) where
+module _ (c : MachineState) (after : MachineState × Report) where
   -- it prints what is next, and no more
-  pub prints_within : (e : Event) → IsTurn c e after → length after.0.printed ≤ length c.printed + length (next_print c e)
+  pub prints_within : (e : Event) → IsTransition c e after → length after.0.printed ≤ length c.printed + length (next_print c e)
   prints_within (Step t) h = by_thread (slice_get c.threads t) h
     where
-      by_standing : (left : ℕ) (standing : Standing) → IsStandingTurn c t left standing after → length after.0.printed ≤ length c.printed + length (standing_print c.tree standing)
-      by_standing left (Live m) k =
+      by_thread_status : (left : ℕ) (thread_status : ThreadStatus) → IsStatusTransition c t left thread_status after → length after.0.printed ≤ length c.printed + length (status_print c.tree thread_status)
+      by_thread_status left (Live m) k =
           let done : length k.0.printed ≤ length c.printed + length (print_in c.tree m) = done_within c.tree (mutator_of c t) m c.objects c.statics c.printed k.0 k.1 in
           let same : length after.0.printed ≡ length k.0.printed = ap length (finished_printed c t left k.0 after k.0.outcome k.2) in
           omega (arith, done, same)
-      by_standing left (Ended x) k = let same : length after.0.printed ≡ length c.printed = ap (λ (x : Content × Report). length x.0.printed) k in omega (arith, same)
+      by_thread_status left (Ended x) k = let same : length after.0.printed ≡ length c.printed = ap (λ (x : MachineState × Report). length x.0.printed) k in omega (arith, same)
 
-      by_thread : (o : Option Thread) → IsThreadTurn c t o after → length after.0.printed ≤ length c.printed + length (option_map_or (λ (x : Thread). standing_print c.tree x.standing) o [])
-      by_thread None k = let same : length after.0.printed ≡ length c.printed = ap (λ (x : Content × Report). length x.0.printed) k in omega (arith, same)
-      by_thread (Some thread) k = by_standing thread.steps_left thread.standing k
-  prints_within (Ack t) h = let same : length after.0.printed ≡ length c.printed = ap (λ (x : Content × Report). length x.0.printed) h in omega (arith, same)
-  prints_within Gc h = let same : length after.0.printed ≡ length c.printed = ap (λ (x : Content × Report). length x.0.printed) h ∙ ap length (collected_keeps c).printed in omega (arith, same)
+      by_thread : (o : Option Thread) → IsThreadTransition c t o after → length after.0.printed ≤ length c.printed + length (option_map_or (λ (x : Thread). status_print c.tree x.thread_status) o [])
+      by_thread None k = let same : length after.0.printed ≡ length c.printed = ap (λ (x : MachineState × Report). length x.0.printed) k in omega (arith, same)
+      by_thread (Some thread) k = by_thread_status thread.steps_left thread.thread_status k
+  prints_within (Ack t) h = let same : length after.0.printed ≡ length c.printed = ap (λ (x : MachineState × Report). length x.0.printed) h in omega (arith, same)
+  prints_within Gc h = let same : length after.0.printed ≡ length c.printed = ap (λ (x : MachineState × Report). length x.0.printed) h ∙ ap length (collected_keeps c).printed in omega (arith, same)

@@ -17,15 +17,15 @@ use Rattle.threads_monitors.specs.Frames.{Frames}
 use Rattle.threads_monitors.specs.declared.mutators.Mutator.{Mutator}
 use Rattle.threads_monitors.specs.declared.effects.Effect.{Effect}
 use Rattle.threads_monitors.specs.declared.effects.Effect.TheVariants.{Raises}
-use Rattle.simulation.specs.instructions.Frames.{Turn, given, onward, top_of}
-use Rattle.simulation.specs.instructions.ObjectTurns.{ObjectTurn, beside, StaticTurn}
-use Rattle.simulation.specs.instructions.Calls.{call_turn}
-use Rattle.simulation.specs.instructions.BuiltInTurns.{enter_turn, exit_turn, write_turn}
+use Rattle.simulation.specs.instructions.Frames.{Transition, given, onward, top_of}
+use Rattle.simulation.specs.instructions.ObjectTransitions.{ObjectTransition, beside, StaticTransition}
+use Rattle.simulation.specs.instructions.Calls.{call_transition}
+use Rattle.simulation.specs.instructions.BuiltInTransitions.{enter_transition, exit_transition, write_transition}
 use Rattle.simulation.specs.loaded_program.declared.instructions.LinkedInstruction.TheVariants as Linked
-use Rattle.simulation.specs.interpreter.Instructions.{IsDone, MachineTurn, of_frames, of_objects, of_statics, of_calls, Answer, answer_of, linked_turn, link_of}
+use Rattle.simulation.specs.interpreter.Instructions.{IsDone, MachineTransition, of_frames, of_objects, of_statics, of_calls, Answer, answer_of, linked_transition, link_of}
 use Rattle.simulation.specs.loaded_program.AllMethods.{all_methods}
 use Rattle.simulation.specs.loaded_program.declared.instructions.LinkedInstruction.{LinkedInstruction}
-use Rattle.simulation.specs.interpreter.Calls.{CallTurn, act_turn, beside_console, called_as, receiver, run_turn, top_reference, CallAnswer, call_answer, call_numbered, chosen, run_on, virtual_numbered, virtual_turn}
+use Rattle.simulation.specs.interpreter.Calls.{CallTransition, act_transition, beside_console, called_as, receiver, run_transition, top_reference, CallAnswer, call_answer, call_by_id, chosen_method, run_on, virtual_by_id, virtual_transition}
 use Rattle.simulation.specs.interpreter.declared.outcomes.Outcome.{Outcome}
 use Rattle.simulation.specs.interpreter.declared.outcomes.Outcome.TheVariants.{Comes, Starts, Joins}
 use Rattle.cil_model.proofs.Lists.{none_is_some}
@@ -45,11 +45,11 @@ joins_not {A} a object h = absurd (lost h)
 
 module _ (m : Frames) (o : Objects) (statics : List Value) (printed : List ℕ) where
   -- a result that asks for a start is all as it was
-  abbrev KeepsAll : MachineTurn → Type 0
-  KeepsAll turn = (answer : Answer) (object : Addr) → Some answer ≡ turn → answer.outcome ≡ Starts object → answer ≡ answer_of m o statics printed (Starts object)
+  abbrev KeepsAll : MachineTransition → Type 0
+  KeepsAll transition = (answer : Answer) (object : Addr) → Some answer ≡ transition → answer.outcome ≡ Starts object → answer ≡ answer_of m o statics printed (Starts object)
 
-  abbrev KeepsCall : CallTurn → Type 0
-  KeepsCall turn = (t : CallAnswer) (object : Addr) → Some t ≡ turn → t.outcome ≡ Starts object → t ≡ call_answer m o printed (Starts object)
+  abbrev KeepsCall : CallTransition → Type 0
+  KeepsCall transition = (t : CallAnswer) (object : Addr) → Some t ≡ transition → t.outcome ≡ Starts object → t ≡ call_answer m o printed (Starts object)
 
   -- ---- what results in an effect asks for nothing
 
@@ -57,21 +57,21 @@ module _ (m : Frames) (o : Objects) (statics : List Value) (printed : List ℕ) 
   other_outcome answer other e object is comes starts =
       comes_not e object (sym comes ∙ sym (ap (λ (x : Answer). x.outcome) (same_Some answer other is)) ∙ starts)
 
-  frames_keep : (turn : Turn) → KeepsAll (of_frames o statics printed turn)
+  frames_keep : (transition : Transition) → KeepsAll (of_frames o statics printed transition)
   frames_keep None answer object is starts = none_is_some answer (sym is)
   frames_keep (Some t) answer object is starts = other_outcome answer (answer_of t.0 o statics printed (Comes t.1)) t.1 object is refl starts
 
-  objects_keep : (turn : ObjectTurn) → KeepsAll (of_objects o statics printed turn)
+  objects_keep : (transition : ObjectTransition) → KeepsAll (of_objects o statics printed transition)
   objects_keep None answer object is starts = none_is_some answer (sym is)
   objects_keep (Some t) answer object is starts = other_outcome answer (answer_of t.0 t.1 statics printed (Comes t.2)) t.2 object is refl starts
 
-  statics_keep : (turn : StaticTurn) → KeepsAll (of_statics o statics printed turn)
+  statics_keep : (transition : StaticTransition) → KeepsAll (of_statics o statics printed transition)
   statics_keep None answer object is starts = none_is_some answer (sym is)
   statics_keep (Some t) answer object is starts = other_outcome answer (answer_of t.0 t.1.0 t.1.1 printed (Comes t.2)) t.2 object is refl starts
 
   -- ---- calls
 
-  calls_keep : (turn : CallTurn) → KeepsCall turn → KeepsAll (of_calls o statics printed turn)
+  calls_keep : (transition : CallTransition) → KeepsCall transition → KeepsAll (of_calls o statics printed transition)
   calls_keep None keeps answer object is starts = none_is_some answer (sym is)
   calls_keep (Some t) keeps answer object is starts =
       let same : answer ≡ (answer_of t.frames t.objects statics t.printed t.outcome) = same_Some answer (answer_of t.frames t.objects statics t.printed t.outcome) is in
@@ -85,15 +85,15 @@ module _ (m : Frames) (o : Objects) (statics : List Value) (printed : List ℕ) 
   none_keeps : KeepsCall None
   none_keeps t object is starts = none_is_some t (sym is)
 
-  console_keeps : (turn : ObjectTurn) → KeepsCall (beside_console printed turn)
+  console_keeps : (transition : ObjectTransition) → KeepsCall (beside_console printed transition)
   console_keeps None = none_keeps
   console_keeps (Some t) = effect_keeps t.0 t.1 printed t.2
 
-  write_keeps : (turn : Option (Frames × List ℕ × Effect)) → KeepsCall (option_map (λ (t : Frames × List ℕ × Effect). call_answer t.0 o t.1 (Comes t.2)) turn)
+  write_keeps : (transition : Option (Frames × List ℕ × Effect)) → KeepsCall (option_map (λ (t : Frames × List ℕ × Effect). call_answer t.0 o t.1 (Comes t.2)) transition)
   write_keeps None = none_keeps
   write_keeps (Some t) = effect_keeps t.0 o t.1 t.2
 
-  given_keeps : {X : Type 0} (found : Option X) (go : X → CallTurn) → ((x : X) → KeepsCall (go x)) → KeepsCall (given found go)
+  given_keeps : {X : Type 0} (found : Option X) (go : X → CallTransition) → ((x : X) → KeepsCall (go x)) → KeepsCall (given found go)
   given_keeps None go keeps = none_keeps
   given_keeps (Some x) go keeps = keeps x
 
@@ -112,36 +112,36 @@ module _ (m : Frames) (o : Objects) (statics : List Value) (printed : List ℕ) 
   construct_keeps (v ∷ rest) = console_keeps _
 
   module _ (tree : Tree) (mutator : Mutator) where
-    act_keeps : (a : Action) → KeepsCall (act_turn tree mutator a m o printed)
+    act_keeps : (a : Action) → KeepsCall (act_transition tree mutator a m o printed)
     act_keeps Construct = construct_keeps m.running.stack
-    act_keeps Write = write_keeps (write_turn (literals_of tree) printed m)
-    act_keeps Enter = console_keeps (enter_turn mutator m o)
-    act_keeps Exit = console_keeps (exit_turn mutator m o)
+    act_keeps Write = write_keeps (write_transition (literals_of tree) printed m)
+    act_keeps Enter = console_keeps (enter_transition mutator m o)
+    act_keeps Exit = console_keeps (exit_transition mutator m o)
     act_keeps Start = start_keeps (top_reference m.running.stack)
     act_keeps Join = join_keeps (top_reference m.running.stack)
 
-    action_keeps : (a : Option Action) (turn : CallTurn) → KeepsCall turn → KeepsCall (option_map_or (λ x. act_turn tree mutator x m o printed) a turn)
-    action_keeps None turn keeps = keeps
-    action_keeps (Some a) turn keeps = act_keeps a
+    action_keeps : (a : Option Action) (transition : CallTransition) → KeepsCall transition → KeepsCall (option_map_or (λ x. act_transition tree mutator x m o printed) a transition)
+    action_keeps None transition keeps = keeps
+    action_keeps (Some a) transition keeps = act_keeps a
 
-    run_keeps : (found : ClassName × Method) → KeepsCall (run_turn tree mutator found m o printed)
+    run_keeps : (found : ClassName × Method) → KeepsCall (run_transition tree mutator found m o printed)
     run_keeps found =
-        action_keeps (action_of found.0 found.1) (given (number_of tree found) (λ n. beside_console printed (beside o (call_turn (called_as found n) m))))
-        (given_keeps (number_of tree found) (λ n. beside_console printed (beside o (call_turn (called_as found n) m))) (λ n. console_keeps (beside o (call_turn (called_as found n) m))))
+        action_keeps (action_of found.0 found.1) (given (number_of tree found) (λ n. beside_console printed (beside o (call_transition (called_as found n) m))))
+        (given_keeps (number_of tree found) (λ n. beside_console printed (beside o (call_transition (called_as found n) m))) (λ n. console_keeps (beside o (call_transition (called_as found n) m))))
 
-    null_keeps : (is_null : Bool) (turn : CallTurn) → KeepsCall turn → KeepsCall (if is_null then Some (call_answer m o printed (Comes (Raises NullReference))) else turn)
-    null_keeps true turn keeps = effect_keeps m o printed (Raises NullReference)
-    null_keeps false turn keeps = keeps
+    null_keeps : (is_null : Bool) (transition : CallTransition) → KeepsCall transition → KeepsCall (if is_null then Some (call_answer m o printed (Comes (Raises NullReference))) else transition)
+    null_keeps true transition keeps = effect_keeps m o printed (Raises NullReference)
+    null_keeps false transition keeps = keeps
 
-    virtual_keeps : (number operands : ℕ) → KeepsCall (virtual_numbered tree mutator number operands m o printed)
+    virtual_keeps : (number operands : ℕ) → KeepsCall (virtual_by_id tree mutator number operands m o printed)
     virtual_keeps number operands =
-        given_keeps (slice_get (all_methods tree) number) (λ found. virtual_turn tree mutator found operands m o printed) (λ found.
+        given_keeps (slice_get (all_methods tree) number) (λ found. virtual_transition tree mutator found operands m o printed) (λ found.
         given_keeps (receiver m.running.stack operands) (λ a. run_on tree mutator found a m o printed) (λ a.
-        null_keeps (a.number == 0) (given (chosen tree o a found) (λ run. run_turn tree mutator run m o printed)) (given_keeps (chosen tree o a found) (λ run. run_turn tree mutator run m o printed) run_keeps)))
+        null_keeps (a.number == 0) (given (chosen_method tree o a found) (λ run. run_transition tree mutator run m o printed)) (given_keeps (chosen_method tree o a found) (λ run. run_transition tree mutator run m o printed) run_keeps)))
 
     -- ---- every instruction
 
-    link_keeps : (l : LinkedInstruction) → KeepsAll (linked_turn tree mutator l m o statics printed)
+    link_keeps : (l : LinkedInstruction) → KeepsAll (linked_transition tree mutator l m o statics printed)
     link_keeps (Linked.LoadField slot kind) = objects_keep _
     link_keeps (Linked.StoreField slot) = objects_keep _
     link_keeps (Linked.StoreStaticField number) = statics_keep _
@@ -152,12 +152,12 @@ module _ (m : Frames) (o : Objects) (statics : List Value) (printed : List ℕ) 
     link_keeps Linked.StoreElementReference = objects_keep _
     link_keeps (Linked.CastClass t) = objects_keep _
     link_keeps (Linked.IsInstance t) = objects_keep _
-    link_keeps (Linked.Call number) = calls_keep (call_numbered tree mutator number m o printed) (given_keeps (slice_get (all_methods tree) number) (λ found. run_turn tree mutator found m o printed) run_keeps)
-    link_keeps (Linked.CallVirtual number operands) = calls_keep (virtual_numbered tree mutator number operands m o printed) (virtual_keeps number operands)
+    link_keeps (Linked.Call number) = calls_keep (call_by_id tree mutator number m o printed) (given_keeps (slice_get (all_methods tree) number) (λ found. run_transition tree mutator found m o printed) run_keeps)
+    link_keeps (Linked.CallVirtual number operands) = calls_keep (virtual_by_id tree mutator number operands m o printed) (virtual_keeps number operands)
     link_keeps (Linked.NewObject class slots number) = objects_keep _
     link_keeps _ = frames_keep _
 
-    linked_keeps : (l : Option LinkedInstruction) → KeepsAll (given l (λ x. linked_turn tree mutator x m o statics printed))
+    linked_keeps : (l : Option LinkedInstruction) → KeepsAll (given l (λ x. linked_transition tree mutator x m o statics printed))
     linked_keeps None = λ answer object is starts. none_is_some answer (sym is)
     linked_keeps (Some l) = link_keeps l
 

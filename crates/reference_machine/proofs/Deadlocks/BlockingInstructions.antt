@@ -16,14 +16,14 @@ use Rattle.cil_model.specs.Fields.{same_key}
 use Rattle.cil_model.specs.Legality.{IsLegal}
 use Rattle.cil_model.specs.Slots.{target}
 use Rattle.cil_model.specs.Assignable.{is_reference}
-use Rattle.cil_model.specs.Bodies.{at_place, constructor_reference, virtual_reference, reference_operands, code_of, lines_of, place_of}
+use Rattle.cil_model.specs.Bodies.{at_index, constructor_reference, virtual_reference, reference_operands, code_of, lines_of, pc_of}
 use Rattle.reference_machine.specs.Values.{ObjectName, Value, Int32, Int64, Native, Null, Reference, zero_of, is_of_kind}
 use Rattle.reference_machine.specs.Arithmetic.{binary_value, unary_value, shift_value, compare_values, branch_values, is_set, convert_32, convert_64, as_index, not_option}
 use Rattle.reference_machine.specs.States.{Monitor, Free, Held, Contents, Array, HeapObject, Frame, State, entry_at, replaced_entry, field_value, with_field, object_at, class_of, monitor_of, with_monitor, is_live, array_at, with_element, next_name, with_birth, new_instance}
 use Rattle.cil_model.specs.Stacks.{take_one, take_two, take_three}
 use Rattle.reference_machine.specs.Effects.{Setting, Effect, Goes, Blocks, Raises, Sticks, given, unless_fault, not_null, are_of_kinds, after, onward}
 use Rattle.reference_machine.specs.BuiltIn.{Action, Construct, Write, Enter, Exit, Start, Join, action_of, line_of, enter, exit, begin, start, join, thread_object, act}
-use Rattle.reference_machine.specs.Steps.{instruction_at, effect_of, key_of, stored, execute, jump, branch_if, birth, new_array, in_range, element, load_element, store_element, may_hold, store_reference, cast, frame_for, is_too_deep, run_method as run_found, operands, method_for, run_virtual, construct, return_from, to_label, switch_on}
+use Rattle.reference_machine.specs.Steps.{instruction_at, effect_of, key_of, store_at, execute, jump, branch_if, birth, new_array, in_range, element, load_element, store_element, may_hold, store_reference, cast, frame_for, is_too_deep, run_method as run_found, operands, method_for, run_virtual, construct, return_from, to_label, switch_on}
 use Rattle.std.proofs.lemmas.Option.{option_and_then_some, same_Some}
 use Rattle.reference_machine.proofs.Programs.MethodTypings.{IsDeclared, found_is_declared}
 use Rattle.reference_machine.proofs.Deadlocks.SingleOperand.{one_operand, top_taken}
@@ -224,7 +224,7 @@ module _ (here : Setting) (legal : IsLegal here.tree) (s : State) (f : Frame) wh
 
     -- on at a label
     jump_keeps : (label : List ℕ) (stack : List Value) → Keeps (jump here s f below label stack)
-    jump_keeps label stack = given_keeps (place_of label (lines_of f.method)) (λ place e. on _)
+    jump_keeps label stack = given_keeps (pc_of label (lines_of f.method)) (λ pc e. on _)
 
     -- on at a label or at the next instruction
     branch_keeps : (b : Bool) (label : List ℕ) (stack : List Value) → Keeps (branch_if here s f below b label stack)
@@ -346,10 +346,10 @@ module _ (here : Setting) (legal : IsLegal here.tree) (s : State) (f : Frame) wh
     instruction_keeps (LoadInt64 z) at = onward_keeps _
     instruction_keeps LoadNull at = onward_keeps _
     instruction_keeps (LoadString characters) at = onward_keeps _
-    instruction_keeps (LoadArgument n) at = given_keeps (at_place f.arguments n) (λ v e. onward_keeps _)
-    instruction_keeps (LoadLocal n) at = given_keeps (at_place f.locals n) (λ v e. onward_keeps _)
-    instruction_keeps (StoreArgument n) at = one_keeps f.stack (λ v rest. given_keeps (stored here s f below n v f.arguments) (λ arguments e. on _))
-    instruction_keeps (StoreLocal n) at = one_keeps f.stack (λ v rest. given_keeps (stored here s f below n v f.locals) (λ locals e. on _))
+    instruction_keeps (LoadArgument n) at = given_keeps (at_index f.arguments n) (λ v e. onward_keeps _)
+    instruction_keeps (LoadLocal n) at = given_keeps (at_index f.locals n) (λ v e. onward_keeps _)
+    instruction_keeps (StoreArgument n) at = one_keeps f.stack (λ v rest. given_keeps (store_at here s f below n v f.arguments) (λ arguments e. on _))
+    instruction_keeps (StoreLocal n) at = one_keeps f.stack (λ v rest. given_keeps (store_at here s f below n v f.locals) (λ locals e. on _))
     instruction_keeps Duplicate at = one_keeps f.stack (λ v rest. onward_keeps _)
     instruction_keeps Pop at = one_keeps f.stack (λ v rest. onward_keeps _)
     instruction_keeps (Binary op) at = two_keeps f.stack (λ v w rest. given_keeps (binary_value op v w) (λ result e. fault_keeps result (λ u. onward_keeps _)))

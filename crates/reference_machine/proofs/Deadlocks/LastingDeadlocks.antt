@@ -17,9 +17,9 @@ use Rattle.reference_machine.specs.BuiltIn.{Action, Construct, Write, Enter, Exi
 use Rattle.reference_machine.specs.Effects.{Setting, Effect, Goes, Blocks, Raises, Sticks}
 use Rattle.reference_machine.specs.Runs.{StepRequest, RunsTo, followed_by, run}
 use Rattle.reference_machine.specs.States.{Monitor, Free, Held, HeapObject, Frame, Thread, State, is_live, is_live_thread, monitor_of, object_at}
-use Rattle.reference_machine.specs.Steps.{Outcome, Answers, Stuck, effect_of, ended_as, goes_on, instruction_at, settled, step, step_of, with_thread_at}
+use Rattle.reference_machine.specs.Steps.{Outcome, Answers, Stuck, effect_of, ended_as, continues, instruction_at, charge, step, step_of, with_thread_at}
 use Rattle.reference_machine.specs.Values.{ObjectName, Born, Literal, Value}
-use Rattle.reference_machine.proofs.Runs.JoinedRuns.{behind_run}
+use Rattle.reference_machine.proofs.Runs.JoinedRuns.{after_run}
 use Rattle.reference_machine.proofs.Runs.InstructionEffects.{same_after}
 use Rattle.reference_machine.specs.TypedStates.{AreTypedFrames, IsTyped}
 use Rattle.reference_machine.proofs.TypedSteps.AllInstructions.{instruction_typed}
@@ -293,7 +293,7 @@ module _ (tree : Tree) (limits : Limits) (accepted : IsAccepted tree) (set : Lis
 
     module _ (x : Thread) (there : slice_get s.threads t ≡ Some x) (lives : is_live_thread x ≡ true) where
       -- a step of a thread of the set
-      own_lasts : IsIn set t → (left : ℕ) → goes_on Blocked s t left x.frames ≡ Answers r next → Lasts
+      own_lasts : IsIn set t → (left : ℕ) → continues Blocked s t left x.frames ≡ Answers r next → Lasts
       own_lasts inside zero h = inr (inside, sym (same_report (Ended Budget) r (with_thread_at s t (record { frames = []; steps_left = 0; ended = Some Budget })) next h))
       own_lasts inside (suc left) h =
           let y : Thread = record { frames = x.frames; steps_left = suc left; ended = None } in
@@ -302,10 +302,10 @@ module _ (tree : Tree) (limits : Limits) (accepted : IsAccepted tree) (set : Lis
             λ k. sym (same_report Blocked r (with_thread_at s t y) next h),
           )
 
-      inside_lasts : IsIn set t → settled s t (x.steps_left - 1) x.frames (effect_of here s x.frames) ≡ Answers r next → Lasts
+      inside_lasts : IsIn set t → charge s t (x.steps_left - 1) x.frames (effect_of here s x.frames) ≡ Answers r next → Lasts
       inside_lasts inside h =
           let waits = blocked t inside in
-          own_lasts inside (x.steps_left - 1) (sym (ap (settled s t (x.steps_left - 1) x.frames) (waiting_thread_blocks here s x there lives accepted typed waits.0 waits.1)) ∙ h)
+          own_lasts inside (x.steps_left - 1) (sym (ap (charge s t (x.steps_left - 1) x.frames) (waiting_thread_blocks here s x there lives accepted typed waits.0 waits.1)) ∙ h)
 
       -- a step of another one
       moved_lasts : (IsIn set t → ⊥) → (after' : State) → KeepsOthers t s after' → (y : Thread) (q : Report) → Answers q (with_thread_at after' t y) ≡ Answers r next → Lasts
@@ -316,22 +316,22 @@ module _ (tree : Tree) (limits : Limits) (accepted : IsAccepted tree) (set : Lis
             λ inside. absurd (outside inside),
           )
 
-      going_lasts : (IsIn set t → ⊥) → (after' : State) → KeepsOthers t s after' → (q : Report) (left : ℕ) (frames : List Frame) → goes_on q after' t left frames ≡ Answers r next → Lasts
+      going_lasts : (IsIn set t → ⊥) → (after' : State) → KeepsOthers t s after' → (q : Report) (left : ℕ) (frames : List Frame) → continues q after' t left frames ≡ Answers r next → Lasts
       going_lasts outside after' keeps q zero frames h = moved_lasts outside after' keeps _ (Ended Budget) h
       going_lasts outside after' keeps q (suc left) frames h = moved_lasts outside after' keeps _ q h
 
-      settled_lasts : (IsIn set t → ⊥) → (f : Frame) (left : ℕ) (frames : List Frame) (e : Effect) → LeavesOthers here s f e → settled s t left frames e ≡ Answers r next → Lasts
-      settled_lasts outside f left frames (Goes [] after') (goes _ _ keeps) h = moved_lasts outside after' keeps _ (Ended Done) h
-      settled_lasts outside f left frames (Goes (g ∷ fs) after') (goes _ _ keeps) h = going_lasts outside after' keeps Ran left (g ∷ fs) h
-      settled_lasts outside f left frames Blocks k h = going_lasts outside s (itself_keeps t s) Blocked left frames h
-      settled_lasts outside f left frames (Raises fault) k h = moved_lasts outside s (itself_keeps t s) _ (Ended (ByFault fault)) h
-      settled_lasts outside f left frames Sticks k h = no_answer r next h
+      step_charged_lasts : (IsIn set t → ⊥) → (f : Frame) (left : ℕ) (frames : List Frame) (e : Effect) → LeavesOthers here s f e → charge s t left frames e ≡ Answers r next → Lasts
+      step_charged_lasts outside f left frames (Goes [] after') (goes _ _ keeps) h = moved_lasts outside after' keeps _ (Ended Done) h
+      step_charged_lasts outside f left frames (Goes (g ∷ fs) after') (goes _ _ keeps) h = going_lasts outside after' keeps Ran left (g ∷ fs) h
+      step_charged_lasts outside f left frames Blocks k h = going_lasts outside s (itself_keeps t s) Blocked left frames h
+      step_charged_lasts outside f left frames (Raises fault) k h = moved_lasts outside s (itself_keeps t s) _ (Ended (ByFault fault)) h
+      step_charged_lasts outside f left frames Sticks k h = no_answer r next h
 
-      outside_lasts : (IsIn set t → ⊥) → (left : ℕ) (frames : List Frame) → settled s t left frames (effect_of here s frames) ≡ Answers r next → Lasts
+      outside_lasts : (IsIn set t → ⊥) → (left : ℕ) (frames : List Frame) → charge s t left frames (effect_of here s frames) ≡ Answers r next → Lasts
       outside_lasts outside left [] h = no_answer r next h
-      outside_lasts outside left (f ∷ below) h = settled_lasts outside f left (f ∷ below) (effect_of here s (f ∷ below)) (effect_keeps here accepted.legal s f below) h
+      outside_lasts outside left (f ∷ below) h = step_charged_lasts outside f left (f ∷ below) (effect_of here s (f ∷ below)) (effect_keeps here accepted.legal s f below) h
 
-      live_lasts : settled s t (x.steps_left - 1) x.frames (effect_of here s x.frames) ≡ Answers r next → Lasts
+      live_lasts : charge s t (x.steps_left - 1) x.frames (effect_of here s x.frames) ≡ Answers r next → Lasts
       live_lasts h = by_membership (slice_get set t) refl
         where
           by_membership : (o : Option Bool) → slice_get set t ≡ o → Lasts
@@ -343,7 +343,7 @@ module _ (tree : Tree) (limits : Limits) (accepted : IsAccepted tree) (set : Lis
     lasts h = by_thread (slice_get s.threads t) refl h
       where
         by_life : (x : Thread) → slice_get s.threads t ≡ Some x → (b : Bool) → is_live_thread x ≡ b →
-            (if b then settled s t (x.steps_left - 1) x.frames (effect_of here s x.frames) else Answers Absent s) ≡ Answers r next → Lasts
+            (if b then charge s t (x.steps_left - 1) x.frames (effect_of here s x.frames) else Answers Absent s) ≡ Answers r next → Lasts
         by_life x is true lives e = live_lasts x is lives e
         by_life x is false ended e = absent_lasts (not_live_is_outside (Some x) is (λ y same. ap is_live_thread (sym (same_Some x y same)) ∙ ended)) e
 
@@ -357,7 +357,7 @@ module _ (tree : Tree) (limits : Limits) (accepted : IsAccepted tree) (set : Lis
   runs_last [] s typed blocked reports last h = tt
   runs_last (q ∷ qs) s typed blocked reports last h =
       let one = step_typed instruction_typed tree limits accepted q.0 q.1 s typed in
-      behind_run one.0 reports last (run tree limits one.1 qs) (sym (ap (λ o. followed_by o (λ u. run tree limits u qs)) one.2) ∙ h) (λ rs later are.
+      after_run one.0 reports last (run tree limits one.1 qs) (sym (ap (λ o. followed_by o (λ u. run tree limits u qs)) one.2) ∙ h) (λ rs later are.
       subst (StaysBlocked set (q ∷ qs)) (sym are) (by_step one.1 one.0 rs (lasts s typed blocked q.0 q.1 one.0 one.1 one.2) (λ k. runs_last qs one.1 one.3 k rs last later)))
     where
       by_step : (next : State) (r : Report) (rs : List Report) → (IsBlockedSet tree next set × (IsIn set q.0 → r ≡ Blocked)) ⊎ (IsIn set q.0 × (r ≡ Ended Budget)) → (IsBlockedSet tree next set → StaysBlocked set qs rs) →

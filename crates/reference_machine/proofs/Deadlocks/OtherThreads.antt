@@ -12,7 +12,7 @@ use Rattle.reference_machine.specs.Values.{ObjectName, Born, Literal, Value}
 use Rattle.reference_machine.specs.States.{Monitor, Free, Held, Contents, Array, HeapObject, Thread, State, entry_at, with_entry, replaced_entry, replaced_at, fields_of_contents, elements_of_contents, with_fields, with_field, with_element, object_at, with_object, monitor_of, with_monitor, with_birth}
 use Rattle.reference_machine.proofs.Runs.StateChanges.{entry_kept, text_equivalence}
 
--- an item stays where another place changes
+-- an item stays where another index changes
 pub set_elsewhere : {X : Type 0} (xs : List X) (n m : ℕ) (y x : X) → (m == n) ≡ false → slice_get xs m ≡ Some x → slice_get (slice_set xs n y) m ≡ Some x
 set_elsewhere [] n m y x apart e = none_is_some x e
 set_elsewhere (z ∷ zs) zero zero y x apart e = not_both true apart refl
@@ -45,14 +45,14 @@ module _ (t : ℕ) (s : State) where
   pub itself_keeps : KeepsOthers t s s
   itself_keeps = record { objects = λ n o h. (o, h, object_itself o); literals = λ characters owner count h other. h; threads = λ u x other h. h }
 
-  -- another object in the place of one
+  -- another object in place of one
   pub object_keeps : (n : ObjectName) (o x : HeapObject) → object_at s n ≡ Some o → KeepsObject t o x → KeepsOthers t s (with_object s n x)
   object_keeps (Literal characters) o x there h = itself_keeps
-  object_keeps (Born n) o x there h = record { objects = λ k y is. by_place k y is (k == n) refl; literals = itself_keeps.literals; threads = itself_keeps.threads }
+  object_keeps (Born n) o x there h = record { objects = λ k y is. by_index k y is (k == n) refl; literals = itself_keeps.literals; threads = itself_keeps.threads }
     where
-      by_place : (k : ℕ) (y : HeapObject) → slice_get s.objects k ≡ Some y → (b : Bool) → (k == n) ≡ b → (z : HeapObject) × (slice_get (slice_set s.objects n x) k ≡ Some z) × KeepsObject t y z
-      by_place k y is false apart = (y, set_elsewhere s.objects n k x y apart is, object_itself y)
-      by_place k y is true e =
+      by_index : (k : ℕ) (y : HeapObject) → slice_get s.objects k ≡ Some y → (b : Bool) → (k == n) ≡ b → (z : HeapObject) × (slice_get (slice_set s.objects n x) k ≡ Some z) × KeepsObject t y z
+      by_index k y is false apart = (y, set_elsewhere s.objects n k x y apart is, object_itself y)
+      by_index k y is true e =
           let same : k ≡ n = eqb-true k n e in
           let own : o ≡ y = same_Some o y (sym there ∙ ap (slice_get s.objects) (sym same) ∙ is) in
           (x, ap (slice_get (slice_set s.objects n x)) same ∙ set_is_there s.objects n x o there, subst (λ (z : HeapObject). KeepsObject t z x) own h)

@@ -18,7 +18,7 @@ use Rattle.reference_machine.specs.States.{Monitor, Free, Held, HeapObject, Fram
 use Rattle.reference_machine.specs.Steps.{instruction_at}
 use Rattle.reference_machine.specs.Values.{ObjectName, Value}
 use Rattle.reference_machine.specs.Waits.{Wait, ForMonitor, ForEnd, called_action, end_awaited, held_by_another, top_object, wait_by, wait_in, wait_of, wait_of_thread}
-use Rattle.reference_machine.specs.Blocking.{AreDeadlocked, GoesOnUnlessAll, HasEnded, HoldersWereStarted, IsBlockedSet, IsHeldUp, IsIn}
+use Rattle.reference_machine.specs.Blocking.{AreDeadlocked, ContinuesUnlessAll, HasEnded, HoldersWereStarted, IsBlockedSet, IsHeldUp, IsIn}
 
 -- ---- waits that are true of a state
 
@@ -85,31 +85,31 @@ module _ (s : State) (u : ℕ) (w : Wait) where
 
 module _ (tree : Tree) (s : State) (started : HoldersWereStarted s) where
   -- among the first threads, a live one waits for nothing, or each live one waits
-  abbrev SomeGoesOn : Type 0
-  SomeGoesOn = (t : ℕ) × (is_live s t ≡ true) × (wait_of tree s t ≡ None)
+  abbrev SomeContinues : Type 0
+  SomeContinues = (t : ℕ) × (is_live s t ≡ true) × (wait_of tree s t ≡ None)
 
   abbrev AllWait : ℕ → Type 0
   AllWait k = (t : ℕ) → t < k → is_live s t ≡ true → (w : Wait) × (wait_of tree s t ≡ Some w)
 
-  searched : (k : ℕ) → SomeGoesOn ⊎ AllWait k
+  searched : (k : ℕ) → SomeContinues ⊎ AllWait k
   searched zero = inr (λ t below lives. absurd (omega (arith, below)))
   searched (suc k) = by_rest (searched k)
     where
       last : AllWait k → (is_live s k ≡ true → (w : Wait) × (wait_of tree s k ≡ Some w)) → AllWait (suc k)
-      last all own t below lives = by_place (t == k) refl
+      last all own t below lives = by_index (t == k) refl
         where
-          by_place : (b : Bool) → (t == k) ≡ b → (w : Wait) × (wait_of tree s t ≡ Some w)
-          by_place true e =
+          by_index : (b : Bool) → (t == k) ≡ b → (w : Wait) × (wait_of tree s t ≡ Some w)
+          by_index true e =
               let same : t ≡ k = eqb-true t k e in
               subst (λ n. (w : Wait) × (wait_of tree s n ≡ Some w)) (sym same) (own (ap (is_live s) (sym same) ∙ lives))
-          by_place false e = all t (grind (arith, nat_tests, below, e)) lives
+          by_index false e = all t (grind (arith, nat_tests, below, e)) lives
 
-      by_wait : AllWait k → (b : Bool) → is_live s k ≡ b → (w : Option Wait) → wait_of tree s k ≡ w → SomeGoesOn ⊎ AllWait (suc k)
+      by_wait : AllWait k → (b : Bool) → is_live s k ≡ b → (w : Option Wait) → wait_of tree s k ≡ w → SomeContinues ⊎ AllWait (suc k)
       by_wait all false ended w is = inr (last all (λ lives. not_both (is_live s k) ended lives))
       by_wait all true lives None is = inl (k, lives, is)
       by_wait all true lives (Some w) is = inr (last all (λ lives'. (w, is)))
 
-      by_rest : SomeGoesOn ⊎ AllWait k → SomeGoesOn ⊎ AllWait (suc k)
+      by_rest : SomeContinues ⊎ AllWait k → SomeContinues ⊎ AllWait (suc k)
       by_rest (inl one) = inl one
       by_rest (inr all) = by_wait all (is_live s k) refl (wait_of tree s k) refl
 
@@ -146,9 +146,9 @@ module _ (tree : Tree) (s : State) (started : HoldersWereStarted s) where
       held_up (ForMonitor n owner) (count, held) = let x = started n owner count held in by_life owner x.0 x.1 (is_live_thread x.0) refl
       held_up (ForEnd v) lives = in_live_set v lives
 
-  pub goes_on_unless_all : (set : List Bool) → AreDeadlocked tree s set → GoesOnUnlessAll tree s set
-  goes_on_unless_all set dead = by_search (searched (length s.threads))
+  pub continues_unless_all : (set : List Bool) → AreDeadlocked tree s set → ContinuesUnlessAll tree s set
+  continues_unless_all set dead = by_search (searched (length s.threads))
     where
-      by_search : SomeGoesOn ⊎ AllWait (length s.threads) → GoesOnUnlessAll tree s set
+      by_search : SomeContinues ⊎ AllWait (length s.threads) → ContinuesUnlessAll tree s set
       by_search (inl one) = inl one
       by_search (inr all) = inr (λ t lives. dead.greatest live_set (live_set_blocked all) t (in_live_set t lives))

@@ -11,7 +11,7 @@ use Rattle.cil_model.proofs.Lists.{none_is_some}
 use Rattle.cil_model.proofs.SameLaws.{not_both}
 use Rattle.reference_machine.specs.Effects.{Setting, Effect, Goes, Blocks, Raises, Sticks}
 use Rattle.reference_machine.specs.States.{Frame, Thread, State, is_live_thread}
-use Rattle.reference_machine.specs.Steps.{Answers, effect_of, ended_as, goes_on, settled, step, step_of, with_thread_at}
+use Rattle.reference_machine.specs.Steps.{Answers, effect_of, ended_as, continues, charge, step, step_of, with_thread_at}
 use Rattle.reference_machine.specs.TypedStates.{IsTyped}
 use Rattle.reference_machine.specs.Waits.{Wait, wait_of}
 use Rattle.reference_machine.proofs.Deadlocks.LastingDeadlocks.{no_answer, same_report, waiting_lives}
@@ -25,7 +25,7 @@ no_block : (q r : Report) → IsNoBlock q → q ≡ r → r ≡ Blocked → ⊥
 no_block q r h same is = subst IsNoBlock (same ∙ is) h
 
 -- a report of a blocked step is of an effect that blocks
-blocked_effect : (s : State) (t left : ℕ) (frames : List Frame) (e : Effect) (r : Report) (next : State) → settled s t left frames e ≡ Answers r next → r ≡ Blocked → e ≡ Blocks
+blocked_effect : (s : State) (t left : ℕ) (frames : List Frame) (e : Effect) (r : Report) (next : State) → charge s t left frames e ≡ Answers r next → r ≡ Blocked → e ≡ Blocks
 blocked_effect s t left frames (Goes [] after) r next h is = absurd (no_block (Ended Done) r tt (same_report (Ended Done) r _ next h) is)
 blocked_effect s t zero frames (Goes (f ∷ fs) after) r next h is = absurd (no_block (Ended Budget) r tt (same_report (Ended Budget) r _ next h) is)
 blocked_effect s t (suc left) frames (Goes (f ∷ fs) after) r next h is = absurd (no_block Ran r tt (same_report Ran r _ next h) is)
@@ -34,7 +34,7 @@ blocked_effect s t left frames (Raises fault) r next h is = absurd (no_block (En
 blocked_effect s t left frames Sticks r next h is = no_answer r next h
 
 -- a blocked step reports so, or uses up the budget
-blocked_report : (s : State) (t left : ℕ) (frames : List Frame) (r : Report) (next : State) → goes_on Blocked s t left frames ≡ Answers r next → (r ≡ Blocked) ⊎ (r ≡ Ended Budget)
+blocked_report : (s : State) (t left : ℕ) (frames : List Frame) (r : Report) (next : State) → continues Blocked s t left frames ≡ Answers r next → (r ≡ Blocked) ⊎ (r ≡ Ended Budget)
 blocked_report s t zero frames r next h = inr (sym (same_report (Ended Budget) r _ next h))
 blocked_report s t (suc left) frames r next h = inl (sym (same_report Blocked r _ next h))
 
@@ -48,15 +48,15 @@ module _ (tree : Tree) (limits : Limits) (accepted : IsAccepted tree) (s : State
       let live = waiting_lives tree s t w waits in
       let x : Thread = live.0 in
       let left : ℕ = x.steps_left - 1 in
-      let is : step tree limits s t refused ≡ settled s t left x.frames (effect_of here s x.frames) =
-      ap (λ o. option_map_or (step_of here s) o (Answers Absent s)) live.1 ∙ ap (λ b. if b then settled s t left x.frames (effect_of here s x.frames) else Answers Absent s) live.2 in
-      blocked_report s t left x.frames r next (sym (ap (settled s t left x.frames) (waiting_thread_blocks here s x live.1 live.2 accepted typed w waits)) ∙ (sym is ∙ h))
+      let is : step tree limits s t refused ≡ charge s t left x.frames (effect_of here s x.frames) =
+      ap (λ o. option_map_or (step_of here s) o (Answers Absent s)) live.1 ∙ ap (λ b. if b then charge s t left x.frames (effect_of here s x.frames) else Answers Absent s) live.2 in
+      blocked_report s t left x.frames r next (sym (ap (charge s t left x.frames) (waiting_thread_blocks here s x live.1 live.2 accepted typed w waits)) ∙ (sym is ∙ h))
 
   -- that of a thread that waits for nothing
   pub unwaiting_reports : step tree limits s t refused ≡ Answers r next → wait_of tree s t ≡ None → r ≢ Blocked
   unwaiting_reports h waits blocked = by_thread (slice_get s.threads t) refl h
     where
-      by_life : (x : Thread) → slice_get s.threads t ≡ Some x → (b : Bool) → is_live_thread x ≡ b → (if b then settled s t (x.steps_left - 1) x.frames (effect_of here s x.frames) else Answers Absent s) ≡ Answers r next → ⊥
+      by_life : (x : Thread) → slice_get s.threads t ≡ Some x → (b : Bool) → is_live_thread x ≡ b → (if b then charge s t (x.steps_left - 1) x.frames (effect_of here s x.frames) else Answers Absent s) ≡ Answers r next → ⊥
       by_life x is false ended e = no_block Absent r tt (same_report Absent r s next e) blocked
       by_life x is true lives e =
           let w = blocked_thread_waits here s x is lives accepted.legal (blocked_effect s t (x.steps_left - 1) x.frames (effect_of here s x.frames) r next e blocked) in

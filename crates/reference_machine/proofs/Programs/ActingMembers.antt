@@ -10,12 +10,12 @@ use Rattle.cil_model.specs.declared.trees.Method.{Method}
 use Rattle.cil_model.specs.Same.{same_class, same_options}
 use Rattle.cil_model.specs.Declarations.{Declaration, object_name, console_name, monitor_name, thread_name, object_constructor, run_method}
 use Rattle.cil_model.specs.Chains.{chain_of, methods_declared, method_declared, nearest, is_virtual, is_new_slot_method, is_interface, listed_by}
-use Rattle.cil_model.specs.Slots.{slot_filled, slot_along, filler_along, class_target, virtual_in, lister_along, interface_target, target}
+use Rattle.cil_model.specs.Slots.{slot_filled, slot_along, implementation_along, class_target, virtual_in, implementer_along, interface_target, target}
 use Rattle.cil_model.proofs.Lists.{none_is_some}
 use Rattle.cil_model.proofs.SameLaws.{not_both}
 use Rattle.reference_machine.specs.BuiltIn.{Action, action_of}
 use Rattle.reference_machine.proofs.Programs.MethodTypings.{IsDeclared, target_is_declared}
-use Rattle.reference_machine.proofs.Programs.DeclaredClasses.{Standing, of_source, of_object, of_string, of_console, of_monitor, of_thread, of_none, standing, source_is_named}
+use Rattle.reference_machine.proofs.Programs.DeclaredClasses.{ThreadStatus, of_source, of_object, of_string, of_console, of_monitor, of_thread, of_none, thread_status, source_is_named}
 
 -- ---- members that act
 
@@ -48,26 +48,26 @@ module _ (tree : Tree) (m : Method) (a : Action) where
   plain_of_thread (suc (suc (suc (suc n)))) e h = none_is_some m e
 
   -- no class but a built-in one has a member that acts
-  by_standing : {c : ClassName} → Standing tree c → IsDeclared tree c m → action_of c m ≡ Some a → is_virtual m.kind ≡ false
-  by_standing {c} (of_source x found) declared h = none_is_some a (subst (λ k. action_of k m ≡ Some a) (sym (source_is_named tree c x found)) h)
-  by_standing of_object declared h = plain_of_object declared.0 declared.1
-  by_standing of_string declared h = none_is_some m declared.1
-  by_standing of_console declared h = plain_of_console declared.0 declared.1
-  by_standing of_monitor declared h = plain_of_monitor declared.0 declared.1
-  by_standing of_thread declared h = plain_of_thread declared.0 declared.1 h
-  by_standing (of_none e) declared h = none_is_some m (sym (ap (λ o. slice_get (listed_by (λ (d : Declaration). d.methods) o) declared.0) e) ∙ declared.1)
+  by_thread_status : {c : ClassName} → ThreadStatus tree c → IsDeclared tree c m → action_of c m ≡ Some a → is_virtual m.kind ≡ false
+  by_thread_status {c} (of_source x found) declared h = none_is_some a (subst (λ k. action_of k m ≡ Some a) (sym (source_is_named tree c x found)) h)
+  by_thread_status of_object declared h = plain_of_object declared.0 declared.1
+  by_thread_status of_string declared h = none_is_some m declared.1
+  by_thread_status of_console declared h = plain_of_console declared.0 declared.1
+  by_thread_status of_monitor declared h = plain_of_monitor declared.0 declared.1
+  by_thread_status of_thread declared h = plain_of_thread declared.0 declared.1 h
+  by_thread_status (of_none e) declared h = none_is_some m (sym (ap (λ o. slice_get (listed_by (λ (d : Declaration). d.methods) o) declared.0) e) ∙ declared.1)
 
 -- a declared method with an action is not virtual
 pub acting_is_not_virtual : (tree : Tree) (c : ClassName) (m : Method) (a : Action) → IsDeclared tree c m → action_of c m ≡ Some a → is_virtual m.kind ≡ false
-acting_is_not_virtual tree c m a declared h = by_standing tree m a (standing tree c) declared h
+acting_is_not_virtual tree c m a declared h = by_thread_status tree m a (thread_status tree c) declared h
 
 -- ---- what a virtual call runs is virtual
 
 module _ (tree : Tree) (name : MethodName) (signature : Signature) where
-  filler_is_virtual : (slot : ClassName) (cs : List ClassName) (k : ClassName) (m : Method) → filler_along tree name signature slot cs ≡ Some (k, m) → is_virtual m.kind ≡ true
-  filler_is_virtual slot [] k m h = none_is_some (k, m) h
-  filler_is_virtual slot (d ∷ ds) k m h =
-      by_class (method_declared tree name signature d) (same_options same_class (slot_along tree name signature (d ∷ ds)) (Some slot)) refl h (filler_is_virtual slot ds k m)
+  implementation_is_virtual : (slot : ClassName) (cs : List ClassName) (k : ClassName) (m : Method) → implementation_along tree name signature slot cs ≡ Some (k, m) → is_virtual m.kind ≡ true
+  implementation_is_virtual slot [] k m h = none_is_some (k, m) h
+  implementation_is_virtual slot (d ∷ ds) k m h =
+      by_class (method_declared tree name signature d) (same_options same_class (slot_along tree name signature (d ∷ ds)) (Some slot)) refl h (implementation_is_virtual slot ds k m)
     where
       fills : (x : Method) (v : Bool) → is_virtual x.kind ≡ v → same_options same_class (slot_filled d (slot_along tree name signature ds) x) (Some slot) ≡ true → is_virtual x.kind ≡ true
       fills x true is t = is
@@ -76,8 +76,8 @@ module _ (tree : Tree) (name : MethodName) (signature : Signature) where
           (ap (λ b. same_options same_class (if b then Some (if is_new_slot_method x.kind then d else unwrap_or (slot_along tree name signature ds) d) else None) (Some slot)) is) t
 
       by_class : (o : Option Method) (b : Bool) → same_options same_class (option_map_or (slot_filled d (slot_along tree name signature ds)) o (slot_along tree name signature ds)) (Some slot) ≡ b →
-          option_map_or (λ x. if b then Some (d, x) else filler_along tree name signature slot ds) o (filler_along tree name signature slot ds) ≡ Some (k, m) →
-          (filler_along tree name signature slot ds ≡ Some (k, m) → is_virtual m.kind ≡ true) → is_virtual m.kind ≡ true
+          option_map_or (λ x. if b then Some (d, x) else implementation_along tree name signature slot ds) o (implementation_along tree name signature slot ds) ≡ Some (k, m) →
+          (implementation_along tree name signature slot ds ≡ Some (k, m) → is_virtual m.kind ≡ true) → is_virtual m.kind ≡ true
       by_class None b t h' later = later h'
       by_class (Some x) false t h' later = later h'
       by_class (Some x) true t h' later =
@@ -85,11 +85,11 @@ module _ (tree : Tree) (name : MethodName) (signature : Signature) where
           subst (λ (y : Method). is_virtual y.kind ≡ true) same (fills x (is_virtual x.kind) refl t)
 
   class_target_is_virtual : (d c k : ClassName) (m : Method) → class_target tree name signature d c ≡ Some (k, m) → is_virtual m.kind ≡ true
-  class_target_is_virtual d c k m h = option_and_then_some _ (slot_along tree name signature (chain_of tree c)) (k, m) h (λ slot e f. filler_is_virtual slot (chain_of tree d) k m f)
+  class_target_is_virtual d c k m h = option_and_then_some _ (slot_along tree name signature (chain_of tree c)) (k, m) h (λ slot e f. implementation_is_virtual slot (chain_of tree d) k m f)
 
   interface_target_is_virtual : (d i k : ClassName) (m : Method) → interface_target tree name signature d i ≡ Some (k, m) → is_virtual m.kind ≡ true
-  interface_target_is_virtual d i k m h = option_and_then_some _ (lister_along tree name signature i (chain_of tree d)) (k, m) h (λ lister e f.
-      option_and_then_some _ (nearest (virtual_in tree name signature) (chain_of tree lister)) (k, m) f (λ found e' g. class_target_is_virtual d found.0 k m g))
+  interface_target_is_virtual d i k m h = option_and_then_some _ (implementer_along tree name signature i (chain_of tree d)) (k, m) h (λ implementer e f.
+      option_and_then_some _ (nearest (virtual_in tree name signature) (chain_of tree implementer)) (k, m) f (λ found e' g. class_target_is_virtual d found.0 k m g))
 
 target_is_virtual : (tree : Tree) (d c : ClassName) (m : Method) (k : ClassName) (m' : Method) → target tree d c m ≡ Some (k, m') → is_virtual m.kind ≡ true → is_virtual m'.kind ≡ true
 target_is_virtual tree d c m k m' h virtual = by_kind (is_virtual m.kind) (is_interface tree c) virtual h

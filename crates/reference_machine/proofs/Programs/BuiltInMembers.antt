@@ -12,7 +12,7 @@ use Rattle.cil_model.specs.Assignable.{is_reference}
 use Rattle.cil_model.specs.Bodies.{argument_types}
 use Rattle.reference_machine.specs.BuiltIn.{Action, Construct, Write, Enter, Exit, Start, Join, action_of}
 use Rattle.reference_machine.proofs.Programs.MethodTypings.{IsDeclared}
-use Rattle.reference_machine.proofs.Programs.DeclaredClasses.{Standing, of_source, of_object, of_string, of_console, of_monitor, of_thread, of_none, standing, source_is_named}
+use Rattle.reference_machine.proofs.Programs.DeclaredClasses.{ThreadStatus, of_source, of_object, of_string, of_console, of_monitor, of_thread, of_none, thread_status, source_is_named}
 use Rattle.cil_model.proofs.Lists.{none_is_some}
 
 -- what the one operand of an action is
@@ -62,15 +62,15 @@ module _ (tree : Tree) (m : Method) (a : Action) where
   member_of_thread (suc (suc (suc (suc n)))) e h = none_is_some m e
 
   -- no class but a built-in one has a member that acts
-  by_standing : {c : ClassName} → Standing tree c → IsDeclared tree c m → action_of c m ≡ Some a → IsMember a c m
-  by_standing {c} (of_source x found) declared h = none_is_some a (subst (λ k. action_of k m ≡ Some a) (sym (source_is_named tree c x found)) h)
-  by_standing of_object declared h = member_of_object declared.0 declared.1 h
-  by_standing of_string declared h = none_is_some m declared.1
-  by_standing of_console declared h = member_of_console declared.0 declared.1 h
-  by_standing of_monitor declared h = member_of_monitor declared.0 declared.1 h
-  by_standing of_thread declared h = member_of_thread declared.0 declared.1 h
-  by_standing (of_none e) declared h = none_is_some m (sym (ap (λ o. slice_get (listed_by (λ (d : Declaration). d.methods) o) declared.0) e) ∙ declared.1)
+  by_thread_status : {c : ClassName} → ThreadStatus tree c → IsDeclared tree c m → action_of c m ≡ Some a → IsMember a c m
+  by_thread_status {c} (of_source x found) declared h = none_is_some a (subst (λ k. action_of k m ≡ Some a) (sym (source_is_named tree c x found)) h)
+  by_thread_status of_object declared h = member_of_object declared.0 declared.1 h
+  by_thread_status of_string declared h = none_is_some m declared.1
+  by_thread_status of_console declared h = member_of_console declared.0 declared.1 h
+  by_thread_status of_monitor declared h = member_of_monitor declared.0 declared.1 h
+  by_thread_status of_thread declared h = member_of_thread declared.0 declared.1 h
+  by_thread_status (of_none e) declared h = none_is_some m (sym (ap (λ o. slice_get (listed_by (λ (d : Declaration). d.methods) o) declared.0) e) ∙ declared.1)
 
 -- a declared method with an action is a member of a built-in class
 pub acts_as_member : (tree : Tree) (c : ClassName) (m : Method) (a : Action) → IsDeclared tree c m → action_of c m ≡ Some a → IsMember a c m
-acts_as_member tree c m a declared h = by_standing tree m a (standing tree c) declared h
+acts_as_member tree c m a declared h = by_thread_status tree m a (thread_status tree c) declared h

@@ -15,7 +15,7 @@ use Rattle.cil_model.specs.Declarations.{Declaration, source_name, source_class,
 use Rattle.cil_model.specs.Chains.{base_of, methods_declared, interfaces_declared, is_interface, listed_by}
 use Rattle.cil_model.specs.FlowRules.{is_concrete}
 use Rattle.cil_model.specs.Mentions.{bases_named}
-use Rattle.cil_model.specs.Legality.{IsLegal, first_broken, has_repeat, same_method, class_doubles, doubles_name, lacks_name, has_cycle, lacks_implementation, misfits_kind, lacks_entry, passes_limit, is_source_class, is_source_interface, is_possible_base, passes_source, class_finds, implements_method, implements_all, has_abstract_slot, kinds_fit}
+use Rattle.cil_model.specs.Legality.{IsLegal, first_broken, has_repeat, same_method, class_doubles, doubles_name, lacks_name, has_cycle, lacks_implementation, has_kind_mismatch, lacks_entry, passes_limit, is_source_class, is_source_interface, is_possible_base, passes_source, class_finds, implements_method, implements_all, has_abstract_slot, kinds_fit}
 use Rattle.cil_model.proofs.Lists.{none_is_some, find_passes}
 use Rattle.cil_model.proofs.SameLaws.{never, both_first, both_second, either, is_not, if_false, same_class_equal, not_both}
 use Rattle.cil_model.proofs.Legal.{classes_find, unbroken}
@@ -62,66 +62,66 @@ module _ (tree : Tree) where
       if_false (is_some c.assembly) _ _ bare ∙ ap (option_map declared) found
 
   -- a class of the source, one of the built-in classes, or none
-  pub data Standing : ClassName → Type 0 where
-    of_source : {c : ClassName} (x : Class) → source_class tree c ≡ Some x → Standing c
-    of_object : Standing object_name
-    of_string : Standing string_name
-    of_console : Standing console_name
-    of_monitor : Standing monitor_name
-    of_thread : Standing thread_name
-    of_none : {c : ClassName} → declaration_of tree c ≡ None → Standing c
+  pub data ThreadStatus : ClassName → Type 0 where
+    of_source : {c : ClassName} (x : Class) → source_class tree c ≡ Some x → ThreadStatus c
+    of_object : ThreadStatus object_name
+    of_string : ThreadStatus string_name
+    of_console : ThreadStatus console_name
+    of_monitor : ThreadStatus monitor_name
+    of_thread : ThreadStatus thread_name
+    of_none : {c : ClassName} → declaration_of tree c ≡ None → ThreadStatus c
 
-  standing_at : (o : Option (List ℕ)) (own : List ℕ) → Standing (record { assembly = o; name = own })
-  standing_at None own = by_class (source_class tree c) refl
+  status_at : (o : Option (List ℕ)) (own : List ℕ) → ThreadStatus (record { assembly = o; name = own })
+  status_at None own = by_class (source_class tree c) refl
     where
       c : ClassName
       c = record { assembly = None; name = own }
 
-      by_class : (o : Option Class) → source_class tree c ≡ o → Standing c
+      by_class : (o : Option Class) → source_class tree c ≡ o → ThreadStatus c
       by_class None e = of_none (ap (option_map declared) e)
       by_class (Some x) e = of_source x e
-  standing_at (Some a) own = by_name (same_class object_name c) (same_class string_name c) (same_class console_name c) (same_class monitor_name c) (same_class thread_name c) refl refl refl refl refl refl
+  status_at (Some a) own = by_name (same_class object_name c) (same_class string_name c) (same_class console_name c) (same_class monitor_name c) (same_class thread_name c) refl refl refl refl refl refl
     where
       c : ClassName
       c = record { assembly = Some a; name = own }
 
       by_name : (t₁ t₂ t₃ t₄ t₅ : Bool) → same_class object_name c ≡ t₁ → same_class string_name c ≡ t₂ → same_class console_name c ≡ t₃ → same_class monitor_name c ≡ t₄ → same_class thread_name c ≡ t₅ →
           declaration_of tree c ≡ option_map (λ (entry : ClassName × Declaration). entry.1) (
-          cond t₁ (slice_get built_ins 0) (cond t₂ (slice_get built_ins 1) (cond t₃ (slice_get built_ins 2) (cond t₄ (slice_get built_ins 3) (cond t₅ (slice_get built_ins 4) None))))) → Standing c
-      by_name true t₂ t₃ t₄ t₅ e₁ e₂ e₃ e₄ e₅ k = subst Standing (same_class_equal object_name c e₁) of_object
-      by_name false true t₃ t₄ t₅ e₁ e₂ e₃ e₄ e₅ k = subst Standing (same_class_equal string_name c e₂) of_string
-      by_name false false true t₄ t₅ e₁ e₂ e₃ e₄ e₅ k = subst Standing (same_class_equal console_name c e₃) of_console
-      by_name false false false true t₅ e₁ e₂ e₃ e₄ e₅ k = subst Standing (same_class_equal monitor_name c e₄) of_monitor
-      by_name false false false false true e₁ e₂ e₃ e₄ e₅ k = subst Standing (same_class_equal thread_name c e₅) of_thread
+          cond t₁ (slice_get built_ins 0) (cond t₂ (slice_get built_ins 1) (cond t₃ (slice_get built_ins 2) (cond t₄ (slice_get built_ins 3) (cond t₅ (slice_get built_ins 4) None))))) → ThreadStatus c
+      by_name true t₂ t₃ t₄ t₅ e₁ e₂ e₃ e₄ e₅ k = subst ThreadStatus (same_class_equal object_name c e₁) of_object
+      by_name false true t₃ t₄ t₅ e₁ e₂ e₃ e₄ e₅ k = subst ThreadStatus (same_class_equal string_name c e₂) of_string
+      by_name false false true t₄ t₅ e₁ e₂ e₃ e₄ e₅ k = subst ThreadStatus (same_class_equal console_name c e₃) of_console
+      by_name false false false true t₅ e₁ e₂ e₃ e₄ e₅ k = subst ThreadStatus (same_class_equal monitor_name c e₄) of_monitor
+      by_name false false false false true e₁ e₂ e₃ e₄ e₅ k = subst ThreadStatus (same_class_equal thread_name c e₅) of_thread
       by_name false false false false false e₁ e₂ e₃ e₄ e₅ k = of_none k
 
-  pub standing : (c : ClassName) → Standing c
-  standing c = standing_at c.assembly c.name
+  pub thread_status : (c : ClassName) → ThreadStatus c
+  thread_status c = status_at c.assembly c.name
 
   -- no built-in class, and no class that isn't there, lists an interface or is one
   pub interface_is_source : (c : ClassName) → is_interface tree c ≡ true → (x : Class) × (source_class tree c ≡ Some x) × IsTrue (is_interface_kind x.kind)
-  interface_is_source c h = by_standing (standing c) h
+  interface_is_source c h = by_thread_status (thread_status c) h
     where
-      by_standing : {c : ClassName} → Standing c → is_interface tree c ≡ true → (x : Class) × (source_class tree c ≡ Some x) × IsTrue (is_interface_kind x.kind)
-      by_standing {c} (of_source x found) k = (x, found, sym (ap (λ o. option_map_or (λ (d : Declaration). d.is_interface) o false) (source_declares c x found)) ∙ k)
-      by_standing of_object k = never k
-      by_standing of_string k = never k
-      by_standing of_console k = never k
-      by_standing of_monitor k = never k
-      by_standing of_thread k = never k
-      by_standing (of_none e) k = never (sym (ap (λ o. option_map_or (λ (d : Declaration). d.is_interface) o false) e) ∙ k)
+      by_thread_status : {c : ClassName} → ThreadStatus c → is_interface tree c ≡ true → (x : Class) × (source_class tree c ≡ Some x) × IsTrue (is_interface_kind x.kind)
+      by_thread_status {c} (of_source x found) k = (x, found, sym (ap (λ o. option_map_or (λ (d : Declaration). d.is_interface) o false) (source_declares c x found)) ∙ k)
+      by_thread_status of_object k = never k
+      by_thread_status of_string k = never k
+      by_thread_status of_console k = never k
+      by_thread_status of_monitor k = never k
+      by_thread_status of_thread k = never k
+      by_thread_status (of_none e) k = never (sym (ap (λ o. option_map_or (λ (d : Declaration). d.is_interface) o false) e) ∙ k)
 
-  pub lister_is_source : (k i : ClassName) → IsTrue (list_any (same_class i) (interfaces_declared tree k)) → (x : Class) × (source_class tree k ≡ Some x) × IsTrue (list_any (same_class i) (interfaces_named x.kind))
-  lister_is_source k i h = by_standing (standing k) h
+  pub implementer_is_source : (k i : ClassName) → IsTrue (list_any (same_class i) (interfaces_declared tree k)) → (x : Class) × (source_class tree k ≡ Some x) × IsTrue (list_any (same_class i) (interfaces_named x.kind))
+  implementer_is_source k i h = by_thread_status (thread_status k) h
     where
-      by_standing : {k : ClassName} → Standing k → IsTrue (list_any (same_class i) (interfaces_declared tree k)) → (x : Class) × (source_class tree k ≡ Some x) × IsTrue (list_any (same_class i) (interfaces_named x.kind))
-      by_standing {k} (of_source x found) t = (x, found, subst (λ o. IsTrue (list_any (same_class i) (listed_by (λ (d : Declaration). d.interfaces) o))) (source_declares k x found) t)
-      by_standing of_object t = never t
-      by_standing of_string t = never t
-      by_standing of_console t = never t
-      by_standing of_monitor t = never t
-      by_standing of_thread t = never t
-      by_standing (of_none e) t = never (subst (λ o. IsTrue (list_any (same_class i) (listed_by (λ (d : Declaration). d.interfaces) o))) e t)
+      by_thread_status : {k : ClassName} → ThreadStatus k → IsTrue (list_any (same_class i) (interfaces_declared tree k)) → (x : Class) × (source_class tree k ≡ Some x) × IsTrue (list_any (same_class i) (interfaces_named x.kind))
+      by_thread_status {k} (of_source x found) t = (x, found, subst (λ o. IsTrue (list_any (same_class i) (listed_by (λ (d : Declaration). d.interfaces) o))) (source_declares k x found) t)
+      by_thread_status of_object t = never t
+      by_thread_status of_string t = never t
+      by_thread_status of_console t = never t
+      by_thread_status of_monitor t = never t
+      by_thread_status of_thread t = never t
+      by_thread_status (of_none e) t = never (subst (λ o. IsTrue (list_any (same_class i) (listed_by (λ (d : Declaration). d.interfaces) o))) e t)
 
   kind_has_no_base : (k : ClassKind) → IsTrue (is_interface_kind k) → base_named k ≡ None
   kind_has_no_base Interface h = refl
@@ -158,40 +158,40 @@ module _ (tree : Tree) where
   -- ---- what the rules say
 
   module _ (legal : IsLegal tree) where
-    behind_cycles : (doubles_name tree ≡ false) × (first_broken ((204, lacks_implementation tree) ∷ (205, misfits_kind tree) ∷ (206, lacks_entry tree) ∷ (207, passes_limit tree) ∷ []) ≡ None)
-    behind_cycles =
-        let one : (doubles_name tree ≡ false) × (first_broken ((202, lacks_name tree) ∷ (203, has_cycle tree) ∷ (204, lacks_implementation tree) ∷ (205, misfits_kind tree) ∷ (206, lacks_entry tree) ∷ (207, passes_limit tree) ∷ []) ≡ None) = unbroken _ _ _ legal in
-        let two : (lacks_name tree ≡ false) × (first_broken ((203, has_cycle tree) ∷ (204, lacks_implementation tree) ∷ (205, misfits_kind tree) ∷ (206, lacks_entry tree) ∷ (207, passes_limit tree) ∷ []) ≡ None) = unbroken _ _ _ one.1 in
+    after_cycles : (doubles_name tree ≡ false) × (first_broken ((204, lacks_implementation tree) ∷ (205, has_kind_mismatch tree) ∷ (206, lacks_entry tree) ∷ (207, passes_limit tree) ∷ []) ≡ None)
+    after_cycles =
+        let one : (doubles_name tree ≡ false) × (first_broken ((202, lacks_name tree) ∷ (203, has_cycle tree) ∷ (204, lacks_implementation tree) ∷ (205, has_kind_mismatch tree) ∷ (206, lacks_entry tree) ∷ (207, passes_limit tree) ∷ []) ≡ None) = unbroken _ _ _ legal in
+        let two : (lacks_name tree ≡ false) × (first_broken ((203, has_cycle tree) ∷ (204, lacks_implementation tree) ∷ (205, has_kind_mismatch tree) ∷ (206, lacks_entry tree) ∷ (207, passes_limit tree) ∷ []) ≡ None) = unbroken _ _ _ one.1 in
         (one.0, (unbroken (has_cycle tree) 203 _ two.1).1)
 
     all_implement : IsTrue (list_all (implements_all tree) tree.classes)
-    all_implement = not-false _ (unbroken (lacks_implementation tree) 204 _ behind_cycles.1).0
+    all_implement = not-false _ (unbroken (lacks_implementation tree) 204 _ after_cycles.1).0
 
     pub all_kinds_fit : IsTrue (list_all (kinds_fit tree) tree.classes)
-    all_kinds_fit = not-false _ (unbroken (misfits_kind tree) 205 _ (unbroken (lacks_implementation tree) 204 _ behind_cycles.1).1).0
+    all_kinds_fit = not-false _ (unbroken (has_kind_mismatch tree) 205 _ (unbroken (lacks_implementation tree) 204 _ after_cycles.1).1).0
 
     pub none_doubles : list_any class_doubles tree.classes ≡ false
-    none_doubles = (or_parts _ _ behind_cycles.0).1
+    none_doubles = (or_parts _ _ after_cycles.0).1
 
     -- no class has two methods of one name and signature
     pub methods_differ : (c : ClassName) → has_repeat same_method (methods_declared tree c) ≡ false
-    methods_differ c = by_standing (standing c)
+    methods_differ c = by_thread_status (thread_status c)
       where
-        by_standing : {c : ClassName} → Standing c → has_repeat same_method (methods_declared tree c) ≡ false
-        by_standing {c} (of_source x found) =
+        by_thread_status : {c : ClassName} → ThreadStatus c → has_repeat same_method (methods_declared tree c) ≡ false
+        by_thread_status {c} (of_source x found) =
             let single : class_doubles x ≡ false = found_fails (λ k. same_class (source_name k) c) class_doubles tree.classes x found none_doubles in
             ap (has_repeat same_method) (source_methods c x found) ∙ (or_parts _ _ (or_parts _ _ (or_parts _ _ single).0).0).1
-        by_standing of_object = refl
-        by_standing of_string = refl
-        by_standing of_console = refl
-        by_standing of_monitor = refl
-        by_standing of_thread = refl
-        by_standing (of_none e) = ap (λ o. has_repeat same_method (listed_by (λ (d : Declaration). d.methods) o)) e
+        by_thread_status of_object = refl
+        by_thread_status of_string = refl
+        by_thread_status of_console = refl
+        by_thread_status of_monitor = refl
+        by_thread_status of_thread = refl
+        by_thread_status (of_none e) = ap (λ o. has_repeat same_method (listed_by (λ (d : Declaration). d.methods) o)) e
 
     -- what a class lists is an interface
     pub listed_is_interface : (k i : ClassName) → IsTrue (list_any (same_class i) (interfaces_declared tree k)) → is_interface tree i ≡ true
     listed_is_interface k i h =
-        let x = lister_is_source k i h in
+        let x = implementer_is_source k i h in
         let finds : IsTrue (class_finds tree x.0) = found_passes (λ y. same_class (source_name y) k) (class_finds tree) tree.classes x.0 x.1 (classes_find tree legal) in
         let is : IsTrue (is_source_interface tree i) = all_pass (is_source_interface tree) (same_class i) (interfaces_named x.0.kind) (both_second _ _ finds) (λ j good same. subst (λ z. IsTrue (is_source_interface tree z)) (sym (same_class_equal i j same)) good) x.2 in
         by_class (source_class tree i) refl is
@@ -202,26 +202,26 @@ module _ (tree : Tree) where
 
     -- a base is no interface
     pub base_is_class : (c b : ClassName) → base_of tree c ≡ Some b → is_interface tree b ≡ false
-    base_is_class c b h = by_standing (standing c) h
+    base_is_class c b h = by_thread_status (thread_status c) h
       where
         named : (k : ClassKind) → base_named k ≡ Some b → IsTrue (list_all (is_possible_base tree) (bases_named k)) → IsTrue (is_possible_base tree b)
         named k e t = both_first _ _ (subst (λ o. IsTrue (list_all (is_possible_base tree) (option_to_list o))) e t)
 
-        by_standing : {c : ClassName} → Standing c → base_of tree c ≡ Some b → is_interface tree b ≡ false
-        by_standing {c} (of_source x found) e =
+        by_thread_status : {c : ClassName} → ThreadStatus c → base_of tree c ≡ Some b → is_interface tree b ≡ false
+        by_thread_status {c} (of_source x found) e =
             let finds : IsTrue (class_finds tree x) = found_passes (λ y. same_class (source_name y) c) (class_finds tree) tree.classes x found (classes_find tree legal) in
             possible_base_is_class b (named x.kind (sym (source_base c x found) ∙ e) (both_first _ _ finds))
-        by_standing of_object e = none_is_some b e
-        by_standing of_string e = subst (λ k. is_interface tree k ≡ false) (same_Some object_name b e) refl
-        by_standing of_console e = none_is_some b e
-        by_standing of_monitor e = none_is_some b e
-        by_standing of_thread e = subst (λ k. is_interface tree k ≡ false) (same_Some object_name b e) refl
-        by_standing (of_none none) e = none_is_some b (sym (ap (option_and_then (λ (d : Declaration). d.base)) none) ∙ e)
+        by_thread_status of_object e = none_is_some b e
+        by_thread_status of_string e = subst (λ k. is_interface tree k ≡ false) (same_Some object_name b e) refl
+        by_thread_status of_console e = none_is_some b e
+        by_thread_status of_monitor e = none_is_some b e
+        by_thread_status of_thread e = subst (λ k. is_interface tree k ≡ false) (same_Some object_name b e) refl
+        by_thread_status (of_none none) e = none_is_some b (sym (ap (option_and_then (λ (d : Declaration). d.base)) none) ∙ e)
 
     -- a class has a virtual method for each method of an interface that it lists
     pub implements_listed : (k i : ClassName) (m : Method) → IsTrue (list_any (same_class i) (interfaces_declared tree k)) → (p : Method → Bool) → find p (methods_declared tree i) ≡ Some m → IsTrue (implements_method tree k m)
     implements_listed k i m h p here =
-        let x = lister_is_source k i h in
+        let x = implementer_is_source k i h in
         let each : IsTrue (implements_all tree x.0) = found_passes (λ y. same_class (source_name y) k) (implements_all tree) tree.classes x.0 x.1 all_implement in
         let own : IsTrue (implements_method tree (source_name x.0) m) = all_pass (λ j. list_all (implements_method tree (source_name x.0)) (methods_declared tree j)) (same_class i) (interfaces_named x.0.kind) each
         (λ j good same. found_passes p (implements_method tree (source_name x.0)) (methods_declared tree i) m here (subst (λ z. IsTrue (list_all (implements_method tree (source_name x.0)) (methods_declared tree z))) (sym (same_class_equal i j same)) good)) x.2 in
@@ -229,7 +229,7 @@ module _ (tree : Tree) where
 
     -- a class that has objects has no abstract slot
     pub no_abstract_slot : (d : ClassName) → IsTrue (is_concrete tree d) → has_abstract_slot tree d ≡ false
-    no_abstract_slot d h = by_standing (standing d) h
+    no_abstract_slot d h = by_thread_status (thread_status d) h
       where
         by_abstract : (a s t w : Bool) → IsTrue (not a) → IsTrue ((a || (not s && not t)) && w) → t ≡ false
         by_abstract false s t w c k = is_not t (both_second _ _ (both_first _ _ k))
@@ -239,14 +239,14 @@ module _ (tree : Tree) where
         by_kind Interface s t w v c e = never c
         by_kind (PlainClass is_abstract base interfaces) s t w v c e = by_abstract is_abstract s t w c e
 
-        by_standing : {d : ClassName} → Standing d → IsTrue (is_concrete tree d) → has_abstract_slot tree d ≡ false
-        by_standing {d} (of_source x found) c =
+        by_thread_status : {d : ClassName} → ThreadStatus d → IsTrue (is_concrete tree d) → has_abstract_slot tree d ≡ false
+        by_thread_status {d} (of_source x found) c =
             let fits : IsTrue (kinds_fit tree x) = found_passes (λ y. same_class (source_name y) d) (kinds_fit tree) tree.classes x found all_kinds_fit in
             let concrete : IsTrue (not (is_abstract_kind x.kind)) = subst (λ o. IsTrue (option_map_or (λ (e : Declaration). not e.is_abstract) o false)) (source_declares d x found) c in
             subst (λ z. has_abstract_slot tree z ≡ false) (source_is_named d x found) (by_kind x.kind _ _ _ _ concrete fits)
-        by_standing of_object c = refl
-        by_standing of_string c = refl
-        by_standing of_console c = refl
-        by_standing of_monitor c = refl
-        by_standing of_thread c = refl
-        by_standing (of_none e) c = never (subst (λ o. IsTrue (option_map_or (λ (k : Declaration). not k.is_abstract) o false)) e c)
+        by_thread_status of_object c = refl
+        by_thread_status of_string c = refl
+        by_thread_status of_console c = refl
+        by_thread_status of_monitor c = refl
+        by_thread_status of_thread c = refl
+        by_thread_status (of_none e) c = never (subst (λ o. IsTrue (option_map_or (λ (k : Declaration). not k.is_abstract) o false)) e c)

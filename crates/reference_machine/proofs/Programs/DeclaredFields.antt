@@ -30,7 +30,7 @@ use Rattle.reference_machine.specs.Values.{ObjectName, Born, Literal, Value}
 use Rattle.reference_machine.specs.States.{Contents, Instance, Array, HeapObject, State, entry_at, object_at, type_of_contents}
 use Rattle.reference_machine.specs.Steps.{key_of}
 use Rattle.reference_machine.specs.TypedStates.{IsObjectOf}
-use Rattle.reference_machine.proofs.Programs.DeclaredClasses.{Standing, of_source, of_object, of_string, of_console, of_monitor, of_thread, of_none, standing, source_declares, interface_is_source, none_doubles, listed_is_interface, found_fails}
+use Rattle.reference_machine.proofs.Programs.DeclaredClasses.{ThreadStatus, of_source, of_object, of_string, of_console, of_monitor, of_thread, of_none, thread_status, source_declares, interface_is_source, none_doubles, listed_is_interface, found_fails}
 use Rattle.reference_machine.proofs.Programs.VirtualTargets.{weaker, nearest_at, interface_holds}
 
 -- ---- entries under keys
@@ -52,10 +52,10 @@ abbrev same_field_name : Field → Field → Bool
 same_field_name a b = same_text a.name b.name
 
 -- fields of another class are passed by
-pub entry_behind : (k : FieldKey) (c : ClassName) (fs : List Field) (es : List (FieldKey × DeclaredType)) → same_class c k.declared_in ≡ false → entry_at same_key k (map (keyed c) fs ++ es) ≡ entry_at same_key k es
-entry_behind k c [] es other = refl
-entry_behind k c (f ∷ fs) es other =
-    if_false (same_key (record { declared_in = c; name = f.name }) k) (Some f.field_type) (entry_at same_key k (map (keyed c) fs ++ es)) (ap (λ b. b && same_text f.name k.name) other) ∙ entry_behind k c fs es other
+pub entry_after : (k : FieldKey) (c : ClassName) (fs : List Field) (es : List (FieldKey × DeclaredType)) → same_class c k.declared_in ≡ false → entry_at same_key k (map (keyed c) fs ++ es) ≡ entry_at same_key k es
+entry_after k c [] es other = refl
+entry_after k c (f ∷ fs) es other =
+    if_false (same_key (record { declared_in = c; name = f.name }) k) (Some f.field_type) (entry_at same_key k (map (keyed c) fs ++ es)) (ap (λ b. b && same_text f.name k.name) other) ∙ entry_after k c fs es other
 
 -- a field of another name has another key
 other_key : (c : ClassName) (f g : Field) → same_field_name f g ≡ false → same_key (record { declared_in = c; name = f.name }) (key_of (c, g)) ≡ false
@@ -83,16 +83,16 @@ own_entry is_static c p (f ∷ fs) g differ found flag = by_test (p f) found (λ
     first true is = if_true (same_key (key_of (c, g)) (key_of (c, g))) (Some g.field_type) _ (own_key c g)
     first false is = never is
 
-    behind : (b : Bool) → same_field_name f g ≡ false → entry_at same_key (key_of (c, g)) (map (keyed c) (of_flag is_static fs)) ≡ Some g.field_type →
+    following : (b : Bool) → same_field_name f g ≡ false → entry_at same_key (key_of (c, g)) (map (keyed c) (of_flag is_static fs)) ≡ Some g.field_type →
         entry_at same_key (key_of (c, g)) (map (keyed c) (cond b (f ∷ of_flag is_static fs) (of_flag is_static fs))) ≡ Some g.field_type
-    behind true other later = if_false (same_key (key_of (c, f)) (key_of (c, g))) (Some f.field_type) _ (other_key c f g other) ∙ later
-    behind false other later = later
+    following true other later = if_false (same_key (key_of (c, f)) (key_of (c, g))) (Some f.field_type) _ (other_key c f g other) ∙ later
+    following false other later = later
 
     by_test : (b : Bool) → cond b (Some f) (find p fs) ≡ Some g → (find p fs ≡ Some g → entry_at same_key (key_of (c, g)) (map (keyed c) (of_flag is_static fs)) ≡ Some g.field_type) →
         entry_at same_key (key_of (c, g)) (map (keyed c) (of_flag is_static (f ∷ fs))) ≡ Some g.field_type
     by_test true here later =
         subst (λ x. entry_at same_key (key_of (c, g)) (map (keyed c) (of_flag is_static (x ∷ fs))) ≡ Some g.field_type) (sym (same_Some f g here)) (first (same_flag g.is_static is_static) flag)
-    by_test false there later = behind (same_flag f.is_static is_static) (found_fails p (same_field_name f) fs g there (or_parts _ _ differ).0) (later there)
+    by_test false there later = following (same_flag f.is_static is_static) (found_fails p (same_field_name f) fs g there (or_parts _ _ differ).0) (later there)
 
 -- where a look-up finds an element, some element passes
 some_passes : {X : Type 0} (p : X → Bool) (xs : List X) (x : X) → find p xs ≡ Some x → IsTrue (list_any p xs)
@@ -121,16 +121,16 @@ module _ (tree : Tree) where
 
   -- a field that is found is one of a class of the source
   field_is_of_source : (c : ClassName) (p : Field → Bool) (g : Field) → find p (fields_declared tree c) ≡ Some g → (x : Class) × (source_class tree c ≡ Some x)
-  field_is_of_source c p g h = by_standing (standing tree c) h
+  field_is_of_source c p g h = by_thread_status (thread_status tree c) h
     where
-      by_standing : {c : ClassName} → Standing tree c → find p (fields_declared tree c) ≡ Some g → (x : Class) × (source_class tree c ≡ Some x)
-      by_standing (of_source x found) e = (x, found)
-      by_standing of_object e = none_is_some g e
-      by_standing of_string e = none_is_some g e
-      by_standing of_console e = none_is_some g e
-      by_standing of_monitor e = none_is_some g e
-      by_standing of_thread e = none_is_some g e
-      by_standing (of_none none) e = none_is_some g (sym (ap (λ o. find p (listed_by (λ (d : Declaration). d.fields) o)) none) ∙ e)
+      by_thread_status : {c : ClassName} → ThreadStatus tree c → find p (fields_declared tree c) ≡ Some g → (x : Class) × (source_class tree c ≡ Some x)
+      by_thread_status (of_source x found) e = (x, found)
+      by_thread_status of_object e = none_is_some g e
+      by_thread_status of_string e = none_is_some g e
+      by_thread_status of_console e = none_is_some g e
+      by_thread_status of_monitor e = none_is_some g e
+      by_thread_status of_thread e = none_is_some g e
+      by_thread_status (of_none none) e = none_is_some g (sym (ap (λ o. find p (listed_by (λ (d : Declaration). d.fields) o)) none) ∙ e)
 
   -- and none where it is an interface
   kind_without_fields : (k : ClassKind) (fs : List Field) → IsTrue (is_interface_kind k) → fields_unless_interface k fs ≡ []
@@ -169,7 +169,7 @@ module _ (tree : Tree) where
       by_test true same there later =
           entry_before same_key k t (keyed_fields tree is_static (name_of x)) _ (subst (λ c. entry_at same_key k (keyed_fields tree is_static c) ≡ Some t) (same_class_equal k.declared_in (name_of x) same) own)
       by_test false other there later =
-          entry_behind k (name_of x) (of_flag is_static (fields_declared tree (name_of x))) _ (class_equivalence.symm (name_of x) k.declared_in ∙ other) ∙ later there
+          entry_after k (name_of x) (of_flag is_static (fields_declared tree (name_of x))) _ (class_equivalence.symm (name_of x) k.declared_in ∙ other) ∙ later there
 
   -- ---- inherited fields
 
@@ -197,22 +197,22 @@ module _ (tree : Tree) where
   module _ (legal : IsLegal tree) where
     -- names of a class's fields differ
     fields_differ : (c : ClassName) → has_repeat same_field_name (fields_declared tree c) ≡ false
-    fields_differ c = by_standing (standing tree c)
+    fields_differ c = by_thread_status (thread_status tree c)
       where
         of_kind : (k : ClassKind) (fs : List Field) → has_repeat same_field_name fs ≡ false → has_repeat same_field_name (fields_unless_interface k fs) ≡ false
         of_kind Interface fs h = refl
         of_kind (PlainClass is_abstract base interfaces) fs h = h
 
-        by_standing : {c : ClassName} → Standing tree c → has_repeat same_field_name (fields_declared tree c) ≡ false
-        by_standing {c} (of_source x found) =
+        by_thread_status : {c : ClassName} → ThreadStatus tree c → has_repeat same_field_name (fields_declared tree c) ≡ false
+        by_thread_status {c} (of_source x found) =
             let single : class_doubles x ≡ false = found_fails (λ k. same_class (source_name k) c) class_doubles tree.classes x found (none_doubles tree legal) in
             ap (has_repeat same_field_name) (source_fields c x found) ∙ of_kind x.kind (field_members x) (or_parts _ _ (or_parts _ _ (or_parts _ _ single).0).0).0
-        by_standing of_object = refl
-        by_standing of_string = refl
-        by_standing of_console = refl
-        by_standing of_monitor = refl
-        by_standing of_thread = refl
-        by_standing (of_none e) = ap (λ o. has_repeat same_field_name (listed_by (λ (d : Declaration). d.fields) o)) e
+        by_thread_status of_object = refl
+        by_thread_status of_string = refl
+        by_thread_status of_console = refl
+        by_thread_status of_monitor = refl
+        by_thread_status of_thread = refl
+        by_thread_status (of_none e) = ap (λ o. has_repeat same_field_name (listed_by (λ (d : Declaration). d.fields) o)) e
 
     -- what is assignable to a type whose chain has a class with a field has that class in its chain
     chain_below : (d : ClassName) (p : Field → Bool) (g : Field) → find p (fields_declared tree d) ≡ Some g → {a b : DeclaredType} → IsAssignable tree a b → HasInChain b d → HasInChain a d

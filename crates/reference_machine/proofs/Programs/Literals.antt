@@ -32,9 +32,9 @@ module _ {X : Type 0} (test : X → Bool) where
       by_case (inl k) later = or_left _ _ k
       by_case (inr k) later = or_right _ _ (later k)
 
-  any_behind : (xs ys : List X) → IsTrue (list_any test ys) → IsTrue (list_any test (xs ++ ys))
-  any_behind [] ys h = h
-  any_behind (x ∷ xs) ys h = or_right (test x) _ (any_behind xs ys h)
+  any_after : (xs ys : List X) → IsTrue (list_any test ys) → IsTrue (list_any test (xs ++ ys))
+  any_after [] ys h = h
+  any_after (x ∷ xs) ys h = or_right (test x) _ (any_after xs ys h)
 
   pub any_at : (xs : List X) (n : ℕ) (x : X) → slice_get xs n ≡ Some x → IsTrue (test x) → IsTrue (list_any test xs)
   any_at [] n x e h = none_is_some x e
@@ -60,7 +60,7 @@ any_in_flat test f (x ∷ xs) h = by_case (either (list_any test (f x)) (list_an
   where
     by_case : IsTrue (list_any test (f x)) ⊎ IsTrue (list_any (λ y. list_any test (f y)) xs) → (IsTrue (list_any (λ y. list_any test (f y)) xs) → IsTrue (list_any test (flat_map f xs))) → IsTrue (list_any test (f x ++ flat_map f xs))
     by_case (inl k) later = any_before test (f x) (flat_map f xs) k
-    by_case (inr k) later = any_behind test (f x) (flat_map f xs) (later k)
+    by_case (inr k) later = any_after test (f x) (flat_map f xs) (later k)
 
 any_in_filter_map : {X Y : Type 0} (test : Y → Bool) (f : X → Option Y) (xs : List X) → IsTrue (list_any (λ x. option_map_or test (f x) false) xs) → IsTrue (list_any test (filter_map f xs))
 any_in_filter_map test f [] h = never h
@@ -114,12 +114,12 @@ loads c i = option_map_or (same_text c) (literal_of i) false
 abbrev loads_nothing : Method → Bool
 loads_nothing m = list_all (λ i. is_none (literal_of i)) (instructions_of m)
 
-module _ (tree : Tree) (c : List ℕ) (m : Method) (place : ℕ) (line : Line) (at : slice_get (lines_of m) place ≡ Some line) (is : line.instruction ≡ LoadString c) where
-  instruction_there : slice_get (instructions_of m) place ≡ Some (LoadString c)
-  instruction_there = slice_get-map (λ (l : Line). l.instruction) (lines_of m) place ∙ ap (option_map (λ (l : Line). l.instruction)) at ∙ ap Some is
+module _ (tree : Tree) (c : List ℕ) (m : Method) (index : ℕ) (line : Line) (at : slice_get (lines_of m) index ≡ Some line) (is : line.instruction ≡ LoadString c) where
+  instruction_there : slice_get (instructions_of m) index ≡ Some (LoadString c)
+  instruction_there = slice_get-map (λ (l : Line). l.instruction) (lines_of m) index ∙ ap (option_map (λ (l : Line). l.instruction)) at ∙ ap Some is
 
   method_loads : IsTrue (list_any (loads c) (instructions_of m))
-  method_loads = any_at (loads c) (instructions_of m) place (LoadString c) instruction_there (same_text_itself c)
+  method_loads = any_at (loads c) (instructions_of m) index (LoadString c) instruction_there (same_text_itself c)
 
   -- a method of the source
   in_source : (x : Class) (n : ℕ) → slice_get (method_members x) n ≡ Some m → ((also : Class → Bool) → IsTrue (also x) → IsTrue (list_any also tree.classes)) → Contains (literals_of tree) c
@@ -132,7 +132,7 @@ module _ (tree : Tree) (c : List ℕ) (m : Method) (place : ℕ) (line : Line) (
 
   -- a built-in method loads none
   in_built_in : {A : Type 0} → IsTrue (loads_nothing m) → A
-  in_built_in h = never (all_at (λ i. is_none (literal_of i)) (instructions_of m) place (LoadString c) instruction_there h)
+  in_built_in h = never (all_at (λ i. is_none (literal_of i)) (instructions_of m) index (LoadString c) instruction_there h)
 
   literal_at : (o : Option (List ℕ)) (own : List ℕ) (n : ℕ) → slice_get (methods_declared tree (record { assembly = o; name = own })) n ≡ Some m → Contains (literals_of tree) c
   literal_at None own n e = by_class (found_or_none (λ (x : Class). same_class (source_name x) (record { assembly = None; name = own })) tree.classes)

@@ -17,8 +17,8 @@ use Rattle.cil_model.specs.Declarations.{Declaration, source_name, declared_as, 
 use Rattle.cil_model.specs.Chains.{classes_searched, is_static, chain_of, methods_declared, method_declared, find_method, nearest, is_virtual, is_interface, listed_by}
 use Rattle.cil_model.specs.TypeTree.{StackType}
 use Rattle.cil_model.specs.FlowRules.{flow}
-use Rattle.cil_model.specs.Examples.{unlabelled}
-use Rattle.cil_model.specs.Slots.{slot_along, filler_along, class_target, virtual_in, lister_along, interface_target, target}
+use Rattle.cil_model.specs.Examples.{unlabelled_line}
+use Rattle.cil_model.specs.Slots.{slot_along, implementation_along, class_target, virtual_in, implementer_along, interface_target, target}
 use Rattle.cil_model.specs.Bodies.{argument_types, source_methods}
 use Rattle.reference_machine.specs.BuiltIn.{Action, Construct, Write, Enter, Exit, Start, Join, action_of}
 use Rattle.cil_model.specs.Typings.{Typing, FlowsOn, IsTyping, IsAccepted}
@@ -41,9 +41,9 @@ found_stands {X} test (y ∷ ys) x h = by_test (test y) h (found_stands test ys 
     by_test true e later = (0, e)
     by_test false e later = let s : Stands ys x = later e in (suc s.0, s.1)
 
-stands_behind : {X : Type 0} (xs ys : List X) (y : X) → Stands ys y → Stands (xs ++ ys) y
-stands_behind [] ys y h = h
-stands_behind (x ∷ xs) ys y h = let s : Stands (xs ++ ys) y = stands_behind xs ys y h in (suc s.0, s.1)
+stands_after : {X : Type 0} (xs ys : List X) (y : X) → Stands ys y → Stands (xs ++ ys) y
+stands_after [] ys y h = h
+stands_after (x ∷ xs) ys y h = let s : Stands (xs ++ ys) y = stands_after xs ys y h in (suc s.0, s.1)
 
 stands_in_flat : {X Y : Type 0} (f : X → List Y) (xs : List X) (x : X) (y : Y) → Stands xs x → Stands (f x) y → Stands (flat_map f xs) y
 stands_in_flat f [] x y (n, h) k = none_is_some x h
@@ -51,7 +51,7 @@ stands_in_flat {X} {Y} f (z ∷ zs) x y (zero, h) (j, k) =
     let P : X → Type 0 = λ w. slice_get (f w) j ≡ Some y in
     (j, get_before (f z) (flat_map f zs) j y (subst P (sym (same_Some z x h)) k))
 stands_in_flat f (z ∷ zs) x y (suc n, h) k =
-    stands_behind (f z) (flat_map f zs) y (stands_in_flat f zs x y (n, h) k)
+    stands_after (f z) (flat_map f zs) y (stands_in_flat f zs x y (n, h) k)
 
 stands_in_map : {X Y : Type 0} (f : X → Y) (xs : List X) (x : X) → Stands xs x → Stands (map f xs) (f x)
 stands_in_map f [] x (n, h) = none_is_some x h
@@ -81,14 +81,14 @@ module _ (tree : Tree) where
       fits x = same_method_name x.name r.name && same_signature x.signature r.signature && same_flag (is_static x.kind) (not is_instance)
 
   module _ (name : MethodName) (signature : Signature) where
-    filler_is_declared : (slot : ClassName) (cs : List ClassName) (c : ClassName) (m : Method) → filler_along tree name signature slot cs ≡ Some (c, m) → method_declared tree name signature c ≡ Some m
-    filler_is_declared slot [] c m h = none_is_some (c, m) h
-    filler_is_declared slot (d ∷ ds) c m h =
-        by_class (method_declared tree name signature d) refl (same_options same_class (slot_along tree name signature (d ∷ ds)) (Some slot)) h (filler_is_declared slot ds c m)
+    implementation_is_declared : (slot : ClassName) (cs : List ClassName) (c : ClassName) (m : Method) → implementation_along tree name signature slot cs ≡ Some (c, m) → method_declared tree name signature c ≡ Some m
+    implementation_is_declared slot [] c m h = none_is_some (c, m) h
+    implementation_is_declared slot (d ∷ ds) c m h =
+        by_class (method_declared tree name signature d) refl (same_options same_class (slot_along tree name signature (d ∷ ds)) (Some slot)) h (implementation_is_declared slot ds c m)
       where
         by_class : (o : Option Method) → method_declared tree name signature d ≡ o → (b : Bool) →
-            option_map_or (λ x. if b then Some (d, x) else filler_along tree name signature slot ds) o (filler_along tree name signature slot ds) ≡ Some (c, m) →
-            (filler_along tree name signature slot ds ≡ Some (c, m) → method_declared tree name signature c ≡ Some m) → method_declared tree name signature c ≡ Some m
+            option_map_or (λ x. if b then Some (d, x) else implementation_along tree name signature slot ds) o (implementation_along tree name signature slot ds) ≡ Some (c, m) →
+            (implementation_along tree name signature slot ds ≡ Some (c, m) → method_declared tree name signature c ≡ Some m) → method_declared tree name signature c ≡ Some m
         by_class None e b k later = later k
         by_class (Some x) e false k later = later k
         by_class (Some x) e true k later =
@@ -97,11 +97,11 @@ module _ (tree : Tree) where
 
     class_target_is_declared : (d c k : ClassName) (m : Method) → class_target tree name signature d c ≡ Some (k, m) → IsDeclared k m
     class_target_is_declared d c k m h = option_and_then_some _ (slot_along tree name signature (chain_of tree c)) (k, m) h (λ slot e f.
-        found_stands _ (methods_declared tree k) m (filler_is_declared slot (chain_of tree d) k m f))
+        found_stands _ (methods_declared tree k) m (implementation_is_declared slot (chain_of tree d) k m f))
 
     interface_target_is_declared : (d i k : ClassName) (m : Method) → interface_target tree name signature d i ≡ Some (k, m) → IsDeclared k m
-    interface_target_is_declared d i k m h = option_and_then_some _ (lister_along tree name signature i (chain_of tree d)) (k, m) h (λ lister e f.
-        option_and_then_some _ (nearest (virtual_in tree name signature) (chain_of tree lister)) (k, m) f (λ found e' g. class_target_is_declared d found.0 k m g))
+    interface_target_is_declared d i k m h = option_and_then_some _ (implementer_along tree name signature i (chain_of tree d)) (k, m) h (λ implementer e f.
+        option_and_then_some _ (nearest (virtual_in tree name signature) (chain_of tree implementer)) (k, m) f (λ found e' g. class_target_is_declared d found.0 k m g))
 
   -- the target of a declared method is declared
   pub target_is_declared : (d c : ClassName) (m : Method) (k : ClassName) (m' : Method) → target tree d c m ≡ Some (k, m') → IsDeclared c m → IsDeclared k m'
@@ -130,22 +130,22 @@ module _ (tree : Tree) where
       no_more : {A : Type 0} (n : ℕ) (stack : List StackType) → slice_get (Some [] ∷ []) (suc n) ≡ Some (Some stack) → A
       no_more n stack e = none_is_some (Some stack) e
 
-      height : (place : ℕ) (stack : List StackType) → slice_get (Some [] ∷ []) place ≡ Some (Some stack) → pos (length stack) ≤ℤ pos 0
+      height : (pc : ℕ) (stack : List StackType) → slice_get (Some [] ∷ []) pc ≡ Some (Some stack) → pos (length stack) ≤ℤ pos 0
       height zero stack e = let P : List StackType → Type 0 = λ x. pos (length x) ≤ℤ pos 0 in subst P (same_Some [] stack (same_Some (Some []) (Some stack) e)) (le_z_yes tt)
       height (suc n) stack e = no_more n stack e
 
-      each : (place : ℕ) (line : Line) (stack : List StackType) → slice_get (unlabelled Return ∷ []) place ≡ Some line → slice_get (Some [] ∷ []) place ≡ Some (Some stack) →
-          (after : List StackType) × (flow tree (argument_types run_method thread_name) [] None line.instruction stack ≡ Some after) × FlowsOn tree return_alone (Some [] ∷ []) place line after
-      each zero line stack e h = at_return line stack (same_Some (unlabelled Return) line e) (same_Some [] stack (same_Some (Some []) (Some stack) h))
+      each : (pc : ℕ) (line : Line) (stack : List StackType) → slice_get (unlabelled_line Return ∷ []) pc ≡ Some line → slice_get (Some [] ∷ []) pc ≡ Some (Some stack) →
+          (after : List StackType) × (flow tree (argument_types run_method thread_name) [] None line.instruction stack ≡ Some after) × FlowsOn tree return_alone (Some [] ∷ []) pc line after
+      each zero line stack e h = at_return line stack (same_Some (unlabelled_line Return) line e) (same_Some [] stack (same_Some (Some []) (Some stack) h))
         where
           no_label : {A : Type 0} (label : List ℕ) → Contains [] label → A
           no_label label (k, less, e') = absurd (omega (arith, less))
 
-          at_return : (line : Line) (stack : List StackType) → unlabelled Return ≡ line → [] ≡ stack →
+          at_return : (line : Line) (stack : List StackType) → unlabelled_line Return ≡ line → [] ≡ stack →
               (after : List StackType) × (flow tree (argument_types run_method thread_name) [] None line.instruction stack ≡ Some after) × FlowsOn tree return_alone (Some [] ∷ []) 0 line after
           at_return line stack e' h' =
               let P : Line → Type 0 = λ x. (after : List StackType) × (flow tree (argument_types run_method thread_name) [] None x.instruction stack ≡ Some after) × FlowsOn tree return_alone (Some [] ∷ []) 0 x after in
-              let Q : List StackType → Type 0 = λ x. (after : List StackType) × (flow tree (argument_types run_method thread_name) [] None Return x ≡ Some after) × FlowsOn tree return_alone (Some [] ∷ []) 0 (unlabelled Return) after in
+              let Q : List StackType → Type 0 = λ x. (after : List StackType) × (flow tree (argument_types run_method thread_name) [] None Return x ≡ Some after) × FlowsOn tree return_alone (Some [] ∷ []) 0 (unlabelled_line Return) after in
               subst P e' (subst Q h' ([], refl, record { falls = λ f. never f; branches = λ label c. no_label label c }))
       each (suc n) line stack e h = no_more n stack h
 

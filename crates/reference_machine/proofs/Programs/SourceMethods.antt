@@ -42,13 +42,13 @@ kept_from {X} test (y ∷ ys) n x e = by_test (test y) refl n e (kept_from test 
     Stands : List X → X → Type 0
     Stands zs z = (k : ℕ) × (slice_get zs k ≡ Some z) × IsTrue (test z)
 
-    behind : (z : X) → Stands ys z → Stands (y ∷ ys) z
-    behind z h = (suc h.0, h.1, h.2)
+    following : (z : X) → Stands ys z → Stands (y ∷ ys) z
+    following z h = (suc h.0, h.1, h.2)
 
     by_test : (b : Bool) → test y ≡ b → (n : ℕ) → slice_get (cond b (y ∷ filter test ys) (filter test ys)) n ≡ Some x → ((k : ℕ) (z : X) → slice_get (filter test ys) k ≡ Some z → Stands ys z) → Stands (y ∷ ys) x
     by_test true is zero h later = (0, h, subst (λ z. IsTrue (test z)) (same_Some y x h) is)
-    by_test true is (suc n) h later = behind x (later n x h)
-    by_test false is n h later = behind x (later n x h)
+    by_test true is (suc n) h later = following x (later n x h)
+    by_test false is n h later = following x (later n x h)
 
 -- in a list without repeats each item is the first that is the same as it
 found_itself : {X : Type 0} (same : X → X → Bool) → ((x : X) → IsTrue (same x x)) → (xs : List X) → has_repeat same xs ≡ false → (n : ℕ) (x : X) → slice_get xs n ≡ Some x → find (λ y. same y x) xs ≡ Some x

@@ -12,20 +12,20 @@ use Rattle.cil_model.specs.declared.trees.Method.{Method}
 use Rattle.cil_model.specs.Same.{same_class, same_options, same_signature, same_method_name}
 use Rattle.cil_model.specs.Declarations.{run_name}
 use Rattle.cil_model.specs.Chains.{chain_of, methods_declared, method_declared, nearest, is_virtual, is_interface}
-use Rattle.cil_model.specs.Slots.{slot_along, filler_along, class_target, virtual_in, lister_along, interface_target, target}
+use Rattle.cil_model.specs.Slots.{slot_along, implementation_along, class_target, virtual_in, implementer_along, interface_target, target}
 use Rattle.cil_model.proofs.Lists.{none_is_some, find_passes}
 use Rattle.cil_model.proofs.SameLaws.{both_first, same_method_name_equal}
 use Rattle.reference_machine.specs.BuiltIn.{Action, actions, action_of}
 
 module _ (tree : Tree) (name : MethodName) (signature : Signature) where
   -- what fills a slot has the name by which it was looked for
-  filler_named : (slot : ClassName) (cs : List ClassName) (k : ClassName) (m : Method) → filler_along tree name signature slot cs ≡ Some (k, m) → m.name ≡ name
-  filler_named slot [] k m h = none_is_some (k, m) h
-  filler_named slot (d ∷ ds) k m h = by_class (method_declared tree name signature d) refl (same_options same_class (slot_along tree name signature (d ∷ ds)) (Some slot)) h (filler_named slot ds k m)
+  implementation_named : (slot : ClassName) (cs : List ClassName) (k : ClassName) (m : Method) → implementation_along tree name signature slot cs ≡ Some (k, m) → m.name ≡ name
+  implementation_named slot [] k m h = none_is_some (k, m) h
+  implementation_named slot (d ∷ ds) k m h = by_class (method_declared tree name signature d) refl (same_options same_class (slot_along tree name signature (d ∷ ds)) (Some slot)) h (implementation_named slot ds k m)
     where
       by_class : (o : Option Method) → method_declared tree name signature d ≡ o → (b : Bool) →
-          option_map_or (λ x. if b then Some (d, x) else filler_along tree name signature slot ds) o (filler_along tree name signature slot ds) ≡ Some (k, m) →
-          (filler_along tree name signature slot ds ≡ Some (k, m) → m.name ≡ name) → m.name ≡ name
+          option_map_or (λ x. if b then Some (d, x) else implementation_along tree name signature slot ds) o (implementation_along tree name signature slot ds) ≡ Some (k, m) →
+          (implementation_along tree name signature slot ds ≡ Some (k, m) → m.name ≡ name) → m.name ≡ name
       by_class None e b h' later = later h'
       by_class (Some x) e false h' later = later h'
       by_class (Some x) e true h' later =
@@ -34,11 +34,11 @@ module _ (tree : Tree) (name : MethodName) (signature : Signature) where
           subst (λ (y : Method). y.name ≡ name) same (same_method_name_equal x.name name (both_first _ _ passes))
 
   class_target_named : (d c k : ClassName) (m : Method) → class_target tree name signature d c ≡ Some (k, m) → m.name ≡ name
-  class_target_named d c k m h = option_and_then_some _ (slot_along tree name signature (chain_of tree c)) (k, m) h (λ slot e f. filler_named slot (chain_of tree d) k m f)
+  class_target_named d c k m h = option_and_then_some _ (slot_along tree name signature (chain_of tree c)) (k, m) h (λ slot e f. implementation_named slot (chain_of tree d) k m f)
 
   interface_target_named : (d i k : ClassName) (m : Method) → interface_target tree name signature d i ≡ Some (k, m) → m.name ≡ name
-  interface_target_named d i k m h = option_and_then_some _ (lister_along tree name signature i (chain_of tree d)) (k, m) h (λ lister e f.
-      option_and_then_some _ (nearest (virtual_in tree name signature) (chain_of tree lister)) (k, m) f (λ found e' g. class_target_named d found.0 k m g))
+  interface_target_named d i k m h = option_and_then_some _ (implementer_along tree name signature i (chain_of tree d)) (k, m) h (λ implementer e f.
+      option_and_then_some _ (nearest (virtual_in tree name signature) (chain_of tree implementer)) (k, m) f (λ found e' g. class_target_named d found.0 k m g))
 
 -- and so has the target of a call
 pub target_named : (tree : Tree) (d c : ClassName) (m : Method) (k : ClassName) (m' : Method) → target tree d c m ≡ Some (k, m') → m'.name ≡ m.name

@@ -19,7 +19,7 @@ use Rattle.cil_model.specs.declared.trees.MethodKind.TheVariants.{Static, Instan
 use Rattle.cil_model.specs.Same.{same_flag, same_class, same_options, same_signature, same_method_name}
 use Rattle.cil_model.specs.Declarations.{object_name, string_name, plain}
 use Rattle.cil_model.specs.Chains.{base_of, chain_within, chain_of, longest_chain, methods_declared, interfaces_declared, is_interface, method_declared, nearest, find_method, is_static, is_virtual, is_abstract_method, is_new_slot_method}
-use Rattle.cil_model.specs.Slots.{slot_filled, slot_along, filler_along, class_target, virtual_in, lists, lister_along, interface_target, target}
+use Rattle.cil_model.specs.Slots.{slot_filled, slot_along, implementation_along, class_target, virtual_in, lists, implementer_along, interface_target, target}
 use Rattle.cil_model.specs.Assignable.{array_of, element_named, element_of_class, type_of_class, is_class_assignable, is_element_assignable, is_assignable}
 use Rattle.cil_model.specs.Bodies.{code_of, virtual_reference}
 use Rattle.cil_model.specs.FlowRules.{is_concrete}
@@ -116,23 +116,23 @@ module _ (tree : Tree) where
         let inherited : Option ClassName = slot_along tree name signature cs in
         (if is_new_slot_method m.kind then c else unwrap_or inherited c, ap (λ o. option_map_or (slot_filled c inherited) o inherited) here ∙ if_true (is_virtual m.kind) _ _ virtual)
 
-    -- a slot that a class of the chain fills has a filler
-    filler_there : (slot : ClassName) (before : List ClassName) (c : ClassName) (cs : List ClassName) (m : Method) → method_declared tree name signature c ≡ Some m → slot_along tree name signature (c ∷ cs) ≡ Some slot →
-        (found : ClassName × Method) × (filler_along tree name signature slot (before ++ c ∷ cs) ≡ Some found)
-    filler_there slot [] c cs m here fills =
+    -- a slot that a class of the chain fills has an implementation
+    implementation_there : (slot : ClassName) (before : List ClassName) (c : ClassName) (cs : List ClassName) (m : Method) → method_declared tree name signature c ≡ Some m → slot_along tree name signature (c ∷ cs) ≡ Some slot →
+        (found : ClassName × Method) × (implementation_along tree name signature slot (before ++ c ∷ cs) ≡ Some found)
+    implementation_there slot [] c cs m here fills =
         let same : IsTrue (same_options same_class (slot_along tree name signature (c ∷ cs)) (Some slot)) = subst (λ o. IsTrue (same_options same_class o (Some slot))) (sym fills) (same_class_itself slot) in (
           (c, m),
-          ap (λ o. option_map_or (λ x. if same_options same_class (slot_along tree name signature (c ∷ cs)) (Some slot) then Some (c, x) else filler_along tree name signature slot cs) o (filler_along tree name signature slot cs)) here ∙
+          ap (λ o. option_map_or (λ x. if same_options same_class (slot_along tree name signature (c ∷ cs)) (Some slot) then Some (c, x) else implementation_along tree name signature slot cs) o (implementation_along tree name signature slot cs)) here ∙
               if_true _ _ _ same,
         )
-    filler_there slot (d ∷ ds) c cs m here fills =
-        by_class (method_declared tree name signature d) (same_options same_class (slot_along tree name signature (d ∷ rest)) (Some slot)) (filler_there slot ds c cs m here fills)
+    implementation_there slot (d ∷ ds) c cs m here fills =
+        by_class (method_declared tree name signature d) (same_options same_class (slot_along tree name signature (d ∷ rest)) (Some slot)) (implementation_there slot ds c cs m here fills)
       where
         rest : List ClassName
         rest = ds ++ c ∷ cs
 
-        by_class : (o : Option Method) (b : Bool) → (found : ClassName × Method) × (filler_along tree name signature slot rest ≡ Some found) →
-            (found : ClassName × Method) × (option_map_or (λ x. if b then Some (d, x) else filler_along tree name signature slot rest) o (filler_along tree name signature slot rest) ≡ Some found)
+        by_class : (o : Option Method) (b : Bool) → (found : ClassName × Method) × (implementation_along tree name signature slot rest ≡ Some found) →
+            (found : ClassName × Method) × (option_map_or (λ x. if b then Some (d, x) else implementation_along tree name signature slot rest) o (implementation_along tree name signature slot rest) ≡ Some found)
         by_class None b later = later
         by_class (Some x) false later = later
         by_class (Some x) true later = ((d, x), refl)
@@ -144,26 +144,26 @@ module _ (tree : Tree) where
         by_test true k = refl
         by_test false k = none_is_some slot k
 
-    -- a filler is a virtual method of a class of the chain
-    abbrev IsFiller : List ClassName → ClassName × Method → Type 0
-    IsFiller cs found = (method_declared tree name signature found.0 ≡ Some found.1) × IsTrue (is_virtual found.1.kind) × IsTrue (list_any (same_class found.0) cs)
+    -- an implementation is a virtual method of a class of the chain
+    abbrev IsImplementation : List ClassName → ClassName × Method → Type 0
+    IsImplementation cs found = (method_declared tree name signature found.0 ≡ Some found.1) × IsTrue (is_virtual found.1.kind) × IsTrue (list_any (same_class found.0) cs)
 
-    filler_is : (slot : ClassName) (cs : List ClassName) (found : ClassName × Method) → filler_along tree name signature slot cs ≡ Some found → IsFiller cs found
-    filler_is slot [] found h = none_is_some found h
-    filler_is slot (d ∷ ds) found h = by_class (method_declared tree name signature d) refl (same_options same_class (slot_along tree name signature (d ∷ ds)) (Some slot)) refl h (filler_is slot ds found)
+    implementation_is : (slot : ClassName) (cs : List ClassName) (found : ClassName × Method) → implementation_along tree name signature slot cs ≡ Some found → IsImplementation cs found
+    implementation_is slot [] found h = none_is_some found h
+    implementation_is slot (d ∷ ds) found h = by_class (method_declared tree name signature d) refl (same_options same_class (slot_along tree name signature (d ∷ ds)) (Some slot)) refl h (implementation_is slot ds found)
       where
-        behind : IsFiller ds found → IsFiller (d ∷ ds) found
-        behind is = (is.0, is.1, or_right _ _ is.2)
+        following : IsImplementation ds found → IsImplementation (d ∷ ds) found
+        following is = (is.0, is.1, or_right _ _ is.2)
 
         by_class : (o : Option Method) → method_declared tree name signature d ≡ o → (b : Bool) → same_options same_class (slot_along tree name signature (d ∷ ds)) (Some slot) ≡ b →
-            option_map_or (λ x. if b then Some (d, x) else filler_along tree name signature slot ds) o (filler_along tree name signature slot ds) ≡ Some found →
-            (filler_along tree name signature slot ds ≡ Some found → IsFiller ds found) → IsFiller (d ∷ ds) found
-        by_class None e b same k later = behind (later k)
-        by_class (Some x) e false same k later = behind (later k)
+            option_map_or (λ x. if b then Some (d, x) else implementation_along tree name signature slot ds) o (implementation_along tree name signature slot ds) ≡ Some found →
+            (implementation_along tree name signature slot ds ≡ Some found → IsImplementation ds found) → IsImplementation (d ∷ ds) found
+        by_class None e b same k later = following (later k)
+        by_class (Some x) e false same k later = following (later k)
         by_class (Some x) e true same k later =
             let inherited : Option ClassName = slot_along tree name signature ds in
             let fills : slot_filled d inherited x ≡ Some slot = sym (ap (λ o. option_map_or (slot_filled d inherited) o inherited) e) ∙ same_options_equal same_class same_class_equal _ _ same in
-            subst (IsFiller (d ∷ ds)) (same_Some (d, x) found k) (e, slot_is_virtual d inherited x slot fills, or_left _ _ (same_class_itself d))
+            subst (IsImplementation (d ∷ ds)) (same_Some (d, x) found k) (e, slot_is_virtual d inherited x slot fills, or_left _ _ (same_class_itself d))
 
   -- ---- chains
 
@@ -299,16 +299,16 @@ module _ (tree : Tree) where
         subst (λ x. IsTrue (is_element_assignable tree x (element_of_class k))) (sym own) (subst (λ x. IsTrue (is_element_assignable tree (Class d) x)) (sym named) link)
 
     module _ (d : ClassName) (concrete : IsTrue (is_concrete tree d)) (own : element_of_class d ≡ Class d) (f : ClassName) (among : IsTrue (list_any (same_class f) (chain_of tree d))) where
-      -- the slot of a virtual method of a class of the chain has a filler
+      -- the slot of a virtual method of a class of the chain has an implementation
       target_there : (name : MethodName) (signature : Signature) (m : Method) → method_declared tree name signature f ≡ Some m → IsTrue (is_virtual m.kind) →
-          (found : ClassName × Method) × (class_target tree name signature d f ≡ Some found) × IsFiller name signature (chain_of tree d) found
+          (found : ClassName × Method) × (class_target tree name signature d f ≡ Some found) × IsImplementation name signature (chain_of tree d) found
       target_there name signature m here virtual =
           let rest : List ClassName = chain_within tree (suc (suc (length tree.classes))) (base_of tree f) in
           let slot = slot_there name signature f rest m here virtual in
           let end : EndsWith d f = ends_with d f among in
-          let filler = filler_there name signature slot.0 end.0 f rest m here slot.1 in
-          let fills : filler_along tree name signature slot.0 (chain_of tree d) ≡ Some filler.0 = ap (filler_along tree name signature slot.0) end.1 ∙ filler.1 in
-          (filler.0, ap (option_and_then (λ s. filler_along tree name signature s (chain_of tree d))) slot.1 ∙ fills, filler_is name signature slot.0 (chain_of tree d) filler.0 fills)
+          let implementation = implementation_there name signature slot.0 end.0 f rest m here slot.1 in
+          let fills : implementation_along tree name signature slot.0 (chain_of tree d) ≡ Some implementation.0 = ap (implementation_along tree name signature slot.0) end.1 ∙ implementation.1 in
+          (implementation.0, ap (option_and_then (λ s. implementation_along tree name signature s (chain_of tree d))) slot.1 ∙ fills, implementation_is name signature slot.0 (chain_of tree d) implementation.0 fills)
 
       -- which isn't abstract
       target_not_abstract : (name : MethodName) (signature : Signature) (m : Method) → method_declared tree name signature f ≡ Some m → IsTrue (is_virtual m.kind) →
@@ -325,16 +325,16 @@ module _ (tree : Tree) where
       class_runs name signature m here virtual =
           let there = target_there name signature m here virtual in
           let found : ClassName × Method = there.0 in
-          let filler : IsFiller name signature (chain_of tree d) found = there.2 in
-          let body = has_code found.1.kind filler.1 (target_not_abstract name signature m here virtual found there.1) in (
+          let implementation : IsImplementation name signature (chain_of tree d) found = there.2 in
+          let body = has_code found.1.kind implementation.1 (target_not_abstract name signature m here virtual found there.1) in (
             found.0,
             found.1,
             body.0,
             there.1,
             body.1,
-            named_signature name signature found.1 (find_passes (is_named name signature) (methods_declared tree found.0) found.1 filler.0),
+            named_signature name signature found.1 (find_passes (is_named name signature) (methods_declared tree found.0) found.1 implementation.0),
             body.2,
-            to_class_above d found.0 (is_named name signature) found.1 own filler.2 filler.0 filler.1,
+            to_class_above d found.0 (is_named name signature) found.1 own implementation.2 implementation.0 implementation.1,
           )
 
     -- what is found under a name has that name
@@ -356,40 +356,40 @@ module _ (tree : Tree) where
 
     module _ (name : MethodName) (signature : Signature) where
       -- the nearest class of a chain that lists the interface
-      abbrev Lister : ClassName → List ClassName → Type 0
-      Lister i cs = (k : ClassName) × (lister_along tree name signature i cs ≡ Some k) × IsTrue (list_any (same_class k) cs) × IsTrue (lists tree name signature i k)
+      abbrev Implementer : ClassName → List ClassName → Type 0
+      Implementer i cs = (k : ClassName) × (implementer_along tree name signature i cs ≡ Some k) × IsTrue (list_any (same_class k) cs) × IsTrue (lists tree name signature i k)
 
       -- a class is in a chain, or a class of the chain lists it
-      met_or_listed : (i : ClassName) (cs : List ClassName) → IsTrue (list_any (λ k. same_class k i || list_any (same_class i) (interfaces_declared tree k)) cs) → IsTrue (list_any (same_class i) cs) ⊎ Lister i cs
+      met_or_listed : (i : ClassName) (cs : List ClassName) → IsTrue (list_any (λ k. same_class k i || list_any (same_class i) (interfaces_declared tree k)) cs) → IsTrue (list_any (same_class i) cs) ⊎ Implementer i cs
       met_or_listed i [] h = never h
       met_or_listed i (c ∷ cs) h = by_test (lists_it c) refl (met_or_listed i cs)
         where
           lists_it : ClassName → Bool
           lists_it k = list_any (same_class i) (interfaces_declared tree k)
 
-          MetBehind : Type 0
-          MetBehind = IsTrue (list_any (λ k. same_class k i || lists_it k) cs) → IsTrue (list_any (same_class i) cs) ⊎ Lister i cs
+          MetAfter : Type 0
+          MetAfter = IsTrue (list_any (λ k. same_class k i || lists_it k) cs) → IsTrue (list_any (same_class i) cs) ⊎ Implementer i cs
 
-          later : IsTrue (list_any (same_class i) cs) ⊎ Lister i cs → lists_it c ≡ false → IsTrue (list_any (same_class i) (c ∷ cs)) ⊎ Lister i (c ∷ cs)
-          later (inl met) no_lister = inl (or_right _ _ met)
-          later (inr (k, e, among, is)) no_lister = inr (k, if_false (lists_it c) _ _ no_lister ∙ e, or_right _ _ among, is)
+          later : IsTrue (list_any (same_class i) cs) ⊎ Implementer i cs → lists_it c ≡ false → IsTrue (list_any (same_class i) (c ∷ cs)) ⊎ Implementer i (c ∷ cs)
+          later (inl met) no_implementer = inl (or_right _ _ met)
+          later (inr (k, e, among, is)) no_implementer = inr (k, if_false (lists_it c) _ _ no_implementer ∙ e, or_right _ _ among, is)
 
-          here : IsTrue (same_class c i) ⊎ IsTrue (lists_it c) → lists_it c ≡ false → IsTrue (list_any (same_class i) (c ∷ cs)) ⊎ Lister i (c ∷ cs)
-          here (inl same) no_lister = inl (or_left _ _ (subst (λ z. IsTrue (same_class z c)) (same_class_equal c i same) (same_class_itself c)))
-          here (inr is) no_lister = not_both (lists_it c) no_lister is
+          here : IsTrue (same_class c i) ⊎ IsTrue (lists_it c) → lists_it c ≡ false → IsTrue (list_any (same_class i) (c ∷ cs)) ⊎ Implementer i (c ∷ cs)
+          here (inl same) no_implementer = inl (or_left _ _ (subst (λ z. IsTrue (same_class z c)) (same_class_equal c i same) (same_class_itself c)))
+          here (inr is) no_implementer = not_both (lists_it c) no_implementer is
 
-          by_place : IsTrue (same_class c i || lists_it c) ⊎ IsTrue (list_any (λ k. same_class k i || lists_it k) cs) → lists_it c ≡ false → MetBehind → IsTrue (list_any (same_class i) (c ∷ cs)) ⊎ Lister i (c ∷ cs)
-          by_place (inl first) no_lister behind = here (either (same_class c i) (lists_it c) first) no_lister
-          by_place (inr rest) no_lister behind = later (behind rest) no_lister
+          by_index : IsTrue (same_class c i || lists_it c) ⊎ IsTrue (list_any (λ k. same_class k i || lists_it k) cs) → lists_it c ≡ false → MetAfter → IsTrue (list_any (same_class i) (c ∷ cs)) ⊎ Implementer i (c ∷ cs)
+          by_index (inl first) no_implementer following = here (either (same_class c i) (lists_it c) first) no_implementer
+          by_index (inr rest) no_implementer following = later (following rest) no_implementer
 
-          by_test : (b : Bool) → lists_it c ≡ b → MetBehind → IsTrue (list_any (same_class i) (c ∷ cs)) ⊎ Lister i (c ∷ cs)
-          by_test true is behind = inr (c, if_true (lists_it c) _ _ is, or_left _ _ (same_class_itself c), is)
-          by_test false is behind = by_place (either (same_class c i || lists_it c) (list_any (λ k. same_class k i || lists_it k) cs) h) is behind
+          by_test : (b : Bool) → lists_it c ≡ b → MetAfter → IsTrue (list_any (same_class i) (c ∷ cs)) ⊎ Implementer i (c ∷ cs)
+          by_test true is following = inr (c, if_true (lists_it c) _ _ is, or_left _ _ (same_class_itself c), is)
+          by_test false is following = by_index (either (same_class c i || lists_it c) (list_any (λ k. same_class k i || lists_it k) cs) h) is following
 
     module _ (d : ClassName) (concrete : IsTrue (is_concrete tree d)) (own : element_of_class d ≡ Class d) where
       -- an interface's method is implemented along the chain of the nearest class that lists it
-      interface_runs : (i : ClassName) (m : Method) → method_declared tree m.name m.signature i ≡ Some m → Lister m.name m.signature i (chain_of tree d) → Runs d m.signature (interface_target tree m.name m.signature d i)
-      interface_runs i m here (k, nearest_lister, among, is) = by_found (nearest (virtual_in tree m.name m.signature) (chain_of tree k)) refl (implements_listed tree legal k i m is (is_named m.name m.signature) here)
+      interface_runs : (i : ClassName) (m : Method) → method_declared tree m.name m.signature i ≡ Some m → Implementer m.name m.signature i (chain_of tree d) → Runs d m.signature (interface_target tree m.name m.signature d i)
+      interface_runs i m here (k, nearest_implementer, among, is) = by_found (nearest (virtual_in tree m.name m.signature) (chain_of tree k)) refl (implements_listed tree legal k i m is (is_named m.name m.signature) here)
         where
           by_found : (o : Option (ClassName × Method)) → nearest (virtual_in tree m.name m.signature) (chain_of tree k) ≡ o → IsTrue (is_some o) → Runs d m.signature (interface_target tree m.name m.signature d i)
           by_found None e there = never there
@@ -399,23 +399,23 @@ module _ (tree : Tree) where
               let above : IsTrue (list_any (same_class f) (chain_of tree d)) = in_whole (same_class f) d k (ends_with d k among) found.1 in
               let through : option_and_then (λ (p : ClassName × Method). class_target tree m.name m.signature d p.0) (nearest (virtual_in tree m.name m.signature) (chain_of tree k)) ≡ class_target tree m.name m.signature d f = ap (option_and_then (λ (p : ClassName × Method). class_target tree m.name m.signature d p.0)) e in
               let same : interface_target tree m.name m.signature d i ≡ class_target tree m.name m.signature d f =
-              ap (option_and_then (λ z. option_and_then (λ (p : ClassName × Method). class_target tree m.name m.signature d p.0) (nearest (virtual_in tree m.name m.signature) (chain_of tree z)))) nearest_lister ∙ through in
+              ap (option_and_then (λ z. option_and_then (λ (p : ClassName × Method). class_target tree m.name m.signature d p.0) (nearest (virtual_in tree m.name m.signature) (chain_of tree z)))) nearest_implementer ∙ through in
               subst (Runs d m.signature) (sym same) (class_runs d concrete own f above m.name m.signature x virtual.0 virtual.1)
 
       module _ (is_class : is_interface tree d ≢ true) (owner c : ClassName) (m : Method) (here : method_declared tree m.name m.signature c ≡ Some m) (virtual : IsTrue (is_virtual m.kind)) (searched : IsTrue (list_any (same_class c) (chain_of tree owner))) where
-        by_interface : (v : Bool) → is_interface tree c ≡ v → IsTrue (list_any (same_class owner) (chain_of tree d)) ⊎ Lister m.name m.signature owner (chain_of tree d) →
+        by_interface : (v : Bool) → is_interface tree c ≡ v → IsTrue (list_any (same_class owner) (chain_of tree d)) ⊎ Implementer m.name m.signature owner (chain_of tree d) →
             Runs d m.signature (if v then interface_target tree m.name m.signature d c else class_target tree m.name m.signature d c)
         by_interface false e (inl met) = class_runs d concrete own c (in_whole (same_class c) d owner (ends_with d owner met) searched) m.name m.signature m here virtual
-        by_interface false e (inr (k, nearest_lister, among, is)) =
+        by_interface false e (inr (k, nearest_implementer, among, is)) =
             let listed : is_interface tree owner ≡ true = listed_is_interface tree legal k owner is in
             not_both (is_interface tree c) e (subst (λ z. is_interface tree z ≡ true) (sym (interface_holds owner c listed searched)) listed)
         by_interface true e met = by_owner (interface_first (longest_chain tree) owner c e searched) met
           where
-            by_owner : c ≡ owner → IsTrue (list_any (same_class owner) (chain_of tree d)) ⊎ Lister m.name m.signature owner (chain_of tree d) → Runs d m.signature (interface_target tree m.name m.signature d c)
+            by_owner : c ≡ owner → IsTrue (list_any (same_class owner) (chain_of tree d)) ⊎ Implementer m.name m.signature owner (chain_of tree d) → Runs d m.signature (interface_target tree m.name m.signature d c)
             by_owner same (inl met') =
                 let first : c ≡ d = interface_first (longest_chain tree) d c e (subst (λ z. IsTrue (list_any (same_class z) (chain_of tree d))) (sym same) met') in
                 absurd (is_class (subst (λ z. is_interface tree z ≡ true) first e))
-            by_owner same (inr lister) = interface_runs c m here (subst (λ z. Lister m.name m.signature z (chain_of tree d)) (sym same) lister)
+            by_owner same (inr implementer) = interface_runs c m here (subst (λ z. Implementer m.name m.signature z (chain_of tree d)) (sym same) implementer)
 
     -- a virtual call on an object of a class that has objects finds a method with code
     pub targets_run : TargetsRun tree

@@ -16,17 +16,17 @@ use Rattle.cil_model.specs.Chains.{find_field, find_method, is_thread_class}
 use Rattle.cil_model.specs.Fields.{instance_fields, same_key}
 use Rattle.cil_model.specs.Slots.{target}
 use Rattle.cil_model.specs.Assignable.{is_reference}
-use Rattle.cil_model.specs.Bodies.{at_place, constructor_reference, virtual_reference, reference_operands, code_of, lines_of, place_of}
+use Rattle.cil_model.specs.Bodies.{at_index, constructor_reference, virtual_reference, reference_operands, code_of, lines_of, pc_of}
 use Rattle.cil_model.specs.Stacks.{take_one, take_two, take_three}
 use Rattle.cil_model.proofs.Lists.{none_is_some}
 use Rattle.reference_machine.specs.Values.{ObjectName, Value, Int32, Int64, Native, Null, Reference, zero_of, is_of_kind}
 use Rattle.reference_machine.specs.Arithmetic.{binary_value, unary_value, shift_value, compare_values, branch_values, is_set, convert_32, convert_64, as_index, not_option}
 use Rattle.reference_machine.specs.States.{Monitor, Free, Held, Contents, Array, HeapObject, Frame, State, entry_at, replaced_entry, field_value, with_field, object_at, with_object, class_of, monitor_of, is_live, array_at, with_element, next_name, with_birth, new_instance}
-use Rattle.reference_machine.specs.Effects.{Setting, Effect, Goes, Blocks, Raises, Sticks, given, unless_fault, pop_many, not_null, are_of_kinds, new_frame, after, onward, returned}
+use Rattle.reference_machine.specs.Effects.{Setting, Effect, Goes, Blocks, Raises, Sticks, given, unless_fault, pop_many, not_null, are_of_kinds, new_frame, after, onward, return_value}
 use Rattle.reference_machine.specs.BuiltIn.{Action, Construct, Write, Enter, Exit, Start, Join, action_of, line_of, enter, exit, with_thread, begin, start, join, thread_object, act}
 use Rattle.reference_machine.specs.Reachable.{constructed_value, values_of_contents}
-use Rattle.reference_machine.specs.Steps.{key_of, stored, execute, jump, branch_if, birth, new_array, in_range, element, load_element, store_element, may_hold, store_reference, cast, frame_for, is_too_deep, run_method as run_found, operands, method_for, run_virtual, construct, leave_value, return_from, to_label, switch_on}
-use Rattle.reference_machine.proofs.ReachableObjects.Values.{IsWithin, AreWithin, element_within, place_within, take_within, drop_within, reverse_within, replaced_within, entry_within, zeroed_within, elements_within, binary_within, unary_within, shift_within, convert_32_within, convert_64_within, one_or_zero_within}
+use Rattle.reference_machine.specs.Steps.{key_of, store_at, execute, jump, branch_if, birth, new_array, in_range, element, load_element, store_element, may_hold, store_reference, cast, frame_for, is_too_deep, run_method as run_found, operands, method_for, run_virtual, construct, push_and_advance_value, return_from, to_label, switch_on}
+use Rattle.reference_machine.proofs.ReachableObjects.Values.{IsWithin, AreWithin, element_within, index_within, take_within, drop_within, reverse_within, replaced_within, entry_within, zeroed_within, elements_within, binary_within, unary_within, shift_within, convert_32_within, convert_64_within, one_or_zero_within}
 use Rattle.reference_machine.proofs.ReachableObjects.States.{IsFrameWithin, AreFramesWithin, IsClosed, after_within, new_frame_within, returned_within, left_within, field_within, array_within, closed_marks, closed_field, closed_element, closed_birth, newborn_within, closed_monitor, closed_statics, closed_printed, closed_thread_more}
 
 -- an effect that continues with frames and a state that refer to objects of the set alone
@@ -159,7 +159,7 @@ module _ (Inside : ℕ → Type 0) (here : Setting) (s : State) (f : Frame) (bel
   -- ---- branches
 
   jump_within : (label : List ℕ) (stack : List Value) → AreWithin Inside stack → KeepsWithin Inside (jump here s f below label stack)
-  jump_within label stack k = given_within Inside (place_of label (lines_of f.method)) (λ place e.
+  jump_within label stack k = given_within Inside (pc_of label (lines_of f.method)) (λ pc e.
       goes _ s running.closed (record { arguments = running.frame.arguments; locals = running.frame.locals; stack = k; constructed = running.frame.constructed }, running.waiting))
 
   branch_within : (b : Bool) (label : List ℕ) (stack : List Value) → AreWithin Inside stack → KeepsWithin Inside (branch_if here s f below b label stack)
@@ -244,29 +244,29 @@ module _ (Inside : ℕ → Type 0) (here : Setting) (s : State) (f : Frame) (bel
       birth_within (new_instance here.tree c) (λ name s'. frame_for here s f below found.0 found.1 (Reference name ∷ arguments) (Some name) s' rest) zeros (λ closed new.
       frame_within found.0 found.1 (Reference (next_name s) ∷ arguments) (Some (next_name s)) (with_birth s (new_instance here.tree c)) rest (new, h) (new, tt) closed k)))
 
-  leave_value_within : (t : DeclaredType) → KeepsWithin Inside (leave_value here s f below t)
-  leave_value_within t = one_within Inside f.stack running.frame.stack (λ v rest h k. if_within Inside (is_of_kind t v) (goes _ s running.closed (returned_within Inside v below h running.waiting)) sticks)
+  push_and_advance_value_within : (t : DeclaredType) → KeepsWithin Inside (push_and_advance_value here s f below t)
+  push_and_advance_value_within t = one_within Inside f.stack running.frame.stack (λ v rest h k. if_within Inside (is_of_kind t v) (goes _ s running.closed (returned_within Inside v below h running.waiting)) sticks)
 
   return_within : KeepsWithin Inside (return_from here s f below)
   return_within = by_constructed f.constructed running.frame.constructed
     where
-      by_constructed : (o : Option ObjectName) → AreWithin Inside (constructed_value o) → KeepsWithin Inside (option_map_or (λ name. Goes (returned (Some (Reference name)) below) s) o (option_map_or (leave_value here s f below) f.method.signature.return_type (Goes (returned None below) s)))
-      by_constructed None h = or_within Inside f.method.signature.return_type (λ t e. leave_value_within t) (goes _ s running.closed (left_within Inside below running.waiting))
+      by_constructed : (o : Option ObjectName) → AreWithin Inside (constructed_value o) → KeepsWithin Inside (option_map_or (λ name. Goes (return_value (Some (Reference name)) below) s) o (option_map_or (push_and_advance_value here s f below) f.method.signature.return_type (Goes (return_value None below) s)))
+      by_constructed None h = or_within Inside f.method.signature.return_type (λ t e. push_and_advance_value_within t) (goes _ s running.closed (left_within Inside below running.waiting))
       by_constructed (Some name) h = goes _ s running.closed (returned_within Inside (Reference name) below h.0 running.waiting)
 
   -- ---- loads and stores
 
   -- another argument, or another local
-  stored_within : (z : ℤ) (v : Value) (vs vs' : List Value) → AreWithin Inside vs → IsWithin Inside v → stored here s f below z v vs ≡ Some vs' → AreWithin Inside vs'
+  stored_within : (z : ℤ) (v : Value) (vs vs' : List Value) → AreWithin Inside vs → IsWithin Inside v → store_at here s f below z v vs ≡ Some vs' → AreWithin Inside vs'
   stored_within (pos n) v vs vs' h k e = replaced_within Inside vs vs' n v h k e
   stored_within (negsuc n) v vs vs' h k e = none_is_some vs' e
 
   store_argument_within : (z : ℤ) → KeepsWithin Inside (execute here s f below (StoreArgument z))
-  store_argument_within z = one_within Inside f.stack running.frame.stack (λ v rest h k. given_within Inside (stored here s f below z v f.arguments) (λ arguments e.
+  store_argument_within z = one_within Inside f.stack running.frame.stack (λ v rest h k. given_within Inside (store_at here s f below z v f.arguments) (λ arguments e.
       goes _ s running.closed (record { arguments = stored_within z v f.arguments arguments running.frame.arguments h e; locals = running.frame.locals; stack = k; constructed = running.frame.constructed }, running.waiting)))
 
   store_local_within : (z : ℤ) → KeepsWithin Inside (execute here s f below (StoreLocal z))
-  store_local_within z = one_within Inside f.stack running.frame.stack (λ v rest h k. given_within Inside (stored here s f below z v f.locals) (λ locals e.
+  store_local_within z = one_within Inside f.stack running.frame.stack (λ v rest h k. given_within Inside (store_at here s f below z v f.locals) (λ locals e.
       goes _ s running.closed (record { arguments = running.frame.arguments; locals = stored_within z v f.locals locals running.frame.locals h e; stack = k; constructed = running.frame.constructed }, running.waiting)))
 
   load_field_within : (r : FieldReference) → KeepsWithin Inside (execute here s f below (LoadField r))
@@ -293,8 +293,8 @@ module _ (Inside : ℕ → Type 0) (here : Setting) (s : State) (f : Frame) (bel
   instruction_within (LoadInt64 z) = next_within _ (tt, running.frame.stack)
   instruction_within LoadNull = next_within _ (tt, running.frame.stack)
   instruction_within (LoadString characters) = next_within _ (tt, running.frame.stack)
-  instruction_within (LoadArgument n) = given_within Inside (at_place f.arguments n) (λ v e. next_within (v ∷ f.stack) (place_within Inside f.arguments n v running.frame.arguments e, running.frame.stack))
-  instruction_within (LoadLocal n) = given_within Inside (at_place f.locals n) (λ v e. next_within (v ∷ f.stack) (place_within Inside f.locals n v running.frame.locals e, running.frame.stack))
+  instruction_within (LoadArgument n) = given_within Inside (at_index f.arguments n) (λ v e. next_within (v ∷ f.stack) (index_within Inside f.arguments n v running.frame.arguments e, running.frame.stack))
+  instruction_within (LoadLocal n) = given_within Inside (at_index f.locals n) (λ v e. next_within (v ∷ f.stack) (index_within Inside f.locals n v running.frame.locals e, running.frame.stack))
   instruction_within (StoreArgument n) = store_argument_within n
   instruction_within (StoreLocal n) = store_local_within n
   instruction_within Duplicate = one_within Inside f.stack running.frame.stack (λ v rest h k. next_within (v ∷ v ∷ rest) (h, (h, k)))

@@ -12,10 +12,10 @@ use Rattle.reference_machine.specs.States.{Frame, Thread, State}
 use Rattle.reference_machine.specs.Effects.{Setting, Effect, Goes, Blocks, Raises, Sticks}
 use Rattle.reference_machine.specs.OwedWords.{IsOwed}
 use Rattle.reference_machine.specs.Reachable.{IsReachable}
-use Rattle.reference_machine.specs.Steps.{Outcome, Answers, Stuck, instruction_at, effect_of, with_thread_at, ended_as, goes_on, settled, step_of, step}
+use Rattle.reference_machine.specs.Steps.{Outcome, Answers, Stuck, instruction_at, effect_of, with_thread_at, ended_as, continues, charge, step_of, step}
 use Rattle.reference_machine.specs.Runs.{StepRequest, RunsTo, followed_by, run}
 use Rattle.reference_machine.proofs.Runs.InstructionEffects.{same_after}
-use Rattle.reference_machine.proofs.Runs.JoinedRuns.{clash, same_state, behind_run}
+use Rattle.reference_machine.proofs.Runs.JoinedRuns.{clash, same_state, after_run}
 use Rattle.reference_machine.specs.TypedStates.{IsTyped}
 use Rattle.reference_machine.proofs.ReachableObjects.States.{AreFramesWithin, IsClosed, closed_thread_at}
 use Rattle.reference_machine.proofs.ReachableObjects.Instructions.{KeepsWithin, goes, sticks, given_within, instruction_within}
@@ -36,18 +36,18 @@ module _ (Inside : ℕ → Type 0) where
       let over : Thread = record { frames = []; steps_left = left; ended = Some e } in
       subst (IsClosed Inside) (same_after (Ended e) r (with_thread_at s t over) s' k) (closed_thread_at Inside s h t over (λ live. tt))
 
-  going_within : (s s' : State) (t left : ℕ) (frames : List Frame) (q r : Report) → IsClosed Inside s → AreFramesWithin Inside frames → goes_on q s t left frames ≡ Answers r s' → IsClosed Inside s'
+  going_within : (s s' : State) (t left : ℕ) (frames : List Frame) (q r : Report) → IsClosed Inside s → AreFramesWithin Inside frames → continues q s t left frames ≡ Answers r s' → IsClosed Inside s'
   going_within s s' t zero frames q r h k e = ended_within s s' t 0 Budget r h e
   going_within s s' t (suc left) frames q r h k e =
       let on : Thread = record { frames = frames; steps_left = suc left; ended = None } in
       subst (IsClosed Inside) (same_after q r (with_thread_at s t on) s' e) (closed_thread_at Inside s h t on (λ live. k))
 
-  settled_within : (s s' : State) (t left : ℕ) (frames : List Frame) (e : Effect) (r : Report) → IsClosed Inside s → AreFramesWithin Inside frames → KeepsWithin Inside e → settled s t left frames e ≡ Answers r s' → IsClosed Inside s'
-  settled_within s s' t left frames (Goes [] s₁) r h k (goes _ _ closed fs) e = ended_within s₁ s' t left Done r closed e
-  settled_within s s' t left frames (Goes (f ∷ below) s₁) r h k (goes _ _ closed fs) e = going_within s₁ s' t left (f ∷ below) Ran r closed fs e
-  settled_within s s' t left frames Blocks r h k a e = going_within s s' t left frames Blocked r h k e
-  settled_within s s' t left frames (Raises x) r h k a e = ended_within s s' t left (ByFault x) r h e
-  settled_within s s' t left frames Sticks r h k a e = stuck_answers r s' e
+  step_charged_within : (s s' : State) (t left : ℕ) (frames : List Frame) (e : Effect) (r : Report) → IsClosed Inside s → AreFramesWithin Inside frames → KeepsWithin Inside e → charge s t left frames e ≡ Answers r s' → IsClosed Inside s'
+  step_charged_within s s' t left frames (Goes [] s₁) r h k (goes _ _ closed fs) e = ended_within s₁ s' t left Done r closed e
+  step_charged_within s s' t left frames (Goes (f ∷ below) s₁) r h k (goes _ _ closed fs) e = going_within s₁ s' t left (f ∷ below) Ran r closed fs e
+  step_charged_within s s' t left frames Blocks r h k a e = going_within s s' t left frames Blocked r h k e
+  step_charged_within s s' t left frames (Raises x) r h k a e = ended_within s s' t left (ByFault x) r h e
+  step_charged_within s s' t left frames Sticks r h k a e = stuck_answers r s' e
 
   effect_within : (here : Setting) (s : State) (frames : List Frame) → IsClosed Inside s → AreFramesWithin Inside frames → KeepsWithin Inside (effect_of here s frames)
   effect_within here s [] h k = sticks
@@ -63,10 +63,10 @@ module _ (Inside : ℕ → Type 0) where
       same k = subst (IsClosed Inside) (same_after Absent r s s' k) h
 
       by_life : (thread : Thread) → slice_get s.threads t ≡ Some thread → (o : Option End) → thread.ended ≡ o →
-          (if is_none o then settled s t (thread.steps_left - 1) thread.frames (effect_of here s thread.frames) else Answers Absent s) ≡ Answers r s' → IsClosed Inside s'
+          (if is_none o then charge s t (thread.steps_left - 1) thread.frames (effect_of here s thread.frames) else Answers Absent s) ≡ Answers r s' → IsClosed Inside s'
       by_life thread there None live k =
           let frames : AreFramesWithin Inside thread.frames = h.holds.threads t thread there live in
-          settled_within s s' t (thread.steps_left - 1) thread.frames (effect_of here s thread.frames) r h frames (effect_within here s thread.frames h frames) k
+          step_charged_within s s' t (thread.steps_left - 1) thread.frames (effect_of here s thread.frames) r h frames (effect_within here s thread.frames h frames) k
       by_life thread there (Some x) over k = same k
 
       by_thread : (o : Option Thread) → slice_get s.threads t ≡ o → option_map_or (step_of here s) o (Answers Absent s) ≡ Answers r s' → IsClosed Inside s'
@@ -80,7 +80,7 @@ module _ (Inside : ℕ → Type 0) where
       by_outcome : (o : Outcome) → step tree limits s q.0 q.1 ≡ o → followed_by o (λ u. run tree limits u qs) ≡ RunsTo reports s' →
           ((u : State) (rs : List Report) → IsClosed Inside u → run tree limits u qs ≡ RunsTo rs s' → IsClosed Inside s') → IsClosed Inside s'
       by_outcome Stuck is k later = clash [] reports s' k
-      by_outcome (Answers r u) is k later = behind_run r reports s' (run tree limits u qs) k (λ rs k' e'. later u rs (step_within tree limits s u q.0 q.1 r h is) k')
+      by_outcome (Answers r u) is k later = after_run r reports s' (run tree limits u qs) k (λ rs k' e'. later u rs (step_within tree limits s u q.0 q.1 r h is) k')
 
 -- ---- what is reachable after a step, or after a run
 

@@ -11,7 +11,7 @@ use Rattle.cil_model.specs.Fields.{FieldKey}
 use Rattle.cil_model.proofs.Lists.{none_is_some, set_or_was, last_or_was}
 use Rattle.reference_machine.specs.Values.{ObjectName, Born, Literal, Value, Reference}
 use Rattle.reference_machine.specs.States.{Monitor, Free, Contents, Instance, Array, HeapObject, Frame, Thread, State, replaced_entry, replaced_at, object_at, with_object, fields_of_contents, elements_of_contents, with_fields, field_value, with_field, array_at, with_element, with_monitor, next_name, with_birth}
-use Rattle.reference_machine.specs.Effects.{new_frame, after, returned}
+use Rattle.reference_machine.specs.Effects.{new_frame, after, return_value}
 use Rattle.reference_machine.specs.Reachable.{constructed_value, values_of_contents}
 use Rattle.reference_machine.specs.Steps.{with_thread_at}
 use Rattle.reference_machine.proofs.ReachableObjects.Values.{values_of, IsWithin, AreWithin, entry_within, replaced_within, replaced_entry_within, zeros_within}
@@ -53,11 +53,11 @@ module _ (Inside : ℕ → Type 0) where
       IsFrameWithin Inside (new_frame c m code arguments constructed)
   new_frame_within c m code arguments constructed h k = record { arguments = h; locals = zeros_within Inside code.locals; stack = tt; constructed = k }
 
-  pub returned_within : (v : Value) (fs : List Frame) → IsWithin Inside v → AreFramesWithin Inside fs → AreFramesWithin Inside (returned (Some v) fs)
+  pub returned_within : (v : Value) (fs : List Frame) → IsWithin Inside v → AreFramesWithin Inside fs → AreFramesWithin Inside (return_value (Some v) fs)
   returned_within v [] h k = tt
   returned_within v (f ∷ fs) h k = (record { arguments = k.0.arguments; locals = k.0.locals; stack = (h, k.0.stack); constructed = k.0.constructed }, k.1)
 
-  pub left_within : (fs : List Frame) → AreFramesWithin Inside fs → AreFramesWithin Inside (returned None fs)
+  pub left_within : (fs : List Frame) → AreFramesWithin Inside fs → AreFramesWithin Inside (return_value None fs)
   left_within [] k = tt
   left_within (f ∷ fs) k = k
 
@@ -88,21 +88,21 @@ module _ (Inside : ℕ → Type 0) (s : State) (closed : IsClosed Inside s) wher
 
   -- ---- what is changed
 
-  -- another object in the place of one
+  -- another object in place of one
   pub closed_object : (n : ObjectName) (o : HeapObject) → AreWithin Inside (values_of_contents o.contents) → IsClosed Inside (with_object s n o)
   closed_object (Literal characters) o h = closed
   closed_object (Born n) o h = record {
     unborn = λ m outside. closed.unborn m (subst (λ k. k ≤ m) (length-set s.objects n o) outside);
     holds = record {
-      objects = λ m x there inside. by_place x m inside (set_or_was s.objects n m o x there);
+      objects = λ m x there inside. by_index x m inside (set_or_was s.objects n m o x there);
       statics = closed.holds.statics;
       threads = closed.holds.threads;
     };
   }
     where
-      by_place : (x : HeapObject) (m : ℕ) → Inside m → (x ≡ o) ⊎ (slice_get s.objects m ≡ Some x) → AreWithin Inside (values_of_contents x.contents)
-      by_place x m inside (inl is) = subst (λ (y : HeapObject). AreWithin Inside (values_of_contents y.contents)) (sym is) h
-      by_place x m inside (inr was) = closed.holds.objects m x was inside
+      by_index : (x : HeapObject) (m : ℕ) → Inside m → (x ≡ o) ⊎ (slice_get s.objects m ≡ Some x) → AreWithin Inside (values_of_contents x.contents)
+      by_index x m inside (inl is) = subst (λ (y : HeapObject). AreWithin Inside (values_of_contents y.contents)) (sym is) h
+      by_index x m inside (inr was) = closed.holds.objects m x was inside
 
   -- an object of the set with other marks and what it held
   pub closed_marks : (n : ObjectName) (o o' : HeapObject) → IsWithin Inside (Reference n) → object_at s n ≡ Some o → o'.contents ≡ o.contents → IsClosed Inside (with_object s n o')
@@ -133,7 +133,7 @@ module _ (Inside : ℕ → Type 0) (s : State) (closed : IsClosed Inside s) wher
   closed_birth contents h = record {
     unborn = λ m outside. closed.unborn m (fewer m outside);
     holds = record {
-      objects = λ m o there inside. by_place o m inside (last_or_was s.objects m newborn o there);
+      objects = λ m o there inside. by_index o m inside (last_or_was s.objects m newborn o there);
       statics = closed.holds.statics;
       threads = closed.holds.threads;
     };
@@ -145,9 +145,9 @@ module _ (Inside : ℕ → Type 0) (s : State) (closed : IsClosed Inside s) wher
       fewer : (m : ℕ) → length (s.objects ++ newborn ∷ []) ≤ m → length s.objects ≤ m
       fewer m outside = omega (arith, length-append s.objects (newborn ∷ []))
 
-      by_place : (o : HeapObject) (m : ℕ) → Inside m → (o ≡ newborn) ⊎ (slice_get s.objects m ≡ Some o) → AreWithin Inside (values_of_contents o.contents)
-      by_place o m inside (inl is) = subst (λ (y : HeapObject). AreWithin Inside (values_of_contents y.contents)) (sym is) h
-      by_place o m inside (inr was) = closed.holds.objects m o was inside
+      by_index : (o : HeapObject) (m : ℕ) → Inside m → (o ≡ newborn) ⊎ (slice_get s.objects m ≡ Some o) → AreWithin Inside (values_of_contents o.contents)
+      by_index o m inside (inl is) = subst (λ (y : HeapObject). AreWithin Inside (values_of_contents y.contents)) (sym is) h
+      by_index o m inside (inr was) = closed.holds.objects m o was inside
 
   -- its name is that of an object which was still to be born
   pub newborn_within : IsWithin Inside (Reference (next_name s))
@@ -184,25 +184,25 @@ module _ (Inside : ℕ → Type 0) (s : State) (closed : IsClosed Inside s) wher
     holds = record {
       objects = closed.holds.objects;
       statics = closed.holds.statics;
-      threads = λ t x there. by_place t x (last_or_was s.threads t thread x there);
+      threads = λ t x there. by_index t x (last_or_was s.threads t thread x there);
     };
   }
     where
-      by_place : (t : ℕ) (x : Thread) → (x ≡ thread) ⊎ (slice_get s.threads t ≡ Some x) → x.ended ≡ None → AreFramesWithin Inside x.frames
-      by_place t x (inl is) live = subst (λ (y : Thread). y.ended ≡ None → AreFramesWithin Inside y.frames) (sym is) frames live
-      by_place t x (inr was) live = closed.holds.threads t x was live
+      by_index : (t : ℕ) (x : Thread) → (x ≡ thread) ⊎ (slice_get s.threads t ≡ Some x) → x.ended ≡ None → AreFramesWithin Inside x.frames
+      by_index t x (inl is) live = subst (λ (y : Thread). y.ended ≡ None → AreFramesWithin Inside y.frames) (sym is) frames live
+      by_index t x (inr was) live = closed.holds.threads t x was live
 
-  -- another thread in the place of one
+  -- another thread in place of one
   pub closed_thread_at : (t : ℕ) (thread : Thread) → (thread.ended ≡ None → AreFramesWithin Inside thread.frames) → IsClosed Inside (with_thread_at s t thread)
   closed_thread_at t thread frames = record {
     unborn = closed.unborn;
     holds = record {
       objects = closed.holds.objects;
       statics = closed.holds.statics;
-      threads = λ n x there. by_place n x (set_or_was s.threads t n thread x there);
+      threads = λ n x there. by_index n x (set_or_was s.threads t n thread x there);
     };
   }
     where
-      by_place : (n : ℕ) (x : Thread) → (x ≡ thread) ⊎ (slice_get s.threads n ≡ Some x) → x.ended ≡ None → AreFramesWithin Inside x.frames
-      by_place n x (inl is) live = subst (λ (y : Thread). y.ended ≡ None → AreFramesWithin Inside y.frames) (sym is) frames live
-      by_place n x (inr was) live = closed.holds.threads n x was live
+      by_index : (n : ℕ) (x : Thread) → (x ≡ thread) ⊎ (slice_get s.threads n ≡ Some x) → x.ended ≡ None → AreFramesWithin Inside x.frames
+      by_index n x (inl is) live = subst (λ (y : Thread). y.ended ≡ None → AreFramesWithin Inside y.frames) (sym is) frames live
+      by_index n x (inr was) live = closed.holds.threads n x was live

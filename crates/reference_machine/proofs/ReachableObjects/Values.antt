@@ -13,14 +13,14 @@ use Rattle.cil_model.specs.declared.types.DeclaredType.{DeclaredType}
 use Rattle.cil_model.specs.declared.types.Element.{Element}
 use Rattle.cil_model.specs.declared.types.Element.TheVariants.{Int32 as Int32Element, Int64 as Int64Element, Object, String, Class}
 use Rattle.cil_model.specs.Assignable.{is_reference}
-use Rattle.cil_model.specs.Bodies.{at_place}
+use Rattle.cil_model.specs.Bodies.{at_index}
 use Rattle.cil_model.specs.Fields.{FieldKey, same_key}
 use Rattle.cil_model.proofs.Lists.{none_is_some}
 use Rattle.reference_machine.specs.Values.{Born, Literal, Value, Int32, Int64, Native, Null, Reference, integer_zero, zero_of, same_kind}
 use Rattle.reference_machine.specs.Arithmetic.{Operand, I4, I8, NativeInt, Object as ObjectOperand, binary, result_as, binary_of, unary_of, shift_of, convert_32_of, convert_64_of, operand, binary_value, unary_value, shift_value, one_or_zero, convert_32, convert_64}
-use Rattle.reference_machine.specs.States.{entry_at, with_entry, same_kind_or_none, replaced_entry, replaced_at, zeroed}
+use Rattle.reference_machine.specs.States.{entry_at, with_entry, same_kind_or_none, replaced_entry, replaced_at, zero_fields}
 
--- what is stored in the place of a value of its kind is what was to be stored
+-- what is stored in place of a value of its kind is what was to be stored
 stored_is : {X : Type 0} (old : Option Value) (v : Value) (x y : X) → same_kind_or_none old v x ≡ Some y → x ≡ y
 stored_is None v x y e = none_is_some y e
 stored_is {X} (Some w) v x y e = by_test (same_kind w v) e
@@ -54,9 +54,9 @@ module _ (Inside : ℕ → Type 0) where
   element_within (w ∷ vs) zero v h e = subst IsWithin (same_Some w v e) h.0
   element_within (w ∷ vs) (suc n) v h e = element_within vs n v h.1 e
 
-  pub place_within : (vs : List Value) (z : ℤ) (v : Value) → AreWithin vs → at_place vs z ≡ Some v → IsWithin v
-  place_within vs (pos n) v h e = element_within vs n v h e
-  place_within vs (negsuc n) v h e = none_is_some v e
+  pub index_within : (vs : List Value) (z : ℤ) (v : Value) → AreWithin vs → at_index vs z ≡ Some v → IsWithin v
+  index_within vs (pos n) v h e = element_within vs n v h e
+  index_within vs (negsuc n) v h e = none_is_some v e
 
   pub contained_within : (vs : List Value) (v : Value) → AreWithin vs → Contains vs v → IsWithin v
   contained_within vs v h c = All-contains IsWithin vs v (All-from_recursion IsWithin vs h) c
@@ -80,7 +80,7 @@ module _ (Inside : ℕ → Type 0) where
   set_within (w ∷ vs) zero v h k = (k, h.1)
   set_within (w ∷ vs) (suc n) v h k = (h.0, set_within vs n v h.1 k)
 
-  -- another value at a place
+  -- another value at an index
   pub replaced_within : (vs vs' : List Value) (n : ℕ) (v : Value) → AreWithin vs → IsWithin v → replaced_at n v vs ≡ Some vs' → AreWithin vs'
   replaced_within vs vs' n v h k e = subst AreWithin (stored_is (slice_get vs n) v (slice_set vs n v) vs' e) (set_within vs n v h k)
 
@@ -128,7 +128,7 @@ module _ (Inside : ℕ → Type 0) where
   zeros_within [] = tt
   zeros_within (t ∷ types) = (zero_within t, zeros_within types)
 
-  pub zeroed_within : (fields : List (FieldKey × DeclaredType)) → AreWithin (values_of (zeroed fields))
+  pub zeroed_within : (fields : List (FieldKey × DeclaredType)) → AreWithin (values_of (zero_fields fields))
   zeroed_within [] = tt
   zeroed_within (f ∷ fields) = (zero_within f.1, zeroed_within fields)
 

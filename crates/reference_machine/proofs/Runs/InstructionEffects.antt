@@ -22,14 +22,14 @@ use Rattle.cil_model.specs.Chains.{find_field, find_method, is_thread_class, is_
 use Rattle.cil_model.specs.Fields.{same_key}
 use Rattle.cil_model.specs.Slots.{target}
 use Rattle.cil_model.specs.Assignable.{is_reference}
-use Rattle.cil_model.specs.Bodies.{at_place, constructor_reference, virtual_reference, reference_operands, code_of, lines_of, place_of}
+use Rattle.cil_model.specs.Bodies.{at_index, constructor_reference, virtual_reference, reference_operands, code_of, lines_of, pc_of}
 use Rattle.reference_machine.specs.Values.{ObjectName, Value, Int32, Int64, Native, Null, Reference, zero_of, is_of_kind}
 use Rattle.reference_machine.specs.Arithmetic.{binary_value, unary_value, shift_value, compare_values, branch_values, is_set, convert_32, convert_64, as_index, not_option}
 use Rattle.reference_machine.specs.States.{Monitor, Free, Held, Contents, Array, HeapObject, Frame, Thread, State, is_live_thread, entry_at, replaced_entry, field_value, with_field, object_at, with_object, class_of, monitor_of, is_live, array_at, with_element, next_name, with_birth, new_instance}
 use Rattle.cil_model.specs.Stacks.{take_one, take_two, take_three}
 use Rattle.reference_machine.specs.Effects.{Setting, Effect, Goes, Blocks, Raises, Sticks, given, unless_fault, pop_many, not_null, are_of_kinds, new_frame, after, onward}
 use Rattle.reference_machine.specs.BuiltIn.{Action, Construct, Write, Enter, Exit, Start, Join, action_of, line_of, enter, exit, with_thread, begin, start, join, thread_object, act}
-use Rattle.reference_machine.specs.Steps.{Answers, Stuck, instruction_at, effect_of, with_thread_at, ended_as, goes_on, settled, step_of, step, key_of, stored, execute, jump, branch_if, birth, new_array, in_range, element, load_element, store_element, may_hold, store_reference, cast, frame_for, is_too_deep, run_method as run_found, operands, method_for, run_virtual, construct, leave_value, return_from, to_label, switch_on}
+use Rattle.reference_machine.specs.Steps.{Answers, Stuck, instruction_at, effect_of, with_thread_at, ended_as, continues, charge, step_of, step, key_of, store_at, execute, jump, branch_if, birth, new_array, in_range, element, load_element, store_element, may_hold, store_reference, cast, frame_for, is_too_deep, run_method as run_found, operands, method_for, run_virtual, construct, push_and_advance_value, return_from, to_label, switch_on}
 use Rattle.reference_machine.specs.Faults.{faults_of_action, MayRaise, itself, member}
 use Rattle.reference_machine.specs.Growth.{shapes, Follows}
 use Rattle.reference_machine.proofs.Runs.IntegerFaults.{operation_faults}
@@ -149,7 +149,7 @@ module _ (here : Setting) (s : State) (f : Frame) (below : List Frame) (F : Faul
   -- ---- the parts of an instruction
 
   jump_ok : (label : List ℕ) (stack : List Value) → Allowed s F (jump here s f below label stack)
-  jump_ok label stack = given_ok s F (place_of label (lines_of f.method)) (λ place e. on s F _)
+  jump_ok label stack = given_ok s F (pc_of label (lines_of f.method)) (λ pc e. on s F _)
 
   branch_ok : (b : Bool) (label : List ℕ) (stack : List Value) → Allowed s F (branch_if here s f below b label stack)
   branch_ok true label stack = jump_ok label stack
@@ -236,7 +236,7 @@ module _ (here : Setting) (s : State) (f : Frame) (below : List Frame) (F : Faul
       birth_ok (λ name s'. frame_for here s f below found.0 found.1 (Reference name ∷ arguments) (Some name) s' rest) (new_instance here.tree c) k (
       frame_ok found.0 found.1 (Reference (next_name s) ∷ arguments) (Some (next_name s)) (with_birth s (new_instance here.tree c)) rest (follows_birth s (new_instance here.tree c)))))
 
-  value_ok : (t : DeclaredType) → Allowed s F (leave_value here s f below t)
+  value_ok : (t : DeclaredType) → Allowed s F (push_and_advance_value here s f below t)
   value_ok t = one_ok s F f.stack (λ v rest. if_ok s F (is_of_kind t v) (on s F _) sticks)
 
   return_ok : Allowed s F (return_from here s f below)
@@ -255,10 +255,10 @@ module _ (here : Setting) (s : State) (f : Frame) (below : List Frame) where
   instruction_ok (LoadInt64 z) = next_ok (LoadInt64 z) _
   instruction_ok LoadNull = next_ok LoadNull _
   instruction_ok (LoadString characters) = next_ok (LoadString characters) _
-  instruction_ok (LoadArgument n) = given_ok s (MayRaise here.tree (LoadArgument n)) (at_place f.arguments n) (λ v e. next_ok (LoadArgument n) _)
-  instruction_ok (LoadLocal n) = given_ok s (MayRaise here.tree (LoadLocal n)) (at_place f.locals n) (λ v e. next_ok (LoadLocal n) _)
-  instruction_ok (StoreArgument n) = one_ok s (MayRaise here.tree (StoreArgument n)) f.stack (λ v rest. given_ok s (MayRaise here.tree (StoreArgument n)) (stored here s f below n v f.arguments) (λ arguments e. on s (MayRaise here.tree (StoreArgument n)) _))
-  instruction_ok (StoreLocal n) = one_ok s (MayRaise here.tree (StoreLocal n)) f.stack (λ v rest. given_ok s (MayRaise here.tree (StoreLocal n)) (stored here s f below n v f.locals) (λ locals e. on s (MayRaise here.tree (StoreLocal n)) _))
+  instruction_ok (LoadArgument n) = given_ok s (MayRaise here.tree (LoadArgument n)) (at_index f.arguments n) (λ v e. next_ok (LoadArgument n) _)
+  instruction_ok (LoadLocal n) = given_ok s (MayRaise here.tree (LoadLocal n)) (at_index f.locals n) (λ v e. next_ok (LoadLocal n) _)
+  instruction_ok (StoreArgument n) = one_ok s (MayRaise here.tree (StoreArgument n)) f.stack (λ v rest. given_ok s (MayRaise here.tree (StoreArgument n)) (store_at here s f below n v f.arguments) (λ arguments e. on s (MayRaise here.tree (StoreArgument n)) _))
+  instruction_ok (StoreLocal n) = one_ok s (MayRaise here.tree (StoreLocal n)) f.stack (λ v rest. given_ok s (MayRaise here.tree (StoreLocal n)) (store_at here s f below n v f.locals) (λ locals e. on s (MayRaise here.tree (StoreLocal n)) _))
   instruction_ok Duplicate = one_ok s (MayRaise here.tree Duplicate) f.stack (λ v rest. next_ok Duplicate _)
   instruction_ok Pop = one_ok s (MayRaise here.tree Pop) f.stack (λ v rest. next_ok Pop _)
   instruction_ok (Binary op) = two_ok s (MayRaise here.tree (Binary op)) f.stack (λ v w rest. given_ok s (MayRaise here.tree (Binary op)) (binary_value op v w) (λ result e.
@@ -323,18 +323,18 @@ ended_ok s s₁ s' t left e r h k =
     let P : State → Type 0 = λ x. Follows s x in
     subst P (same_after (Ended e) r (with_thread_at s₁ t (record { frames = []; steps_left = left; ended = Some e })) s' k) (threads_aside s s₁ _ h)
 
-going_ok : (s s₁ s' : State) (t left : ℕ) (frames : List Frame) (q r : Report) → Follows s s₁ → goes_on q s₁ t left frames ≡ Answers r s' → Follows s s'
+going_ok : (s s₁ s' : State) (t left : ℕ) (frames : List Frame) (q r : Report) → Follows s s₁ → continues q s₁ t left frames ≡ Answers r s' → Follows s s'
 going_ok s s₁ s' t zero frames q r h k = ended_ok s s₁ s' t 0 Budget r h k
 going_ok s s₁ s' t (suc left) frames q r h k =
     let P : State → Type 0 = λ x. Follows s x in
     subst P (same_after q r (with_thread_at s₁ t (record { frames = frames; steps_left = suc left; ended = None })) s' k) (threads_aside s s₁ _ h)
 
-settled_ok : (s s' : State) (t left : ℕ) (frames : List Frame) (F : Fault → Type 0) (e : Effect) (r : Report) → Allowed s F e → settled s t left frames e ≡ Answers r s' → Follows s s'
-settled_ok s s' t left frames F (Goes [] s₁) r (goes _ _ h) k = ended_ok s s₁ s' t left Done r h k
-settled_ok s s' t left frames F (Goes (f ∷ below) s₁) r (goes _ _ h) k = going_ok s s₁ s' t left (f ∷ below) Ran r h k
-settled_ok s s' t left frames F Blocks r a k = going_ok s s s' t left frames Blocked r (follows_itself s) k
-settled_ok s s' t left frames F (Raises x) r a k = ended_ok s s s' t left (ByFault x) r (follows_itself s) k
-settled_ok s s' t left frames F Sticks r a k = stuck_answers r s' k
+step_charged_ok : (s s' : State) (t left : ℕ) (frames : List Frame) (F : Fault → Type 0) (e : Effect) (r : Report) → Allowed s F e → charge s t left frames e ≡ Answers r s' → Follows s s'
+step_charged_ok s s' t left frames F (Goes [] s₁) r (goes _ _ h) k = ended_ok s s₁ s' t left Done r h k
+step_charged_ok s s' t left frames F (Goes (f ∷ below) s₁) r (goes _ _ h) k = going_ok s s₁ s' t left (f ∷ below) Ran r h k
+step_charged_ok s s' t left frames F Blocks r a k = going_ok s s s' t left frames Blocked r (follows_itself s) k
+step_charged_ok s s' t left frames F (Raises x) r a k = ended_ok s s s' t left (ByFault x) r (follows_itself s) k
+step_charged_ok s s' t left frames F Sticks r a k = stuck_answers r s' k
 
 -- of any kind of fault
 abbrev AnyFault : Fault → Type 0
@@ -360,8 +360,8 @@ step_follows tree limits s t refused r s' e = by_thread (slice_get s.threads t) 
     same : Answers Absent s ≡ Answers r s' → Follows s s'
     same h = let P : State → Type 0 = λ x. Follows s x in subst P (same_after Absent r s s' h) (follows_itself s)
 
-    by_life : (thread : Thread) (b : Bool) → (if b then settled s t (thread.steps_left - 1) thread.frames (effect_of here s thread.frames) else Answers Absent s) ≡ Answers r s' → Follows s s'
-    by_life thread true h = settled_ok s s' t (thread.steps_left - 1) thread.frames AnyFault (effect_of here s thread.frames) r (effect_ok here s thread.frames) h
+    by_life : (thread : Thread) (b : Bool) → (if b then charge s t (thread.steps_left - 1) thread.frames (effect_of here s thread.frames) else Answers Absent s) ≡ Answers r s' → Follows s s'
+    by_life thread true h = step_charged_ok s s' t (thread.steps_left - 1) thread.frames AnyFault (effect_of here s thread.frames) r (effect_ok here s thread.frames) h
     by_life thread false h = same h
 
     by_thread : (o : Option Thread) → option_map_or (step_of here s) o (Answers Absent s) ≡ Answers r s' → Follows s s'

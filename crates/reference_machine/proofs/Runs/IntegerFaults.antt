@@ -7,7 +7,7 @@ use Rattle.cil_model.specs.declared.instructions.BinaryOperation.TheVariants.{Ad
 use Rattle.cil_model.specs.declared.reports.Fault.{Fault}
 use Rattle.cil_model.specs.declared.reports.Fault.TheVariants.{DivideByZero, Arithmetic, Overflow}
 use Rattle.reference_machine.specs.Values.{Value, Int32, Int64, Native, Null, Reference}
-use Rattle.reference_machine.specs.Arithmetic.{is_in_range, exact, least, divided, binary, result_as, binary_value}
+use Rattle.reference_machine.specs.Arithmetic.{is_in_range, exact, least, quotient, binary, result_as, binary_value}
 use Rattle.reference_machine.specs.Faults.{faults_of_operation}
 use Rattle.cil_model.proofs.Lists.{none_is_some}
 
@@ -27,7 +27,7 @@ overflow_alone w z f e = by_range (is_in_range w z) e
     by_range true h = no_fault z f h
     by_range false h = let P : Fault → Type 0 = λ x. Contains (Overflow ∷ []) x in subst P (same_fault Overflow f h) (0, lit< tt, refl)
 
-division_alone : (w : Width) (x y z : ℤ) (f : Fault) → divided w x y z ≡ Err f → Contains (DivideByZero ∷ Arithmetic ∷ []) f
+division_alone : (w : Width) (x y z : ℤ) (f : Fault) → quotient w x y z ≡ Err f → Contains (DivideByZero ∷ Arithmetic ∷ []) f
 division_alone w x y z f e = by_tests (int_eq y (pos 0)) (int_eq x (least w) && int_eq y (negsuc 0)) e
   where
     by_tests : (b c : Bool) → (if b then Err DivideByZero else if c then Err Arithmetic else Ok z) ≡ Err f → Contains (DivideByZero ∷ Arithmetic ∷ []) f

@@ -34,35 +34,35 @@ same_stuck rs qs e = cc
 
 -- what follows a report
 module _ (r : Report) where
-  pub behind_run : {A : Type 0} (all : List Report) (s : State) (whole : Run) → preceded_by r whole ≡ RunsTo all s → ((reports : List Report) → whole ≡ RunsTo reports s → all ≡ r ∷ reports → A) → A
-  behind_run {A} all s (RunsTo reports s') e go =
+  pub after_run : {A : Type 0} (all : List Report) (s : State) (whole : Run) → preceded_by r whole ≡ RunsTo all s → ((reports : List Report) → whole ≡ RunsTo reports s → all ≡ r ∷ reports → A) → A
+  after_run {A} all s (RunsTo reports s') e go =
       go reports (ap (RunsTo reports) (same_state (r ∷ reports) all s' s e)) (sym (same_reports (r ∷ reports) all s' s e))
-  behind_run all s (SticksAfter reports) e go = clash (r ∷ reports) all s e
+  after_run all s (SticksAfter reports) e go = clash (r ∷ reports) all s e
 
-  behind_stuck : {A : Type 0} (all : List Report) (whole : Run) → preceded_by r whole ≡ SticksAfter all → ((reports : List Report) → whole ≡ SticksAfter reports → all ≡ r ∷ reports → A) → A
-  behind_stuck all (RunsTo reports s') e go = clash all (r ∷ reports) s' (sym e)
-  behind_stuck all (SticksAfter reports) e go = go reports refl (sym (same_stuck (r ∷ reports) all e))
+  after_stuck : {A : Type 0} (all : List Report) (whole : Run) → preceded_by r whole ≡ SticksAfter all → ((reports : List Report) → whole ≡ SticksAfter reports → all ≡ r ∷ reports → A) → A
+  after_stuck all (RunsTo reports s') e go = clash all (r ∷ reports) s' (sym e)
+  after_stuck all (SticksAfter reports) e go = go reports refl (sym (same_stuck (r ∷ reports) all e))
 
 module _ (tree : Tree) (limits : Limits) where
   module _ (more : List StepRequest) (end : List Report → Run) (grows : (r : Report) (reports : List Report) → preceded_by r (end reports) ≡ end (r ∷ reports)) where
     -- a run that continues as another from the state that it reached
-    goes_behind : (first : List StepRequest) (s t : State) (reports : List Report) → run tree limits s first ≡ RunsTo reports t → run tree limits t more ≡ end [] → run tree limits s (first ++ more) ≡ end reports
-    goes_behind [] s t reports e h =
+    goes_after : (first : List StepRequest) (s t : State) (reports : List Report) → run tree limits s first ≡ RunsTo reports t → run tree limits t more ≡ end [] → run tree limits s (first ++ more) ≡ end reports
+    goes_after [] s t reports e h =
         let P : State → Type 0 = λ x. run tree limits x more ≡ end [] in
         subst P (sym (same_state [] reports s t e)) h ∙ ap end (same_reports [] reports s t e)
-    goes_behind (q ∷ qs) s t reports e h = by_outcome (step tree limits s q.0 q.1) e (λ u rs k. goes_behind qs u t rs k h)
+    goes_after (q ∷ qs) s t reports e h = by_outcome (step tree limits s q.0 q.1) e (λ u rs k. goes_after qs u t rs k h)
       where
         by_outcome : (o : Outcome) → followed_by o (λ u. run tree limits u qs) ≡ RunsTo reports t → ((u : State) (rs : List Report) → run tree limits u qs ≡ RunsTo rs t → run tree limits u (qs ++ more) ≡ end rs) →
             followed_by o (λ u. run tree limits u (qs ++ more)) ≡ end reports
         by_outcome Stuck k later = clash [] reports t k
-        by_outcome (Answers r u) k later = behind_run r reports t (run tree limits u qs) k (λ rs k' e'. ap (preceded_by r) (later u rs k') ∙ grows r rs ∙ ap end (sym e'))
+        by_outcome (Answers r u) k later = after_run r reports t (run tree limits u qs) k (λ rs k' e'. ap (preceded_by r) (later u rs k') ∙ grows r rs ∙ ap end (sym e'))
 
   -- one run, and then another
   pub runs_on : (first more : List StepRequest) (s t u : State) (reports later : List Report) → run tree limits s first ≡ RunsTo reports t → run tree limits t more ≡ RunsTo later u → run tree limits s (first ++ more) ≡ RunsTo (reports ++ later) u
-  runs_on first more s t u reports later e h = goes_behind more (λ rs. RunsTo (rs ++ later) u) (λ r rs. refl) first s t reports e h
+  runs_on first more s t u reports later e h = goes_after more (λ rs. RunsTo (rs ++ later) u) (λ r rs. refl) first s t reports e h
 
   pub sticks_on : (first more : List StepRequest) (s t : State) (reports later : List Report) → run tree limits s first ≡ RunsTo reports t → run tree limits t more ≡ SticksAfter later → run tree limits s (first ++ more) ≡ SticksAfter (reports ++ later)
-  sticks_on first more s t reports later e h = goes_behind more (λ rs. SticksAfter (rs ++ later)) (λ r rs. refl) first s t reports e h
+  sticks_on first more s t reports later e h = goes_after more (λ rs. SticksAfter (rs ++ later)) (λ r rs. refl) first s t reports e h
 
   -- where a run sticks, no step follows
   pub stays_stuck : (first more : List StepRequest) (s : State) (reports : List Report) → run tree limits s first ≡ SticksAfter reports → run tree limits s (first ++ more) ≡ SticksAfter reports
@@ -72,7 +72,7 @@ module _ (tree : Tree) (limits : Limits) where
       by_outcome : (o : Outcome) → followed_by o (λ u. run tree limits u qs) ≡ SticksAfter reports → ((u : State) (rs : List Report) → run tree limits u qs ≡ SticksAfter rs → run tree limits u (qs ++ more) ≡ SticksAfter rs) →
           followed_by o (λ u. run tree limits u (qs ++ more)) ≡ SticksAfter reports
       by_outcome Stuck k later = k
-      by_outcome (Answers r u) k later = behind_stuck r reports (run tree limits u qs) k (λ rs k' e'. ap (preceded_by r) (later u rs k') ∙ ap SticksAfter (sym e'))
+      by_outcome (Answers r u) k later = after_stuck r reports (run tree limits u qs) k (λ rs k' e'. ap (preceded_by r) (later u rs k') ∙ ap SticksAfter (sym e'))
 
   -- a run takes nothing back
   pub run_follows : (requests : List StepRequest) (s t : State) (reports : List Report) → run tree limits s requests ≡ RunsTo reports t → Follows s t
@@ -81,7 +81,7 @@ module _ (tree : Tree) (limits : Limits) where
     where
       by_outcome : (o : Outcome) → step tree limits s q.0 q.1 ≡ o → followed_by o (λ u. run tree limits u qs) ≡ RunsTo reports t → ((u : State) (rs : List Report) → run tree limits u qs ≡ RunsTo rs t → Follows u t) → Follows s t
       by_outcome Stuck h k later = clash [] reports t k
-      by_outcome (Answers r u) h k later = behind_run r reports t (run tree limits u qs) k (λ rs k' e'. follows_more s u t (step_follows tree limits s q.0 q.1 r u h) (later u rs k'))
+      by_outcome (Answers r u) h k later = after_run r reports t (run tree limits u qs) k (λ rs k' e'. follows_more s u t (step_follows tree limits s q.0 q.1 r u h) (later u rs k'))
 
   -- the first step of a run, and the run from there
   pub record IsFirst (s : State) (q : StepRequest) (qs : List StepRequest) (reports : List Report) (t : State) : Type 0 where
@@ -97,7 +97,7 @@ module _ (tree : Tree) (limits : Limits) where
     where
       by_outcome : (o : Outcome) → step tree limits s q.0 q.1 ≡ o → followed_by o (λ x. run tree limits x qs) ≡ RunsTo reports t → IsFirst s q qs reports t
       by_outcome Stuck is k = clash [] reports t k
-      by_outcome (Answers r u) is k = behind_run r reports t (run tree limits u qs) k (λ rs k' e'. record { report = r; after = u; later = rs; answers = is; are = e'; runs = k' })
+      by_outcome (Answers r u) is k = after_run r reports t (run tree limits u qs) k (λ rs k' e'. record { report = r; after = u; later = rs; answers = is; are = e'; runs = k' })
 
 -- ---- types stay
 

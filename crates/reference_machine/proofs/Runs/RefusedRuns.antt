@@ -12,7 +12,7 @@ use Rattle.reference_machine.specs.Runs.{IsStateAfter, StepRequest, RunsTo, foll
 use Rattle.reference_machine.specs.States.{State}
 use Rattle.reference_machine.specs.Steps.{Outcome, Answers, step}
 use Rattle.reference_machine.proofs.Runs.InstructionEffects.{same_after}
-use Rattle.reference_machine.proofs.Runs.JoinedRuns.{behind_run, first_of, same_state}
+use Rattle.reference_machine.proofs.Runs.JoinedRuns.{after_run, first_of, same_state}
 
 -- two tests of one thing are equal
 same_test : {P : Type 0} (b c : Bool) → IsTrue b ↔ P → IsTrue c ↔ P → b ≡ c
@@ -26,15 +26,15 @@ same_report q r s t e = cc
 
 module _ (tree : Tree) (limits : Limits) where
   -- refusals of one list, and then of another
-  pub refuses_behind : (first more : List StepRequest) (s t : State) (reports : List Report) → run tree limits s first ≡ RunsTo reports t → RefusesBeyondRoom tree limits s first → RefusesBeyondRoom tree limits t more →
+  pub refuses_after : (first more : List StepRequest) (s t : State) (reports : List Report) → run tree limits s first ≡ RunsTo reports t → RefusesBeyondRoom tree limits s first → RefusesBeyondRoom tree limits t more →
       RefusesBeyondRoom tree limits s (first ++ more)
-  refuses_behind [] more s t reports e h k = let P : State → Type 0 = λ x. RefusesBeyondRoom tree limits x more in subst P (sym (same_state [] reports s t e)) k
-  refuses_behind (q ∷ qs) more s t reports e h k = (h.0, λ r u is. next r u is (λ rs k'. refuses_behind qs more u t rs k' (h.1 r u is) k))
+  refuses_after [] more s t reports e h k = let P : State → Type 0 = λ x. RefusesBeyondRoom tree limits x more in subst P (sym (same_state [] reports s t e)) k
+  refuses_after (q ∷ qs) more s t reports e h k = (h.0, λ r u is. next r u is (λ rs k'. refuses_after qs more u t rs k' (h.1 r u is) k))
     where
       next : (r : Report) (u : State) → step tree limits s q.0 q.1 ≡ Answers r u → ((rs : List Report) → run tree limits u qs ≡ RunsTo rs t → RefusesBeyondRoom tree limits u (qs ++ more)) → RefusesBeyondRoom tree limits u (qs ++ more)
       next r u is later =
           let P : Outcome → Type 0 = λ o. followed_by o (λ x. run tree limits x qs) ≡ RunsTo reports t in
-          behind_run r reports t (run tree limits u qs) (subst P is e) (λ rs k' e'. later rs k')
+          after_run r reports t (run tree limits u qs) (subst P is e) (λ rs k' e'. later rs k')
 
   -- the outcome of a run from a state
   abbrev ComesTo : State → List (Event × Report) → State → Type 0

@@ -65,7 +65,7 @@ follows_more s t u h k = record {
   printed = continues_more s.printed t.printed u.printed k.printed h.printed;
 }
 
--- another object of the same shape in the place of one
+-- another object of the same shape in place of one
 pub follows_object : (s : State) (n : ℕ) (o o' : HeapObject) → slice_get s.objects n ≡ Some o → shape_of o'.contents ≡ shape_of o.contents → Follows s (with_object s (Born n) o')
 follows_object s n o o' there same = record {
   objects = continues_equal (shapes s) (shapes (with_object s (Born n) o'))

@@ -25,9 +25,9 @@ use Rattle.cil_model.proofs.SameLaws.{never, both_first, both_second, if_true, s
 use Rattle.cil_model.proofs.BelowLaws.{typed as typed_as}
 use Rattle.cil_model.proofs.Legal.{entry_alone}
 use Rattle.reference_machine.specs.Values.{ObjectName, Value, zero_of}
-use Rattle.reference_machine.specs.States.{Free, Thread, State, entry_at, zeroed}
+use Rattle.reference_machine.specs.States.{Free, Thread, State, entry_at, zero_fields}
 use Rattle.reference_machine.specs.Effects.{new_frame}
-use Rattle.reference_machine.specs.Runs.{opening_at, opening}
+use Rattle.reference_machine.specs.Runs.{initial_state_at, initial_state}
 use Rattle.reference_machine.specs.TypedStates.{HasType, HaveTypes, HaveFieldTypes, IsConstructing, IsTypedFrame, AreTypedFrames, IsTyped}
 use Rattle.reference_machine.proofs.Programs.SourceMethods.{kept_from, source_is_declared}
 
@@ -50,7 +50,7 @@ module _ (tree : Tree) (s : State) where
   zeros_typed [] = tt
   zeros_typed (t ∷ ts) = (zero_typed t, zeros_typed ts)
 
-  pub zeroed_typed : (fs : List (FieldKey × DeclaredType)) → HaveFieldTypes tree s (zeroed fs) fs
+  pub zeroed_typed : (fs : List (FieldKey × DeclaredType)) → HaveFieldTypes tree s (zero_fields fs) fs
   zeroed_typed [] = tt
   zeroed_typed (f ∷ fs) = (refl, zero_typed f.1, zeroed_typed fs)
 
@@ -101,8 +101,8 @@ no_arguments owner m is = by_parameters m.signature.parameters (both_second (is_
 
 module _ (tree : Tree) (limits : Limits) (accepted : IsAccepted tree) where
   -- the state at the beginning of an entry point is typed
-  opening_at_typed : (e : ClassName × Method) (code : Code) (n : ℕ) → slice_get (source_methods tree) n ≡ Some e → is_entry_method e.1 ≡ true → code_of e.1.kind ≡ Some code → IsTyped tree (opening_at tree limits e code)
-  opening_at_typed e code n at is_entry has_code = record {
+  initial_at_typed : (e : ClassName × Method) (code : Code) (n : ℕ) → slice_get (source_methods tree) n ≡ Some e → is_entry_method e.1 ≡ true → code_of e.1.kind ≡ Some code → IsTyped tree (initial_state_at tree limits e code)
+  initial_at_typed e code n at is_entry has_code = record {
     objects = λ k o there. none_is_some o there;
     literals = λ c named. has_monitor (literals_of tree) c named;
     statics = zeroed_typed tree first (static_fields tree);
@@ -110,7 +110,7 @@ module _ (tree : Tree) (limits : Limits) (accepted : IsAccepted tree) where
   }
     where
       first : State
-      first = opening_at tree limits e code
+      first = initial_state_at tree limits e code
 
       frame : IsTypedFrame tree first None (new_frame e.0 e.1 code [] None)
       frame =
@@ -126,19 +126,19 @@ module _ (tree : Tree) (limits : Limits) (accepted : IsAccepted tree) where
     entry_stands = kept_from (λ (found : ClassName × Method). is_entry_point found.1) (source_methods tree) 0 e (ap (λ es. slice_get es 0) alone)
 
     -- what the initial state is
-    opening_is : opening tree limits ≡ option_map (opening_at tree limits e) (code_of e.1.kind)
-    opening_is = ap (λ es. option_and_then (λ (entry : ClassName × Method). option_map (opening_at tree limits entry) (code_of entry.1.kind)) (slice_get es 0)) alone
+    initial_is : initial_state tree limits ≡ option_map (initial_state_at tree limits e) (code_of e.1.kind)
+    initial_is = ap (λ es. option_and_then (λ (entry : ClassName × Method). option_map (initial_state_at tree limits entry) (code_of entry.1.kind)) (slice_get es 0)) alone
 
-    entry_opens : (o : Option Code) → code_of e.1.kind ≡ o → IsTrue (option_map_or (λ (code : Code). code.is_entry_point) o false) → (s : State) × (opening tree limits ≡ Some s) × IsTyped tree s
+    entry_opens : (o : Option Code) → code_of e.1.kind ≡ o → IsTrue (option_map_or (λ (code : Code). code.is_entry_point) o false) → (s : State) × (initial_state tree limits ≡ Some s) × IsTyped tree s
     entry_opens None is h = never h
-    entry_opens (Some code) is h = (opening_at tree limits e code, opening_is ∙ ap (option_map (opening_at tree limits e)) is, opening_at_typed e code entry_stands.0 entry_stands.1 is_entry is)
+    entry_opens (Some code) is h = (initial_state_at tree limits e code, initial_is ∙ ap (option_map (initial_state_at tree limits e)) is, initial_at_typed e code entry_stands.0 entry_stands.1 is_entry is)
 
   -- an accepted program has an initial state, which is typed
-  pub opens : (s : State) × (opening tree limits ≡ Some s) × IsTyped tree s
+  pub opens : (s : State) × (initial_state tree limits ≡ Some s) × IsTyped tree s
   opens =
       let entry = entry_alone tree accepted.legal in
       entry_opens entry.0 entry.1 entry.2 (code_of entry.0.1.kind) refl (entry_stands entry.0 entry.1 entry.2).2
 
   -- so is any that it is said to have
-  pub opening_typed : (s : State) → opening tree limits ≡ Some s → IsTyped tree s
-  opening_typed s e = subst (λ x. IsTyped tree x) (same_Some opens.0 s (sym opens.1 ∙ e)) opens.2
+  pub initial_typed : (s : State) → initial_state tree limits ≡ Some s → IsTyped tree s
+  initial_typed s e = subst (λ x. IsTyped tree x) (same_Some opens.0 s (sym opens.1 ∙ e)) opens.2

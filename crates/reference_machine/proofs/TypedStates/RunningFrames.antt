@@ -6,7 +6,7 @@ use Rattle.cil_model.specs.declared.instructions.Instruction.{Instruction}
 use Rattle.cil_model.specs.declared.trees.Tree.{Tree}
 use Rattle.cil_model.specs.declared.trees.Code.{Code}
 use Rattle.cil_model.specs.declared.trees.Line.{Line}
-use Rattle.cil_model.specs.Bodies.{lines_of, argument_types, falls_through, labels_of, place_of}
+use Rattle.cil_model.specs.Bodies.{lines_of, argument_types, falls_through, labels_of, pc_of}
 use Rattle.cil_model.specs.FlowRules.{flow}
 use Rattle.cil_model.specs.TypeTree.{StackType}
 use Rattle.cil_model.specs.Typings.{Reaches, ReachesLabel, FlowsOn, IsAccepted}
@@ -34,22 +34,22 @@ pub record IsRunning (here : Setting) (s : State) (f : Frame) (below : List Fram
   pub frame : IsTypedFrame here.tree s None f
   pub waiting : AreWaiting here.tree s (gives s f) below
   pub line : Line
-  pub at : slice_get frame.code.lines f.place ≡ Some line
+  pub at : slice_get frame.code.lines f.pc ≡ Some line
   pub is : line.instruction ≡ i
   -- the stack as the typing has it here
   pub stack : List StackType
   pub values : HaveStackTypes here.tree s f.stack stack
   pub result : List StackType
   pub flows : flow here.tree (argument_types f.method f.owner) frame.code.locals f.method.signature.return_type i stack ≡ Some result
-  pub on : FlowsOn here.tree frame.code frame.typing f.place line result
+  pub on : FlowsOn here.tree frame.code frame.typing f.pc line result
 
 module _ (here : Setting) (s : State) (f : Frame) (below : List Frame) (i : Instruction) (running : IsRunning here s f below i) where
-  -- continues at a place that a stack reaches, with values of that stack, in a state that follows
-  pub moved : (s' : State) → IsTyped here.tree s' → Follows s s' → (arguments locals rest : List Value) (place : ℕ) (types : List StackType) →
+  -- continues at a pc that a stack reaches, with values of that stack, in a state that follows
+  pub moved : (s' : State) → IsTyped here.tree s' → Follows s s' → (arguments locals rest : List Value) (pc : ℕ) (types : List StackType) →
       HaveTypes here.tree s' arguments (argument_types f.method f.owner) → HaveTypes here.tree s' locals running.frame.code.locals →
-      HaveStackTypes here.tree s' rest types → Reaches here.tree running.frame.typing types place →
-      IsTypedEffect here.tree (Goes (record f { place = place; arguments = arguments; locals = locals; stack = rest } ∷ below) s')
-  moved s' typed follows arguments locals rest place types argument_values local_values stack_values reaches =
+      HaveStackTypes here.tree s' rest types → Reaches here.tree running.frame.typing types pc →
+      IsTypedEffect here.tree (Goes (record f { pc = pc; arguments = arguments; locals = locals; stack = rest } ∷ below) s')
+  moved s' typed follows arguments locals rest pc types argument_values local_values stack_values reaches =
       let kept : IsTypedFrame here.tree s' None f = frame_keeps here.tree s s' follows None f running.frame in (
         typed,
         (
@@ -73,7 +73,7 @@ module _ (here : Setting) (s : State) (f : Frame) (below : List Frame) (i : Inst
   -- on to the next instruction in a state that follows, with a stack of the types that the instruction results in
   pub onward_typed : IsTrue (falls_through i) → (s' : State) → IsTyped here.tree s' → Follows s s' → (rest : List Value) → HaveStackTypes here.tree s' rest running.result → IsTypedEffect here.tree (onward f below s' rest)
   onward_typed falls s' typed follows rest values =
-      moved s' typed follows f.arguments f.locals rest (f.place + 1) running.result
+      moved s' typed follows f.arguments f.locals rest (f.pc + 1) running.result
       (values_keep here.tree s s' follows f.arguments _ running.frame.arguments) (values_keep here.tree s s' follows f.locals _ running.frame.locals) values
       (running.on.falls (subst (λ x. IsTrue (falls_through x)) (sym running.is) falls))
 
@@ -87,12 +87,12 @@ module _ (here : Setting) (s : State) (f : Frame) (below : List Frame) (i : Inst
   -- on to the instruction of a label of the instruction's
   pub jump_typed : (label : List ℕ) → Contains (labels_of i) label → (rest : List Value) → HaveStackTypes here.tree s rest running.result → IsTypedEffect here.tree (jump here s f below label rest)
   jump_typed label named rest values =
-      by_place (place_of label (lines_of f.method)) (subst (λ x. ReachesLabel here.tree running.frame.typing running.result (place_of label x)) (sym own_lines) (running.on.branches label (subst (λ x. Contains (labels_of x) label) (sym running.is) named)))
+      by_index (pc_of label (lines_of f.method)) (subst (λ x. ReachesLabel here.tree running.frame.typing running.result (pc_of label x)) (sym own_lines) (running.on.branches label (subst (λ x. Contains (labels_of x) label) (sym running.is) named)))
     where
-      by_place : (o : Option ℕ) → ReachesLabel here.tree running.frame.typing running.result o → IsTypedEffect here.tree (given o (λ place. Goes (record f { place = place; stack = rest } ∷ below) s))
-      by_place None reaches = elim reaches [ ]
-      by_place (Some place) reaches =
-          moved s running.typed (follows_itself s) f.arguments f.locals rest place running.result running.frame.arguments running.frame.locals values reaches
+      by_index : (o : Option ℕ) → ReachesLabel here.tree running.frame.typing running.result o → IsTypedEffect here.tree (given o (λ pc. Goes (record f { pc = pc; stack = rest } ∷ below) s))
+      by_index None reaches = elim reaches [ ]
+      by_index (Some pc) reaches =
+          moved s running.typed (follows_itself s) f.arguments f.locals rest pc running.result running.frame.arguments running.frame.locals values reaches
 
   -- on to either
   pub branch_typed : IsTrue (falls_through i) → (holds : Bool) (label : List ℕ) → Contains (labels_of i) label → (rest : List Value) → HaveStackTypes here.tree s rest running.result →
@@ -112,12 +112,12 @@ module _ (here : Setting) (accepted : IsAccepted here.tree) (s : State) (typed :
   runs_at =
       let frame : IsTypedFrame here.tree s None f = frames.0 in
       let stack : List StackType = frame.reaches.0 in
-      let mapped : slice_get frame.typing f.place ≡ Some (Some stack) = frame.reaches.1 in
-      let line : (l : Line) × (slice_get frame.code.lines f.place ≡ Some l) = there_is frame.code.lines f.place (length frame.typing) frame.is_typing.whole (slice_get_within frame.typing f.place (Some stack) mapped) in
-      let flowing = frame.is_typing.each f.place line.0 stack line.1 mapped in
+      let mapped : slice_get frame.typing f.pc ≡ Some (Some stack) = frame.reaches.1 in
+      let line : (l : Line) × (slice_get frame.code.lines f.pc ≡ Some l) = there_is frame.code.lines f.pc (length frame.typing) frame.is_typing.whole (slice_get_within frame.typing f.pc (Some stack) mapped) in
+      let flowing = frame.is_typing.each f.pc line.0 stack line.1 mapped in
       let lines : lines_of f.method ≡ frame.code.lines = ap (λ (c : Option Code). option_map_or (λ (code : Code). code.lines) c []) frame.has_code in (
         line.0.instruction,
-        ap (λ x. option_map (λ (l : Line). l.instruction) (slice_get x f.place)) lines ∙ ap (option_map (λ (l : Line). l.instruction)) line.1,
+        ap (λ x. option_map (λ (l : Line). l.instruction) (slice_get x f.pc)) lines ∙ ap (option_map (λ (l : Line). l.instruction)) line.1,
         record {
           accepted = accepted;
           typed = typed;

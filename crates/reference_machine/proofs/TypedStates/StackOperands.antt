@@ -200,7 +200,7 @@ module _ (tree : Tree) (legal : IsLegal tree) (s : State) where
 -- ---- lists of values
 
 module _ (tree : Tree) (s : State) where
-  -- the value at a place has the type there
+  -- the value at an index has the type at that index
   pub value_at : (vs : List Value) (ts : List DeclaredType) → HaveTypes tree s vs ts → (n : ℕ) (t : DeclaredType) → slice_get ts n ≡ Some t → (v : Value) × (slice_get vs n ≡ Some v) × HasType tree s v t
   value_at [] [] h n t e = none_is_some t e
   value_at (v ∷ vs) (u ∷ us) h zero t e = (v, refl, subst (λ x. HasType tree s v x) (same_Some u t e) h.0)

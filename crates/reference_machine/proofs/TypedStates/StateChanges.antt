@@ -44,18 +44,18 @@ module _ (tree : Tree) (s : State) (typed : IsTyped tree s) where
 
   -- ---- objects
 
-  -- another object in the place of one
+  -- another object in place of one
   pub typed_object : (n : ℕ) (o : HeapObject) → Follows s (with_object s (Born n) o) → IsTypedContents tree (with_object s (Born n) o) o.contents → IsTyped tree (with_object s (Born n) o)
   typed_object n o follows contents = record {
-    objects = λ m x there. by_place x m (set_or_was s.objects n m o x there);
+    objects = λ m x there. by_index x m (set_or_was s.objects n m o x there);
     literals = literals_on (with_object s (Born n) o) follows;
     statics = statics_on (with_object s (Born n) o) follows refl;
     threads = threads_on (with_object s (Born n) o) follows;
   }
     where
-      by_place : (x : HeapObject) (m : ℕ) → (x ≡ o) ⊎ (slice_get s.objects m ≡ Some x) → IsTypedContents tree (with_object s (Born n) o) x.contents
-      by_place x m (inl is) = subst (λ (y : HeapObject). IsTypedContents tree (with_object s (Born n) o) y.contents) (sym is) contents
-      by_place x m (inr was) = objects_on (with_object s (Born n) o) follows m x was
+      by_index : (x : HeapObject) (m : ℕ) → (x ≡ o) ⊎ (slice_get s.objects m ≡ Some x) → IsTypedContents tree (with_object s (Born n) o) x.contents
+      by_index x m (inl is) = subst (λ (y : HeapObject). IsTypedContents tree (with_object s (Born n) o) y.contents) (sym is) contents
+      by_index x m (inr was) = objects_on (with_object s (Born n) o) follows m x was
 
   -- the same, of a name that is an object's
   pub typed_object_at : (n : ObjectName) (o : HeapObject) → Follows s (with_object s n o) → IsTypedContents tree (with_object s n o) o.contents → IsTyped tree (with_object s n o)
@@ -119,33 +119,33 @@ module _ (tree : Tree) (s : State) (typed : IsTyped tree s) where
 
   -- one thread more
   pub typed_thread_more : (thread : Thread) → (thread.ended ≡ None → AreTypedFrames tree s thread.frames) → IsTyped tree (record s { threads = s.threads ++ thread ∷ [] })
-  typed_thread_more thread frames = typed_threads (s.threads ++ thread ∷ []) (λ n x there. by_place n x (last_or_was s.threads n thread x there))
+  typed_thread_more thread frames = typed_threads (s.threads ++ thread ∷ []) (λ n x there. by_index n x (last_or_was s.threads n thread x there))
     where
-      by_place : (n : ℕ) (x : Thread) → (x ≡ thread) ⊎ (slice_get s.threads n ≡ Some x) → x.ended ≡ None → AreTypedFrames tree s x.frames
-      by_place n x (inl is) live = subst (λ (y : Thread). y.ended ≡ None → AreTypedFrames tree s y.frames) (sym is) frames live
-      by_place n x (inr was) live = typed.threads n x was live
+      by_index : (n : ℕ) (x : Thread) → (x ≡ thread) ⊎ (slice_get s.threads n ≡ Some x) → x.ended ≡ None → AreTypedFrames tree s x.frames
+      by_index n x (inl is) live = subst (λ (y : Thread). y.ended ≡ None → AreTypedFrames tree s y.frames) (sym is) frames live
+      by_index n x (inr was) live = typed.threads n x was live
 
-  -- another thread in the place of one
+  -- another thread in place of one
   pub typed_thread_at : (t : ℕ) (thread : Thread) → (thread.ended ≡ None → AreTypedFrames tree s thread.frames) → IsTyped tree (with_thread_at s t thread)
-  typed_thread_at t thread frames = typed_threads (slice_set s.threads t thread) (λ n x there. by_place n x (set_or_was s.threads t n thread x there))
+  typed_thread_at t thread frames = typed_threads (slice_set s.threads t thread) (λ n x there. by_index n x (set_or_was s.threads t n thread x there))
     where
-      by_place : (n : ℕ) (x : Thread) → (x ≡ thread) ⊎ (slice_get s.threads n ≡ Some x) → x.ended ≡ None → AreTypedFrames tree s x.frames
-      by_place n x (inl is) live = subst (λ (y : Thread). y.ended ≡ None → AreTypedFrames tree s y.frames) (sym is) frames live
-      by_place n x (inr was) live = typed.threads n x was live
+      by_index : (n : ℕ) (x : Thread) → (x ≡ thread) ⊎ (slice_get s.threads n ≡ Some x) → x.ended ≡ None → AreTypedFrames tree s x.frames
+      by_index n x (inl is) live = subst (λ (y : Thread). y.ended ≡ None → AreTypedFrames tree s y.frames) (sym is) frames live
+      by_index n x (inr was) live = typed.threads n x was live
 
   -- ---- births
 
   pub typed_birth : (contents : Contents) → IsTypedContents tree (with_birth s contents) contents → IsTyped tree (with_birth s contents)
   typed_birth contents is_typed = record {
-    objects = λ n o there. by_place n o (last_or_was s.objects n (record { contents = contents; monitor = Free; thread = None }) o there);
+    objects = λ n o there. by_index n o (last_or_was s.objects n (record { contents = contents; monitor = Free; thread = None }) o there);
     literals = literals_on (with_birth s contents) (follows_birth s contents);
     statics = statics_on (with_birth s contents) (follows_birth s contents) refl;
     threads = threads_on (with_birth s contents) (follows_birth s contents);
   }
     where
-      by_place : (n : ℕ) (o : HeapObject) → (o ≡ record { contents = contents; monitor = Free; thread = None }) ⊎ (slice_get s.objects n ≡ Some o) → IsTypedContents tree (with_birth s contents) o.contents
-      by_place n o (inl is) = subst (λ (x : HeapObject). IsTypedContents tree (with_birth s contents) x.contents) (sym is) is_typed
-      by_place n o (inr was) = objects_on (with_birth s contents) (follows_birth s contents) n o was
+      by_index : (n : ℕ) (o : HeapObject) → (o ≡ record { contents = contents; monitor = Free; thread = None }) ⊎ (slice_get s.objects n ≡ Some o) → IsTypedContents tree (with_birth s contents) o.contents
+      by_index n o (inl is) = subst (λ (x : HeapObject). IsTypedContents tree (with_birth s contents) x.contents) (sym is) is_typed
+      by_index n o (inr was) = objects_on (with_birth s contents) (follows_birth s contents) n o was
 
 module _ (tree : Tree) (s : State) where
   -- ---- what is born has its type
@@ -180,7 +180,7 @@ module _ (tree : Tree) (s : State) where
   new_elements_typed t zero = tt
   new_elements_typed t (suc n) = (zero_typed tree s t, new_elements_typed t n)
 
--- ---- a value in the place of another of its type
+-- ---- a value in place of another of its type
 
 module _ (tree : Tree) (legal : IsLegal tree) (s : State) where
   -- ---- lists of values

@@ -6,7 +6,7 @@ use Rattle.cil_model.specs.declared.limits.Limits.{Limits}
 use Rattle.cil_model.specs.declared.reports.Report.{Report}
 use Rattle.cil_model.specs.Typings.{IsAccepted}
 use Rattle.reference_machine.specs.States.{State}
-use Rattle.reference_machine.specs.Runs.{StepRequest, RunsTo, opening, run}
+use Rattle.reference_machine.specs.Runs.{StepRequest, RunsTo, initial_state, run}
 use Rattle.reference_machine.specs.TypedStates.{IsTyped}
 use Rattle.reference_machine.proofs.TypedSteps.FrameInstructions.{no_operation_typed, load_int32_typed, load_int64_typed, load_null_typed, load_string_typed, load_argument_typed, load_local_typed, store_argument_typed, store_local_typed, duplicate_typed, pop_typed, binary_typed, unary_typed, shift_typed, convert_int32_typed, convert_int64_typed, compare_typed, branch_always_typed, branch_true_typed, branch_false_typed, branch_compare_typed, switch_typed}
 use Rattle.reference_machine.proofs.TypedSteps.ObjectInstructions.{new_array_typed, load_length_typed, load_element_int32_typed, load_element_int64_typed, load_element_reference_typed, store_element_int32_typed, store_element_int64_typed, store_element_reference_typed, cast_class_typed, is_instance_typed, load_field_typed, store_field_typed, load_static_field_typed, store_static_field_typed}
@@ -59,5 +59,5 @@ instruction_typed here s f below Return running = return_typed here s f below ru
 
 -- a run of an accepted program from its initial state is never stuck, and leaves a typed state
 pub accepted_never_stuck : (tree : Tree) (limits : Limits) → IsAccepted tree → (requests : List StepRequest) →
-    (first : State) × (reports : List Report) × (s : State) × (opening tree limits ≡ Some first) × (run tree limits first requests ≡ RunsTo reports s) × IsTyped tree s
+    (first : State) × (reports : List Report) × (s : State) × (initial_state tree limits ≡ Some first) × (run tree limits first requests ≡ RunsTo reports s) × IsTyped tree s
 accepted_never_stuck tree limits accepted requests = never_stuck instruction_typed tree limits accepted requests

@@ -47,11 +47,11 @@ module _ (tree : Tree) (legal : IsLegal tree) (s : State) where
 
 module _ (tree : Tree) (s : State) where
   -- values after others
-  types_behind : (xs ys : List Value) (ts us : List DeclaredType) → HaveTypes tree s xs ts → HaveTypes tree s ys us → HaveTypes tree s (xs ++ ys) (ts ++ us)
-  types_behind [] ys [] us h k = k
-  types_behind (x ∷ xs) ys (t ∷ ts) us h k = (h.0, types_behind xs ys ts us h.1 k)
-  types_behind [] ys (t ∷ ts) us h k = elim h [ ]
-  types_behind (x ∷ xs) ys [] us h k = elim h [ ]
+  types_after : (xs ys : List Value) (ts us : List DeclaredType) → HaveTypes tree s xs ts → HaveTypes tree s ys us → HaveTypes tree s (xs ++ ys) (ts ++ us)
+  types_after [] ys [] us h k = k
+  types_after (x ∷ xs) ys (t ∷ ts) us h k = (h.0, types_after xs ys ts us h.1 k)
+  types_after [] ys (t ∷ ts) us h k = elim h [ ]
+  types_after (x ∷ xs) ys [] us h k = elim h [ ]
 
   -- in the other order too
   pub types_reversed : (vs : List Value) (ts : List DeclaredType) → HaveTypes tree s vs ts → HaveTypes tree s (reverse vs) (reverse ts)
@@ -59,7 +59,7 @@ module _ (tree : Tree) (s : State) where
   types_reversed (v ∷ vs) (t ∷ ts) h =
       subst (λ x. HaveTypes tree s x (reverse (t ∷ ts))) (sym (reverse_onto vs v [])) (
       subst (λ x. HaveTypes tree s (reverse vs ++ v ∷ []) x) (sym (reverse_onto ts t [])) (
-      types_behind (reverse vs) (v ∷ []) (reverse ts) (t ∷ []) (types_reversed vs ts h.1) (h.0, tt)))
+      types_after (reverse vs) (v ∷ []) (reverse ts) (t ∷ []) (types_reversed vs ts h.1) (h.0, tt)))
   types_reversed [] (t ∷ ts) h = elim h [ ]
   types_reversed (v ∷ vs) [] h = elim h [ ]
 
@@ -82,14 +82,14 @@ module _ (tree : Tree) (s : State) where
             let few : length ts ≤ length vs = later.0 in
             (omega (arith, few), (value_fits tree legal s v a t fit h.0, later.1), later.2)
 
-    -- operands: as many as types, in the order in which they were pushed, and what lies below
+    -- operands: one for each type, in the order in which they were pushed, and what lies below
     pub operands_taken : (types : List DeclaredType) (vs : List Value) (stack rest : List StackType) → take_operands tree types stack ≡ Some rest → HaveStackTypes tree s vs stack →
         (length types ≤ length vs) × HaveTypes tree s (reverse (take (length types) vs)) types × HaveStackTypes tree s (drop (length types) vs) rest
     operands_taken types vs stack rest e h =
         let taken : Taken (reverse types) vs rest = fitting_taken (reverse types) vs stack rest e h in
-        let as_many : length (reverse types) ≡ length types = length-reverse types in
-        let first : HaveTypes tree s (take (length types) vs) (reverse types) = subst (λ k. HaveTypes tree s (take k vs) (reverse types)) as_many taken.1 in
-        (subst (λ k. k ≤ length vs) as_many taken.0, subst (λ x. HaveTypes tree s (reverse (take (length types) vs)) x) (reverse-reverse types) (types_reversed _ _ first), subst (λ k. HaveStackTypes tree s (drop k vs) rest) as_many taken.2)
+        let same_count : length (reverse types) ≡ length types = length-reverse types in
+        let first : HaveTypes tree s (take (length types) vs) (reverse types) = subst (λ k. HaveTypes tree s (take k vs) (reverse types)) same_count taken.1 in
+        (subst (λ k. k ≤ length vs) same_count taken.0, subst (λ x. HaveTypes tree s (reverse (take (length types) vs)) x) (reverse-reverse types) (types_reversed _ _ first), subst (λ k. HaveStackTypes tree s (drop k vs) rest) same_count taken.2)
 
 -- ---- what continues with them
 

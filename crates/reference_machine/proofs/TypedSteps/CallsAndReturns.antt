@@ -29,9 +29,9 @@ use Rattle.cil_model.proofs.CompleteLaws.{test_is_complete}
 use Rattle.cil_model.proofs.BelowLaws.{element_is_reference}
 use Rattle.reference_machine.specs.Values.{ObjectName, Value, Int32, Int64, Native, Null, Reference, is_of_kind}
 use Rattle.reference_machine.specs.States.{Frame, State, type_of, class_of}
-use Rattle.reference_machine.specs.Effects.{Setting, Goes, Raises, Sticks, given, new_frame, after, returned}
+use Rattle.reference_machine.specs.Effects.{Setting, Goes, Raises, Sticks, given, new_frame, after, return_value}
 use Rattle.reference_machine.specs.BuiltIn.{Action, action_of, act}
-use Rattle.reference_machine.specs.Steps.{frame_for, is_too_deep, run_method, operands, run_virtual, leave, leave_value, execute}
+use Rattle.reference_machine.specs.Steps.{frame_for, is_too_deep, run_method, operands, run_virtual, push_and_advance, push_and_advance_value, execute}
 use Rattle.reference_machine.specs.Growth.{Follows}
 use Rattle.reference_machine.proofs.Runs.StateChanges.{follows_itself}
 use Rattle.reference_machine.proofs.Programs.MethodTypings.{IsDeclared, target_is_declared, framed_has_typing}
@@ -58,7 +58,7 @@ IsGiven tree s (Some v) None = ⊥
 
 module _ (tree : Tree) (s : State) (typed : IsTyped tree s) where
   -- the frame that waits for it continues with it
-  returned_typed : (v : Option Value) (d : Option DeclaredType) (below : List Frame) → IsGiven tree s v d → AreWaiting tree s d below → IsTypedEffect tree (Goes (returned v below) s)
+  returned_typed : (v : Option Value) (d : Option DeclaredType) (below : List Frame) → IsGiven tree s v d → AreWaiting tree s d below → IsTypedEffect tree (Goes (return_value v below) s)
   returned_typed v d [] value waiting = typed
   returned_typed None None (g ∷ gs) value waiting = (typed, waiting)
   returned_typed (Some v) (Some t) (g ∷ gs) value waiting =
@@ -93,24 +93,24 @@ module _ (here : Setting) (s : State) (f : Frame) (below : List Frame) where
 
   module _ (running : IsRunning here s f below Return) where
     -- what is given to the frame below, or the thread's end
-    leave_typed : (v : Option Value) → IsGiven here.tree s v (gives s f) → IsTypedEffect here.tree (leave here s f below v)
-    leave_typed v value = returned_typed here.tree s running.typed v (gives s f) below value running.waiting
+    push_and_advance_typed : (v : Option Value) → IsGiven here.tree s v (gives s f) → IsTypedEffect here.tree (push_and_advance here s f below v)
+    push_and_advance_typed v value = returned_typed here.tree s running.typed v (gives s f) below value running.waiting
 
     -- the value that a method returns is of its type
-    leave_value_typed : (t : DeclaredType) → gives s f ≡ Some t → (vs : List Value) (stack : List StackType) → HaveStackTypes here.tree s vs stack →
+    push_and_advance_value_typed : (t : DeclaredType) → gives s f ≡ Some t → (vs : List Value) (stack : List StackType) → HaveStackTypes here.tree s vs stack →
         nothing_below (take_operands here.tree (t ∷ []) stack) ≡ Some running.result →
-        IsTypedEffect here.tree (take_one Sticks vs (λ v rest. if is_of_kind t v then leave here s f below (Some v) else Sticks))
-    leave_value_typed t given [] [] values flows = none_is_some running.result flows
-    leave_value_typed t given [] (a ∷ stack) values flows = elim values [ ]
-    leave_value_typed t given (v ∷ vs) [] values flows = elim values [ ]
-    leave_value_typed t given (v ∷ vs) (a ∷ stack) values flows = by_fit (fits here.tree a t) refl flows
+        IsTypedEffect here.tree (take_one Sticks vs (λ v rest. if is_of_kind t v then push_and_advance here s f below (Some v) else Sticks))
+    push_and_advance_value_typed t given [] [] values flows = none_is_some running.result flows
+    push_and_advance_value_typed t given [] (a ∷ stack) values flows = elim values [ ]
+    push_and_advance_value_typed t given (v ∷ vs) [] values flows = elim values [ ]
+    push_and_advance_value_typed t given (v ∷ vs) (a ∷ stack) values flows = by_fit (fits here.tree a t) refl flows
       where
-        with_value : HasType here.tree s v t → IsTypedEffect here.tree (if is_of_kind t v then leave here s f below (Some v) else Sticks)
+        with_value : HasType here.tree s v t → IsTypedEffect here.tree (if is_of_kind t v then push_and_advance here s f below (Some v) else Sticks)
         with_value h =
-            subst (λ b. IsTypedEffect here.tree (if b then leave here s f below (Some v) else Sticks)) (sym (typed_is_of_kind here.tree running.accepted.legal s v t h))
-            (leave_typed (Some v) (subst (IsGiven here.tree s (Some v)) (sym given) h))
+            subst (λ b. IsTypedEffect here.tree (if b then push_and_advance here s f below (Some v) else Sticks)) (sym (typed_is_of_kind here.tree running.accepted.legal s v t h))
+            (push_and_advance_typed (Some v) (subst (IsGiven here.tree s (Some v)) (sym given) h))
 
-        by_fit : (b : Bool) → fits here.tree a t ≡ b → nothing_below (if b then Some stack else None) ≡ Some running.result → IsTypedEffect here.tree (if is_of_kind t v then leave here s f below (Some v) else Sticks)
+        by_fit : (b : Bool) → fits here.tree a t ≡ b → nothing_below (if b then Some stack else None) ≡ Some running.result → IsTypedEffect here.tree (if is_of_kind t v then push_and_advance here s f below (Some v) else Sticks)
         by_fit false fit e = none_is_some running.result e
         by_fit true fit e = with_value (value_fits here.tree running.accepted.legal s v a t fit values.0)
 
@@ -118,15 +118,15 @@ module _ (here : Setting) (s : State) (f : Frame) (below : List Frame) where
     pub return_typed : IsTypedEffect here.tree (execute here s f below Return)
     return_typed = by_made f.constructed refl
       where
-        by_type : (r : Option DeclaredType) → gives s f ≡ r → nothing_below (take_returned here.tree r running.stack) ≡ Some running.result → IsTypedEffect here.tree (option_map_or (leave_value here s f below) r (leave here s f below None))
-        by_type None given flows = leave_typed None (subst (IsGiven here.tree s None) (sym given) tt)
-        by_type (Some t) given flows = leave_value_typed t given f.stack running.stack running.values flows
+        by_type : (r : Option DeclaredType) → gives s f ≡ r → nothing_below (take_returned here.tree r running.stack) ≡ Some running.result → IsTypedEffect here.tree (option_map_or (push_and_advance_value here s f below) r (push_and_advance here s f below None))
+        by_type None given flows = push_and_advance_typed None (subst (IsGiven here.tree s None) (sym given) tt)
+        by_type (Some t) given flows = push_and_advance_value_typed t given f.stack running.stack running.values flows
 
         by_made : (o : Option ObjectName) → f.constructed ≡ o →
-            IsTypedEffect here.tree (option_map_or (λ name. leave here s f below (Some (Reference name))) o (option_map_or (leave_value here s f below) f.method.signature.return_type (leave here s f below None)))
+            IsTypedEffect here.tree (option_map_or (λ name. push_and_advance here s f below (Some (Reference name))) o (option_map_or (push_and_advance_value here s f below) f.method.signature.return_type (push_and_advance here s f below None)))
         by_made None e = by_type f.method.signature.return_type (ap (λ o. type_given s o f.method.signature.return_type) e) running.flows
         by_made (Some n) e =
-            leave_typed (Some (Reference n)) (subst (λ o. IsGiven here.tree s (Some (Reference n)) (type_given s o f.method.signature.return_type)) (sym e) (made_is_given running.accepted.legal n (running.frame.constructs n e)))
+            push_and_advance_typed (Some (Reference n)) (subst (λ o. IsGiven here.tree s (Some (Reference n)) (type_given s o f.method.signature.return_type)) (sym e) (made_is_given running.accepted.legal n (running.frame.constructs n e)))
 
 -- ---- the beginning of a method
 
@@ -145,7 +145,7 @@ module _ (here : Setting) (s : State) (f : Frame) (below : List Frame) (i : Inst
         locals = values_keep here.tree s s' follows f.locals _ running.frame.locals;
         stack = types;
         values = values;
-        reaches = subst (λ x. Reaches here.tree running.frame.typing x (f.place + 1)) result (running.on.falls (subst (λ x. IsTrue (falls_through x)) (sym running.is) falls));
+        reaches = subst (λ x. Reaches here.tree running.frame.typing x (f.pc + 1)) result (running.on.falls (subst (λ x. IsTrue (falls_through x)) (sym running.is) falls));
         constructs = λ n e. let made = kept.constructs n e in record { own = made.own; is = made.is; monitor = made.monitor; nothing_returned = made.nothing_returned };
       }
 

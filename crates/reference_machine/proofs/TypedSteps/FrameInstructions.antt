@@ -17,7 +17,7 @@ use Rattle.cil_model.specs.declared.instructions.BranchComparison.TheVariants.{E
 use Rattle.cil_model.specs.declared.reports.Fault.{Fault}
 use Rattle.cil_model.specs.declared.trees.Code.{Code}
 use Rattle.cil_model.specs.Declarations.{plain}
-use Rattle.cil_model.specs.Bodies.{lines_of, at_place, argument_types, falls_through, labels_of}
+use Rattle.cil_model.specs.Bodies.{lines_of, at_index, argument_types, falls_through, labels_of}
 use Rattle.cil_model.specs.Legality.{IsLegal}
 use Rattle.cil_model.specs.Stacks.{take_one}
 use Rattle.cil_model.specs.TypeTree.{StackType, Declared, Null as NullType, i4, i8, fits}
@@ -29,7 +29,7 @@ use Rattle.reference_machine.specs.Values.{Literal, Value, Int32, Int64, Native,
 use Rattle.reference_machine.specs.Arithmetic.{binary, unary, shift, binary_value, unary_value, shift_value, equal_values, ordered_values, compare_values, branch_values, is_set, not_option, convert_32, convert_64, one_or_zero, result_as}
 use Rattle.reference_machine.specs.States.{Frame, State, same_kind_or_none}
 use Rattle.reference_machine.specs.Effects.{Setting, Effect, Sticks, given, unless_fault}
-use Rattle.reference_machine.specs.Steps.{next, branch_if, stored, to_label, switch_on, execute}
+use Rattle.reference_machine.specs.Steps.{next, branch_if, store_at, to_label, switch_on, execute}
 use Rattle.reference_machine.proofs.Runs.StateChanges.{follows_itself}
 use Rattle.reference_machine.specs.TypedStates.{HasType, HasStackType, HaveTypes, HaveStackTypes}
 use Rattle.reference_machine.proofs.TypedStates.RunningFrames.{IsTypedEffect, IsRunning, moved, next_typed, jump_typed, branch_typed}
@@ -51,8 +51,8 @@ module _ (here : Setting) (s : State) (f : Frame) (below : List Frame) where
     on : (rest : List Value) (types : List StackType) → HaveStackTypes here.tree s rest types → types ≡ running.result → Fine (next here s f below rest)
     on rest types h e = next_typed here s f below i running falls rest (subst (HaveStackTypes here.tree s rest) e h)
 
-    -- the place after it is one that the result reaches
-    reaches_next : Reaches here.tree running.frame.typing running.result (f.place + 1)
+    -- the pc after it is one that the result reaches
+    reaches_next : Reaches here.tree running.frame.typing running.result (f.pc + 1)
     reaches_next = running.on.falls (subst (λ x. IsTrue (falls_through x)) (sym running.is) falls)
 
     -- to a label or on
@@ -60,8 +60,8 @@ module _ (here : Setting) (s : State) (f : Frame) (below : List Frame) where
     branches holds label named rest types h e = branch_typed here s f below i running falls holds label named rest (subst (HaveStackTypes here.tree s rest) e h)
 
     -- with a value that is there
-    at_value : (vs : List Value) (ts : List DeclaredType) → HaveTypes here.tree s vs ts → (n : ℤ) (st : List StackType) → HaveStackTypes here.tree s f.stack st → load (at_place ts n) st ≡ Some running.result →
-        Fine (given (at_place vs n) (λ v. next here s f below (v ∷ f.stack)))
+    at_value : (vs : List Value) (ts : List DeclaredType) → HaveTypes here.tree s vs ts → (n : ℤ) (st : List StackType) → HaveStackTypes here.tree s f.stack st → load (at_index ts n) st ≡ Some running.result →
+        Fine (given (at_index vs n) (λ v. next here s f below (v ∷ f.stack)))
     at_value vs ts values (negsuc n) st h e = none_is_some running.result e
     at_value vs ts values (pos n) st h e = by_type (slice_get ts n) refl e
       where
@@ -75,9 +75,9 @@ module _ (here : Setting) (s : State) (f : Frame) (below : List Frame) where
             let found = value_at here.tree s vs ts values n t is in
             by_value t (same_Some (Declared t ∷ st) running.result e') found.0 found.2 (slice_get vs n) found.1
 
-    -- another value in the place of one; `go` is on with the values after it
-    put : (go : List Value → Effect) (vs : List Value) (ts : List DeclaredType) → HaveTypes here.tree s vs ts → (n : ℤ) (t : DeclaredType) → at_place ts n ≡ Some t → (v : Value) → HasType here.tree s v t →
-        ((vs' : List Value) → HaveTypes here.tree s vs' ts → Fine (go vs')) → Fine (given (stored here s f below n v vs) go)
+    -- another value in place of one; `go` continues with the values after it
+    put : (go : List Value → Effect) (vs : List Value) (ts : List DeclaredType) → HaveTypes here.tree s vs ts → (n : ℤ) (t : DeclaredType) → at_index ts n ≡ Some t → (v : Value) → HasType here.tree s v t →
+        ((vs' : List Value) → HaveTypes here.tree s vs' ts → Fine (go vs')) → Fine (given (store_at here s f below n v vs) go)
     put go vs ts values (negsuc n) t is v h each = none_is_some t is
     put go vs ts values (pos n) t is v h each =
         let old = value_at here.tree s vs ts values n t is in
@@ -86,7 +86,7 @@ module _ (here : Setting) (s : State) (f : Frame) (below : List Frame) where
         subst P (sym old.1) (subst Q (sym (if_true (same_kind old.0 v) (Some (slice_set vs n v)) None (kinds_agree here.tree running.accepted.legal s old.0 v t old.2 h)))
         (each (slice_set vs n v) (values_with here.tree s vs ts values n t is v h)))
 
-    -- the operand that a store takes fits its place
+    -- the operand of a store fits the variable
     store_typed : (go : Value → List Value → Effect) (o : Option DeclaredType) (vs : List Value) (st : List StackType) → HaveStackTypes here.tree s vs st → store here.tree o st ≡ Some running.result →
         ((v : Value) (rest : List Value) (types : List StackType) (t : DeclaredType) → o ≡ Some t → HasType here.tree s v t → HaveStackTypes here.tree s rest types → types ≡ running.result → Fine (go v rest)) →
         Fine (take_one Sticks vs go)
@@ -117,7 +117,7 @@ module _ (here : Setting) (s : State) (f : Frame) (below : List Frame) where
   pub load_string_typed : (characters : List ℕ) → At (LoadString characters) → Fine (execute here s f below (LoadString characters))
   load_string_typed characters running =
       let lines : running.frame.code.lines ≡ lines_of f.method = sym (ap (λ (c : Option Code). option_map_or (λ (code : Code). code.lines) c []) running.frame.has_code) in
-      let known = literal_of_program here.tree characters f.method f.place running.line (subst (λ ls. slice_get ls f.place ≡ Some running.line) lines running.at) running.is f.owner running.frame.is_declared.0 running.frame.is_declared.1 in
+      let known = literal_of_program here.tree characters f.method f.pc running.line (subst (λ ls. slice_get ls f.pc ≡ Some running.line) lines running.at) running.is f.owner running.frame.is_declared.0 running.frame.is_declared.1 in
       on (LoadString characters) running refl (Reference (Literal characters) ∷ f.stack) (Declared (plain String) ∷ running.stack)
       (record { own = plain String; is = refl; fits = refl; monitor = running.typed.literals characters known }, running.values)
       (same_Some _ _ running.flows)
@@ -132,18 +132,18 @@ module _ (here : Setting) (s : State) (f : Frame) (below : List Frame) where
   store_argument_typed n running =
       let i : Instruction = StoreArgument n in
       let types : List DeclaredType = argument_types f.method f.owner in
-      store_typed i running refl _ (at_place types n) f.stack running.stack running.values running.flows (λ v rest rest_types t is h rest_typed e.
+      store_typed i running refl _ (at_index types n) f.stack running.stack running.values running.flows (λ v rest rest_types t is h rest_typed e.
       put i running refl _ f.arguments types running.frame.arguments n t is v h (λ arguments typed.
-      moved here s f below i running s running.typed (follows_itself s) arguments f.locals rest (f.place + 1) running.result typed running.frame.locals
+      moved here s f below i running s running.typed (follows_itself s) arguments f.locals rest (f.pc + 1) running.result typed running.frame.locals
       (subst (HaveStackTypes here.tree s rest) e rest_typed) (reaches_next i running refl)))
 
   pub store_local_typed : (n : ℤ) → At (StoreLocal n) → Fine (execute here s f below (StoreLocal n))
   store_local_typed n running =
       let i : Instruction = StoreLocal n in
       let types : List DeclaredType = running.frame.code.locals in
-      store_typed i running refl _ (at_place types n) f.stack running.stack running.values running.flows (λ v rest rest_types t is h rest_typed e.
+      store_typed i running refl _ (at_index types n) f.stack running.stack running.values running.flows (λ v rest rest_types t is h rest_typed e.
       put i running refl _ f.locals types running.frame.locals n t is v h (λ locals typed.
-      moved here s f below i running s running.typed (follows_itself s) f.arguments locals rest (f.place + 1) running.result running.frame.arguments typed
+      moved here s f below i running s running.typed (follows_itself s) f.arguments locals rest (f.pc + 1) running.result running.frame.arguments typed
       (subst (HaveStackTypes here.tree s rest) e rest_typed) (reaches_next i running refl)))
 
   -- ---- the stack and arithmetic
@@ -205,28 +205,28 @@ module _ (here : Setting) (s : State) (f : Frame) (below : List Frame) where
 
   -- ---- comparisons
 
-  -- execution continues with the result of a test, or with what `turn` makes of it
-  answered : (turn : Option Bool → Option Bool) → ((o : Bool) → (p : Bool) × (turn (Some o) ≡ Some p)) → (go : Bool → Effect) → ((holds : Bool) → Fine (go holds)) → (o : Bool) → Fine (given (turn (Some o)) go)
-  answered turn turned go each o = let p = turned o in let P : Option Bool → Type 0 = λ x. Fine (given x go) in subst P (sym p.1) (each p.0)
+  -- execution continues with the result of a test, or with what `transition` makes of it
+  answered : (transition : Option Bool → Option Bool) → ((o : Bool) → (p : Bool) × (transition (Some o) ≡ Some p)) → (go : Bool → Effect) → ((holds : Bool) → Fine (go holds)) → (o : Bool) → Fine (given (transition (Some o)) go)
+  answered transition turned go each o = let p = turned o in let P : Option Bool → Type 0 = λ x. Fine (given x go) in subst P (sym p.1) (each p.0)
 
   module _ (legal : IsLegal here.tree) (v w : Value) (a b : StackType) (h : HasStackType here.tree s v a) (k : HasStackType here.tree s w b) (go : Bool → Effect) (each : (holds : Bool) → Fine (go holds)) where
     -- two integers of one size have an order
     ordered_typed : (test : ℤ → ℤ → Bool) → IsTrue (are_integers a b) → Fine (given (ordered_values test v w) go)
     ordered_typed test is = from_integers here.tree legal s (λ x y. Fine (given (ordered_values test x y) go)) v w a b is h k (λ j x y. each (test x y)) (λ j x y. each (test x y))
 
-    -- and so have they, or two references, a result whether they are equal; `turn` may make it the opposite
-    equal_typed : (turn : Option Bool → Option Bool) → ((o : Bool) → (p : Bool) × (turn (Some o) ≡ Some p)) → IsTrue (are_comparable a b) → Fine (given (turn (equal_values v w)) go)
-    equal_typed turn turned is = by_case (either (are_integers a b) (is_any_reference a && is_any_reference b) is)
+    -- these, and two references, have a result of the test for equality; `transition` may negate it
+    equal_typed : (transition : Option Bool → Option Bool) → ((o : Bool) → (p : Bool) × (transition (Some o) ≡ Some p)) → IsTrue (are_comparable a b) → Fine (given (transition (equal_values v w)) go)
+    equal_typed transition turned is = by_case (either (are_integers a b) (is_any_reference a && is_any_reference b) is)
       where
-        told : (o : Bool) → Fine (given (turn (Some o)) go)
-        told = answered turn turned go each
+        reported : (o : Bool) → Fine (given (transition (Some o)) go)
+        reported = answered transition turned go each
 
-        by_case : IsTrue (are_integers a b) ⊎ IsTrue (is_any_reference a && is_any_reference b) → Fine (given (turn (equal_values v w)) go)
-        by_case (inl j) = from_integers here.tree legal s (λ x y. Fine (given (turn (equal_values x y)) go)) v w a b j h k (λ i x y. told _) (λ i x y. told _)
+        by_case : IsTrue (are_integers a b) ⊎ IsTrue (is_any_reference a && is_any_reference b) → Fine (given (transition (equal_values v w)) go)
+        by_case (inl j) = from_integers here.tree legal s (λ x y. Fine (given (transition (equal_values x y)) go)) v w a b j h k (λ i x y. reported _) (λ i x y. reported _)
         by_case (inr j) =
-            from_reference here.tree legal s (λ x. Fine (given (turn (equal_values x w)) go)) v a (both_first _ _ j) h
-            (from_reference here.tree legal s (λ y. Fine (given (turn (equal_values Null y)) go)) w b (both_second (is_any_reference a) _ j) k (told _) (λ n. told _))
-            (λ m. from_reference here.tree legal s (λ y. Fine (given (turn (equal_values (Reference m) y)) go)) w b (both_second (is_any_reference a) _ j) k (told _) (λ n. told _))
+            from_reference here.tree legal s (λ x. Fine (given (transition (equal_values x w)) go)) v a (both_first _ _ j) h
+            (from_reference here.tree legal s (λ y. Fine (given (transition (equal_values Null y)) go)) w b (both_second (is_any_reference a) _ j) k (reported _) (λ n. reported _))
+            (λ m. from_reference here.tree legal s (λ y. Fine (given (transition (equal_values (Reference m) y)) go)) w b (both_second (is_any_reference a) _ j) k (reported _) (λ n. reported _))
 
     compare_answers : (op : Comparison) → IsTrue (may_compare op a b) → Fine (given (compare_values op v w) go)
     compare_answers Equal is = equal_typed (λ o. o) (λ o. (o, refl)) is
@@ -257,16 +257,16 @@ module _ (here : Setting) (s : State) (f : Frame) (below : List Frame) where
       jump_typed here s f below (Branch label) running label (0, lit< tt, refl) f.stack (subst (HaveStackTypes here.tree s f.stack) (same_Some running.stack running.result running.flows) running.values)
 
   -- a test whether a value is set has a result
-  set_answers : (legal : IsLegal here.tree) (turn : Option Bool → Option Bool) → ((o : Bool) → (p : Bool) × (turn (Some o) ≡ Some p)) → (v : Value) (a : StackType) → HasStackType here.tree s v a → IsTrue (is_integer a || is_any_reference a) →
-      (go : Bool → Effect) → ((holds : Bool) → Fine (go holds)) → Fine (given (turn (is_set v)) go)
-  set_answers legal turn turned v a h is go each = by_case (either (is_integer a) (is_any_reference a) is)
+  set_answers : (legal : IsLegal here.tree) (transition : Option Bool → Option Bool) → ((o : Bool) → (p : Bool) × (transition (Some o) ≡ Some p)) → (v : Value) (a : StackType) → HasStackType here.tree s v a → IsTrue (is_integer a || is_any_reference a) →
+      (go : Bool → Effect) → ((holds : Bool) → Fine (go holds)) → Fine (given (transition (is_set v)) go)
+  set_answers legal transition turned v a h is go each = by_case (either (is_integer a) (is_any_reference a) is)
     where
-      told : (o : Bool) → Fine (given (turn (Some o)) go)
-      told = answered turn turned go each
+      reported : (o : Bool) → Fine (given (transition (Some o)) go)
+      reported = answered transition turned go each
 
-      by_case : IsTrue (is_integer a) ⊎ IsTrue (is_any_reference a) → Fine (given (turn (is_set v)) go)
-      by_case (inl j) = from_integer here.tree legal s (λ x. Fine (given (turn (is_set x)) go)) v a j h (λ i z. told _) (λ i z. told _)
-      by_case (inr j) = from_reference here.tree legal s (λ x. Fine (given (turn (is_set x)) go)) v a j h (told _) (λ n. told _)
+      by_case : IsTrue (is_integer a) ⊎ IsTrue (is_any_reference a) → Fine (given (transition (is_set v)) go)
+      by_case (inl j) = from_integer here.tree legal s (λ x. Fine (given (transition (is_set x)) go)) v a j h (λ i z. reported _) (λ i z. reported _)
+      by_case (inr j) = from_reference here.tree legal s (λ x. Fine (given (transition (is_set x)) go)) v a j h (reported _) (λ n. reported _)
 
   pub branch_true_typed : (label : List ℕ) → At (BranchTrue label) → Fine (execute here s f below (BranchTrue label))
   branch_true_typed label running = one_typed here.tree s _ _ f.stack running.stack running.result running.values running.flows (λ v a rest types h rest_typed e.

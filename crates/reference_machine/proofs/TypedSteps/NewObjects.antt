@@ -37,7 +37,7 @@ use Rattle.reference_machine.proofs.Programs.MethodTypings.{IsDeclared}
 use Rattle.reference_machine.specs.TypedStates.{HasType, HaveTypes, HaveStackTypes, IsConstructing, has_objects, IsTyped}
 use Rattle.reference_machine.proofs.TypedStates.ValueTypes.{values_keep, stack_keeps}
 use Rattle.reference_machine.proofs.TypedStates.RunningFrames.{IsTypedEffect, IsRunning, onward_typed}
-use Rattle.reference_machine.proofs.Programs.DeclaredClasses.{found_passes, declared, Standing, of_source, of_object, of_string, of_console, of_monitor, of_thread, of_none, standing, source_declares, interface_is_source, all_kinds_fit}
+use Rattle.reference_machine.proofs.Programs.DeclaredClasses.{found_passes, declared, ThreadStatus, of_source, of_object, of_string, of_console, of_monitor, of_thread, of_none, thread_status, source_declares, interface_is_source, all_kinds_fit}
 use Rattle.reference_machine.proofs.Programs.VirtualTargets.{nearest_at}
 use Rattle.reference_machine.proofs.TypedStates.StateChanges.{typed_birth, newborn_type, newborn_monitor, newborn_has_own_type, new_instance_typed}
 use Rattle.reference_machine.proofs.TypedSteps.CallOperands.{operands_typed}
@@ -63,7 +63,7 @@ module _ (tree : Tree) where
 
   -- it declares no abstract method
   pub concrete_declares_code : IsLegal tree → (c : ClassName) (m : Method) → IsTrue (is_concrete tree c) → IsDeclared tree c m → is_abstract_method m.kind ≡ false
-  concrete_declares_code legal c m concrete declared = passes_not (λ (x : Method). is_abstract_method x.kind) (methods_declared tree c) declared.0 m (by_standing (standing tree c) concrete) declared.1
+  concrete_declares_code legal c m concrete declared = passes_not (λ (x : Method). is_abstract_method x.kind) (methods_declared tree c) declared.0 m (by_thread_status (thread_status tree c) concrete) declared.1
     where
       by_abstract : (a s t w : Bool) → IsTrue (not a) → IsTrue ((a || (not s && not t)) && w) → s ≡ false
       by_abstract true s t w h k = never h
@@ -73,16 +73,16 @@ module _ (tree : Tree) where
       by_kind Interface s t w v h k = never h
       by_kind (PlainClass is_abstract base interfaces) s t w v h k = by_abstract is_abstract s t w h k
 
-      by_standing : {c : ClassName} → Standing tree c → IsTrue (is_concrete tree c) → list_any (λ (x : Method). is_abstract_method x.kind) (methods_declared tree c) ≡ false
-      by_standing {c} (of_source x is) h =
+      by_thread_status : {c : ClassName} → ThreadStatus tree c → IsTrue (is_concrete tree c) → list_any (λ (x : Method). is_abstract_method x.kind) (methods_declared tree c) ≡ false
+      by_thread_status {c} (of_source x is) h =
           let fits : IsTrue (kinds_fit tree x) = found_passes (λ y. same_class (source_name y) c) (kinds_fit tree) tree.classes x is (all_kinds_fit tree legal) in
           ap (λ o. list_any (λ (y : Method). is_abstract_method y.kind) (listed_by (λ (d : Declaration). d.methods) o)) (source_declares tree c x is) ∙ by_kind x.kind _ _ _ _ (concrete_kind c x (source_declares tree c x is) h) fits
-      by_standing of_object h = refl
-      by_standing of_string h = refl
-      by_standing of_console h = refl
-      by_standing of_monitor h = refl
-      by_standing of_thread h = refl
-      by_standing (of_none e) h = ap (λ o. list_any (λ (y : Method). is_abstract_method y.kind) (listed_by (λ (d : Declaration). d.methods) o)) e
+      by_thread_status of_object h = refl
+      by_thread_status of_string h = refl
+      by_thread_status of_console h = refl
+      by_thread_status of_monitor h = refl
+      by_thread_status of_thread h = refl
+      by_thread_status (of_none e) h = ap (λ o. list_any (λ (y : Method). is_abstract_method y.kind) (listed_by (λ (d : Declaration). d.methods) o)) e
 
   -- System.String declares no method
   pub declaring_has_objects : (c : ClassName) (m : Method) → IsTrue (is_concrete tree c) → IsDeclared tree c m → IsTrue (has_objects tree c)

@@ -20,7 +20,7 @@ use Rattle.cil_model.specs.Fields.{same_key}
 use Rattle.cil_model.specs.Bodies.{falls_through}
 use Rattle.cil_model.specs.Stacks.{take_one, take_two, take_three}
 use Rattle.cil_model.specs.TypeTree.{StackType, Declared, NativeInt, Null as NullType, fits}
-use Rattle.cil_model.specs.FlowRules.{allowed, is_int32, is_int64, is_any_reference, is_index, any_type, passes, is_array_of, held, element_on_stack, take_operands}
+use Rattle.cil_model.specs.FlowRules.{allowed, is_int32, is_int64, is_any_reference, is_index, any_type, passes, is_array_of, held_type_of, element_on_stack, take_operands}
 use Rattle.cil_model.proofs.Lists.{none_is_some}
 use Rattle.cil_model.proofs.SameLaws.{never, both_first, both_second, either, if_true, same_type_equal, same_type_itself}
 use Rattle.cil_model.specs.Legality.{IsLegal}
@@ -91,7 +91,7 @@ module _ (tree : Tree) (legal : IsLegal tree) (s : State) where
   from_array P test Null a passed h null each = null
   from_array P test (Reference n) (Declared u) passed h null each = by_brackets u.element u.brackets passed h (λ w e. e)
     where
-      by_brackets : (e : Element) (m : ℕ) → IsTrue (passes test (held_by e m)) → IsObjectOf tree s n (record { element = e; brackets = m }) → ((w : DeclaredType) → held (held_by e m) ≡ Declared w → element_on_stack (Declared u) ≡ Declared w) → P (Reference n)
+      by_brackets : (e : Element) (m : ℕ) → IsTrue (passes test (held_by e m)) → IsObjectOf tree s n (record { element = e; brackets = m }) → ((w : DeclaredType) → held_type_of (held_by e m) ≡ Declared w → element_on_stack (Declared u) ≡ Declared w) → P (Reference n)
       by_brackets e zero passes' k same = never passes'
       by_brackets e (suc m) passes' k same =
           let w : DeclaredType = record { element = e; brackets = m } in
@@ -192,12 +192,12 @@ module _ (here : Setting) (s : State) (f : Frame) (below : List Frame) where
         ((n : ObjectName) (t w : DeclaredType) (elements : List Value) (k : ℕ) (v : Value) → array_at s n ≡ Some (t, elements) → IsHeldAs here.tree t w → IsTrue (test w) → element_on_stack a ≡ Declared w → slice_get elements k ≡ Some v → Fine (go n t k v)) →
         Fine (element here s f below own_test array index go)
     array_element test own_test tests go array index a b is_array is_index' h k each =
-        from_array here.tree running.accepted.legal s (λ x. Fine (element here s f below own_test x index go)) test array a is_array h tt (λ n t w elements there held passed on_stack.
+        from_array here.tree running.accepted.legal s (λ x. Fine (element here s f below own_test x index go)) test array a is_array h tt (λ n t w elements there held_type_of passed on_stack.
         let at = index_there index b is_index' k in
         from_given (λ z. given (array_at s n) (λ (x : DeclaredType × List Value). if own_test x.0 then in_range here s f below (slice_get x.1) (go n x.0) z else Sticks)) (as_index index) at.0 at.1
         (from_given (λ (x : DeclaredType × List Value). if own_test x.0 then in_range here s f below (slice_get x.1) (go n x.0) at.0 else Sticks) (array_at s n) (t, elements) there
-        (from_passed (own_test t) (in_range here s f below (slice_get elements) (go n t) at.0) Sticks (tests t w held passed)
-        (in_range_typed (slice_get elements) (go n t) at.0 (λ m v is. each n t w elements m v there held passed on_stack is)))))
+        (from_passed (own_test t) (in_range here s f below (slice_get elements) (go n t) at.0) Sticks (tests t w held_type_of passed)
+        (in_range_typed (slice_get elements) (go n t) at.0 (λ m v is. each n t w elements m v there held_type_of passed on_stack is)))))
 
     -- ---- operands that fit
 
@@ -265,17 +265,17 @@ module _ (here : Setting) (s : State) (f : Frame) (below : List Frame) where
 
     -- an integer's tests hold of an array of that integer alone
     integer_tests : (integer : DeclaredType) → is_reference integer ≡ false → (t w : DeclaredType) → IsHeldAs here.tree t w → IsTrue (same_type w integer) → IsTrue (same_type integer t)
-    integer_tests integer no_reference t w held passed =
-        subst (λ x. IsTrue (same_type integer x)) (sym (held_alone here.tree running.accepted.legal s t w integer no_reference held passed)) (same_type_itself integer)
+    integer_tests integer no_reference t w held_type_of passed =
+        subst (λ x. IsTrue (same_type integer x)) (sym (held_alone here.tree running.accepted.legal s t w integer no_reference held_type_of passed)) (same_type_itself integer)
 
     -- an element of an array of that integer is that integer
     load_integer : (integer : DeclaredType) → is_reference integer ≡ false → take_two None running.stack (λ a b rest. allowed (is_array_of (λ t. same_type t integer) a && is_index b) (Declared integer ∷ rest)) ≡ Some running.result →
         Fine (load_element here s f below (same_type integer))
     load_integer integer no_reference flows = two_typed here.tree s _ _ f.stack running.stack running.result running.values flows (λ array index a b rest types h k rest_typed e.
         let passed = was_allowed (is_array_of (λ t. same_type t integer) a && is_index b) (Declared integer ∷ types) running.result e in
-        array_element (λ t. same_type t integer) (same_type integer) (integer_tests integer no_reference) (λ n t m v. next here s f below (v ∷ rest)) array index a b (both_first _ _ passed.0) (both_second (is_array_of (λ t. same_type t integer) a) _ passed.0) h k (λ n t w elements m v there held same on_stack is.
+        array_element (λ t. same_type t integer) (same_type integer) (integer_tests integer no_reference) (λ n t m v. next here s f below (v ∷ rest)) array index a b (both_first _ _ passed.0) (both_second (is_array_of (λ t. same_type t integer) a) _ passed.0) h k (λ n t w elements m v there held_type_of same on_stack is.
         let own : HasType here.tree s v t = element_typed here.tree running.accepted.legal s t elements m v (array_typed here.tree running.accepted.legal s running.typed n t elements there) is in
-        on (v ∷ rest) (Declared integer ∷ types) (subst (λ x. HasType here.tree s v x) (held_alone here.tree running.accepted.legal s t w integer no_reference held same) own, rest_typed) passed.1))
+        on (v ∷ rest) (Declared integer ∷ types) (subst (λ x. HasType here.tree s v x) (held_alone here.tree running.accepted.legal s t w integer no_reference held_type_of same) own, rest_typed) passed.1))
 
     -- on after a store of a value of the elements' own type
     stored_on : (rest : List Value) (types : List StackType) → HaveStackTypes here.tree s rest types → types ≡ running.result → (n : ObjectName) (t : DeclaredType) (elements : List Value) (m : ℕ) (v old : Value) →
@@ -291,17 +291,17 @@ module _ (here : Setting) (s : State) (f : Frame) (below : List Frame) where
     store_integer integer no_reference known known_typed flows = three_typed here.tree s _ _ f.stack running.stack running.result running.values flows (λ array index value a b c rest types h k l rest_typed e.
         let passed = was_allowed (is_array_of (λ t. same_type t integer) a && is_index b && known c) types running.result e in
         let first : IsTrue (is_array_of (λ t. same_type t integer) a && is_index b) = both_first _ (known c) passed.0 in
-        array_element (λ t. same_type t integer) (same_type integer) (integer_tests integer no_reference) (λ n t m old. given (with_element s n m value) (λ s'. onward f below s' rest)) array index a b (both_first _ _ first) (both_second (is_array_of (λ t. same_type t integer) a) _ first) h k (λ n t w elements m old there held same on_stack is.
-        let own : HasType here.tree s value t = subst (λ x. HasType here.tree s value x) (sym (held_alone here.tree running.accepted.legal s t w integer no_reference held same)) (known_typed value c (both_second (is_array_of (λ t. same_type t integer) a && is_index b) _ passed.0) l) in
+        array_element (λ t. same_type t integer) (same_type integer) (integer_tests integer no_reference) (λ n t m old. given (with_element s n m value) (λ s'. onward f below s' rest)) array index a b (both_first _ _ first) (both_second (is_array_of (λ t. same_type t integer) a) _ first) h k (λ n t w elements m old there held_type_of same on_stack is.
+        let own : HasType here.tree s value t = subst (λ x. HasType here.tree s value x) (sym (held_alone here.tree running.accepted.legal s t w integer no_reference held_type_of same)) (known_typed value c (both_second (is_array_of (λ t. same_type t integer) a && is_index b) _ passed.0) l) in
         stored_on rest types rest_typed passed.1 n t elements m value old there is own))
 
     -- an element of an array of references is of the type that the verifier takes for its own
     load_reference : take_two None running.stack (λ a b rest. allowed (is_array_of is_reference a && is_index b) (element_on_stack a ∷ rest)) ≡ Some running.result → Fine (load_element here s f below is_reference)
     load_reference flows = two_typed here.tree s _ _ f.stack running.stack running.result running.values flows (λ array index a b rest types h k rest_typed e.
         let passed = was_allowed (is_array_of is_reference a && is_index b) (element_on_stack a ∷ types) running.result e in
-        array_element is_reference is_reference (held_reference here.tree running.accepted.legal s) (λ n t m v. next here s f below (v ∷ rest)) array index a b (both_first _ _ passed.0) (both_second (is_array_of is_reference a) _ passed.0) h k (λ n t w elements m v there held same on_stack is.
+        array_element is_reference is_reference (held_reference here.tree running.accepted.legal s) (λ n t m v. next here s f below (v ∷ rest)) array index a b (both_first _ _ passed.0) (both_second (is_array_of is_reference a) _ passed.0) h k (λ n t w elements m v there held_type_of same on_stack is.
         let own : HasType here.tree s v t = element_typed here.tree running.accepted.legal s t elements m v (array_typed here.tree running.accepted.legal s running.typed n t elements there) is in
-        let wanted : HasType here.tree s v w = value_fits here.tree running.accepted.legal s v (Declared t) w (held_fits here.tree running.accepted.legal s t w held) own in
+        let wanted : HasType here.tree s v w = value_fits here.tree running.accepted.legal s v (Declared t) w (held_fits here.tree running.accepted.legal s t w held_type_of) own in
         on (v ∷ rest) (element_on_stack a ∷ types) (subst (λ x. HasStackType here.tree s v x) (sym on_stack) wanted, rest_typed) passed.1))
 
     -- a value that an array may hold, by its own class, is stored; otherwise the instruction faults
@@ -322,8 +322,8 @@ module _ (here : Setting) (s : State) (f : Frame) (below : List Frame) where
         let first : IsTrue (is_array_of is_reference a && is_index b) = both_first _ (is_any_reference c) passed.0 in
         let any : IsTrue (is_any_reference c) = both_second (is_array_of is_reference a && is_index b) _ passed.0 in
         array_element is_reference is_reference (held_reference here.tree running.accepted.legal s)
-        (λ n t m old. given (may_hold here s f below t value) (λ holds. if holds then given (with_element s n m value) (λ s'. onward f below s' rest) else Raises ArrayTypeMismatch)) array index a b (both_first _ _ first) (both_second (is_array_of is_reference a) _ first) h k (λ n t w elements m old there held passes on_stack is.
-        held_or_fault rest types rest_typed passed.1 n t elements m value old c there is (held_reference here.tree running.accepted.legal s t w held passes) any l))
+        (λ n t m old. given (may_hold here s f below t value) (λ holds. if holds then given (with_element s n m value) (λ s'. onward f below s' rest) else Raises ArrayTypeMismatch)) array index a b (both_first _ _ first) (both_second (is_array_of is_reference a) _ first) h k (λ n t w elements m old there held_type_of passes on_stack is.
+        held_or_fault rest types rest_typed passed.1 n t elements m value old c there is (held_reference here.tree running.accepted.legal s t w held_type_of passes) any l))
 
   -- ---- arrays
 
@@ -353,7 +353,7 @@ module _ (here : Setting) (s : State) (f : Frame) (below : List Frame) where
   load_length_typed running = one_typed here.tree s _ _ f.stack running.stack running.result running.values running.flows (λ v a rest types h rest_typed e.
       let passed = was_allowed (is_array_of any_type a) (NativeInt ∷ types) running.result e in
       let go : DeclaredType × List Value → Effect = λ x. next here s f below (Native (pos (length x.1)) ∷ rest) in
-      from_array here.tree running.accepted.legal s (λ x. Fine (not_null x NullReference (λ n. given (array_at s n) go))) any_type v a passed.0 h tt (λ n t w elements there held any on_stack.
+      from_array here.tree running.accepted.legal s (λ x. Fine (not_null x NullReference (λ n. given (array_at s n) go))) any_type v a passed.0 h tt (λ n t w elements there held_type_of any on_stack.
       from_given go (array_at s n) (t, elements) there (on LoadLength running refl (Native (pos (length elements)) ∷ rest) (NativeInt ∷ types) (tt, rest_typed) passed.1)))
 
   pub load_element_int32_typed : At LoadElementInt32 → Fine (execute here s f below LoadElementInt32)

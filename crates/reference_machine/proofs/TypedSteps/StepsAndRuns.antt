@@ -11,8 +11,8 @@ use Rattle.cil_model.specs.declared.reports.Report.TheVariants.{Ran, Blocked, En
 use Rattle.cil_model.specs.Typings.{IsAccepted}
 use Rattle.reference_machine.specs.States.{Frame, Thread, State}
 use Rattle.reference_machine.specs.Effects.{Setting, Effect, Goes, Blocks, Raises, Sticks, given}
-use Rattle.reference_machine.specs.Steps.{Outcome, Answers, execute, effect_of, with_thread_at, ended_as, goes_on, settled, step_of, step}
-use Rattle.reference_machine.specs.Runs.{StepRequest, RunsTo, preceded_by, followed_by, opening, run}
+use Rattle.reference_machine.specs.Steps.{Outcome, Answers, execute, effect_of, with_thread_at, ended_as, continues, charge, step_of, step}
+use Rattle.reference_machine.specs.Runs.{StepRequest, RunsTo, preceded_by, followed_by, initial_state, run}
 use Rattle.reference_machine.specs.TypedStates.{AreTypedFrames, IsTyped}
 use Rattle.reference_machine.proofs.TypedStates.RunningFrames.{IsTypedEffect, IsRunning, runs_at}
 use Rattle.reference_machine.proofs.TypedStates.InitialStates.{opens}
@@ -31,18 +31,18 @@ module _ (tree : Tree) where
       let over : Thread = record { frames = []; steps_left = left; ended = Some e } in
       (Ended e, with_thread_at s t over, refl, typed_thread_at tree s typed t over (λ live. none_is_some e (sym live)))
 
-  going_typed : (r : Report) (s : State) → IsTyped tree s → (t left : ℕ) (frames : List Frame) → AreTypedFrames tree s frames → AnswersTyped (goes_on r s t left frames)
+  going_typed : (r : Report) (s : State) → IsTyped tree s → (t left : ℕ) (frames : List Frame) → AreTypedFrames tree s frames → AnswersTyped (continues r s t left frames)
   going_typed r s typed t zero frames h = ended_typed s typed t 0 Budget
   going_typed r s typed t (suc left) frames h =
       let live : Thread = record { frames = frames; steps_left = suc left; ended = None } in
       (r, with_thread_at s t live, refl, typed_thread_at tree s typed t live (λ e. h))
 
-  settled_typed : (s : State) → IsTyped tree s → (t left : ℕ) (frames : List Frame) → AreTypedFrames tree s frames → (e : Effect) → IsTypedEffect tree e → AnswersTyped (settled s t left frames e)
-  settled_typed s typed t left frames h (Goes [] s') k = ended_typed s' k t left Done
-  settled_typed s typed t left frames h (Goes (f ∷ below) s') k = going_typed Ran s' k.0 t left (f ∷ below) k.1
-  settled_typed s typed t left frames h Blocks k = going_typed Blocked s typed t left frames h
-  settled_typed s typed t left frames h (Raises x) k = ended_typed s typed t left (ByFault x)
-  settled_typed s typed t left frames h Sticks k = elim k [ ]
+  step_charged_typed : (s : State) → IsTyped tree s → (t left : ℕ) (frames : List Frame) → AreTypedFrames tree s frames → (e : Effect) → IsTypedEffect tree e → AnswersTyped (charge s t left frames e)
+  step_charged_typed s typed t left frames h (Goes [] s') k = ended_typed s' k t left Done
+  step_charged_typed s typed t left frames h (Goes (f ∷ below) s') k = going_typed Ran s' k.0 t left (f ∷ below) k.1
+  step_charged_typed s typed t left frames h Blocks k = going_typed Blocked s typed t left frames h
+  step_charged_typed s typed t left frames h (Raises x) k = ended_typed s typed t left (ByFault x)
+  step_charged_typed s typed t left frames h Sticks k = elim k [ ]
 
 -- each instruction has a typed effect
 abbrev pub InstructionsAreTyped : Type 0
@@ -63,10 +63,10 @@ module _ (instruction_typed : InstructionsAreTyped) (tree : Tree) (limits : Limi
     thread_typed : (s : State) → IsTyped tree s → (thread : Thread) → (thread.ended ≡ None → AreTypedFrames tree s thread.frames) → AnswersTyped tree (step_of here s thread)
     thread_typed s typed thread h = by_end thread.ended refl
       where
-        live_typed : AreTypedFrames tree s thread.frames → AnswersTyped tree (settled s t (thread.steps_left - 1) thread.frames (effect_of here s thread.frames))
-        live_typed frames = settled_typed tree s typed t (thread.steps_left - 1) thread.frames frames (effect_of here s thread.frames) (effect_typed s typed thread.frames frames)
+        live_typed : AreTypedFrames tree s thread.frames → AnswersTyped tree (charge s t (thread.steps_left - 1) thread.frames (effect_of here s thread.frames))
+        live_typed frames = step_charged_typed tree s typed t (thread.steps_left - 1) thread.frames frames (effect_of here s thread.frames) (effect_typed s typed thread.frames frames)
 
-        by_end : (e : Option End) → thread.ended ≡ e → AnswersTyped tree (if is_none e then settled s t (thread.steps_left - 1) thread.frames (effect_of here s thread.frames) else Answers Absent s)
+        by_end : (e : Option End) → thread.ended ≡ e → AnswersTyped tree (if is_none e then charge s t (thread.steps_left - 1) thread.frames (effect_of here s thread.frames) else Answers Absent s)
         by_end None is = live_typed (h is)
         by_end (Some e) is = (Absent, s, refl, typed)
 
@@ -89,7 +89,7 @@ module _ (instruction_typed : InstructionsAreTyped) (tree : Tree) (limits : Limi
       (first.0 ∷ later.0, later.1, ap (λ o. followed_by o (λ u. run tree limits u qs)) first.2 ∙ ap (preceded_by first.0) later.2, later.3)
 
   -- a run from the initial state isn't stuck
-  pub never_stuck : (requests : List StepRequest) → (first : State) × (reports : List Report) × (s : State) × (opening tree limits ≡ Some first) × (run tree limits first requests ≡ RunsTo reports s) × IsTyped tree s
+  pub never_stuck : (requests : List StepRequest) → (first : State) × (reports : List Report) × (s : State) × (initial_state tree limits ≡ Some first) × (run tree limits first requests ≡ RunsTo reports s) × IsTyped tree s
   never_stuck requests =
       let opened = opens tree limits accepted in
       let comes = run_typed requests opened.0 opened.2 in

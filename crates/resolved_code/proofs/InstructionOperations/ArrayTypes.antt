@@ -53,11 +53,11 @@ module _ (tree : Tree) where
       by_same false h = refl
       by_same true h = sym (ap (is_class_assignable tree c) (sym (same_class_equal c d h)) ∙ class_itself c)
 
-  -- the test when both types have as many brackets
-  pub with_as_many : (e f : Element) (n : ℕ) → is_assignable_at tree e n f n ≡ is_element_assignable tree e f
-  with_as_many e f zero = refl
-  with_as_many e f (suc zero) = one_level e f
-  with_as_many e f (suc (suc n)) = by_same (same_element e f) refl (with_as_many e f (suc n))
+  -- the test when both types have the same number of brackets
+  pub with_same_count : (e f : Element) (n : ℕ) → is_assignable_at tree e n f n ≡ is_element_assignable tree e f
+  with_same_count e f zero = refl
+  with_same_count e f (suc zero) = one_level e f
+  with_same_count e f (suc (suc n)) = by_same (same_element e f) refl (with_same_count e f (suc n))
     where
       by_same : (b : Bool) → same_element e f ≡ b → is_assignable_at tree e (suc n) f (suc n) ≡ is_element_assignable tree e f →
           (b && (suc n == suc n)) || is_assignable_at tree e (suc n) f (suc n) ≡ is_element_assignable tree e f

@@ -25,10 +25,10 @@ use Rattle.cil_model.proofs.Lists.{none_is_some, find_passes}
 use Rattle.cil_model.proofs.SameLaws.{same_text_equal}
 use Rattle.name_tables.specs.declared.lookups.MemberNumber.{MemberNumber}
 use Rattle.name_tables.specs.Numbers.{class_number, field_number, method_number, field_at, method_at, declarations}
-use Rattle.name_tables.proofs.NumberLaws.{IsNumbered, numbered, field_is_numbered, method_is_numbered, found_at_place, found_some}
-use Rattle.resolved_code.specs.declared.types.NumberedElement.{NumberedElement}
-use Rattle.resolved_code.specs.declared.types.NumberedElement.TheVariants.{Int32, Int64, Object, String, Class}
-use Rattle.resolved_code.specs.declared.types.NumberedType.{NumberedType}
+use Rattle.name_tables.proofs.NumberLaws.{HasId, numbered, field_is_numbered, method_is_numbered, found_at_index, found_some}
+use Rattle.resolved_code.specs.declared.types.ResolvedElement.{ResolvedElement}
+use Rattle.resolved_code.specs.declared.types.ResolvedElement.TheVariants.{Int32, Int64, Object, String, Class}
+use Rattle.resolved_code.specs.declared.types.ResolvedType.{ResolvedType}
 use Rattle.resolved_code.specs.declared.operations.Operation.{Operation}
 use Rattle.resolved_code.specs.declared.operations.Operation.TheVariants as Resolved
 use Rattle.resolved_code.specs.declared.classes.ResolvedField.{ResolvedField}
@@ -80,12 +80,12 @@ named_back : {X Y : Type 0} (back : Y → Option X) (rule : X → Option Y) → 
 named_back {X} {Y} back rule stands None p h = given (λ (q : Option Y). option_map back q ≡ None) None p h refl
 named_back {X} {Y} back rule stands (Some x) p h = mapped (λ (q : Option Y). option_map back q ≡ Some (Some x)) Some (rule x) p h (λ y e. ap Some (stands x y e))
 
--- the item at the place where a text is found
+-- the item at the index where a text is found
 found_text : (s : List ℕ) (i : ℕ) (xs : List (List ℕ)) → position_from (same_text s) 0 xs ≡ Some i → slice_get xs i ≡ Some s
 found_text s i xs h = by_find (find (same_text s) xs) refl
   where
     by_find : (o : Option (List ℕ)) → find (same_text s) xs ≡ o → slice_get xs i ≡ Some s
-    by_find None e = none_is_some (slice_get xs i) (sym (sym (ap (option_map (slice_get xs)) h) ∙ found_at_place (same_text s) xs ∙ ap (option_map Some) e))
+    by_find None e = none_is_some (slice_get xs i) (sym (sym (ap (option_map (slice_get xs)) h) ∙ found_at_index (same_text s) xs ∙ ap (option_map Some) e))
     by_find (Some x) e = found_some (same_text s) xs i h ∙ e ∙ ap Some (sym (same_text_equal s x (find_passes (same_text s) xs x e)))
 
 module _ (tree : Tree) where
@@ -93,22 +93,22 @@ module _ (tree : Tree) where
 
   pub number_stands : (c : ClassName) (n : ℕ) → class_number tree c ≡ Some n → class_name tree n ≡ Some c
   number_stands c n e =
-      let found : (d : Declaration) × (declaration_of tree c ≡ Some d) × (slice_get (declarations tree) n ≡ Some (c, d)) = subst (IsNumbered tree c) e (numbered tree c) in
+      let found : (d : Declaration) × (declaration_of tree c ≡ Some d) × (slice_get (declarations tree) n ≡ Some (c, d)) = subst (HasId tree c) e (numbered tree c) in
       ap (option_map (λ (x : ClassName × Declaration). x.0)) found.2
 
-  element_stands : (e : Element) (n : NumberedElement) → element_rule tree e ≡ Some n → element_at tree n ≡ Some e
-  element_stands Int32Element n h = given (λ (x : NumberedElement). element_at tree x ≡ Some Int32Element) Int32 n h refl
-  element_stands Int64Element n h = given (λ (x : NumberedElement). element_at tree x ≡ Some Int64Element) Int64 n h refl
-  element_stands ObjectElement n h = given (λ (x : NumberedElement). element_at tree x ≡ Some ObjectElement) Object n h refl
-  element_stands StringElement n h = given (λ (x : NumberedElement). element_at tree x ≡ Some StringElement) String n h refl
-  element_stands (ClassElement c) n h = mapped (λ (x : NumberedElement). element_at tree x ≡ Some (ClassElement c)) Class (class_number tree c) n h (λ i e. ap (option_map ClassElement) (number_stands c i e))
+  element_stands : (e : Element) (n : ResolvedElement) → element_rule tree e ≡ Some n → element_at tree n ≡ Some e
+  element_stands Int32Element n h = given (λ (x : ResolvedElement). element_at tree x ≡ Some Int32Element) Int32 n h refl
+  element_stands Int64Element n h = given (λ (x : ResolvedElement). element_at tree x ≡ Some Int64Element) Int64 n h refl
+  element_stands ObjectElement n h = given (λ (x : ResolvedElement). element_at tree x ≡ Some ObjectElement) Object n h refl
+  element_stands StringElement n h = given (λ (x : ResolvedElement). element_at tree x ≡ Some StringElement) String n h refl
+  element_stands (ClassElement c) n h = mapped (λ (x : ResolvedElement). element_at tree x ≡ Some (ClassElement c)) Class (class_number tree c) n h (λ i e. ap (option_map ClassElement) (number_stands c i e))
 
-  pub type_stands : (t : DeclaredType) (n : NumberedType) → type_rule tree t ≡ Some n → type_at tree n ≡ Some t
+  pub type_stands : (t : DeclaredType) (n : ResolvedType) → type_rule tree t ≡ Some n → type_at tree n ≡ Some t
   type_stands t n h =
-      mapped (λ (x : NumberedType). type_at tree x ≡ Some t) (λ (e : NumberedElement). record { element = e; brackets = t.brackets }) (element_rule tree t.element) n h
+      mapped (λ (x : ResolvedType). type_at tree x ≡ Some t) (λ (e : ResolvedElement). record { element = e; brackets = t.brackets }) (element_rule tree t.element) n h
       (λ e g. ap (option_map (λ (x : Element). record { element = x; brackets = t.brackets })) (element_stands t.element e g))
 
-  pub types_stand : (ts : List DeclaredType) (ns : List NumberedType) → types_rule tree ts ≡ Some ns → AreTypes tree ns ts
+  pub types_stand : (ts : List DeclaredType) (ns : List ResolvedType) → types_rule tree ts ≡ Some ns → AreTypes tree ns ts
   types_stand = all_back (type_at tree) (type_rule tree) type_stands
 
   -- ---- operands

@@ -1,4 +1,4 @@
--- The outcome of a test of numbered types holds of the types that they represent.
+-- The outcome of a test of resolved types holds of the types that they represent.
 use Rattle.std.proofs.Common.{◌≡◌, ◌==◌, ◌<◌, ◌≤◌, nat_lt, ℕ, Bool, true, false, ◌&&◌, cond, Option, Some, None, option_map, refl, sym, ap, ◌∙◌, subst, arith}
 use Rattle.std.proofs.lemmas.Bool.{eqb-true, eqb-false, ltb-true, ltb-false}
 use Rattle.cil_model.specs.declared.types.ClassName.{ClassName}
@@ -9,62 +9,62 @@ use Rattle.cil_model.specs.declared.trees.Tree.{Tree}
 use Rattle.cil_model.specs.Same.{same_element}
 use Rattle.cil_model.specs.Assignable.{is_element_assignable, is_assignable_at, is_assignable}
 use Rattle.name_tables.proofs.NumberLaws.{none_is_some}
-use Rattle.resolved_code.specs.declared.types.NumberedElement.{NumberedElement}
-use Rattle.resolved_code.specs.declared.types.NumberedElement.TheVariants.{Int32, Int64, Object, String, Class}
-use Rattle.resolved_code.specs.declared.types.NumberedType.{NumberedType}
+use Rattle.resolved_code.specs.declared.types.ResolvedElement.{ResolvedElement}
+use Rattle.resolved_code.specs.declared.types.ResolvedElement.TheVariants.{Int32, Int64, Object, String, Class}
+use Rattle.resolved_code.specs.declared.types.ResolvedType.{ResolvedType}
 use Rattle.resolved_code.specs.Numbered.{class_name, element_at, type_at}
 use Rattle.resolved_code.specs.declared.type_tests.TypeTest.TheVariants.{Answered}
 use Rattle.resolved_code.specs.TypeTests.{is_object, element_test, type_test, ComesTo}
-use Rattle.resolved_code.proofs.InstructionOperations.ArrayTypes.{with_as_many, with_fewer, with_more}
+use Rattle.resolved_code.proofs.InstructionOperations.ArrayTypes.{with_same_count, with_fewer, with_more}
 
 module _ (tree : Tree) where
-  -- the element that a numbered one represents, case by case
-  data StandsFor : NumberedElement → Element → Type 0 where
-    an_int32 : StandsFor Int32 Int32Element
-    an_int64 : StandsFor Int64 Int64Element
-    an_object : StandsFor Object ObjectElement
-    a_string : StandsFor String StringElement
-    a_class : (n : ℕ) (c : ClassName) → class_name tree n ≡ Some c → StandsFor (Class n) (ClassElement c)
+  -- the element that a resolved one represents, case by case
+  data Refines : ResolvedElement → Element → Type 0 where
+    an_int32 : Refines Int32 Int32Element
+    an_int64 : Refines Int64 Int64Element
+    an_object : Refines Object ObjectElement
+    a_string : Refines String StringElement
+    a_class : (n : ℕ) (c : ClassName) → class_name tree n ≡ Some c → Refines (Class n) (ClassElement c)
 
-  stands_for : (n : NumberedElement) (e : Element) → element_at tree n ≡ Some e → StandsFor n e
-  stands_for Int32 e h = let q : Int32Element ≡ e = cc in subst (StandsFor Int32) q an_int32
-  stands_for Int64 e h = let q : Int64Element ≡ e = cc in subst (StandsFor Int64) q an_int64
-  stands_for Object e h = let q : ObjectElement ≡ e = cc in subst (StandsFor Object) q an_object
-  stands_for String e h = let q : StringElement ≡ e = cc in subst (StandsFor String) q a_string
-  stands_for (Class n) e h = by_name (class_name tree n) refl
+  refines : (n : ResolvedElement) (e : Element) → element_at tree n ≡ Some e → Refines n e
+  refines Int32 e h = let q : Int32Element ≡ e = cc in subst (Refines Int32) q an_int32
+  refines Int64 e h = let q : Int64Element ≡ e = cc in subst (Refines Int64) q an_int64
+  refines Object e h = let q : ObjectElement ≡ e = cc in subst (Refines Object) q an_object
+  refines String e h = let q : StringElement ≡ e = cc in subst (Refines String) q a_string
+  refines (Class n) e h = by_name (class_name tree n) refl
     where
-      by_name : (o : Option ClassName) → class_name tree n ≡ o → StandsFor (Class n) e
+      by_name : (o : Option ClassName) → class_name tree n ≡ o → Refines (Class n) e
       by_name None p = absurd (none_is_some e (sym (ap (option_map ClassElement) p) ∙ h))
-      by_name (Some c) p = let both : Some (ClassElement c) ≡ Some e = sym (ap (option_map ClassElement) p) ∙ h in let q : ClassElement c ≡ e = cc in subst (StandsFor (Class n)) q (a_class n c p)
+      by_name (Some c) p = let both : Some (ClassElement c) ≡ Some e = sym (ap (option_map ClassElement) p) ∙ h in let q : ClassElement c ≡ e = cc in subst (Refines (Class n)) q (a_class n c p)
 
-  element_comes_to : (n m : NumberedElement) (e f : Element) → StandsFor n e → StandsFor m f → ComesTo tree (element_test n m) (is_element_assignable tree e f)
-  element_comes_to _ _ _ _ an_int32 an_int32 = refl
-  element_comes_to _ _ _ _ an_int32 an_int64 = refl
-  element_comes_to _ _ _ _ an_int32 an_object = refl
-  element_comes_to _ _ _ _ an_int32 a_string = refl
-  element_comes_to _ _ _ _ an_int32 (a_class m d k) = refl
-  element_comes_to _ _ _ _ an_int64 an_int32 = refl
-  element_comes_to _ _ _ _ an_int64 an_int64 = refl
-  element_comes_to _ _ _ _ an_int64 an_object = refl
-  element_comes_to _ _ _ _ an_int64 a_string = refl
-  element_comes_to _ _ _ _ an_int64 (a_class m d k) = refl
-  element_comes_to _ _ _ _ an_object an_int32 = refl
-  element_comes_to _ _ _ _ an_object an_int64 = refl
-  element_comes_to _ _ _ _ an_object an_object = refl
-  element_comes_to _ _ _ _ an_object a_string = refl
-  element_comes_to _ _ _ _ an_object (a_class m d k) = refl
-  element_comes_to _ _ _ _ a_string an_int32 = refl
-  element_comes_to _ _ _ _ a_string an_int64 = refl
-  element_comes_to _ _ _ _ a_string an_object = refl
-  element_comes_to _ _ _ _ a_string a_string = refl
-  element_comes_to _ _ _ _ a_string (a_class m d k) = refl
-  element_comes_to _ _ _ _ (a_class n c h) an_int32 = refl
-  element_comes_to _ _ _ _ (a_class n c h) an_int64 = refl
-  element_comes_to _ _ _ _ (a_class n c h) an_object = refl
-  element_comes_to _ _ _ _ (a_class n c h) a_string = refl
-  element_comes_to _ _ _ _ (a_class n c h) (a_class m d k) = (c, d, h, k, refl)
+  element_results_in : (n m : ResolvedElement) (e f : Element) → Refines n e → Refines m f → ComesTo tree (element_test n m) (is_element_assignable tree e f)
+  element_results_in _ _ _ _ an_int32 an_int32 = refl
+  element_results_in _ _ _ _ an_int32 an_int64 = refl
+  element_results_in _ _ _ _ an_int32 an_object = refl
+  element_results_in _ _ _ _ an_int32 a_string = refl
+  element_results_in _ _ _ _ an_int32 (a_class m d k) = refl
+  element_results_in _ _ _ _ an_int64 an_int32 = refl
+  element_results_in _ _ _ _ an_int64 an_int64 = refl
+  element_results_in _ _ _ _ an_int64 an_object = refl
+  element_results_in _ _ _ _ an_int64 a_string = refl
+  element_results_in _ _ _ _ an_int64 (a_class m d k) = refl
+  element_results_in _ _ _ _ an_object an_int32 = refl
+  element_results_in _ _ _ _ an_object an_int64 = refl
+  element_results_in _ _ _ _ an_object an_object = refl
+  element_results_in _ _ _ _ an_object a_string = refl
+  element_results_in _ _ _ _ an_object (a_class m d k) = refl
+  element_results_in _ _ _ _ a_string an_int32 = refl
+  element_results_in _ _ _ _ a_string an_int64 = refl
+  element_results_in _ _ _ _ a_string an_object = refl
+  element_results_in _ _ _ _ a_string a_string = refl
+  element_results_in _ _ _ _ a_string (a_class m d k) = refl
+  element_results_in _ _ _ _ (a_class n c h) an_int32 = refl
+  element_results_in _ _ _ _ (a_class n c h) an_int64 = refl
+  element_results_in _ _ _ _ (a_class n c h) an_object = refl
+  element_results_in _ _ _ _ (a_class n c h) a_string = refl
+  element_results_in _ _ _ _ (a_class n c h) (a_class m d k) = (c, d, h, k, refl)
 
-  object_is : (m : NumberedElement) (f : Element) → StandsFor m f → is_object m ≡ same_element f ObjectElement
+  object_is : (m : ResolvedElement) (f : Element) → Refines m f → is_object m ≡ same_element f ObjectElement
   object_is _ _ an_int32 = refl
   object_is _ _ an_int64 = refl
   object_is _ _ an_object = refl
@@ -72,19 +72,19 @@ module _ (tree : Tree) where
   object_is _ _ (a_class m d k) = refl
 
   -- a type's element and brackets
-  parts : (n : NumberedType) (a : DeclaredType) → type_at tree n ≡ Some a → StandsFor n.element a.element × (n.brackets ≡ a.brackets)
+  parts : (n : ResolvedType) (a : DeclaredType) → type_at tree n ≡ Some a → Refines n.element a.element × (n.brackets ≡ a.brackets)
   parts n a h = by_element (element_at tree n.element) refl
     where
-      by_element : (o : Option Element) → element_at tree n.element ≡ o → StandsFor n.element a.element × (n.brackets ≡ a.brackets)
+      by_element : (o : Option Element) → element_at tree n.element ≡ o → Refines n.element a.element × (n.brackets ≡ a.brackets)
       by_element None p = absurd (none_is_some a (sym (ap (option_map (λ (e : Element). let t : DeclaredType = record { element = e; brackets = n.brackets } in t)) p) ∙ h))
       by_element (Some e) p =
           let t : DeclaredType = record { element = e; brackets = n.brackets } in
           let both : Some t ≡ Some a = sym (ap (option_map (λ (x : Element). let s : DeclaredType = record { element = x; brackets = n.brackets } in s)) p) ∙ h in
           let same : t ≡ a = cc both in
-          (stands_for n.element a.element (p ∙ ap (λ (x : DeclaredType). Some x.element) same), ap (λ (x : DeclaredType). x.brackets) same)
+          (refines n.element a.element (p ∙ ap (λ (x : DeclaredType). Some x.element) same), ap (λ (x : DeclaredType). x.brackets) same)
 
   -- the test, for the types with their brackets apart
-  at_brackets : (n : NumberedElement) (e : Element) (i : ℕ) (m : NumberedElement) (f : Element) (j : ℕ) → StandsFor n e → StandsFor m f →
+  at_brackets : (n : ResolvedElement) (e : Element) (i : ℕ) (m : ResolvedElement) (f : Element) (j : ℕ) → Refines n e → Refines m f →
       ComesTo tree (cond (i == j) (element_test n m) (Answered (nat_lt j i && is_object m))) (is_assignable_at tree e i f j)
   at_brackets n e i m f j h k = by_equal (i == j) refl
     where
@@ -98,13 +98,13 @@ module _ (tree : Tree) where
       by_equal : (b : Bool) → (i == j) ≡ b → ComesTo tree (cond b (element_test n m) (Answered (nat_lt j i && is_object m))) (is_assignable_at tree e i f j)
       by_equal true same =
           let P : Bool → Type 0 = ComesTo tree (element_test n m) in
-          subst P (sym (with_as_many tree e f i) ∙ ap (is_assignable_at tree e i f) (eqb-true i j same)) (element_comes_to n m e f h k)
+          subst P (sym (with_same_count tree e f i) ∙ ap (is_assignable_at tree e i f) (eqb-true i j same)) (element_results_in n m e f h k)
       by_equal false apart = by_order (nat_lt j i) refl apart
 
-  pub type_comes_to : (n m : NumberedType) (a b : DeclaredType) → type_at tree n ≡ Some a → type_at tree m ≡ Some b → ComesTo tree (type_test n m) (is_assignable tree a b)
-  type_comes_to n m a b h k =
-      let from : StandsFor n.element a.element × (n.brackets ≡ a.brackets) = parts n a h in
-      let to : StandsFor m.element b.element × (m.brackets ≡ b.brackets) = parts m b k in
+  pub type_results_in : (n m : ResolvedType) (a b : DeclaredType) → type_at tree n ≡ Some a → type_at tree m ≡ Some b → ComesTo tree (type_test n m) (is_assignable tree a b)
+  type_results_in n m a b h k =
+      let from : Refines n.element a.element × (n.brackets ≡ a.brackets) = parts n a h in
+      let to : Refines m.element b.element × (m.brackets ≡ b.brackets) = parts m b k in
       let P : Bool → Type 0 = ComesTo tree (type_test n m) in
       subst P (ap (λ i. is_assignable_at tree a.element i b.element m.brackets) from.1 ∙ ap (λ j. is_assignable_at tree a.element a.brackets b.element j) to.1)
       (at_brackets n.element a.element n.brackets m.element b.element m.brackets from.0 to.0)

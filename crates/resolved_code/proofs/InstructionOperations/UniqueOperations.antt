@@ -33,24 +33,24 @@ use Rattle.resolved_code.specs.Resolved.{IsField, IsMethod, IsOperation}
 use Rattle.resolved_code.specs.Rules.{all_some, element_rule, field_rule, member_of, method_rule, operation_rule, type_rule, with_owner}
 use Rattle.resolved_code.specs.declared.operations.Operation.{Operation}
 use Rattle.resolved_code.specs.declared.operations.Operation.TheVariants as Resolved
-use Rattle.resolved_code.specs.declared.types.NumberedElement.{NumberedElement}
-use Rattle.resolved_code.specs.declared.types.NumberedElement.TheVariants.{Int32, Int64, Object, String, Class as NumberedClass}
-use Rattle.resolved_code.specs.declared.types.NumberedType.{NumberedType}
-use Rattle.resolved_code.proofs.Numbers.Classes.{first_place, number_of_place}
+use Rattle.resolved_code.specs.declared.types.ResolvedElement.{ResolvedElement}
+use Rattle.resolved_code.specs.declared.types.ResolvedElement.TheVariants.{Int32, Int64, Object, String, Class as ClassById}
+use Rattle.resolved_code.specs.declared.types.ResolvedType.{ResolvedType}
+use Rattle.resolved_code.proofs.Numbers.Classes.{first_index, number_of_index}
 
 -- ---- lists
 
--- an item of a list without a repeat is at one place
-places_once : {X : Type 0} (same : X → X → Bool) → ((x : X) → IsTrue (same x x)) → (xs : List X) (n m : ℕ) (x : X) → has_repeat same xs ≡ false → slice_get xs n ≡ Some x → slice_get xs m ≡ Some x → n ≡ m
-places_once same itself [] n m x h e f = none_is_some x e
-places_once same itself (y ∷ ys) zero zero x h e f = refl
-places_once same itself (y ∷ ys) zero (suc m) x h e f =
+-- an item of a list without a repeat is at one index
+indices_once : {X : Type 0} (same : X → X → Bool) → ((x : X) → IsTrue (same x x)) → (xs : List X) (n m : ℕ) (x : X) → has_repeat same xs ≡ false → slice_get xs n ≡ Some x → slice_get xs m ≡ Some x → n ≡ m
+indices_once same itself [] n m x h e f = none_is_some x e
+indices_once same itself (y ∷ ys) zero zero x h e f = refl
+indices_once same itself (y ∷ ys) zero (suc m) x h e f =
     let s : y ≡ x = same_Some y x e in
     never (sym (passes_not (same y) ys m x (or_parts _ _ h).0 f) ∙ (ap (λ z. same z x) s ∙ itself x))
-places_once same itself (y ∷ ys) (suc n) zero x h e f =
+indices_once same itself (y ∷ ys) (suc n) zero x h e f =
     let s : y ≡ x = same_Some y x f in
     never (sym (passes_not (same y) ys n x (or_parts _ _ h).0 e) ∙ (ap (λ z. same z x) s ∙ itself x))
-places_once same itself (y ∷ ys) (suc n) (suc m) x h e f = ap suc (places_once same itself ys n m x (or_parts _ _ h).1 e f)
+indices_once same itself (y ∷ ys) (suc n) (suc m) x h e f = ap suc (indices_once same itself ys n m x (or_parts _ _ h).1 e f)
 
 all_there : {Y : Type 0} (ys : List Y) → all_some (map Some ys) ≡ Some ys
 all_there [] = refl
@@ -78,27 +78,27 @@ module _ (tree : Tree) (legal : IsLegal tree) where
     where
       by_entry : (o : Option (ClassName × Declaration)) → slice_get (declarations tree) n ≡ o → option_map (λ (x : ClassName × Declaration). x.0) o ≡ Some c → class_number tree c ≡ Some n
       by_entry None is h = none_is_some c h
-      by_entry (Some x) is h = subst (λ d. class_number tree d ≡ Some n) (same_Some x.0 c h) (number_of_place tree legal n x is)
+      by_entry (Some x) is h = subst (λ d. class_number tree d ≡ Some n) (same_Some x.0 c h) (number_of_index tree legal n x is)
 
-  element_is : (x : NumberedElement) (e : Element) → element_at tree x ≡ Some e → element_rule tree e ≡ Some x
+  element_is : (x : ResolvedElement) (e : Element) → element_at tree x ≡ Some e → element_rule tree e ≡ Some x
   element_is Int32 e h = sym (ap (element_rule tree) (same_Some Types.Int32 e h))
   element_is Int64 e h = sym (ap (element_rule tree) (same_Some Types.Int64 e h))
   element_is Object e h = sym (ap (element_rule tree) (same_Some Types.Object e h))
   element_is String e h = sym (ap (element_rule tree) (same_Some Types.String e h))
-  element_is (NumberedClass n) e h = by_name (class_name tree n) refl h
+  element_is (ClassById n) e h = by_name (class_name tree n) refl h
     where
-      by_name : (o : Option ClassName) → class_name tree n ≡ o → option_map Types.Class o ≡ Some e → element_rule tree e ≡ Some (NumberedClass n)
+      by_name : (o : Option ClassName) → class_name tree n ≡ o → option_map Types.Class o ≡ Some e → element_rule tree e ≡ Some (ClassById n)
       by_name None is k = none_is_some e k
-      by_name (Some c) is k = sym (ap (element_rule tree) (same_Some (Types.Class c) e k)) ∙ ap (option_map NumberedClass) (number_is n c is)
+      by_name (Some c) is k = sym (ap (element_rule tree) (same_Some (Types.Class c) e k)) ∙ ap (option_map ClassById) (number_is n c is)
 
-  type_is : (n : NumberedType) (t : DeclaredType) → type_at tree n ≡ Some t → type_rule tree t ≡ Some n
+  type_is : (n : ResolvedType) (t : DeclaredType) → type_at tree n ≡ Some t → type_rule tree t ≡ Some n
   type_is n t h = by_element (element_at tree n.element) refl h
     where
       by_element : (o : Option Element) → element_at tree n.element ≡ o → option_map {U = DeclaredType} (λ e. record { element = e; brackets = n.brackets }) o ≡ Some t → type_rule tree t ≡ Some n
       by_element None is k = none_is_some t k
       by_element (Some e) is k =
           subst (λ u. type_rule tree u ≡ Some n) (same_Some (record { element = e; brackets = n.brackets }) t k)
-          (ap (option_map {U = NumberedType} (λ x. record { element = x; brackets = n.brackets })) (element_is n.element e is))
+          (ap (option_map {U = ResolvedType} (λ x. record { element = x; brackets = n.brackets })) (element_is n.element e is))
 
   -- ---- members
 
@@ -128,26 +128,26 @@ module _ (tree : Tree) (legal : IsLegal tree) where
       member_once p q x e f =
           let m = member_is p x e in
           let k = member_is q x f in
-          let classes : p.0 ≡ q.0 = same_Some p.0 q.0 (sym (number_of_place tree legal p.0 (x.0, m.declaration) m.entry) ∙ number_of_place tree legal q.0 (x.0, k.declaration) k.entry) in
+          let classes : p.0 ≡ q.0 = same_Some p.0 q.0 (sym (number_of_index tree legal p.0 (x.0, m.declaration) m.entry) ∙ number_of_index tree legal q.0 (x.0, k.declaration) k.entry) in
           let entries : (x.0, m.declaration) ≡ (x.0, k.declaration) = same_Some _ _ (sym m.entry ∙ (ap (slice_get (declarations tree)) classes ∙ k.entry)) in
           let other : slice_get (part m.declaration) q.1 ≡ Some x.1 = ap (λ (y : ClassName × Declaration). slice_get (part y.1) q.1) entries ∙ k.there in
-          let places : p.1 ≡ q.1 = places_once same itself (part m.declaration) p.1 q.1 x.1 (once p.0 (x.0, m.declaration) m.entry) m.there other in
-          ap (λ (n : ℕ). (n, p.1)) classes ∙ ap (λ (n : ℕ). (q.0, n)) places
+          let indices : p.1 ≡ q.1 = indices_once same itself (part m.declaration) p.1 q.1 x.1 (once p.0 (x.0, m.declaration) m.entry) m.there other in
+          ap (λ (n : ℕ). (n, p.1)) classes ∙ ap (λ (n : ℕ). (q.0, n)) indices
 
-      -- what is found has the number of its place
+      -- what is found has the number of its index
       found_is : (o : Option (ℕ × ℕ)) (found : Option (ClassName × X)) → option_map (member_at part tree) o ≡ option_map Some found
-          → (x : ClassName × X) → found ≡ Some x → (m : MemberNumber) → member_at part tree (m.class, m.place) ≡ Some x → option_map member_of o ≡ Some m
+          → (x : ClassName × X) → found ≡ Some x → (m : MemberNumber) → member_at part tree (m.class, m.index) ≡ Some x → option_map member_of o ≡ Some m
       found_is None found alike x is m e = none_is_some (Some x) (alike ∙ ap (option_map Some) is)
-      found_is (Some p) found alike x is m e = ap (λ (y : ℕ × ℕ). Some (member_of y)) (member_once p (m.class, m.place) x (same_Some _ _ (alike ∙ ap (option_map Some) is)) e)
+      found_is (Some p) found alike x is m e = ap (λ (y : ℕ × ℕ). Some (member_of y)) (member_once p (m.class, m.index) x (same_Some _ _ (alike ∙ ap (option_map Some) is)) e)
 
   abbrev same_name : Field → Field → Bool
   same_name a b = same_text a.name b.name
 
   -- two fields of a name, or two methods of a name and signature
-  abbrev doubled : ClassName × Declaration → Bool
-  doubled e = has_repeat same_name e.1.fields || has_repeat same_method e.1.methods
+  abbrev duplicates : ClassName × Declaration → Bool
+  duplicates e = has_repeat same_name e.1.fields || has_repeat same_method e.1.methods
 
-  source_once : (cs : List Class) → list_any class_doubles cs ≡ false → list_any doubled (map source_entry cs) ≡ false
+  source_once : (cs : List Class) → list_any class_doubles cs ≡ false → list_any duplicates (map source_entry cs) ≡ false
   source_once [] h = refl
   source_once (c ∷ cs) h =
       let members = (or_parts _ _ (or_parts _ _ (or_parts _ _ h).0).0).0 in
@@ -157,17 +157,17 @@ module _ (tree : Tree) (legal : IsLegal tree) where
       by_kind Interface k = refl
       by_kind (PlainClass is_abstract base interfaces) k = k
 
-  all_once : list_any doubled (declarations tree) ≡ false
+  all_once : list_any duplicates (declarations tree) ≡ false
   all_once = let h : doubles_name tree ≡ false = (unbroken _ 201 _ legal).0 in source_once tree.classes (or_parts _ _ h).1
 
   field_is : (is_static : Bool) (r : FieldReference) (m : MemberNumber) → IsField tree is_static r m → field_rule tree is_static r ≡ Some m
   field_is is_static r m f =
-      found_is (λ d. d.fields) same_name (λ x. same_text_itself x.name) (λ n e there. (or_parts _ _ (passes_not doubled (declarations tree) n e all_once there)).0)
+      found_is (λ d. d.fields) same_name (λ x. same_text_itself x.name) (λ n e there. (or_parts _ _ (passes_not duplicates (declarations tree) n e all_once there)).0)
       (field_number tree is_static r) (find_field tree is_static r) (field_is_numbered tree is_static r) (f.declared_in, f.found) f.finds m f.numbered
 
   method_is : (is_instance : Bool) (r : MethodReference) (m : MemberNumber) → IsMethod tree is_instance r m → method_rule tree is_instance r ≡ Some m
   method_is is_instance r m f =
-      found_is (λ d. d.methods) same_method (λ x. and_from _ _ (same_method_name_itself x.name) (same_signature_itself x.signature)) (λ n e there. (or_parts _ _ (passes_not doubled (declarations tree) n e all_once there)).1)
+      found_is (λ d. d.methods) same_method (λ x. and_from _ _ (same_method_name_itself x.name) (same_signature_itself x.signature)) (λ n e there. (or_parts _ _ (passes_not duplicates (declarations tree) n e all_once there)).1)
       (method_number tree is_instance r) (find_method tree is_instance r) (method_is_numbered tree is_instance r) (f.declared_in, f.found) f.finds m f.numbered
 
   with_owner_is : (c : ClassName) (make : ℕ → MemberNumber → Operation) (o : Option MemberNumber) (owner : ℕ) (m : MemberNumber) → class_name tree owner ≡ Some c → o ≡ Some m → with_owner tree c make o ≡ Some (make owner m)
@@ -177,7 +177,7 @@ module _ (tree : Tree) (legal : IsLegal tree) where
   -- ---- instructions
 
   literal_is : (s : List ℕ) (n : ℕ) → slice_get (literals_of tree) n ≡ Some s → position_from (same_text s) 0 (literals_of tree) ≡ Some n
-  literal_is s n there = first_place same_text same_text_itself text_equivalence.symm (literals_of tree) n s (each_stands_once same_text (filter_map literal_of (instructions_of_tree tree))) there
+  literal_is s n there = first_index same_text same_text_itself text_equivalence.symm (literals_of tree) n s (each_stands_once same_text (filter_map literal_of (instructions_of_tree tree))) there
 
   module _ (lines : List Line) where
     operation_is : (i : Instruction) (o : Operation) → IsOperation tree lines i o → operation_rule tree lines i ≡ Some o
@@ -206,11 +206,11 @@ module _ (tree : Tree) (legal : IsLegal tree) where
     operation_is _ _ (IsOperation.shift x) = refl
     operation_is _ _ (IsOperation.compare x) = refl
     operation_is _ _ (IsOperation.load_string s n there) = ap (option_map Resolved.LoadString) (literal_is s n there)
-    operation_is _ _ (IsOperation.branch label place is) = ap (option_map Resolved.Branch) is
-    operation_is _ _ (IsOperation.branch_true label place is) = ap (option_map Resolved.BranchTrue) is
-    operation_is _ _ (IsOperation.branch_false label place is) = ap (option_map Resolved.BranchFalse) is
-    operation_is _ _ (IsOperation.branch_compare op label place is) = ap (option_map (Resolved.BranchCompare op)) is
-    operation_is _ _ (IsOperation.switch labels places are) = ap (option_map Resolved.Switch) (ap all_some are ∙ all_there places)
+    operation_is _ _ (IsOperation.branch label index is) = ap (option_map Resolved.Branch) is
+    operation_is _ _ (IsOperation.branch_true label index is) = ap (option_map Resolved.BranchTrue) is
+    operation_is _ _ (IsOperation.branch_false label index is) = ap (option_map Resolved.BranchFalse) is
+    operation_is _ _ (IsOperation.branch_compare op label index is) = ap (option_map (Resolved.BranchCompare op)) is
+    operation_is _ _ (IsOperation.switch labels indices are) = ap (option_map Resolved.Switch) (ap all_some are ∙ all_there indices)
     operation_is _ _ (IsOperation.load_field r owner field named f) = with_owner_is r.owner Resolved.LoadField (field_rule tree false r) owner field named (field_is false r field f)
     operation_is _ _ (IsOperation.store_field r owner field named f) = with_owner_is r.owner Resolved.StoreField (field_rule tree false r) owner field named (field_is false r field f)
     operation_is _ _ (IsOperation.load_static_field r field f) = ap (option_map Resolved.LoadStaticField) (field_is true r field f)

@@ -27,7 +27,7 @@ use Rattle.cil_model.specs.declared.trees.Code.{Code}
 use Rattle.cil_model.specs.declared.trees.Line.{Line}
 use Rattle.cil_model.specs.Same.{same_text}
 use Rattle.cil_model.specs.Declarations.{Declaration, built_ins, declaration_of, source_class, declared_as, field_members, method_members, fields_unless_interface, base_named, interfaces_named, is_interface_kind}
-use Rattle.cil_model.specs.Bodies.{code_of, lines_of, labels_of, place_of, virtual_reference, constructor_reference}
+use Rattle.cil_model.specs.Bodies.{code_of, lines_of, labels_of, pc_of, virtual_reference, constructor_reference}
 use Rattle.cil_model.specs.Chains.{find_field, find_method, longest_chain, classes_searched}
 use Rattle.cil_model.specs.Mentions.{bases_named, literal_of, literals_of, types_of_instruction, types_of_method, types_of_signature, types_of_tree, instructions_of, instructions_of_tree, methods_of_tree, class_of_element, class_types_of_tree, class_names_of_tree, owners_of_instruction}
 use Rattle.cil_model.specs.Legality.{IsLegal, is_known_extern, is_resolved, class_finds, is_possible_base, is_possible_type, is_source_interface, passes_source, finds_labels, finds_member}
@@ -35,8 +35,8 @@ use Rattle.cil_model.proofs.Lists.{list_all-flat_map, list_all-filter_map}
 use Rattle.cil_model.proofs.SameLaws.{both_first, both_second, never}
 use Rattle.cil_model.proofs.Legal.{names_found}
 use Rattle.name_tables.specs.Sameness.{same_field, same_called, called_of}
-use Rattle.name_tables.specs.Numbers.{class_number, place_in, nearest_number, field_number, method_number, field_at, method_at, declarations, source_entry}
-use Rattle.name_tables.proofs.FirstPlaces.{is_some-position_from}
+use Rattle.name_tables.specs.Numbers.{class_number, index_in, nearest_number, field_number, method_number, field_at, method_at, declarations, source_entry}
+use Rattle.name_tables.proofs.FirstIndices.{is_some-position_from}
 use Rattle.name_tables.proofs.NumberLaws.{declared_at_none, field_is_numbered, method_is_numbered, numbers_of_unknown}
 use Rattle.name_tables.specs.declared.lookups.MemberNumber.{MemberNumber}
 use Rattle.resolved_code.specs.declared.operations.Operation.{Operation}
@@ -155,7 +155,7 @@ module _ (tree : Tree) where
   field_owner is_static r h = by_number (class_number tree r.owner) refl
     where
       by_number : (o : Option ℕ) → class_number tree r.owner ≡ o → is_some o ≡ true
-      by_number None e = never (sym (ap (λ ns. is_some (nearest_number (place_in (λ d. d.fields) (same_field (record { is_static = is_static; field_type = r.field_type; name = r.name })) tree) ns)) (numbers_of_unknown tree (longest_chain tree) r.owner e)) ∙ h)
+      by_number None e = never (sym (ap (λ ns. is_some (nearest_number (index_in (λ d. d.fields) (same_field (record { is_static = is_static; field_type = r.field_type; name = r.name })) tree) ns)) (numbers_of_unknown tree (longest_chain tree) r.owner e)) ∙ h)
       by_number (Some n) e = refl
 
   method_there : (is_instance : Bool) (r : MethodReference) → is_some (find_method tree is_instance r) ≡ true → is_some (method_number tree is_instance r) ≡ true
@@ -169,7 +169,7 @@ module _ (tree : Tree) where
   method_owner is_instance r h = by_number (class_number tree r.owner) refl
     where
       by_number : (o : Option ℕ) → class_number tree r.owner ≡ o → is_some o ≡ true
-      by_number None e = never (sym (ap (λ ns. is_some (nearest_number (place_in (λ d. d.methods) (λ m. same_called (record { name = r.name; signature = r.signature }, not is_instance) (called_of m)) tree) ns)) (none_searched r.name r.owner e)) ∙ h)
+      by_number None e = never (sym (ap (λ ns. is_some (nearest_number (index_in (λ d. d.methods) (λ m. same_called (record { name = r.name; signature = r.signature }, not is_instance) (called_of m)) tree) ns)) (none_searched r.name r.owner e)) ∙ h)
       by_number (Some n) e = refl
 
   -- ---- instructions
@@ -181,7 +181,7 @@ module _ (tree : Tree) where
   literal_test i = option_map_or is_literal_there (literal_of i) true
 
   abbrev label_test : List Line → Instruction → Bool
-  label_test lines i = list_all (λ label. is_some (place_of label lines)) (labels_of i)
+  label_test lines i = list_all (λ label. is_some (pc_of label lines)) (labels_of i)
 
   abbrev operand_test : Instruction → Bool
   operand_test i = list_all is_type_found (types_of_instruction i)
@@ -218,11 +218,11 @@ module _ (tree : Tree) where
     operation_found (Named.Compare op) t l m s = refl
     operation_found Named.ConvertInt32 t l m s = refl
     operation_found Named.ConvertInt64 t l m s = refl
-    operation_found (Named.Branch label) t l m s = kept _ (place_of label lines) (both_first _ _ l)
-    operation_found (Named.BranchTrue label) t l m s = kept _ (place_of label lines) (both_first _ _ l)
-    operation_found (Named.BranchFalse label) t l m s = kept _ (place_of label lines) (both_first _ _ l)
-    operation_found (Named.BranchCompare op label) t l m s = kept _ (place_of label lines) (both_first _ _ l)
-    operation_found (Named.Switch labels) t l m s = kept _ (all_some (map (λ label. place_of label lines) labels)) (all_there (λ label. place_of label lines) labels l)
+    operation_found (Named.Branch label) t l m s = kept _ (pc_of label lines) (both_first _ _ l)
+    operation_found (Named.BranchTrue label) t l m s = kept _ (pc_of label lines) (both_first _ _ l)
+    operation_found (Named.BranchFalse label) t l m s = kept _ (pc_of label lines) (both_first _ _ l)
+    operation_found (Named.BranchCompare op label) t l m s = kept _ (pc_of label lines) (both_first _ _ l)
+    operation_found (Named.Switch labels) t l m s = kept _ (all_some (map (λ label. pc_of label lines) labels)) (all_there (λ label. pc_of label lines) labels l)
     operation_found (Named.LoadField r) t l m s = on_field lines _ r false m
     operation_found (Named.StoreField r) t l m s = on_field lines _ r false m
     operation_found (Named.LoadStaticField r) t l m s = kept _ (option_map member_of (field_number tree true r)) (kept _ (field_number tree true r) (field_there true r m))

@@ -1,13 +1,13 @@
--- The place of a label among all labels leads to the line that it is before.
+-- The index of a label among all labels leads to the line that it is before.
 use Rattle.std.proofs.Common.{◌≡◌, ℕ, suc, ◌+◌, Bool, true, false, cond, ◌||◌, List, [], ◌∷◌, ◌++◌, map, option_map, option_and_then, Option, Some, None, slice_get, refl, sym, ap, ◌∙◌, ◌<◌, length, take, get_or, arith, append_assoc, length-take-le}
 use Rattle.std.specs.Prelude.{flat_map}
 use Rattle.std.proofs.lemmas.List.{take_more, append-nil}
 use Rattle.std.specs.List.{position_from, list_any}
 use Rattle.cil_model.specs.declared.trees.Line.{Line}
 use Rattle.cil_model.specs.Same.{same_text}
-use Rattle.cil_model.specs.Bodies.{place_of}
+use Rattle.cil_model.specs.Bodies.{pc_of}
 use Rattle.name_tables.proofs.NumberLaws.{position_from-suc}
-use Rattle.resolved_code.specs.LabelPlaces.{label_places}
+use Rattle.resolved_code.specs.LabelIndices.{label_indices}
 
 module _ {K X : Type 0} (test : K → Bool) where
   -- the item beside the first key that passes
@@ -34,25 +34,25 @@ module _ {K X : Type 0} (test : K → Bool) where
 abbrev has_label : List ℕ → Line → Bool
 has_label label line = list_any (same_text label) line.labels
 
-placed_from : (label : List ℕ) (i : ℕ) (lines : List Line) → option_and_then (slice_get (label_places i lines)) (position_from (same_text label) 0 (flat_map (λ (line : Line). line.labels) lines)) ≡ position_from (has_label label) i lines
+placed_from : (label : List ℕ) (i : ℕ) (lines : List Line) → option_and_then (slice_get (label_indices i lines)) (position_from (same_text label) 0 (flat_map (λ (line : Line). line.labels) lines)) ≡ position_from (has_label label) i lines
 placed_from label i [] = refl
 placed_from label i (line ∷ lines) =
-    beside_many (same_text label) line.labels i (flat_map (λ (x : Line). x.labels) lines) (label_places (i + 1) lines) ∙
+    beside_many (same_text label) line.labels i (flat_map (λ (x : Line). x.labels) lines) (label_indices (i + 1) lines) ∙
     ap (λ o. cond (has_label label line) (Some i) o) (placed_from label (i + 1) lines)
 
-pub placed : (label : List ℕ) (lines : List Line) → option_and_then (slice_get (label_places 0 lines)) (position_from (same_text label) 0 (flat_map (λ (line : Line). line.labels) lines)) ≡ place_of label lines
+pub placed : (label : List ℕ) (lines : List Line) → option_and_then (slice_get (label_indices 0 lines)) (position_from (same_text label) 0 (flat_map (λ (line : Line). line.labels) lines)) ≡ pc_of label lines
 placed label lines = placed_from label 0 lines
 
 -- one more line
-label_places_end : (i n : ℕ) (xs : List Line) (line : Line) → n ≡ i + length xs → label_places i (xs ++ line ∷ []) ≡ label_places i xs ++ map (λ label. n) line.labels
-label_places_end i n [] line e =
+label_indices_end : (i n : ℕ) (xs : List Line) (line : Line) → n ≡ i + length xs → label_indices i (xs ++ line ∷ []) ≡ label_indices i xs ++ map (λ label. n) line.labels
+label_indices_end i n [] line e =
     let f : n ≡ i = omega (arith, e) in
     append-nil (map (λ label. i) line.labels) ∙ sym (ap (λ m. map (λ label. m) line.labels) f)
-label_places_end i n (x ∷ xs) line e =
-    ap (λ z. map (λ label. i) x.labels ++ z) (label_places_end (i + 1) n xs line (omega (arith, e))) ∙ sym (append_assoc (map (λ label. i) x.labels) (label_places (i + 1) xs) (map (λ label. n) line.labels))
+label_indices_end i n (x ∷ xs) line e =
+    ap (λ z. map (λ label. i) x.labels ++ z) (label_indices_end (i + 1) n xs line (omega (arith, e))) ∙ sym (append_assoc (map (λ label. i) x.labels) (label_indices (i + 1) xs) (map (λ label. n) line.labels))
 
-pub label_places_more : (lines : List Line) (i : ℕ) (line : Line) → i < length lines → line ≡ get_or lines i line → label_places 0 (take (i + 1) lines) ≡ label_places 0 (take i lines) ++ map (λ label. i) line.labels
-label_places_more lines i line l e =
-    ap (label_places 0) (take_more lines i line l ∙ ap (λ x. take i lines ++ x ∷ []) (sym e)) ∙ (
+pub label_indices_more : (lines : List Line) (i : ℕ) (line : Line) → i < length lines → line ≡ get_or lines i line → label_indices 0 (take (i + 1) lines) ≡ label_indices 0 (take i lines) ++ map (λ label. i) line.labels
+label_indices_more lines i line l e =
+    ap (label_indices 0) (take_more lines i line l ∙ ap (λ x. take i lines ++ x ∷ []) (sym e)) ∙ (
     let k : length (take i lines) ≡ i = length-take-le i lines (omega (arith, l)) in
-    label_places_end 0 i (take i lines) line (omega (arith, k)))
+    label_indices_end 0 i (take i lines) line (omega (arith, k)))

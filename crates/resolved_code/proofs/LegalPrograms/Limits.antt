@@ -8,7 +8,7 @@ use Rattle.cil_model.specs.declared.trees.Tree.{Tree}
 use Rattle.cil_model.specs.declared.limits.TheConstants.{MOST_CLASSES, MOST_METHODS, MOST_STATIC_FIELDS, MOST_BRACKETS}
 use Rattle.cil_model.specs.Fields.{static_fields}
 use Rattle.cil_model.specs.Mentions.{methods_of_tree, types_of_tree}
-use Rattle.cil_model.specs.Legality.{IsLegal, first_broken, doubles_name, lacks_name, has_cycle, lacks_implementation, misfits_kind, lacks_entry, is_small_class, passes_limit}
+use Rattle.cil_model.specs.Legality.{IsLegal, first_broken, doubles_name, lacks_name, has_cycle, lacks_implementation, has_kind_mismatch, lacks_entry, is_small_class, passes_limit}
 use Rattle.cil_model.proofs.Lists.{none_is_some}
 use Rattle.std.proofs.lemmas.Option.{same_Some}
 use Rattle.cil_model.proofs.SameLaws.{both_first, both_second}
@@ -27,7 +27,7 @@ module _ (tree : Tree) (legal : IsLegal tree) where
       list_all (λ (t : DeclaredType). nat_le t.brackets MOST_BRACKETS) (types_of_tree tree) && list_all (is_small_class tree) tree.classes)
   limits_kept =
       let rules : List (ℕ × Bool) =
-      (201, doubles_name tree) ∷ (202, lacks_name tree) ∷ (203, has_cycle tree) ∷ (204, lacks_implementation tree) ∷ (205, misfits_kind tree) ∷ (206, lacks_entry tree) ∷ (207, passes_limit tree) ∷ [] in
+      (201, doubles_name tree) ∷ (202, lacks_name tree) ∷ (203, has_cycle tree) ∷ (204, lacks_implementation tree) ∷ (205, has_kind_mismatch tree) ∷ (206, lacks_entry tree) ∷ (207, passes_limit tree) ∷ [] in
       sym (not-not _) ∙ kept rules 6 (207, passes_limit tree) legal refl
 
   -- the source has few classes

@@ -1,4 +1,4 @@
--- Lists whose items are related, place by place: their lengths, and the item that is related to one.
+-- Lists whose items are related, index by index: their lengths, and the item that is related to one.
 use Rattle.std.proofs.Common.{◌≡◌, ℕ, zero, suc, List, [], ◌∷◌, length, None, Some, slice_get, refl, sym, ap, subst}
 use Rattle.name_tables.proofs.NumberLaws.{none_is_some}
 use Rattle.resolved_code.specs.Resolved.{AllAlike}

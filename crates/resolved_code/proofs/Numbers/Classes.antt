@@ -13,18 +13,18 @@ use Rattle.cil_model.proofs.SameLaws.{same_class_equal, same_class_itself, class
 use Rattle.cil_model.proofs.Legal.{unbroken}
 use Rattle.cil_model.proofs.Lists.{passes_not, has_repeat-map}
 use Rattle.name_tables.specs.Numbers.{class_number, declarations, source_entry}
-use Rattle.name_tables.proofs.NumberLaws.{IsNumbered, numbered, none_is_some, position_from-suc}
+use Rattle.name_tables.proofs.NumberLaws.{HasId, numbered, none_is_some, position_from-suc}
 
--- where no item occurs twice, each is found at its own place
-pub first_place : {X : Type 0} (same : X → X → Bool) → ((x : X) → IsTrue (same x x)) → ((x y : X) → same x y ≡ same y x) → (xs : List X) (n : ℕ) (x : X) →
+-- where no item occurs twice, each is found at its own index
+pub first_index : {X : Type 0} (same : X → X → Bool) → ((x : X) → IsTrue (same x x)) → ((x y : X) → same x y ≡ same y x) → (xs : List X) (n : ℕ) (x : X) →
     has_repeat same xs ≡ false → slice_get xs n ≡ Some x → position_from (same x) 0 xs ≡ Some n
-first_place same itself symm [] n x h e = absurd (none_is_some x e)
-first_place {X} same itself symm (y ∷ ys) zero x h e =
+first_index same itself symm [] n x h e = absurd (none_is_some x e)
+first_index {X} same itself symm (y ∷ ys) zero x h e =
     let s : y ≡ x = cc in
     ap (λ (z : X). cond (same x z) (Some 0) (position_from (same x) 1 ys)) s ∙ ap (λ b. cond b (Some 0) (position_from (same x) 1 ys)) (itself x)
-first_place same itself symm (y ∷ ys) (suc n) x h e =
+first_index same itself symm (y ∷ ys) (suc n) x h e =
     let apart : same x y ≡ false = symm x y ∙ passes_not (same y) ys n x (or_parts _ _ h).0 e in
-    ap (λ b. cond b (Some 0) (position_from (same x) 1 ys)) apart ∙ position_from-suc (same x) 0 ys ∙ ap (option_map suc) (first_place same itself symm ys n x (or_parts _ _ h).1 e)
+    ap (λ b. cond b (Some 0) (position_from (same x) 1 ys)) apart ∙ position_from-suc (same x) 0 ys ∙ ap (option_map suc) (first_index same itself symm ys n x (or_parts _ _ h).1 e)
 
 module _ (tree : Tree) where
   -- ---- no class occurs twice
@@ -50,9 +50,9 @@ module _ (tree : Tree) where
       or_from _ _ (none_in_source mscorlib (codes "System.Threading.Monitor") tree.classes) (
       or_from _ _ (none_in_source cilvm (codes "Cilvm.Thread") tree.classes) among))))
 
-  -- a class's place is the number of its name
-  pub number_of_place : IsLegal tree → (n : ℕ) (e : ClassName × Declaration) → slice_get (declarations tree) n ≡ Some e → class_number tree e.0 ≡ Some n
-  number_of_place legal n e h = first_place same_entry (λ x. same_class_itself x.0) (λ x y. class_equivalence.symm x.0 y.0) (declarations tree) n e (entries_stand_once legal) h
+  -- a class's index is the number of its name
+  pub number_of_index : IsLegal tree → (n : ℕ) (e : ClassName × Declaration) → slice_get (declarations tree) n ≡ Some e → class_number tree e.0 ≡ Some n
+  number_of_index legal n e h = first_index same_entry (λ x. same_class_itself x.0) (λ x y. class_equivalence.symm x.0 y.0) (declarations tree) n e (entries_stand_once legal) h
 
   -- ---- two names have one number only where they are the same
 
@@ -60,10 +60,10 @@ module _ (tree : Tree) where
   FoundAt c n = (d : Declaration) × (declaration_of tree c ≡ Some d) × (slice_get (declarations tree) n ≡ Some (c, d))
 
   pub found_at : (c : ClassName) (n : ℕ) → class_number tree c ≡ Some n → FoundAt c n
-  found_at c n e = subst (IsNumbered tree c) e (numbered tree c)
+  found_at c n e = subst (HasId tree c) e (numbered tree c)
 
   pub not_declared : (c : ClassName) → class_number tree c ≡ None → declaration_of tree c ≡ None
-  not_declared c e = subst (IsNumbered tree c) e (numbered tree c)
+  not_declared c e = subst (HasId tree c) e (numbered tree c)
 
   pub known_apart : (c x : ClassName) (n : ℕ) → class_number tree c ≡ Some n → class_number tree x ≡ None → same_class c x ≡ false
   known_apart c x n e p = by_test (same_class c x) refl

@@ -16,7 +16,7 @@ use Rattle.cil_model.specs.Legality.{IsLegal, is_entry_method}
 use Rattle.cil_model.proofs.Legal.{entry_alone}
 use Rattle.name_tables.specs.declared.lookups.MemberNumber.{MemberNumber}
 use Rattle.name_tables.specs.Numbers.{declarations, source_entry, method_at}
-use Rattle.name_tables.proofs.NumberLaws.{none_is_some, found_at_place, find-append, find-map}
+use Rattle.name_tables.proofs.NumberLaws.{none_is_some, found_at_index, find-append, find-map}
 use Rattle.resolved_code.specs.Contents.{entry_from, IsEntryPoint}
 
 abbrev with_class : ClassName × Declaration → List (ClassName × Method)
@@ -38,12 +38,12 @@ never_none (Some x) h e = cc
 -- numbers after one more class
 shifted : (n : ℕ) (es : List (ClassName × Declaration)) → entry_from (suc n) es ≡ option_map further (entry_from n es)
 shifted n [] = refl
-shifted n (e ∷ es) = by_place (position_from is_entry_point 0 e.1.methods) (shifted (suc n) es)
+shifted n (e ∷ es) = by_index (position_from is_entry_point 0 e.1.methods) (shifted (suc n) es)
   where
-    by_place : (o : Option ℕ) → entry_from (suc (suc n)) es ≡ option_map further (entry_from (suc n) es) →
-        option_map_or (λ place. Some (suc n, place)) o (entry_from (suc (suc n)) es) ≡ option_map further (option_map_or (λ place. Some (n, place)) o (entry_from (suc n) es))
-    by_place None rest = rest
-    by_place (Some place) rest = refl
+    by_index : (o : Option ℕ) → entry_from (suc (suc n)) es ≡ option_map further (entry_from (suc n) es) →
+        option_map_or (λ index. Some (suc n, index)) o (entry_from (suc (suc n)) es) ≡ option_map further (option_map_or (λ index. Some (n, index)) o (entry_from (suc n) es))
+    by_index None rest = rest
+    by_index (Some index) rest = refl
 
 abbrev naming : ClassName × Declaration → Method → ClassName × Method
 naming e m = (e.0, m)
@@ -55,19 +55,19 @@ either o p = cond (is_some o) o p
 first_at : (es : List (ClassName × Declaration)) → option_map (at es) (entry_from 0 es) ≡ option_map Some (find is_entry (flat_map with_class es))
 first_at [] = refl
 first_at (e ∷ es) =
-    by_place (position_from is_entry_point 0 e.1.methods) (find is_entry_point e.1.methods) (found_at_place is_entry_point e.1.methods) (first_at es) ∙
+    by_index (position_from is_entry_point 0 e.1.methods) (find is_entry_point e.1.methods) (found_at_index is_entry_point e.1.methods) (first_at es) ∙
     sym (ap (option_map Some) (find-append is_entry (with_class e) (flat_map with_class es) ∙ ap (λ o. either o (find is_entry (flat_map with_class es))) (find-map (naming e) is_entry e.1.methods)))
   where
     moved : (o : Option (ℕ × ℕ)) → option_map (at (e ∷ es)) (option_map further o) ≡ option_map (at es) o
     moved None = refl
     moved (Some number) = refl
 
-    by_place : (o : Option ℕ) (f : Option Method) → option_map (slice_get e.1.methods) o ≡ option_map Some f → option_map (at es) (entry_from 0 es) ≡ option_map Some (find is_entry (flat_map with_class es)) →
-        option_map (at (e ∷ es)) (option_map_or (λ place. Some (0, place)) o (entry_from (suc 0) es)) ≡ option_map Some (either (option_map (naming e) f) (find is_entry (flat_map with_class es)))
-    by_place None None h rest = ap (option_map (at (e ∷ es))) (shifted 0 es) ∙ moved (entry_from 0 es) ∙ rest
-    by_place (Some place) (Some m) h rest = ap (option_map (option_map (naming e))) h
-    by_place None (Some m) h rest = absurd (none_is_some _ h)
-    by_place (Some place) None h rest = absurd (none_is_some _ (sym h))
+    by_index : (o : Option ℕ) (f : Option Method) → option_map (slice_get e.1.methods) o ≡ option_map Some f → option_map (at es) (entry_from 0 es) ≡ option_map Some (find is_entry (flat_map with_class es)) →
+        option_map (at (e ∷ es)) (option_map_or (λ index. Some (0, index)) o (entry_from (suc 0) es)) ≡ option_map Some (either (option_map (naming e) f) (find is_entry (flat_map with_class es)))
+    by_index None None h rest = ap (option_map (at (e ∷ es))) (shifted 0 es) ∙ moved (entry_from 0 es) ∙ rest
+    by_index (Some index) (Some m) h rest = ap (option_map (option_map (naming e))) h
+    by_index None (Some m) h rest = absurd (none_is_some _ h)
+    by_index (Some index) None h rest = absurd (none_is_some _ (sym h))
 
 -- the first of a list with one item that passes
 only_found : {X : Type 0} (test : X → Bool) (x : X) (xs : List X) → filter test xs ≡ x ∷ [] → find test xs ≡ Some x
@@ -89,11 +89,11 @@ module _ (tree : Tree) where
       filter-append is_entry (flat_map with_class built_ins) (flat_map with_class (map source_entry tree.classes)) ∙
       ap (filter is_entry) (of_source tree.classes)
 
-  pub entry_found : IsLegal tree → (o : Option MemberNumber) → option_map (λ (m : MemberNumber). (m.class, m.place)) o ≡ entry_from 0 (declarations tree) → IsSome o × IfSome o (IsEntryPoint tree)
+  pub entry_found : IsLegal tree → (o : Option MemberNumber) → option_map (λ (m : MemberNumber). (m.class, m.index)) o ≡ entry_from 0 (declarations tree) → IsSome o × IfSome o (IsEntryPoint tree)
   entry_found legal o h =
       let one : (e : ClassName × Method) × (entry_points tree ≡ e ∷ []) × (is_entry_method e.1 ≡ true) = entry_alone tree legal in
       by_number one.0 one.1 o (ap (option_map (method_at tree)) h ∙ first_at (declarations tree) ∙ ap (option_map Some) (only_found is_entry one.0 (flat_map with_class (declarations tree)) (all_entries ∙ one.1)))
     where
-      by_number : (e : ClassName × Method) → entry_points tree ≡ e ∷ [] → (n : Option MemberNumber) → option_map (method_at tree) (option_map (λ (m : MemberNumber). (m.class, m.place)) n) ≡ Some (Some e) → IsSome n × IfSome n (IsEntryPoint tree)
+      by_number : (e : ClassName × Method) → entry_points tree ≡ e ∷ [] → (n : Option MemberNumber) → option_map (method_at tree) (option_map (λ (m : MemberNumber). (m.class, m.index)) n) ≡ Some (Some e) → IsSome n × IfSome n (IsEntryPoint tree)
       by_number e is None k = absurd (none_is_some _ k)
-      by_number e is (Some number) k = let s : method_at tree (number.class, number.place) ≡ Some e = cc in (refl, is ∙ sym (ap option_to_list s))
+      by_number e is (Some number) k = let s : method_at tree (number.class, number.index) ≡ Some e = cc in (refl, is ∙ sym (ap option_to_list s))

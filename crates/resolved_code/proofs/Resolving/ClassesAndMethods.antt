@@ -5,7 +5,7 @@ use Rattle.cil_model.specs.declared.trees.Method.{Method}
 use Rattle.cil_model.specs.Declarations.{Declaration}
 use Rattle.name_tables.specs.Numbers.{class_number}
 use Rattle.name_tables.specs.Sameness.{identity_of}
-use Rattle.resolved_code.specs.declared.types.NumberedType.{NumberedType}
+use Rattle.resolved_code.specs.declared.types.ResolvedType.{ResolvedType}
 use Rattle.resolved_code.specs.declared.errors.ResolveError.{ResolveError}
 use Rattle.resolved_code.specs.declared.classes.ResolvedKind.{ResolvedKind}
 use Rattle.resolved_code.specs.declared.classes.ResolvedField.{ResolvedField}
@@ -42,11 +42,11 @@ pub methods_fail : (tree : Tree) (d : Declaration) (base : Option ℕ) (interfac
 methods_fail tree d base interfaces fields e b i f h = fails_after _ _ base e b (fails_after _ _ interfaces e i (fails_after _ _ fields e f (fails_last _ _ e h)))
 
 -- a method from its parts
-pub method_made : (tree : Tree) (m : Method) (identity : ℕ) (parameters : List NumberedType) (return_type : Option NumberedType) (kind : ResolvedKind) → identity ≡ identity_number tree (identity_of m) →
+pub method_made : (tree : Tree) (m : Method) (identity : ℕ) (parameters : List ResolvedType) (return_type : Option ResolvedType) (kind : ResolvedKind) → identity ≡ identity_number tree (identity_of m) →
     types_rule tree m.signature.parameters ≡ Some parameters → if_named (type_rule tree) m.signature.return_type ≡ Some return_type → kind_rule tree m.kind ≡ Some kind →
     resolved_method_rule tree m ≡ Some (record { identity = identity; parameters = parameters; return_type = return_type; kind = kind })
 method_made tree m identity parameters return_type kind n p r k =
-    let make : ℕ → List NumberedType → Option NumberedType → ResolvedKind → ResolvedMethod = λ n' p' r' k'. record { identity = n'; parameters = p'; return_type = r'; kind = k' } in
+    let make : ℕ → List ResolvedType → Option ResolvedType → ResolvedKind → ResolvedMethod = λ n' p' r' k'. record { identity = n'; parameters = p'; return_type = r'; kind = k' } in
     let number = identity_number tree (identity_of m) in
     let named = if_named (type_rule tree) m.signature.return_type in
     ap (option_and_then (λ p'. option_and_then (λ r'. option_map (make number p' r') (kind_rule tree m.kind)) named)) p ∙

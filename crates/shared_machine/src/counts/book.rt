@@ -5,7 +5,7 @@ ghost use Rattle.std.specs.Prelude.{◌≡◌, ℕ, ◌<◌, ◌++◌, ◌∷◌
 ghost use Rattle.shared_machine.specs.Counts.{keeper, claim, Count};
 
 use crate::counts::view::{
-    Comparison, Deals, Desk, Meets, Naming, Next, Parts, Pass, Renewal, Rest,
+    Comparison, CountAuthority, Deals, Meets, Naming, Next, Parts, Pass, Renewal, Rest,
 };
 use atomic_table::Badge;
 use std::alloc::{AllocError, Global};
@@ -16,7 +16,7 @@ use std::mem;
 /// table that the name has to be of.
 #[derive(Drop)]
 pub struct Blank {
-    table: Desk,
+    table: CountAuthority,
     seat: Pass,
 }
 
@@ -37,7 +37,7 @@ impl Model for Blank {
 /// The counts have no bytes and no bound: no code reads them, and contracts alone speak of them.
 #[derive(Drop)]
 pub struct Book<M: Naming> {
-    table: Desk,
+    table: CountAuthority,
     seat: Pass,
     of: PhantomData<M>,
 }
@@ -75,9 +75,9 @@ impl<M: Naming> Model for Ticket<M> {
 }
 
 impl Blank {
-    /// An empty book without a name. Only want of memory is an error, and no other call here takes memory.
+    /// An empty book without a name. The only error is out of memory, and no other call here takes memory.
     pub fn new(alloc: Global) -> Result<Blank, AllocError> {
-        let (table, seat) = Desk::of_words(alloc, &[0], &())?;
+        let (table, seat) = CountAuthority::of_words(alloc, &[0], &())?;
         Ok(Blank { table, seat })
     }
 

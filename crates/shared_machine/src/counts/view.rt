@@ -53,7 +53,7 @@ impl Split<View> for Deals {
     ghost right = { λ v. claim (length v.book) 0 };
 }
 
-/// A ticket comes to the book.
+/// A ticket is joined with the book.
 pub struct Meets;
 
 impl Join<View> for Meets {
@@ -103,7 +103,7 @@ impl Play<u64, View> for Comparison {
 }
 
 /// The table of one word that the seats lie beside.
-pub type Desk = Table<u64, View, (), Agreement, Global>;
+pub type CountAuthority = Table<u64, View, (), Agreement, Global>;
 
 /// A seat of it.
 pub type Pass = Seat<u64, View>;

@@ -14,7 +14,7 @@ use crate::workers::passes::Worker;
 use crate::workers::plan::Plan;
 use crate::workers::seats::Parked;
 use crate::workers::work::{set_stop_mark, work};
-use crate::world::Opening;
+use crate::world::Initial;
 use cil_model::stops::StopAt;
 use epoch_words::{Epochs, Herald, Seat};
 use std::alloc::Global;
@@ -26,12 +26,12 @@ use std::thread::{Promise, PromisedHandle, Scope, Threads};
 
 /// A worker's thread gives back its ticket, which has counted what the worker did.
 #[derive(Drop)]
-struct GivesBack<M: Opening> {
+struct GivesBack<M: Initial> {
     workers: u8,
     ticket: Snapshot<Ticket<M>>,
 }
 
-impl<M: Opening> Promise<Ticket<M>> for GivesBack<M> {
+impl<M: Initial> Promise<Ticket<M>> for GivesBack<M> {
     ghost use Rattle.shared_machine.specs.Work.{HasWorked};
 
     ghost kept_by = { λ promise ticket. HasWorked promise.workers promise.ticket.value ticket };
@@ -39,7 +39,7 @@ impl<M: Opening> Promise<Ticket<M>> for GivesBack<M> {
 
 /// Workers that are not sent to work yet: a ticket for each, and the right to post, which is for worker 0.
 #[derive(Drop)]
-struct Crew<M: Opening> {
+struct Crew<M: Initial> {
     tickets: Vec<Ticket<M>>,
     herald: Option<Herald>,
 }
@@ -48,7 +48,7 @@ struct Crew<M: Opening> {
 fn send<
     's,
     T,
-    M: Opening + Send + Sync + 's,
+    M: Initial + Send + Sync + 's,
     E: Naming + Send + Sync + 's,
     R: Threads + Wait + Sync + 's,
     G: Gate + Sync + 's,
@@ -102,7 +102,7 @@ fn take_for(worker: u8, herald: &mut Option<Herald>) -> Option<Herald>
 fn send_all<
     's,
     T,
-    M: Opening + Send + Sync + 's,
+    M: Initial + Send + Sync + 's,
     E: Naming + Send + Sync + 's,
     R: Threads + Wait + Sync + 's,
     G: Gate + Sync + 's,
@@ -151,7 +151,7 @@ fn send_all<
 
 /// Runs these workers, whose seats are parked, each in a thread of its own.
 fn run_threads<
-    M: Opening + Send + Sync,
+    M: Initial + Send + Sync,
     E: Naming + Send + Sync,
     R: Threads + Wait + Sync,
     G: Gate + Sync,
@@ -184,7 +184,7 @@ fn run_threads<
 
 /// Runs these workers, with their seats, which are of the epochs that `E` names.
 fn run_crew<
-    M: Opening + Send + Sync,
+    M: Initial + Send + Sync,
     E: Naming + Send + Sync,
     R: Threads + Wait + Sync,
     G: Gate + Sync,
@@ -212,19 +212,19 @@ fn run_crew<
 /// is set, and gives all their tickets back, in order.
 ///
 /// Of n tickets, the worker of number k drives the threads t for which k is left when t is divided by n; its own threads in a pass are
-/// those that are live as the pass begins. A pass is told to `gate`, which may leave some out where it is open. Then the worker polls its seat; where the number is newer than the
-/// last one that it acknowledged, it does an `Ack` of each of its own threads and acknowledges. It does a `Step` of each of them, in the order
-/// of their numbers. Worker 0 then does one `Gc`; where that answered `Waiting`, it acknowledges for as many workers as drive
-/// no live thread, and posts the next number. A worker that meets want of memory sets the stop mark and ends; so does this function where a
+/// those that are live as the pass begins. A pass is reported to `gate`, which may leave some out where it is open. Then the worker polls its seat;
+/// where the number is newer than the last one that it acknowledged, it does an `Ack` of each of its own threads and acknowledges. It does a `Step`
+/// of each of them, in the order of their numbers. Worker 0 then does one `Gc`; where that returned `Waiting`, it acknowledges for the workers that
+/// drive no live thread, and posts the next number. A worker that runs out of memory sets the stop mark and ends; so does this function where a
 /// thread can't be started, and makes that worker's one pass itself.
 ///
 /// With `StopAt::Deadlock` worker 0 sets the stop mark, too, where it finds after a pass that threads are live and each of them waits. It
-/// looks only after passes in which none of its own threads went on: the first of such a row, and then one in 64. A pass that begins at the stop
+/// looks only after passes in which none of its own threads made progress: the first of such a row, and then one in 64. A pass that begins at the stop
 /// mark does nothing then.
 ///
-/// The tickets, 1 to 16 of them, are all that this machine has, and there are as many seats, all of these epochs, as is the herald. Each ticket
+/// The tickets, 1 to 16 of them, are all that this machine has; there is one seat for each, and the seats and the herald are of these epochs. Each ticket
 /// has counted what its worker did: events of its own alone.
-pub fn run_workers<M: Opening + Send + Sync, R: Threads + Wait + Sync, G: Gate + Sync>(
+pub fn run_workers<M: Initial + Send + Sync, R: Threads + Wait + Sync, G: Gate + Sync>(
     rt: &R,
     alloc: Global,
     shared: &Shared<M>,

@@ -14,7 +14,7 @@ fn is_held_up(machine: &Machine, thread: u8) -> bool
 
 /// Whether each live thread waits for a monitor that another thread holds, or for the end of a live thread. So it is where none is live.
 ///
-/// Such a thread goes on only where the awaited one ends or leaves the monitor, which no thread does that waits. It takes no memory.
+/// Such a thread continues only where the awaited one ends or leaves the monitor, which no waiting thread does. It takes no memory.
 pub(crate) fn is_deadlocked(machine: &Machine) -> bool
     ensures { IsTrue result ↔ IsDeadlocked machine.now }
 {

@@ -6,7 +6,7 @@ ghost use Rattle.cil_model.specs.declared.limits.TheConstants.{MOST_THREADS};
 ghost use Rattle.interleaving_core.specs.simulation.threads_monitors.Threads.{is_live, is_live_at};
 ghost use Rattle.shared_machine.specs.Work.{is_driven_by, served_below};
 
-use crate::world::{Opening, World};
+use crate::world::{Initial, World};
 use cil_model::limits::MOST_THREADS;
 use interleaving_core::Machine;
 
@@ -62,7 +62,7 @@ pub(crate) fn served_threads(machine: &Machine, workers: u8, worker: u8) -> usiz
 }
 
 /// What one of this many workers finds in a world.
-pub(crate) fn found_in<M: Opening>(world: &World<M>, workers: u8, worker: u8) -> Findings
+pub(crate) fn found_in<M: Initial>(world: &World<M>, workers: u8, worker: u8) -> Findings
     requires { 0 < workers }
     ensures started { (result.started ≡ length world.now.core.threads) × (result.started ≤ MOST_THREADS) }
     ensures served { result.served ≡ served_below world.now.core workers worker (length world.now.core.threads) }

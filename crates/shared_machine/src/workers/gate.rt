@@ -1,9 +1,9 @@
 //! Where a worker can be held.
 
-/// Is told when a worker begins a pass, and may hold it there. Another worker's passes go on meanwhile.
+/// Is reported when a worker begins a pass, and may hold it there. Another worker's passes continue meanwhile.
 pub trait Gate {
-    /// The worker of this number begins a pass. `turn` is the number of its passes before, from 0; it stays at 2^32 - 1 once it is there.
-    fn pass(&self, worker: u8, turn: u32);
+    /// The worker of this number begins a pass. `transition` is the number of its passes before, from 0; it stays at 2^32 - 1 once it is there.
+    fn pass(&self, worker: u8, transition: u32);
 
     /// Whether it holds nobody. Then a worker may keep the lock from one pass to the next, and need not tell it of each pass.
     fn is_open(&self) -> bool {
@@ -16,7 +16,7 @@ pub trait Gate {
 pub struct OpenGate;
 
 impl Gate for OpenGate {
-    fn pass(&self, _worker: u8, _turn: u32) {}
+    fn pass(&self, _worker: u8, _transition: u32) {}
 
     fn is_open(&self) -> bool {
         true

@@ -3,7 +3,7 @@
 use crate::answer::Answer;
 use cil_model::reports::Report;
 
-/// In how many passes of a row in which the collector waits for another worker each is followed by twice as many yields as the one before.
+/// In how many passes of a row in which the collector waits for another worker each is followed by double the yields of the one before.
 const PATIENT_PASSES: u32 = 8;
 
 /// In how many passes of such a row in which the worker's threads did nothing but local instructions, which take no memory, it yields once.
@@ -15,15 +15,15 @@ const IDLE_YIELDS: u32 = 16;
 /// In how many passes of such a row the number of yields is doubled.
 const IDLE_DOUBLINGS: u32 = 4;
 
-/// In how many passes of worker 0 in which none of its threads went on it looks for a deadlock once.
+/// In how many passes of worker 0 in which none of its threads made progress it looks for a deadlock once.
 const PASSES_TO_A_LOOK: u32 = 64;
 
-/// What came of a worker's events.
+/// The result of a worker's events.
 #[derive(Clone, Copy, PartialEq, Eq)]
 pub(crate) enum Progress {
-    /// A thread or the collector went on.
+    /// A thread or the collector made progress.
     Made,
-    /// A thread went on by local instructions, and the lock was given back meanwhile.
+    /// A thread made progress by local instructions, and the lock was given back meanwhile.
     MadeApart,
     /// Each thread that was asked is blocked or absent, and the collector waits.
     None,
@@ -32,7 +32,7 @@ pub(crate) enum Progress {
 }
 
 impl Progress {
-    /// What an answer says.
+    /// The progress that an answer reports.
     pub fn of(answer: Answer) -> Progress {
         match answer {
             Answer::Did(Report::Blocked | Report::Absent | Report::Waiting) => Progress::None,
@@ -57,12 +57,12 @@ impl Progress {
     }
 }
 
-/// What a worker's pass came to.
+/// The result of a worker's pass.
 #[derive(Clone, Copy)]
 pub(crate) struct Passed {
-    /// What came of all its events.
+    /// The result of all its events.
     pub progress: Progress,
-    /// What came of the steps of its threads.
+    /// The result of the steps of its threads.
     pub steps: Progress,
     /// Whether it drove a live thread.
     pub is_driving: bool,
@@ -97,7 +97,7 @@ pub(crate) struct Pace {
     passes: u32,
     /// In how many passes in a row the collector waited for another worker.
     late: u32,
-    /// In how many passes in a row none of the worker's threads went on.
+    /// In how many passes in a row none of the worker's threads made progress.
     held_up: u32,
 }
 
@@ -132,7 +132,7 @@ impl Pace {
     }
 
     /// How often one of several workers yields after such a pass. While the collector waits for another worker, it is twice as often after
-    /// each pass, for some passes, so that the worker's threads hardly go on meanwhile.
+    /// each pass, for some passes, so that the worker's threads hardly make progress meanwhile.
     pub fn yields(self, passed: &Passed) -> u32 {
         if self.late > 0 && passed.steps == Progress::MadeApart {
             if self.late % LOCAL_PASSES == 0 { 1 } else { 0 }

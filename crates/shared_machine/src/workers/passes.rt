@@ -14,7 +14,7 @@ use crate::workers::findings::{Findings, found_in, is_served, served_threads};
 use crate::workers::pace::{Pace, Passed, Progress};
 use crate::workers::plan::Plan;
 use crate::workers::seats::{Parked, seat_of};
-use crate::world::{Lent, Opening, World, check_in, lend, perform, run_local, stop};
+use crate::world::{Initial, Lent, World, check_in, lend, perform, run_local, stop};
 use cil_model::events::Event;
 use cil_model::reports::Report;
 use cil_model::stops::StopAt;
@@ -31,7 +31,7 @@ const PASSES_ON_A_LOAN: u32 = 64;
 
 /// A worker at its work.
 #[derive(Drop)]
-pub(crate) struct Worker<M: Opening> {
+pub(crate) struct Worker<M: Initial> {
     pub ticket: Ticket<M>,
     /// Its seat, while it drives a live thread. Else one is parked.
     pub seat: Option<Seat>,
@@ -46,7 +46,7 @@ pub(crate) struct Worker<M: Opening> {
 /// Does an event as `perform` does it. Where it is one of the worker's own, the worker has done nothing else.
 // Where it is called for one kind of event, only that kind's code is left of it.
 #[inline(always)]
-fn ask<M: Opening>(
+fn ask<M: Initial>(
     alloc: Global,
     world: &mut World<M>,
     ticket: &mut Ticket<M>,
@@ -59,7 +59,7 @@ fn ask<M: Opening>(
 
 /// Takes a lent frame back, and has its thread make a step where no instruction was done on the frame. Where the thread is the worker's
 /// own, the worker has done nothing else.
-fn settle<M: Opening>(
+fn charge_step<M: Initial>(
     alloc: Global,
     world: &mut World<M>,
     ticket: &mut Ticket<M>,
@@ -92,7 +92,7 @@ fn most_on_loan(plan: Plan, worker: u8, served: usize) -> u32
 
 /// Advances a thread, under the lock that is held: by one step, or, where its next instruction is local, by up to `most` local instructions
 /// without the lock. The lock is held again at the end. Where the thread is the worker's own, the worker has done nothing else.
-fn go_on<'s, M: Opening, R: Wait>(
+fn advance<'s, M: Initial, R: Wait>(
     rt: &R,
     alloc: Global,
     shared: &'s Shared<M>,
@@ -108,7 +108,7 @@ fn go_on<'s, M: Opening, R: Wait>(
             drop(world);
             let lent = run_local(lent, most);
             let mut again = shared.lock_soon(rt);
-            let progress = settle(alloc, &mut *again, ticket, lent, thread);
+            let progress = charge_step(alloc, &mut *again, ticket, lent, thread);
             return (progress, again);
         }
     }
@@ -118,7 +118,7 @@ fn go_on<'s, M: Opening, R: Wait>(
 
 /// Advances each live thread that the worker drives and that was started before the pass, in the order of their numbers. It stops where memory
 /// does not last.
-fn step_each<'s, M: Opening, R: Wait>(
+fn step_each<'s, M: Initial, R: Wait>(
     rt: &R,
     alloc: Global,
     shared: &'s Shared<M>,
@@ -136,7 +136,7 @@ fn step_each<'s, M: Opening, R: Wait>(
     for thread in 0..found.started {
         let number = thread as u8;
         if is_served(world.machine(), plan.workers, ticket.worker(), number) {
-            let (came, held) = go_on(rt, alloc, shared, world, ticket, number, most);
+            let (came, held) = advance(rt, alloc, shared, world, ticket, number, most);
             world = held;
             progress = progress.then(came);
             if !progress.lasts() {
@@ -148,7 +148,7 @@ fn step_each<'s, M: Opening, R: Wait>(
 }
 
 /// Acknowledges for each live thread that the worker drives, in the order of their numbers. It stops where memory does not last.
-fn acknowledge_each<M: Opening>(
+fn acknowledge_each<M: Initial>(
     alloc: Global,
     world: &mut World<M>,
     ticket: &mut Ticket<M>,
@@ -173,7 +173,7 @@ fn acknowledge_each<M: Opening>(
 
 /// Polls, and, where the number is newer than the last one acknowledged, has each of the worker's threads acknowledge, and then
 /// acknowledges itself. It gives back the seat and the number that is acknowledged now.
-fn acknowledge<M: Opening>(
+fn acknowledge<M: Initial>(
     alloc: Global,
     epochs: &Epochs,
     world: &mut World<M>,
@@ -203,7 +203,7 @@ fn acknowledge<M: Opening>(
 
 /// Has the worker's seat acknowledge, or a parked one where the worker has none, and parks it where the worker drives no live thread. It
 /// gives back the seat that stays with the worker, and the number that is acknowledged now.
-fn take_part<M: Opening, E: Naming, R: Wait>(
+fn take_part<M: Initial, E: Naming, R: Wait>(
     rt: &R,
     alloc: Global,
     epochs: &Epochs,
@@ -242,7 +242,7 @@ fn take_part<M: Opening, E: Naming, R: Wait>(
     }
 }
 
-/// Posts the next number, where the herald is here, and answers whether a seat was late.
+/// Posts the next number, where the herald is here, and returns whether a seat was late.
 fn post(epochs: &Epochs, herald: &mut Option<Herald>) -> bool
     requires { IsHeraldOf epochs.now herald.old }
     ensures { IsHeraldOf epochs.now herald.new }
@@ -270,9 +270,9 @@ fn idle_workers(machine: &Machine, workers: u8) -> usize {
     idle
 }
 
-/// Does an event of the collector. Where the collector waits, as many parked seats acknowledge as there are workers that drive no live
-/// thread, and the next number is posted. That is for worker 0: another one does nothing. It answers whether a seat was late, too.
-fn collect<M: Opening, E: Naming, R: Wait>(
+/// Does an event of the collector. Where the collector waits, a parked seat acknowledges for each worker that drives no live
+/// thread, and the next number is posted. That is for worker 0: another one does nothing. It also returns whether a seat was late.
+fn collect<M: Initial, E: Naming, R: Wait>(
     rt: &R,
     alloc: Global,
     epochs: &Epochs,
@@ -302,9 +302,9 @@ fn collect<M: Opening, E: Naming, R: Wait>(
     (Progress::of(answer), is_late)
 }
 
-/// What a worker does in a pass, under the lock that is held: it polls and acknowledges, has each of its threads go on, and, as worker 0,
+/// What a worker does in a pass, under the lock that is held: it polls and acknowledges, lets each of its threads make a step, and, as worker 0,
 /// does an event of the collector. Where memory does not last, it stops there and sets the stop mark.
-fn serve<'s, M: Opening, E: Naming, R: Wait>(
+fn serve<'s, M: Initial, E: Naming, R: Wait>(
     rt: &R,
     alloc: Global,
     shared: &'s Shared<M>,
@@ -379,12 +379,12 @@ fn serve<'s, M: Opening, E: Naming, R: Wait>(
     (passed, world)
 }
 
-/// One pass of a worker, under the lock that is held: it looks, polls and acknowledges, has each of its threads go on, and, as worker 0, does an
+/// One pass of a worker, under the lock that is held: it looks, polls and acknowledges, lets each of its threads make a step, and, as worker 0, does an
 /// event of the collector. Its threads are those that it drives and that are live as the pass begins. Where memory does not last, it stops
 /// there and sets the stop mark. Where the run is to stop at a deadlock, a worker that finds the stop mark does nothing else.
 ///
-/// The lock is given back meanwhile where a thread goes on without it, and is held at the end.
-pub(crate) fn pass<'s, M: Opening, E: Naming, R: Wait>(
+/// The lock is given back meanwhile where a thread continues without it, and is held at the end.
+pub(crate) fn pass<'s, M: Initial, E: Naming, R: Wait>(
     rt: &R,
     alloc: Global,
     shared: &'s Shared<M>,

@@ -28,7 +28,7 @@ impl<E: Naming> Model for Parked<E> {
     ghost invariant = { λ p. All (IsSeatIn E.table) p.seats.items };
 }
 
-/// Has the last of these seats acknowledge the posted number, so many at most.
+/// Has the last of these seats acknowledge the posted number, that many at most.
 fn acknowledge_last(epochs: &Epochs, seats: &mut Vec<Seat>, most: usize)
     requires { All (IsSeatOf epochs.now) seats.old.items }
     ensures all { All (IsSeatOf epochs.now) seats.new.items }
@@ -75,7 +75,7 @@ impl<E: Naming> Parked<E> {
         None
     }
 
-    /// Acknowledges the posted number for so many workers at most, which drive no live thread that would have to acknowledge first.
+    /// Acknowledges the posted number for that many workers at most, which drive no live thread that would have to acknowledge first.
     pub fn acknowledge(&mut self, epochs: &Epochs, idle: usize)
         requires { epochs.now.table ≡ E.table }
     {

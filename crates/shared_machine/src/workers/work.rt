@@ -12,7 +12,7 @@ use crate::workers::pace::{Pace, Passed};
 use crate::workers::passes::{Worker, pass};
 use crate::workers::plan::Plan;
 use crate::workers::seats::Parked;
-use crate::world::{Opening, stop};
+use crate::world::{Initial, stop};
 use cil_model::stops::StopAt;
 use epoch_words::Epochs;
 use std::alloc::Global;
@@ -23,13 +23,13 @@ use std::thread::yield_now;
 const PASSES_IN_A_HOLD: u32 = 64;
 
 /// Sets the stop mark, under a lock of its own.
-pub(crate) fn set_stop_mark<M: Opening, R: Wait>(rt: &R, shared: &Shared<M>) {
+pub(crate) fn set_stop_mark<M: Initial, R: Wait>(rt: &R, shared: &Shared<M>) {
     let mut world = shared.lock(rt);
     stop(&mut *world);
 }
 
 /// Sets the stop mark where threads are live and each of them waits, under a lock of its own.
-fn stop_at_deadlock<M: Opening, R: Wait>(rt: &R, shared: &Shared<M>) {
+fn stop_at_deadlock<M: Initial, R: Wait>(rt: &R, shared: &Shared<M>) {
     let mut world = shared.lock(rt);
     if world.machine().live() > 0 && is_deadlocked(world.machine()) {
         stop(&mut *world);
@@ -45,7 +45,7 @@ fn yield_often(times: u32) {
 
 /// What a worker does between two passes: worker 0 looks for a deadlock, where the run is to stop at one, and one of several workers has
 /// others run.
-fn rest<M: Opening, R: Wait>(
+fn rest<M: Initial, R: Wait>(
     rt: &R,
     shared: &Shared<M>,
     worker: u8,
@@ -62,7 +62,7 @@ fn rest<M: Opening, R: Wait>(
 }
 
 /// Makes a pass, and those after it for which the worker keeps the lock, where no gate can hold it.
-fn pass_in_a_hold<M: Opening, E: Naming, R: Wait>(
+fn pass_in_a_hold<M: Initial, E: Naming, R: Wait>(
     rt: &R,
     alloc: Global,
     shared: &Shared<M>,
@@ -91,8 +91,8 @@ fn pass_in_a_hold<M: Opening, E: Naming, R: Wait>(
 
 /// Makes passes until one has found no live thread or the stop mark, or memory did not last, and gives the ticket back. Where memory did
 /// not last, the stop mark is set. So it is by worker 0 at a deadlock, where the run is to stop at one. One of several workers yields after a
-/// pass in which nothing went on, or in which the collector waited for another worker.
-pub(crate) fn work<M: Opening, E: Naming, R: Wait, G: Gate>(
+/// pass without progress, or in which the collector waited for another worker.
+pub(crate) fn work<M: Initial, E: Naming, R: Wait, G: Gate>(
     rt: &R,
     alloc: Global,
     shared: &Shared<M>,

@@ -18,7 +18,7 @@ use Rattle.collector.specs.Soundness.{IsListed}
 use Rattle.collector.specs.declared.progress.Progress.{Progress}
 use Rattle.collector.proofs.ThreadReferences.LiveValues.{may_hold_then}
 use Rattle.collector.proofs.ThreadReferences.StorableValues.{monitor_is_storable}
-use Rattle.simulation.specs.StandsFor.{AreFrames, Names}
+use Rattle.simulation.specs.Refines.{AreFrames, Names}
 use Rattle.simulation.proofs.Memory.MemoryModels.{MemoryModel}
 use Rattle.simulation.proofs.Representation.RootReferences.{roots_pass, thread_cut}
 use Rattle.simulation.proofs.CollectedHeap.VisibleNames.{FitsCollected, collected_reads, first_hold, named_passes, permanent_passes}

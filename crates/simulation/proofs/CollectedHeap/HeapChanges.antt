@@ -35,7 +35,7 @@ use Rattle.collector.proofs.HeapStores.ReachedCopies.{close_is_beside}
 use Rattle.collector.proofs.Addresses.TagChanges.{AreAlike, live_stays, passes_still}
 use Rattle.collector.proofs.Addresses.Disjunctions.{or_more}
 use Rattle.collector.proofs.Addresses.Tests.{HoldMeans, held_is_live, is_new_live, old_is}
-use Rattle.simulation.specs.StandsFor.{AreTwins, HasOneName, IsBornAt, IsCell, IsHeap, IsLiteralAt, IsValue, Names, int32, int64, native, null_reference, reference}
+use Rattle.simulation.specs.Refines.{AreTwins, HasOneName, IsBornAt, IsCell, IsHeap, IsLiteralAt, IsValue, Names, int32, int64, native, null_reference, reference}
 use Rattle.simulation.proofs.ListLaws.AgreeingLists.{agree_get, agree_length}
 use Rattle.simulation.proofs.Memory.NamedAddresses.{heap_beside}
 use Rattle.simulation.proofs.Memory.MemoryModels.{AreStatics, IsBeside}

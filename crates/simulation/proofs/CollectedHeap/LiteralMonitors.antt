@@ -20,7 +20,7 @@ use Rattle.collector.specs.phase_handshake.declared.posts.Seat.{Seat}
 use Rattle.collector.specs.declared.progress.Progress.{Progress}
 use Rattle.collector.proofs.HeapStores.StoreSoundness.{literal_monitor_is}
 use Rattle.collector.proofs.Addresses.TagChanges.{alike_itself}
-use Rattle.simulation.specs.StandsFor.{AreTwins, IsBornAt, IsLiteralAt, IsMonitor, Names}
+use Rattle.simulation.specs.Refines.{AreTwins, IsBornAt, IsLiteralAt, IsMonitor, Names}
 use Rattle.simulation.proofs.ListLaws.ChangedItems.{set_or_stays}
 use Rattle.simulation.proofs.CollectedHeap.TwoCopies.{twins_either}
 use Rattle.simulation.proofs.CollectedHeap.VisibleNames.{FitsCollected, first_hold, named_whole}
@@ -87,7 +87,7 @@ module _ (tree : Tree) (words : ℕ) (h : Handshakes) (p : Progress) (seat : Sea
     numbered = l.numbered;
     is = l.is;
     monitor = l.monitor;
-    held = by_place (set_or_stays o.literals own.number l.number m l.monitor l.held);
+    held = by_index (set_or_stays o.literals own.number l.number m l.monitor l.held);
     state_monitor = l.state_monitor;
     state_held = entry_stays characters' characters u apart s.literal_monitors ∙ l.state_held;
     stands = l.stands;
@@ -96,9 +96,9 @@ module _ (tree : Tree) (words : ℕ) (h : Handshakes) (p : Progress) (seat : Sea
       clash : {A : Type 0} → characters ≡ characters' → A
       clash same = never (sym apart ∙ subst (λ x. same_text characters x ≡ true) same (same_text_itself characters))
 
-      by_place : (l.number ≡ own.number) ⊎ (slice_get (slice_set o.literals own.number m) l.number ≡ Some l.monitor) → slice_get (slice_set o.literals own.number m) l.number ≡ Some l.monitor
-      by_place (inl same) = clash (same_Some characters characters' (sym own.is ∙ ap (slice_get (literals_of tree)) (sym same) ∙ l.is))
-      by_place (inr stays) = stays
+      by_index : (l.number ≡ own.number) ⊎ (slice_get (slice_set o.literals own.number m) l.number ≡ Some l.monitor) → slice_get (slice_set o.literals own.number m) l.number ≡ Some l.monitor
+      by_index (inl same) = clash (same_Some characters characters' (sym own.is ∙ ap (slice_get (literals_of tree)) (sym same) ∙ l.is))
+      by_index (inr stays) = stays
 
   own_then : LiteralThen a.number characters
   own_then = record {
@@ -116,8 +116,8 @@ module _ (tree : Tree) (words : ℕ) (h : Handshakes) (p : Progress) (seat : Sea
   literal_then : (b : ℕ) (characters' : List ℕ) → fits.whole b ≡ Some (Literal characters') → LiteralThen b characters'
   literal_then b characters' named' = by_text (same_text characters characters') refl
     where
-      place : characters ≡ characters' → a.number ≡ b
-      place same = elim (fits.heap.names.one a.number b (Literal characters') (whole ∙ ap (λ x. Some (Literal x)) same) named') [
+      index : characters ≡ characters' → a.number ≡ b
+      index same = elim (fits.heap.names.one a.number b (Literal characters') (whole ∙ ap (λ x. Some (Literal x)) same) named') [
         | inl equal ↦ equal
         | inr twins ↦ no_twin b twins
       ]
@@ -125,7 +125,7 @@ module _ (tree : Tree) (words : ℕ) (h : Handshakes) (p : Progress) (seat : Sea
       by_text : (t : Bool) → same_text characters characters' ≡ t → LiteralThen b characters'
       by_text true test =
           let same : characters ≡ characters' = same_text_equal characters characters' test in
-          subst (λ x. LiteralThen x characters') (place same) (subst (λ x. LiteralThen a.number x) same own_then)
+          subst (λ x. LiteralThen x characters') (index same) (subst (λ x. LiteralThen a.number x) same own_then)
       by_text false test = other_literal b characters' (fits.heap.literals b characters' named') test
 
   -- each object stays

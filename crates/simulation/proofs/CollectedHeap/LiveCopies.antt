@@ -15,7 +15,7 @@ use Rattle.collector.specs.declared.progress.Progress.{Progress}
 use Rattle.collector.proofs.Copying.VisibleCopies.{has_words}
 use Rattle.collector.proofs.Addresses.Disjunctions.{or_first, or_second}
 use Rattle.collector.proofs.Addresses.Tests.{new_is_live}
-use Rattle.simulation.specs.StandsFor.{AreTwins}
+use Rattle.simulation.specs.Refines.{AreTwins}
 use Rattle.simulation.proofs.CollectedHeap.TwoCopies.{AreOldAndNew, copy_is_new, twins_either, words_are_live}
 
 -- a marked old object is live while both copies have all words

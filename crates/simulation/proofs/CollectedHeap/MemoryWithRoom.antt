@@ -1,4 +1,5 @@
--- The memory of a thread with its room for births: that room and the words of all objects stay the same in sum; and no more is left to mark until Allocate is posted.
+-- The memory of a thread with its room for births: that room and the words of all objects stay the same in sum; and no more is left to mark until
+-- Allocate is posted.
 use Rattle.std.proofs.Common.{◌≡◌, ◌≤◌, ◌+◌, ℕ, true, replicate, List, Option, Some, None, refl, sym, ap, ◌∙◌, arith}
 use Rattle.std.proofs.lemmas.List.{length-replicate}
 use Rattle.std.proofs.lemmas.List.Sums.{sum_by_push}
@@ -19,7 +20,7 @@ use Rattle.interpreter.specs.instructions.barriers.Barriers.{object_born, stored
 use Rattle.interpreter.proofs.object_memory.TwoBlocks.{slot_keeps}
 use Rattle.reference_machine.specs.TypedStates.{IsTyped}
 use Rattle.collector.specs.Phases.{is_before_copies}
-use Rattle.simulation.specs.StandsFor.{IsCell, IsOfContents, Names}
+use Rattle.simulation.specs.Refines.{IsCell, IsOfContents, Names}
 use Rattle.simulation.proofs.CycleBounds.MarkingWork.{LeavesNoMore, leaves_itself, leaves_then}
 use Rattle.simulation.proofs.CycleBounds.MarkingByThreads.{birth_leaves, monitor_leaves, static_leaves, value_leaves, word_leaves}
 use Rattle.simulation.proofs.Memory.MemoryModels.{IsBirth, MemoryModel}
@@ -32,7 +33,7 @@ pub record AddsNoMore (m n : Spaces) (words words' : ℕ) : Type 0 where
   pub new : used_words n.new.cells + words ≤ used_words m.new.cells + words'
 
 adds_as_much : (used was start words words' began : ℕ) → used ≡ was → words' ≡ words → was + began ≤ start + words → used + began ≤ start + words'
-adds_as_much used was start words words' began same as_many before = omega arith
+adds_as_much used was start words words' began same same_count before = omega arith
 
 adds_birth : (used was taken more start words words' began : ℕ) → used ≤ was + taken → taken ≡ more → words' ≡ words + more → was + began ≤ start + words → used + began ≤ start + words'
 adds_birth used was taken more start words words' began birth cell more_words before = omega arith
@@ -53,9 +54,9 @@ module _ (tree : Tree) (own : Phase) (start : Objects) (first : List HeapObject)
   -- and where the same number of words is used, the objects have the same number, and no more is left to mark
   pub keeps_more : (o o' : Objects) (objects objects' : List HeapObject) → UsesAsMuch o.spaces o'.spaces → (is_before_copies own ≡ true → LeavesNoMore o.spaces o'.spaces) → words_of_all tree objects' ≡ words_of_all tree objects →
       KeepsRoom tree own start o first objects → KeepsRoom tree own start o' first objects'
-  keeps_more o o' objects objects' same leaves words keeps = record {
+  keeps_more o o' objects objects' same value_pushed words keeps = record {
     together = ap (λ n. n + words_of_all tree objects') (room_stays own o.spaces o'.spaces same) ∙ ap (λ n. room_for own o.spaces + n) words ∙ keeps.together;
-    marking = λ early. leaves_then start.spaces o.spaces o'.spaces (keeps.marking early) (leaves early);
+    marking = λ early. leaves_then start.spaces o.spaces o'.spaces (keeps.marking early) (value_pushed early);
     large = large_then start.spaces o.spaces o'.spaces keeps.large (as_large o.spaces o'.spaces same);
     used = record {
       old = adds_as_much (used_words o'.spaces.old.cells) (used_words o.spaces.old.cells) (used_words start.spaces.old.cells) (words_of_all tree objects) (words_of_all tree objects') (words_of_all tree first) same.old words keeps.used.old;

@@ -17,9 +17,9 @@ use Rattle.interpreter.specs.object_memory.declared.monitors.Monitor.{Monitor}
 use Rattle.interpreter.specs.object_memory.declared.values.Value.{Value}
 use Rattle.interpreter.specs.object_memory.Cells.{Cell, cell_in, literal}
 use Rattle.interpreter.specs.object_memory.Objects.{Objects, object_cell}
-use Rattle.interpreter.specs.object_memory.Spaces.{Spaces, address_at, birth_space_of, born, forward, other_of, room_for}
+use Rattle.interpreter.specs.object_memory.Spaces.{Spaces, address_at, birth_space_of, give_birth, forward, other_of, room_for}
 use Rattle.interpreter.specs.instructions.barriers.Barriers.{can_bear, object_born}
-use Rattle.interpreter.proofs.object_memory.TwoBlocks.{new_is_cell, no_literal, old_is_cell, told_apart}
+use Rattle.interpreter.proofs.object_memory.TwoBlocks.{new_is_cell, no_literal, old_is_cell, are_distinct}
 use Rattle.collector.specs.phase_handshake.Handshakes.{Handshakes, IsClose}
 use Rattle.collector.specs.phase_handshake.declared.posts.Seat.{Seat}
 use Rattle.collector.specs.References.{is_permanent}
@@ -33,7 +33,7 @@ use Rattle.collector.proofs.Births.BirthSoundness.{IsNear, birth_forwards, birth
 use Rattle.collector.proofs.ThreadReferences.LiveValues.{held_is_live}
 use Rattle.collector.proofs.Marking.MarksOfStores.{Grows, grows_then, live_grows, passes_then, value_weakens}
 use Rattle.collector.proofs.Addresses.Disjunctions.{either_true, or_first, or_second}
-use Rattle.simulation.specs.StandsFor.{AreTwins, HasOneName, IsBornAt, IsCell, IsHeap, IsLiteralAt, IsMonitor, IsOfContents, IsValue, Names}
+use Rattle.simulation.specs.Refines.{AreTwins, HasOneName, IsBornAt, IsCell, IsHeap, IsLiteralAt, IsMonitor, IsOfContents, IsValue, Names}
 use Rattle.simulation.proofs.ListLaws.AgreeingLists.{agree_weaken}
 use Rattle.simulation.proofs.Representation.MoreNames.{cell_extends, value_extends}
 use Rattle.simulation.proofs.CollectedHeap.LiveCopies.{twin_live}
@@ -366,7 +366,7 @@ module _ (tree : Tree) (words : ℕ) (h : Handshakes) (p : Progress) (seat : Sea
     small_then x n is = elim (who x n is) [
       | inl new ↦
           (let r = newly_empty x new.0 in
-          let low = (told_apart o'.spaces sound.blocks.spaces (record { number = x }) r.0 r.1).1 in
+          let low = (are_distinct o'.spaces sound.blocks.spaces (record { number = x }) r.0 r.1).1 in
           omega (arith, low))
       | inr was ↦ fits.heap.small x n was
     ]
@@ -379,7 +379,7 @@ module _ (tree : Tree) (words : ℕ) (h : Handshakes) (p : Progress) (seat : Sea
         by_name (Some n) is = elim (who 0 n is) [
           | inl new ↦
               (let r = newly_empty 0 new.0 in
-              let positive = (told_apart o'.spaces sound.blocks.spaces (record { number = 0 }) r.0 r.1).0 in
+              let positive = (are_distinct o'.spaces sound.blocks.spaces (record { number = 0 }) r.0 r.1).0 in
               absurd (omega (arith, positive)))
           | inr was ↦ none_is_some n (sym fits.heap.null_unnamed ∙ was)
         ]
@@ -473,7 +473,7 @@ module _ (tree : Tree) (words : ℕ) (h : Handshakes) (p : Progress) (seat : Sea
 -- ---- births that are refused
 
 abbrev outcome : Phase → Objects → Kind → ℕ → Bool → Spaces × Option Addr
-outcome own o k count t = if t then (born (birth_space_of own o.spaces.is_open) o.spaces k count, Some (address_at (birth_space_of own o.spaces.is_open) o.spaces)) else (o.spaces, None)
+outcome own o k count t = if t then (give_birth (birth_space_of own o.spaces.is_open) o.spaces k count, Some (address_at (birth_space_of own o.spaces.is_open) o.spaces)) else (o.spaces, None)
 
 -- they change nothing, and the object exceeds the room
 pub collected_refusals : (own : Phase) (o : Objects) (k : Kind) (count : ℕ) (o' : Objects) → ◌≡◌ {A = Objects × Option Addr} (object_born own o k count) (o', None) → (o' ≡ o) × (room_for own o.spaces < 3 + count)

@@ -24,7 +24,7 @@ use Rattle.collector.proofs.HeapStores.StoredCells.{IsReached, change_for, reach
 use Rattle.collector.proofs.HeapStores.ReachedCopies.{changed_by}
 use Rattle.collector.proofs.Addresses.TagChanges.{AreAlike, KeepsTags}
 use Rattle.collector.proofs.Addresses.Tests.{old_is}
-use Rattle.simulation.specs.StandsFor.{AreTwins, IsBornAt, IsCell, Names}
+use Rattle.simulation.specs.Refines.{AreTwins, IsBornAt, IsCell, Names}
 use Rattle.simulation.proofs.ListLaws.ChangedItems.{set_or_stays}
 use Rattle.simulation.proofs.Memory.ReferenceSlots.{IsLinked}
 use Rattle.simulation.proofs.CollectedHeap.TwoCopies.{AreOldAndNew, HasNamedWords, copies_apart, copies_show, new_copy_stands, noted_twin, old_copy_stands, twin_noted, twins_either, twins_late}
@@ -198,7 +198,7 @@ module _ (tree : Tree) (words : ℕ) (h : Handshakes) (p : Progress) (seat : Sea
       own_name same =
           let is' : fits.whole x ≡ Some (Born n) = is ∙ ap (λ y. Some (Born y)) same in
           elim (fits.heap.names.one a.number x (Born n) named is') [
-            | inl place ↦ subst (λ y. BornThen y n) place own_then
+            | inl index ↦ subst (λ y. BornThen y n) index own_then
             | inr twins ↦ twin_then x is' twins
           ]
 

@@ -21,7 +21,7 @@ use Rattle.interpreter.specs.object_memory.Cells.{Cell, cell_in, store_monitor, 
 use Rattle.interpreter.specs.object_memory.Objects.{Objects, object_cell}
 use Rattle.interpreter.specs.object_memory.Spaces.{forward, is_old}
 use Rattle.interpreter.specs.object_memory.Values.{value_word}
-use Rattle.interpreter.specs.instructions.barriers.Barriers.{compares_forwards, forwarded, is_other_alike, is_storable, is_value_there, is_word_storable, reaches_both, stored_int, stored_monitor, stored_value}
+use Rattle.interpreter.specs.instructions.barriers.Barriers.{compares_forwards, forward_value, is_other_alike, is_storable, is_value_there, is_word_storable, reaches_both, stored_int, stored_monitor, stored_value}
 use Rattle.interpreter.proofs.object_memory.TwoBlocks.{either, no_literal}
 use Rattle.collector.specs.phase_handshake.Handshakes.{Handshakes, IsClose}
 use Rattle.collector.specs.phase_handshake.declared.posts.Seat.{Seat}
@@ -42,7 +42,7 @@ use Rattle.collector.proofs.HeapStores.ReachedCopies.{changed_by, close_is_besid
 use Rattle.collector.proofs.Addresses.TagChanges.{monitor_keeps_tags, slot_keeps_tags}
 use Rattle.collector.proofs.Addresses.Tests.{is_new_live, live_is_late, old_is}
 use Rattle.reference_machine.specs.TypedStates.{IsTyped}
-use Rattle.simulation.specs.StandsFor.{IsCell, IsValue, IsWord, Names, int32, int64, native, null_reference, reference}
+use Rattle.simulation.specs.Refines.{IsCell, IsValue, IsWord, Names, int32, int64, native, null_reference, reference}
 use Rattle.simulation.proofs.ListLaws.ChangedItems.{set_or_stays}
 use Rattle.simulation.proofs.Representation.MoreNames.{cell_extends, value_extends}
 use Rattle.simulation.proofs.Memory.ReferenceSlots.{IsLinked, is_reference_state, typed_is_linked}
@@ -71,7 +71,7 @@ stands_short name small v u null_reference = omega arith
 stands_short name small v u (reference a n is) = small a.number n is
 
 -- an integer is its own forward
-integer_forward : (o : Objects) (v : Value) → is_reference_value v ≡ false → forwarded o v ≡ v
+integer_forward : (o : Objects) (v : Value) → is_reference_value v ≡ false → forward_value o v ≡ v
 integer_forward o (Ref a) e = never (sym e)
 integer_forward o (Int32 z) e = refl
 integer_forward o (Int64 z) e = refl
@@ -103,7 +103,7 @@ first_leaves ThreadFlip o v a c lies = (c, lies, inl refl)
 first_leaves Reclaim o v a c lies = (c, lies, inl refl)
 
 -- a new copy gets the value itself, or its forward where forwards are compared
-new_gets : (own : Phase) (o : Objects) (v : Value) → (value_for_new own o v ≡ v) ⊎ ((compares_forwards own ≡ true) × (value_for_new own o v ≡ forwarded o v))
+new_gets : (own : Phase) (o : Objects) (v : Value) → (value_for_new own o v ≡ v) ⊎ ((compares_forwards own ≡ true) × (value_for_new own o v ≡ forward_value o v))
 new_gets Idle o v = inl refl
 new_gets Mark o v = inl refl
 new_gets Allocate o v = inl refl
@@ -177,10 +177,10 @@ module _ (tree : Tree) (words : ℕ) (h : Handshakes) (p : Progress) (seat : Sea
     before = slice_set c.slots slot (value_word v)
 
     abbrev after : List ℕ
-    after = slice_set c.slots slot (value_word (forwarded o v))
+    after = slice_set c.slots slot (value_word (forward_value o v))
 
     -- the forward's word represents the same
-    forward_stands : (x : Value) → IsShort x → is_reference_value x ≡ true → (u : StateValue) → is_reference_state u ≡ true → IsWord fits.whole (value_word x) u → IsWord fits.whole (value_word (forwarded o x)) u
+    forward_stands : (x : Value) → IsShort x → is_reference_value x ≡ true → (u : StateValue) → is_reference_state u ≡ true → IsWord fits.whole (value_word x) u → IsWord fits.whole (value_word (forward_value o x)) u
     forward_stands (Ref a) low holds u is stands =
         subst (λ (y : Addr). IsWord fits.whole (forward o.spaces y).number u) (reference_again a low)
         (word_forwarded tree h.posted h.has_round words p o.spaces fits.sound late fits.whole fits.heap.small fits.filled a.number u is stands)
@@ -189,16 +189,16 @@ module _ (tree : Tree) (words : ℕ) (h : Handshakes) (p : Progress) (seat : Sea
     forward_stands (Native z) low holds u is stands = never holds
 
     -- the slot's value
-    after_there : slice_get after slot ≡ Some (value_word (forwarded o v))
-    after_there = set_is_there c.slots slot (value_word (forwarded o v)) (get_or c.slots slot 0) (slice_get-get_or c.slots slot 0 inside)
+    after_there : slice_get after slot ≡ Some (value_word (forward_value o v))
+    after_there = set_is_there c.slots slot (value_word (forward_value o v)) (get_or c.slots slot 0) (slice_get-get_or c.slots slot 0 inside)
 
     -- another slot's
     else_there : (i w : ℕ) → i ≢ slot → slice_get c.slots i ≡ Some w → slice_get after i ≡ Some w
-    else_there i w apart is = elim (set_or_stays c.slots slot i (value_word (forwarded o v)) w is) [ inl same ↦ absurd (apart same) | inr stays ↦ stays ]
+    else_there i w apart is = elim (set_or_stays c.slots slot i (value_word (forward_value o v)) w is) [ inl same ↦ absurd (apart same) | inr stays ↦ stays ]
 
     forward_rewritten : AreRewritten tree fits.whole fits.whole c.kind before after
     forward_rewritten = record {
-      count = length-set c.slots slot (value_word (forwarded o v)) ∙ sym (length-set c.slots slot (value_word v));
+      count = length-set c.slots slot (value_word (forward_value o v)) ∙ sym (length-set c.slots slot (value_word v));
       integers = λ i w is none. elim (set_here_or_there c.slots slot i (value_word v) w is) [
         | inl here ↦
             let integer : is_reference_value v ≡ false = sort ∙ subst (λ j. holds_reference tree c.kind j ≡ false) here.0 none in
@@ -207,8 +207,8 @@ module _ (tree : Tree) (words : ℕ) (h : Handshakes) (p : Progress) (seat : Sea
       ];
       references = λ i w is holds u link stands. elim (set_here_or_there c.slots slot i (value_word v) w is) [
         | inl here ↦ (
-          value_word (forwarded o v),
-          subst (λ j. slice_get after j ≡ Some (value_word (forwarded o v))) (sym here.0) after_there,
+          value_word (forward_value o v),
+          subst (λ j. slice_get after j ≡ Some (value_word (forward_value o v))) (sym here.0) after_there,
           forward_stands v short (sort ∙ subst (λ j. holds_reference tree c.kind j ≡ true) here.0 holds) u link (subst (λ y. IsWord fits.whole y u) here.1 stands),
         )
         | inr still ↦ (w, else_there i w still.0 still.1, stands)
@@ -216,7 +216,7 @@ module _ (tree : Tree) (words : ℕ) (h : Handshakes) (p : Progress) (seat : Sea
     }
 
     -- a cell with the forward represents what one with the value represents
-    forward_cell : (object : HeapObject) → IsLinked tree c.kind object.contents → IsCell tree fits.whole (store_slot slot (value_word v) c) object → IsCell tree fits.whole (store_slot slot (value_word (forwarded o v)) c) object
+    forward_cell : (object : HeapObject) → IsLinked tree c.kind object.contents → IsCell tree fits.whole (store_slot slot (value_word v) c) object → IsCell tree fits.whole (store_slot slot (value_word (forward_value o v)) c) object
     forward_cell object linked stands = record {
       contents = contents_rewritten tree fits.whole fits.whole c.kind before after forward_rewritten object.contents object.thread linked stands.contents;
       monitor = stands.monitor;

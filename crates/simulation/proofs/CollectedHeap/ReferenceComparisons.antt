@@ -28,7 +28,7 @@ use Rattle.collector.proofs.Copying.VisibleCopies.{has_words}
 use Rattle.collector.proofs.ThreadReferences.LiveValues.{held_is_new, live_is_there}
 use Rattle.collector.proofs.HeapStores.ReachedCopies.{IsBeside, close_is_beside}
 use Rattle.collector.proofs.Addresses.Tests.{new_has_cell}
-use Rattle.simulation.specs.StandsFor.{AreTwins, Names}
+use Rattle.simulation.specs.Refines.{AreTwins, Names}
 use Rattle.simulation.proofs.Memory.MemoryModels.{IsReference}
 use Rattle.simulation.proofs.CollectedHeap.TwoCopies.{AreOldAndNew, forward_is_null, same_forward, twins_either, twins_forward, twins_late}
 use Rattle.simulation.proofs.CollectedHeap.VisibleNames.{FitsCollected, named_held, named_live, named_whole, null_has_none}

@@ -12,7 +12,7 @@ use Rattle.interpreter.specs.instructions.barriers.Barriers.{can_bear}
 use Rattle.collector.specs.phase_handshake.Handshakes.{own_phase, seat_of}
 use Rattle.collector.specs.phase_handshake.declared.posts.Seat.{Seat}
 use Rattle.collector.proofs.Births.BirthSoundness.{can_bear_near, near_of_close}
-use Rattle.simulation.specs.MachineContents.{Content}
+use Rattle.simulation.specs.MachineStates.{MachineState}
 use Rattle.simulation.specs.Rooms.{spaces_of}
 use Rattle.simulation.specs.Sound.{IsSound}
 
@@ -47,7 +47,7 @@ room_is Reclaim o can = by_cycle o.spaces.is_open refl
     by_cycle true opened = open_room o opened
     by_cycle false closed = closed_room o closed
 
-module _ (c : Content) (sound : IsSound c) (t : ℕ) where
+module _ (c : MachineState) (sound : IsSound c) (t : ℕ) where
   -- each thread can, and one without a seat is between cycles
   can_bear_there : can_bear (own_phase c.posts t) c.objects ≡ true
   can_bear_there = by_seat (seat_of c.posts t) refl

@@ -14,9 +14,9 @@ use Rattle.interpreter.specs.object_memory.declared.values.Value.{Value}
 use Rattle.interpreter.specs.object_memory.Values.{value_word}
 use Rattle.collector.specs.References.{holds_reference}
 use Rattle.simulation.specs.Agreement.{Agree}
-use Rattle.simulation.specs.StandsFor.{Names, IsValue, int32, int64, native, null_reference, reference, IsWord, IsInstanceCell, IsOfContents, thread_word}
+use Rattle.simulation.specs.Refines.{Names, IsValue, int32, int64, native, null_reference, reference, IsWord, IsInstanceCell, IsOfContents, thread_word}
 use Rattle.simulation.proofs.ListLaws.AgreeingLists.{agree_at, agree_get, agree_length}
-use Rattle.simulation.proofs.Memory.ReferenceSlots.{IsLinked, hidden_says, is_reference_state, slot_behind}
+use Rattle.simulation.proofs.Memory.ReferenceSlots.{IsLinked, hidden_says, is_reference_state, following_slot}
 
 -- ---- values under other names
 
@@ -33,14 +33,14 @@ integer_stands name names w u sort h = record { value = h.value; stands = by_val
 
 -- ---- other words
 
--- lists that agree at each place agree
+-- lists that agree at each index agree
 pub agree_from : {A B : Type 0} (R : A → B → Type 0) (xs : List A) (ys : List B) → length xs ≡ length ys → ((n : ℕ) (x : A) (y : B) → slice_get xs n ≡ Some x → slice_get ys n ≡ Some y → R x y) → Agree R xs ys
 agree_from R [] [] e each = tt
 agree_from R (x ∷ xs) (y ∷ ys) e each = (each 0 x y refl refl, agree_from R xs ys (let shorter : length xs ≡ length ys = omega (arith, e) in shorter) (λ n z w is is'. each (suc n) z w is is'))
 agree_from R [] (y ∷ ys) e each = absurd (omega (arith, e))
 agree_from R (x ∷ xs) [] e each = absurd (omega (arith, e))
 
--- other words in the slots: an integer's is the same, and in the place of a reference's stands one of the same object
+-- other words in the slots: an integer's is the same, and in place of a reference's stands one of the same object
 pub record AreRewritten (tree : Tree) (name names : Names) (k : Kind) (slots slots' : List ℕ) : Type 0 where
   pub count : length slots' ≡ length slots
   pub integers : (slot w : ℕ) → slice_get slots slot ≡ Some w → holds_reference tree k slot ≡ false → slice_get slots' slot ≡ Some w
@@ -62,7 +62,7 @@ module _ (tree : Tree) (name names : Names) (k : Kind) (slots slots' : List ℕ)
 
 -- the elements of an array
 elements_rewritten : (tree : Tree) (name names : Names) (k : Kind) (slots slots' : List ℕ) → AreRewritten tree name names k slots slots' → (elements : List StateValue) →
-    ((place : ℕ) (u : StateValue) → slice_get elements place ≡ Some u → holds_reference tree k place ≡ is_reference_state u) → Agree (IsWord name) slots elements → Agree (IsWord names) slots' elements
+    ((index : ℕ) (u : StateValue) → slice_get elements index ≡ Some u → holds_reference tree k index ≡ is_reference_state u) → Agree (IsWord name) slots elements → Agree (IsWord names) slots' elements
 elements_rewritten tree name names k slots slots' rewritten elements linked agree =
     agree_from (IsWord names) slots' elements (rewritten.count ∙ agree_length (IsWord name) slots elements agree)
     (λ n w' u is is'.
@@ -76,7 +76,7 @@ module _ (tree : Tree) (name names : Names) (class : ℕ) (c : ClassName) (field
 
   -- without a hidden slot
   plain_fields : (slots slots' : List ℕ) → AreRewritten tree name names (Instance class) slots slots' →
-      ((place : ℕ) (e : FieldKey × StateValue) → slice_get fields place ≡ Some e → holds_reference tree (Instance class) place ≡ is_reference_state e.1) →
+      ((index : ℕ) (e : FieldKey × StateValue) → slice_get fields index ≡ Some e → holds_reference tree (Instance class) index ≡ is_reference_state e.1) →
       Agree (FieldStands name) slots fields → Agree (FieldStands names) slots' fields
   plain_fields slots slots' rewritten linked agree =
       agree_from (FieldStands names) slots' fields (rewritten.count ∙ agree_length (FieldStands name) slots fields agree)
@@ -86,7 +86,7 @@ module _ (tree : Tree) (name names : Names) (class : ℕ) (c : ClassName) (field
 
   -- after one
   hidden_fields : (x : ℕ) (words words' : List ℕ) → AreRewritten tree name names (Instance class) (x ∷ words) (x ∷ words') →
-      ((place : ℕ) (e : FieldKey × StateValue) → slice_get fields place ≡ Some e → holds_reference tree (Instance class) (suc place) ≡ is_reference_state e.1) →
+      ((index : ℕ) (e : FieldKey × StateValue) → slice_get fields index ≡ Some e → holds_reference tree (Instance class) (suc index) ≡ is_reference_state e.1) →
       Agree (FieldStands name) words fields → Agree (FieldStands names) words' fields
   hidden_fields x words words' rewritten linked agree =
       agree_from (FieldStands names) words' fields (let count : length words' ≡ length words = omega (arith, rewritten.count) in count ∙ agree_length (FieldStands name) words fields agree)
@@ -99,7 +99,7 @@ module _ (tree : Tree) (name names : Names) (class : ℕ) (c : ClassName) (field
   instance_rewritten slots slots' rewritten linked h = by_hidden (is_thread_class tree c) refl linked h.slots_are
     where
       by_tail : (slots' : List ℕ) → is_thread_class tree c ≡ true → AreRewritten tree name names (Instance class) (thread_word thread ∷ h.words) slots' →
-          ((place : ℕ) (e : FieldKey × StateValue) → slice_get fields place ≡ Some e → holds_reference tree (Instance class) (suc place) ≡ is_reference_state e.1) → IsInstanceCell tree names class slots' c fields thread
+          ((index : ℕ) (e : FieldKey × StateValue) → slice_get fields index ≡ Some e → holds_reference tree (Instance class) (suc index) ≡ is_reference_state e.1) → IsInstanceCell tree names class slots' c fields thread
       by_tail [] test r linked = absurd (omega (arith, r.count))
       by_tail (y ∷ words') test r linked =
           let none : holds_reference tree (Instance class) 0 ≡ false = hidden_says tree c class h.class_is test in
@@ -113,7 +113,7 @@ module _ (tree : Tree) (name names : Names) (class : ℕ) (c : ClassName) (field
           }
 
       by_hidden : (b : Bool) → is_thread_class tree c ≡ b →
-          ((place : ℕ) (e : FieldKey × StateValue) → slice_get fields place ≡ Some e → holds_reference tree (Instance class) (slot_behind b place) ≡ is_reference_state e.1) →
+          ((index : ℕ) (e : FieldKey × StateValue) → slice_get fields index ≡ Some e → holds_reference tree (Instance class) (following_slot b index) ≡ is_reference_state e.1) →
           slots ≡ (if b then thread_word thread ∷ [] else []) ++ h.words → IsInstanceCell tree names class slots' c fields thread
       by_hidden true test linked are = by_tail slots' test (subst (λ ws. AreRewritten tree name names (Instance class) ws slots') are rewritten) linked
       by_hidden false test linked are = record {
@@ -153,19 +153,19 @@ module _ (tree : Tree) (name : Names) where
       (slot w : ℕ) → slice_get slots slot ≡ Some w → holds_reference tree (Instance class) slot ≡ true → IsNamedWord name w
   fields_named class c fields thread slots linked h slot w is holds = by_hidden (is_thread_class tree c) refl linked h.slots_are
     where
-      of_word : (place : ℕ) → slice_get h.words place ≡ Some w → ((e : FieldKey × StateValue) → slice_get fields place ≡ Some e → is_reference_state e.1 ≡ true) → IsNamedWord name w
-      of_word place there sort = let e = agree_at (λ x (f : FieldKey × StateValue). IsWord name x f.1) h.words fields h.values place w there in word_is_named w e.0.1 (sort e.0 e.1) e.2
+      of_word : (index : ℕ) → slice_get h.words index ≡ Some w → ((e : FieldKey × StateValue) → slice_get fields index ≡ Some e → is_reference_state e.1 ≡ true) → IsNamedWord name w
+      of_word index there sort = let e = agree_at (λ x (f : FieldKey × StateValue). IsWord name x f.1) h.words fields h.values index w there in word_is_named w e.0.1 (sort e.0 e.1) e.2
 
-      behind : (slot : ℕ) → is_thread_class tree c ≡ true → slice_get (thread_word thread ∷ h.words) slot ≡ Some w → holds_reference tree (Instance class) slot ≡ true →
-          ((place : ℕ) (e : FieldKey × StateValue) → slice_get fields place ≡ Some e → holds_reference tree (Instance class) (suc place) ≡ is_reference_state e.1) → IsNamedWord name w
-      behind zero test there holds linked = never (sym (hidden_says tree c class h.class_is test) ∙ holds)
-      behind (suc place) test there holds linked = of_word place there (λ e at_place. sym (linked place e at_place) ∙ holds)
+      following : (slot : ℕ) → is_thread_class tree c ≡ true → slice_get (thread_word thread ∷ h.words) slot ≡ Some w → holds_reference tree (Instance class) slot ≡ true →
+          ((index : ℕ) (e : FieldKey × StateValue) → slice_get fields index ≡ Some e → holds_reference tree (Instance class) (suc index) ≡ is_reference_state e.1) → IsNamedWord name w
+      following zero test there holds linked = never (sym (hidden_says tree c class h.class_is test) ∙ holds)
+      following (suc index) test there holds linked = of_word index there (λ e at_index. sym (linked index e at_index) ∙ holds)
 
       by_hidden : (b : Bool) → is_thread_class tree c ≡ b →
-          ((place : ℕ) (e : FieldKey × StateValue) → slice_get fields place ≡ Some e → holds_reference tree (Instance class) (slot_behind b place) ≡ is_reference_state e.1) →
+          ((index : ℕ) (e : FieldKey × StateValue) → slice_get fields index ≡ Some e → holds_reference tree (Instance class) (following_slot b index) ≡ is_reference_state e.1) →
           slots ≡ (if b then thread_word thread ∷ [] else []) ++ h.words → IsNamedWord name w
-      by_hidden true test linked are = behind slot test (subst (λ ws. slice_get ws slot ≡ Some w) are is) holds linked
-      by_hidden false test linked are = of_word slot (subst (λ ws. slice_get ws slot ≡ Some w) are is) (λ e at_place. sym (linked slot e at_place) ∙ holds)
+      by_hidden true test linked are = following slot test (subst (λ ws. slice_get ws slot ≡ Some w) are is) holds linked
+      by_hidden false test linked are = of_word slot (subst (λ ws. slice_get ws slot ≡ Some w) are is) (λ e at_index. sym (linked slot e at_index) ∙ holds)
 
   pub contents_named : (k : Kind) (slots : List ℕ) (contents : Contents) (thread : Option ℕ) → IsLinked tree k contents → IsOfContents tree name k slots contents thread →
       (slot w : ℕ) → slice_get slots slot ≡ Some w → holds_reference tree k slot ≡ true → IsNamedWord name w

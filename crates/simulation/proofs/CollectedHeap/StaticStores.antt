@@ -10,7 +10,7 @@ use Rattle.interpreter.specs.object_memory.declared.values.Value.{Value}
 use Rattle.interpreter.specs.object_memory.declared.values.Value.TheVariants.{Ref}
 use Rattle.interpreter.specs.object_memory.Objects.{Objects}
 use Rattle.interpreter.specs.object_memory.Spaces.{forward}
-use Rattle.interpreter.specs.instructions.barriers.Barriers.{forwarded, is_static_storable, stored_static, with_marked}
+use Rattle.interpreter.specs.instructions.barriers.Barriers.{forward_value, is_static_storable, stored_static, with_marked}
 use Rattle.interpreter.proofs.object_memory.TwoBlocks.{forward_null}
 use Rattle.collector.specs.phase_handshake.Handshakes.{Handshakes, IsClose}
 use Rattle.collector.specs.phase_handshake.declared.posts.Seat.{Seat}
@@ -27,7 +27,7 @@ use Rattle.collector.proofs.Marking.MarksOfStores.{value_weakens}
 use Rattle.collector.proofs.HeapStores.StoreSoundness.{IsBesideHeap}
 use Rattle.collector.proofs.HeapStores.ReachedCopies.{IsBeside, close_is_beside}
 use Rattle.simulation.specs.Agreement.{Agree}
-use Rattle.simulation.specs.StandsFor.{IsValue, Names, int32, int64, native, null_reference, reference}
+use Rattle.simulation.specs.Refines.{IsValue, Names, int32, int64, native, null_reference, reference}
 use Rattle.simulation.proofs.ListLaws.AgreeingLists.{agree_weaken}
 use Rattle.simulation.proofs.Representation.MoreNames.{value_extends}
 use Rattle.simulation.proofs.Memory.NamedAddresses.{heap_beside}
@@ -38,7 +38,7 @@ use Rattle.simulation.proofs.CollectedHeap.HeapChanges.{first_fits, value_passes
 
 -- ---- lists
 
--- another element at a place, which represents all that the first one represents
+-- another element at an index, which represents all that the first one represents
 agree_again : {A B : Type 0} (R : A → B → Type 0) (x z : A) → ((y : B) → R x y → R z y) → (xs : List A) (ys : List B) (n : ℕ) → Agree R (slice_set xs n x) ys → Agree R (slice_set xs n z) ys
 agree_again R x z f [] ys n h = h
 agree_again R x z f (w ∷ ws) [] zero h = elim h [ ]
@@ -50,7 +50,7 @@ agree_again R x z f (w ∷ ws) (y ∷ ys) (suc n) h = (h.0, agree_again R x z f 
 
 -- the forward of a value represents the same, once the new copies have all words
 pub forwarded_stands : (tree : Tree) (words : ℕ) (h : Handshakes) (p : Progress) (seat : Seat) (first : Objects) (all : Names) (name : Names) (o : Objects) (ss : List Value) (s : State) (fits : FitsCollected tree words h p seat first all name o ss s) →
-    has_words h.posted ≡ true → (v : Value) (u : StateValue) → IsValue fits.whole v u → IsValue fits.whole (forwarded o v) u
+    has_words h.posted ≡ true → (v : Value) (u : StateValue) → IsValue fits.whole v u → IsValue fits.whole (forward_value o v) u
 forwarded_stands tree words h p seat first all name o ss s fits late v u (int32 z is) = int32 z is
 forwarded_stands tree words h p seat first all name o ss s fits late v u (int64 z is) = int64 z is
 forwarded_stands tree words h p seat first all name o ss s fits late v u (native z is) = native z is
@@ -134,8 +134,8 @@ module _ (tree : Tree) (words : ℕ) (h : Handshakes) (p : Progress) (seat : Sea
     plain : ValuePasses (static_may_hold h.posted o.spaces p n) v → FitsCollected tree words h p seat first all name o (slice_set ss n v) (record s { statics = entries })
     plain pass = static_set o fits v (λ x same. same) pass
 
-    flipped : has_words h.posted ≡ true → ValuePasses (static_may_hold h.posted o.spaces p n) (forwarded o v) → FitsCollected tree words h p seat first all name o (slice_set ss n (forwarded o v)) (record s { statics = entries })
-    flipped late pass = static_set o fits (forwarded o v) (λ x same. forwarded_stands tree words h p seat first all name o ss s fits late v x same) pass
+    flipped : has_words h.posted ≡ true → ValuePasses (static_may_hold h.posted o.spaces p n) (forward_value o v) → FitsCollected tree words h p seat first all name o (slice_set ss n (forward_value o v)) (record s { statics = entries })
+    flipped late pass = static_set o fits (forward_value o v) (λ x same. forwarded_stands tree words h p seat first all name o ss s fits late v x same) pass
 
     marked : seat.phase ≡ Mark → ValuePasses (static_may_hold h.posted (with_marked o v).spaces p n) v → FitsCollected tree words h p seat first all name (with_marked o v) (slice_set ss n v) (record s { statics = entries })
     marked e pass =

@@ -24,7 +24,7 @@ use Rattle.collector.proofs.Copying.VisibleCopies.{ShowSame, has_words, old_show
 use Rattle.collector.proofs.ThreadReferences.LiveValues.{reference_again}
 use Rattle.collector.proofs.Addresses.Disjunctions.{or_second}
 use Rattle.collector.proofs.Addresses.Tests.{is_new_live, live_is_late, live_is_read, new_is, new_is_live}
-use Rattle.simulation.specs.StandsFor.{AreTwins, IsCell, IsMonitor, IsOfContents, IsValue, IsWord, Names, int32, int64, native, null_reference, reference}
+use Rattle.simulation.specs.Refines.{AreTwins, IsCell, IsMonitor, IsOfContents, IsValue, IsWord, Names, int32, int64, native, null_reference, reference}
 use Rattle.simulation.proofs.Memory.ReferenceSlots.{IsLinked, is_reference_state}
 use Rattle.simulation.proofs.CollectedHeap.RewrittenCells.{AreRewritten, IsNamedWord, contents_rewritten}
 

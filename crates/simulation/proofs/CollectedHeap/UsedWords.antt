@@ -10,11 +10,11 @@ use Rattle.interpreter.specs.object_memory.declared.values.Value.{Value}
 use Rattle.interpreter.specs.object_memory.declared.values.Value.TheVariants.{Int32, Int64, Native, Ref}
 use Rattle.interpreter.specs.object_memory.Cells.{Cell, Cells, cell_in, empty_cell, free_words, literal_number, next_address, size, store_monitor, store_slot, used_words, with_last}
 use Rattle.interpreter.specs.object_memory.Objects.{Objects, with_cell, with_literal_monitor, with_slot}
-use Rattle.interpreter.specs.object_memory.Spaces.{Spaces, birth_space_of, born, cell_at, change_at, change_copies, change_if, is_old, is_white, mark, marked_if, other_of, room_at, room_for, set_mark}
+use Rattle.interpreter.specs.object_memory.Spaces.{Spaces, birth_space_of, give_birth, cell_at, change_at, change_copies, change_if, is_old, is_white, mark, marked_if, other_of, room_at, room_for, set_mark}
 use Rattle.interpreter.specs.object_memory.declared.birth_spaces.BirthSpace.{BirthSpace}
 use Rattle.interpreter.specs.object_memory.declared.birth_spaces.BirthSpace.TheVariants.{InBoth, InNew, InOld, Listed}
 use Rattle.interpreter.specs.object_memory.Values.{value_word}
-use Rattle.interpreter.specs.instructions.barriers.Barriers.{forwarded, object_born, reaches_both, stored_int, stored_monitor, stored_static, stored_value, with_both, with_both_monitors, with_both_slots, with_marked}
+use Rattle.interpreter.specs.instructions.barriers.Barriers.{forward_value, object_born, reaches_both, stored_int, stored_monitor, stored_static, stored_value, with_both, with_both_monitors, with_both_slots, with_marked}
 use Rattle.interpreter.proofs.object_memory.Blocks.{used_in, used_last}
 use Rattle.interpreter.proofs.object_memory.Rooms.{size-empty}
 use Rattle.interpreter.proofs.object_memory.TwoBlocks.{slot_keeps}
@@ -103,9 +103,9 @@ pub value_uses : (own : Phase) (o : Objects) (a : Addr) (slot : ℕ) (v : Value)
 value_uses Idle o a slot v = slot_uses o a slot (value_word v)
 value_uses Mark o a slot v = uses_then o.spaces (with_marked o v).spaces (with_slot (with_marked o v) a slot (value_word v)).spaces (marked_uses o v) (slot_uses (with_marked o v) a slot (value_word v))
 value_uses Allocate o a slot v = slot_uses o a slot (value_word v)
-value_uses Copy o a slot v = slots_use o a slot v (forwarded o v)
-value_uses PreFlip o a slot v = slots_use o a slot v (forwarded o v)
-value_uses HeapFlip o a slot v = slots_use o a slot v (forwarded o v)
+value_uses Copy o a slot v = slots_use o a slot v (forward_value o v)
+value_uses PreFlip o a slot v = slots_use o a slot v (forward_value o v)
+value_uses HeapFlip o a slot v = slots_use o a slot v (forward_value o v)
 value_uses ThreadFlip o a slot v = slots_use o a slot v v
 value_uses Reclaim o a slot v = slot_uses o a slot (value_word v)
 
@@ -148,15 +148,15 @@ old_stays m n same = ap (λ w. w - used_words n.old.cells) same.old_words ∙ ap
 new_stays : (m n : Spaces) → UsesAsMuch m n → free_words n.new ≡ free_words m.new
 new_stays m n same = ap (λ w. w - used_words n.new.cells) same.new_words ∙ ap (λ u. m.new.words - u) same.new
 
-place_stays : (place : BirthSpace) (m n : Spaces) → UsesAsMuch m n → room_at place n ≡ room_at place m
-place_stays InOld m n same = old_stays m n same
-place_stays Listed m n same = old_stays m n same
-place_stays InBoth m n same = ap (λ w. min w (free_words n.new)) (old_stays m n same) ∙ ap (λ w. min (free_words m.old) w) (new_stays m n same)
-place_stays InNew m n same = new_stays m n same
+space_stays : (space : BirthSpace) (m n : Spaces) → UsesAsMuch m n → room_at space n ≡ room_at space m
+space_stays InOld m n same = old_stays m n same
+space_stays Listed m n same = old_stays m n same
+space_stays InBoth m n same = ap (λ w. min w (free_words n.new)) (old_stays m n same) ∙ ap (λ w. min (free_words m.old) w) (new_stays m n same)
+space_stays InNew m n same = new_stays m n same
 
 -- so a thread has the same room for a birth, in each phase
 pub room_stays : (own : Phase) (m n : Spaces) → UsesAsMuch m n → room_for own n ≡ room_for own m
-room_stays own m n same = ap (λ t. room_at (birth_space_of own t) n) same.held ∙ place_stays (birth_space_of own m.is_open) m n same
+room_stays own m n same = ap (λ t. room_at (birth_space_of own t) n) same.held ∙ space_stays (birth_space_of own m.is_open) m n same
 
 -- ---- births
 
@@ -174,27 +174,27 @@ empty_takes s k n marked other fits =
 least_takes : (a b x y w : ℕ) → a + w ≡ x → b + w ≡ y → min a b + w ≡ min x y
 least_takes a b x y w old new = omega arith
 
--- and so a birth in each place
-place_takes : (place : BirthSpace) (m : Spaces) (k : Kind) (n : ℕ) → 3 + n ≤ room_at place m → room_at place (born place m k n) + (3 + n) ≡ room_at place m
-place_takes InOld m k n fits = empty_takes m.old k n false None fits
-place_takes Listed m k n fits = empty_takes m.old k n true None fits
-place_takes InBoth m k n fits =
+-- and so a birth in each space
+space_takes : (space : BirthSpace) (m : Spaces) (k : Kind) (n : ℕ) → 3 + n ≤ room_at space m → room_at space (give_birth space m k n) + (3 + n) ≡ room_at space m
+space_takes InOld m k n fits = empty_takes m.old k n false None fits
+space_takes Listed m k n fits = empty_takes m.old k n true None fits
+space_takes InBoth m k n fits =
     let in_old : 3 + n ≤ free_words m.old = omega (arith, fits) in
     let in_new : 3 + n ≤ free_words m.new = omega (arith, fits) in
-    least_takes (free_words (born InBoth m k n).old) (free_words (born InBoth m k n).new) (free_words m.old) (free_words m.new) (3 + n)
+    least_takes (free_words (give_birth InBoth m k n).old) (free_words (give_birth InBoth m k n).new) (free_words m.old) (free_words m.new) (3 + n)
     (empty_takes m.old k n true (Some (next_address m.new)) in_old)
     (empty_takes m.new k n true (Some (next_address m.old)) in_new)
-place_takes InNew m k n fits = empty_takes m.new k n false None fits
+space_takes InNew m k n fits = empty_takes m.new k n false None fits
 
 -- which leaves the second block held as it was
-born_held : (place : BirthSpace) (m : Spaces) (k : Kind) (n : ℕ) → (born place m k n).is_open ≡ m.is_open
+born_held : (space : BirthSpace) (m : Spaces) (k : Kind) (n : ℕ) → (give_birth space m k n).is_open ≡ m.is_open
 born_held InOld m k n = refl
 born_held Listed m k n = refl
 born_held InBoth m k n = refl
 born_held InNew m k n = refl
 
 -- a birth leaves each block as large
-born_large : (place : BirthSpace) (m : Spaces) (k : Kind) (n : ℕ) → AreAsLarge m (born place m k n)
+born_large : (space : BirthSpace) (m : Spaces) (k : Kind) (n : ℕ) → AreAsLarge m (give_birth space m k n)
 born_large InOld m k n = record { old = refl; new = refl }
 born_large Listed m k n = record { old = refl; new = refl }
 born_large InBoth m k n = record { old = refl; new = refl }
@@ -213,21 +213,21 @@ empty_adds s k n marked other =
     let same : size (empty_cell k n marked other) ≡ 3 + n = size-empty k n marked other in
     omega (arith, used_last s (empty_cell k n marked other), same)
 
-place_adds : (place : BirthSpace) (m : Spaces) (k : Kind) (n : ℕ) → AddsAtMost (3 + n) m (born place m k n)
-place_adds InOld m k n = record { old = empty_adds m.old k n false None; new = omega arith }
-place_adds Listed m k n = record { old = empty_adds m.old k n true None; new = omega arith }
-place_adds InBoth m k n = record { old = empty_adds m.old k n true (Some (next_address m.new)); new = empty_adds m.new k n true (Some (next_address m.old)) }
-place_adds InNew m k n = record { old = omega arith; new = empty_adds m.new k n false None }
+space_adds : (space : BirthSpace) (m : Spaces) (k : Kind) (n : ℕ) → AddsAtMost (3 + n) m (give_birth space m k n)
+space_adds InOld m k n = record { old = empty_adds m.old k n false None; new = omega arith }
+space_adds Listed m k n = record { old = empty_adds m.old k n true None; new = omega arith }
+space_adds InBoth m k n = record { old = empty_adds m.old k n true (Some (next_address m.new)); new = empty_adds m.new k n true (Some (next_address m.old)) }
+space_adds InNew m k n = record { old = omega arith; new = empty_adds m.new k n false None }
 
 -- a birth adds no more than its object's words to a block, in each phase
 pub birth_adds : (own : Phase) (o : Objects) (k : Kind) (count : ℕ) (o' : Objects) (a : Addr) → ◌≡◌ {A = Objects × Option Addr} (object_born own o k count) (o', Some a) → AddsAtMost (3 + count) o.spaces o'.spaces
 birth_adds own o k count o' a e =
-    subst (λ (x : Objects). AddsAtMost (3 + count) o.spaces x.spaces) (granted own o k count o' a e).1 (place_adds (birth_space_of own o.spaces.is_open) o.spaces k count)
+    subst (λ (x : Objects). AddsAtMost (3 + count) o.spaces x.spaces) (granted own o k count o' a e).1 (space_adds (birth_space_of own o.spaces.is_open) o.spaces k count)
 
 -- a birth takes its object's words of the thread's room, in each phase
 pub birth_takes : (own : Phase) (o : Objects) (k : Kind) (count : ℕ) (o' : Objects) (a : Addr) → ◌≡◌ {A = Objects × Option Addr} (object_born own o k count) (o', Some a) → room_for own o'.spaces + (3 + count) ≡ room_for own o.spaces
 birth_takes own o k count o' a e =
-    let place : BirthSpace = birth_space_of own o.spaces.is_open in
+    let space : BirthSpace = birth_space_of own o.spaces.is_open in
     let birth = granted own o k count o' a e in
     subst (λ (x : Objects). room_for own x.spaces + (3 + count) ≡ room_for own o.spaces) birth.1
-    (ap (λ t. room_at (birth_space_of own t) (born place o.spaces k count) + (3 + count)) (born_held place o.spaces k count) ∙ place_takes place o.spaces k count birth.0)
+    (ap (λ t. room_at (birth_space_of own t) (give_birth space o.spaces k count) + (3 + count)) (born_held space o.spaces k count) ∙ space_takes space o.spaces k count birth.0)

@@ -28,7 +28,7 @@ use Rattle.collector.proofs.ThreadReferences.LiveValues.{held_by, may_hold_is_he
 use Rattle.collector.proofs.Marking.MarksOfStores.{Grows, grows_itself}
 use Rattle.collector.proofs.Addresses.Disjunctions.{or_first, or_second}
 use Rattle.collector.proofs.Addresses.Tests.{HoldMeans, hold_means, loads_may_be_held}
-use Rattle.simulation.specs.StandsFor.{Extends, IsBornAt, IsHeap, IsWord, Names}
+use Rattle.simulation.specs.Refines.{Extends, IsBornAt, IsHeap, IsWord, Names}
 use Rattle.simulation.proofs.Memory.MemoryModels.{AreStatics, IsReadable}
 use Rattle.simulation.proofs.Memory.ReferenceSlots.{IsLinked, is_reference_state, typed_is_linked}
 use Rattle.simulation.proofs.CollectedHeap.RewrittenCells.{AreRewritten, contents_rewritten}
@@ -40,8 +40,8 @@ use Rattle.simulation.proofs.CollectedHeap.TwoCopies.{by_reference}
 abbrev pub first_hold : Handshakes → Seat → Objects → Hold
 first_hold h seat first = hold_of h first.spaces.has_marked seat
 
--- The heap is sound, and represents the state under names of live addresses, where the new copy of a named old object has its name once it is live. The thread's own names
--- are those of what it may hold. The static fields hold what they may. What was so when the step began is so still.
+-- The heap is sound, and represents the state under names of live addresses, where the new copy of a named old object has its name once it is live.
+-- The thread's own names are those of what it may hold. The static fields hold what they may. What was so when the step began is so still.
 pub record FitsCollected (tree : Tree) (words : ℕ) (h : Handshakes) (p : Progress) (seat : Seat) (first : Objects) (all : Names) (name : Names) (o : Objects) (ss : List Value) (s : State) : Type 0 where
   pub sound : IsSoundHeap tree h.posted h.has_round words p o.spaces
   pub on_time : (own : Phase) → IsOnTime own h.posted h.has_round p first.spaces → IsOnTime own h.posted h.has_round p o.spaces

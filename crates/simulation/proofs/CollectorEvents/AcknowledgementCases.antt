@@ -6,23 +6,23 @@ use Rattle.interpreter.specs.object_memory.Objects.{Objects}
 use Rattle.interpreter.specs.threads_monitors.declared.threads.Thread.{Thread}
 use Rattle.interpreter.proofs.cil_model.SameLaws.{never}
 use Rattle.collector.specs.Holding.{is_marking}
-use Rattle.collector.specs.phase_handshake.Handshakes.{Handshakes, acknowledged, is_open_to, is_phase, seat_after, seat_of}
+use Rattle.collector.specs.phase_handshake.Handshakes.{Handshakes, acknowledge_phase, is_open_to, is_phase, seat_after, seat_of}
 use Rattle.collector.specs.phase_handshake.declared.posts.Seat.{Seat}
 use Rattle.simulation.specs.Collecting.{answers_round, flips_frames, objects_after, threads_after, with_acknowledgement, with_flipped, with_thread_marked}
-use Rattle.simulation.specs.MachineContents.{Content}
+use Rattle.simulation.specs.MachineStates.{MachineState}
 
 -- the posts once a thread with this seat has answered
-abbrev pub posts_after : Content → ℕ → Seat → Handshakes
+abbrev pub posts_after : MachineState → ℕ → Seat → Handshakes
 posts_after c t seat = record c.posts { seats = slice_set c.posts.seats t (Some (seat_after c.posts.posted seat)) }
 
 -- what each case has to show
-pub record AcknowledgementCases (c : Content) (t : ℕ) (P : Content → Type 0) : Type 0 where
+pub record AcknowledgementCases (c : MachineState) (t : ℕ) (P : MachineState → Type 0) : Type 0 where
   pub nothing : P c
   pub marks : (seat : Seat) → seat_of c.posts t ≡ Some seat → is_open_to c.posts.posted c.posts.has_round seat ≡ true → is_phase seat.phase c.posts.posted ≡ true → is_marking c.posts.posted ≡ true →
       P (record c { posts = posts_after c t seat; objects = with_thread_marked c.objects (slice_get c.threads t) })
   pub answers : (seat : Seat) → seat_of c.posts t ≡ Some seat → is_open_to c.posts.posted c.posts.has_round seat ≡ true → is_phase seat.phase c.posts.posted ≡ true → is_marking c.posts.posted ≡ false →
       P (record c { posts = posts_after c t seat })
-  pub goes_on : (seat : Seat) → seat_of c.posts t ≡ Some seat → is_open_to c.posts.posted c.posts.has_round seat ≡ true → is_phase seat.phase c.posts.posted ≡ false → is_phase c.posts.posted ThreadFlip ≡ false →
+  pub continues : (seat : Seat) → seat_of c.posts t ≡ Some seat → is_open_to c.posts.posted c.posts.has_round seat ≡ true → is_phase seat.phase c.posts.posted ≡ false → is_phase c.posts.posted ThreadFlip ≡ false →
       P (record c { posts = posts_after c t seat })
   pub flips : (seat : Seat) → seat_of c.posts t ≡ Some seat → is_open_to c.posts.posted c.posts.has_round seat ≡ true → is_phase seat.phase c.posts.posted ≡ false → is_phase c.posts.posted ThreadFlip ≡ true →
       P (record c { threads = with_flipped c.objects c.threads t (slice_get c.threads t); posts = posts_after c t seat })
@@ -37,12 +37,12 @@ first_fails : (x y : Bool) → (x || y) ≡ false → x ≡ false
 first_fails true y e = never (sym e)
 first_fails false y e = refl
 
-module _ (c : Content) (t : ℕ) (P : Content → Type 0) (cases : AcknowledgementCases c t P) where
+module _ (c : MachineState) (t : ℕ) (P : MachineState → Type 0) (cases : AcknowledgementCases c t P) where
   -- the machine state by its parts
-  of_parts : (threads : List Thread) (posts : Handshakes) (objects : Objects) → threads_after c t ≡ threads → acknowledged c.posts t ≡ posts → objects_after c t ≡ objects →
+  of_parts : (threads : List Thread) (posts : Handshakes) (objects : Objects) → threads_after c t ≡ threads → acknowledge_phase c.posts t ≡ posts → objects_after c t ≡ objects →
       P (record c { threads = threads; posts = posts; objects = objects }) → P (with_acknowledgement c t).0
   of_parts threads posts objects e f g h =
-      subst (λ x. P (record c { threads = x; posts = acknowledged c.posts t; objects = objects_after c t })) (sym e)
+      subst (λ x. P (record c { threads = x; posts = acknowledge_phase c.posts t; objects = objects_after c t })) (sym e)
       (subst (λ x. P (record c { threads = threads; posts = x; objects = objects_after c t })) (sym f)
       (subst (λ x. P (record c { threads = threads; posts = posts; objects = x })) (sym g) h))
 
@@ -71,7 +71,7 @@ module _ (c : Content) (t : ℕ) (P : Content → Type 0) (cases : Acknowledgeme
         ap (λ o. option_map_or (is_open_to c.posts.posted c.posts.has_round) o false && (is_marking c.posts.posted && option_map_or (λ (s : Seat). is_phase s.phase c.posts.posted) o false)) here ∙
         ap (λ x. x && (is_marking c.posts.posted && is_phase seat.phase c.posts.posted)) e
 
-    posts_by : (b : Bool) → is_open_to c.posts.posted c.posts.has_round seat ≡ b → acknowledged c.posts t ≡ (if b then posts_after c t seat else c.posts)
+    posts_by : (b : Bool) → is_open_to c.posts.posted c.posts.has_round seat ≡ b → acknowledge_phase c.posts t ≡ (if b then posts_after c t seat else c.posts)
     posts_by b e =
         ap (λ o. option_map_or (λ (s : Seat). if is_open_to c.posts.posted c.posts.has_round s then posts_after c t s else c.posts) o c.posts) here ∙
         ap (λ x. if x then posts_after c t seat else c.posts) e
@@ -118,7 +118,7 @@ module _ (c : Content) (t : ℕ) (P : Content → Type 0) (cases : Acknowledgeme
           (threads_by false (flips_is ∙ ap (λ x. x && not (is_phase seat.phase c.posts.posted)) flip))
           (posts_by true opened)
           (unmarked late)
-          (cases.goes_on seat here opened late flip)
+          (cases.continues seat here opened late flip)
 
       by_phase : (b : Bool) → is_phase seat.phase c.posts.posted ≡ b → P (with_acknowledgement c t).0
       by_phase true seen = of_round (is_marking c.posts.posted) refl seen

@@ -17,8 +17,8 @@ use Rattle.interpreter.specs.object_memory.Spaces.{AreSpaces, Spaces, forward, o
 use Rattle.interpreter.proofs.object_memory.TwoBlocks.{forward_null}
 use Rattle.interpreter.specs.threads_monitors.Frames.{Frame, Frames}
 use Rattle.interpreter.specs.threads_monitors.Roots.{frame_with_references, with_reference, with_references}
-use Rattle.interpreter.specs.threads_monitors.declared.threads.Standing.{Standing}
-use Rattle.interpreter.specs.threads_monitors.declared.threads.Standing.TheVariants.{Live, Ended}
+use Rattle.interpreter.specs.threads_monitors.declared.threads.ThreadStatus.{ThreadStatus}
+use Rattle.interpreter.specs.threads_monitors.declared.threads.ThreadStatus.TheVariants.{Live, Ended}
 use Rattle.interpreter.specs.threads_monitors.declared.threads.Thread.{Thread}
 use Rattle.interpreter.proofs.cil_model.Lists.{none_is_some}
 use Rattle.collector.specs.Marking.{with_all_marked}
@@ -28,10 +28,10 @@ use Rattle.collector.proofs.Copying.VisibleCopies.{has_words}
 use Rattle.collector.proofs.Marking.MarkChanges.{AreDarker, IsDarker, stays_there}
 use Rattle.collector.proofs.Marking.MarkedHeaps.{AreDarker-with_all_marked}
 use Rattle.simulation.specs.Agreement.{Agree}
-use Rattle.simulation.specs.Collecting.{standing_flipped, thread_flipped, with_acknowledgement, with_flipped, with_thread_marked}
-use Rattle.simulation.specs.MachineContents.{Content}
+use Rattle.simulation.specs.Collecting.{status_flipped, thread_flipped, with_acknowledgement, with_flipped, with_thread_marked}
+use Rattle.simulation.specs.MachineStates.{MachineState}
 use Rattle.simulation.specs.Sound.{IsSound}
-use Rattle.simulation.specs.StandsFor.{Names, AreTwins, IsValue, int32, int64, native, null_reference, reference, IsOfContents, IsMonitor, IsCell, IsBornAt, IsHeap, IsObject, IsFrame, AreFrames, StandsAlike, IsThread, Represents, StandsBy}
+use Rattle.simulation.specs.Refines.{Names, AreTwins, IsValue, int32, int64, native, null_reference, reference, IsOfContents, IsMonitor, IsCell, IsBornAt, IsHeap, IsObject, IsFrame, AreFrames, StandsAlike, IsThread, Represents, StandsBy}
 use Rattle.simulation.proofs.ListLaws.AgreeingLists.{agree_changed}
 use Rattle.simulation.proofs.CollectorEvents.AcknowledgementCases.{after_acknowledgement, posts_after}
 use Rattle.simulation.proofs.CollectorEvents.AcknowledgementSoundness.{acknowledgement_sound}
@@ -122,7 +122,7 @@ module _ (name : Names) (g : Addr → Addr) (null_stays : g null ≡ null) (name
     frame_flipped : (f : Frame) (x : StateFrame) → IsFrame tree name f x → IsFrame tree name (frame_with_references g f) x
     frame_flipped f x h = record {
       method = h.method;
-      place = h.place;
+      pc = h.pc;
       arguments = values_flipped f.arguments x.arguments h.arguments;
       locals = values_flipped f.locals x.locals h.locals;
       stack = values_flipped f.stack x.stack h.stack;
@@ -146,7 +146,7 @@ module _ (name : Names) (g : Addr → Addr) (null_stays : g null ≡ null) (name
 
 -- ---- the whole
 
-module _ (c : Content) (s : State) (name : Names) (sound : IsSound c) (stands : StandsBy name c s) where
+module _ (c : MachineState) (s : State) (name : Names) (sound : IsSound c) (stands : StandsBy name c s) where
   abbrev m : Spaces
   m = c.objects.spaces
 
@@ -169,33 +169,33 @@ module _ (c : Content) (s : State) (name : Names) (sound : IsSound c) (stands : 
     forward_named : (a : Addr) (n : ObjectName) → name a.number ≡ Some n → name (forward m a).number ≡ Some n
     forward_named = normal_forward c.tree c.posts.posted c.posts.has_round c.limits.max_words c.progress c.objects sound.heap (ap has_words (same_phase c.posts.posted ThreadFlip flip)) name normal
 
-    standing_stands : (x : Standing) (xs : List StateFrame) (e : Option End) → StandsAlike c.tree c.limits name x xs e → StandsAlike c.tree c.limits name (standing_flipped c.objects x) xs e
-    standing_stands (Live fs) xs None h = live_flipped name (forward m) (forward_null m sound.heap.blocks.spaces) forward_named c.tree c.limits fs xs h
-    standing_stands (Ended e) xs (Some e') h = h
-    standing_stands (Live fs) xs (Some e') h = h
-    standing_stands (Ended e) xs None h = h
+    status_stands : (x : ThreadStatus) (xs : List StateFrame) (e : Option End) → StandsAlike c.tree c.limits name x xs e → StandsAlike c.tree c.limits name (status_flipped c.objects x) xs e
+    status_stands (Live fs) xs None h = live_flipped name (forward m) (forward_null m sound.heap.blocks.spaces) forward_named c.tree c.limits fs xs h
+    status_stands (Ended e) xs (Some e') h = h
+    status_stands (Live fs) xs (Some e') h = h
+    status_stands (Ended e) xs None h = h
 
     flips_stand : (posts : Handshakes) (t : ℕ) (o : Option Thread) → slice_get c.threads t ≡ o → StandsBy name (record c { threads = with_flipped c.objects c.threads t o; posts = posts }) s
     flips_stand posts t None is = beside_posts posts
     flips_stand posts t (Some x) is = record {
       memory = stands.memory;
-      threads = agree_changed (IsThread c.tree c.limits name) c.threads s.threads t x (thread_flipped c.objects x) is (λ u h. record { standing = standing_stands x.standing u.frames u.ended h.standing; steps_left = h.steps_left }) stands.threads;
+      threads = agree_changed (IsThread c.tree c.limits name) c.threads s.threads t x (thread_flipped c.objects x) is (λ u h. record { thread_status = status_stands x.thread_status u.frames u.ended h.thread_status; steps_left = h.steps_left }) stands.threads;
     }
 
 -- what stands under normal names stands under them after an acknowledgement
-pub acknowledgement_stands : (c : Content) (t : ℕ) (s : State) (name : Names) → IsNormal c.posts.posted c.objects.spaces name → StandsBy name c s → IsSound c → StandsBy name (with_acknowledgement c t).0 s
+pub acknowledgement_stands : (c : MachineState) (t : ℕ) (s : State) (name : Names) → IsNormal c.posts.posted c.objects.spaces name → StandsBy name c s → IsSound c → StandsBy name (with_acknowledgement c t).0 s
 acknowledgement_stands c t s name normal stands sound =
     after_acknowledgement c t (λ x. StandsBy name x s)
     (record {
       nothing = stands;
       marks = λ seat here opened seen marking. marks_stand c s name sound stands (posts_after c t seat) (slice_get c.threads t);
       answers = λ seat here opened seen other. beside_posts c s name sound stands (posts_after c t seat);
-      goes_on = λ seat here opened late later. beside_posts c s name sound stands (posts_after c t seat);
+      continues = λ seat here opened late later. beside_posts c s name sound stands (posts_after c t seat);
       flips = λ seat here opened late flip. flips_stand c s name sound stands normal flip (posts_after c t seat) t (slice_get c.threads t) refl;
     })
 
 -- so a machine that represents a state represents it after an acknowledgement
-pub acknowledgement_represents : (c : Content) (t : ℕ) (s : State) → Represents c s → Represents (with_acknowledgement c t).0 s
+pub acknowledgement_represents : (c : MachineState) (t : ℕ) (s : State) → Represents c s → Represents (with_acknowledgement c t).0 s
 acknowledgement_represents c t s r =
     let normal = normal_names c (sound_is_held c r.sound) r.accepted.legal s r.typed r.stands.name r.stands.by in
     record {

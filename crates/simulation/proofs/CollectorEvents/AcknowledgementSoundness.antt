@@ -15,8 +15,8 @@ use Rattle.interpreter.specs.object_memory.Spaces.{Spaces, forward}
 use Rattle.interpreter.specs.threads_monitors.Frames.{Frames}
 use Rattle.interpreter.specs.threads_monitors.Roots.{roots, with_references}
 use Rattle.interpreter.specs.threads_monitors.Threads.{is_live, is_live_at}
-use Rattle.interpreter.specs.threads_monitors.declared.threads.Standing.{Standing}
-use Rattle.interpreter.specs.threads_monitors.declared.threads.Standing.TheVariants.{Live, Ended}
+use Rattle.interpreter.specs.threads_monitors.declared.threads.ThreadStatus.{ThreadStatus}
+use Rattle.interpreter.specs.threads_monitors.declared.threads.ThreadStatus.TheVariants.{Live, Ended}
 use Rattle.interpreter.specs.threads_monitors.declared.threads.Thread.{Thread}
 use Rattle.interpreter.proofs.cil_model.Lists.{none_is_some, set_is_there}
 use Rattle.interpreter.proofs.cil_model.SameLaws.{never}
@@ -33,8 +33,8 @@ use Rattle.collector.proofs.Marking.MarkChanges.{AreDarker, AreDarker-same}
 use Rattle.collector.proofs.ThreadReferences.MarkingPhases.{held_again, may_hold_marked, phase_held, stays_held, stays_held-static}
 use Rattle.collector.proofs.Marking.MarkedHeaps.{AreDarker-with_all_marked, HasNotBegun-with_all_marked, IsSoundHeap-with_all_marked, with_all_marked-noted, with_all_marked-pass}
 use Rattle.collector.proofs.Addresses.Tests.{value_weakens}
-use Rattle.simulation.specs.Collecting.{standing_flipped, thread_flipped, with_acknowledgement, with_flipped, with_thread_marked}
-use Rattle.simulation.specs.MachineContents.{Content}
+use Rattle.simulation.specs.Collecting.{status_flipped, thread_flipped, with_acknowledgement, with_flipped, with_thread_marked}
+use Rattle.simulation.specs.MachineStates.{MachineState}
 use Rattle.simulation.specs.Sound.{AreSeated, IsSound}
 use Rattle.simulation.proofs.CollectorEvents.AcknowledgementCases.{after_acknowledgement, posts_after}
 use Rattle.simulation.proofs.Representation.NormalContents.{sound_is_held, thread_is_live}
@@ -86,7 +86,7 @@ module _ (posted : Phase) (seat : Seat) where
       by_test true seen = ap (λ (x : Seat). x.phase) (seen_after seen) ∙ same_phase seat.phase posted seen
       by_test false late = ap (λ (x : Seat). x.phase) (late_after late)
 
-module _ (c : Content) (sound : IsSound c) (t : ℕ) (seat : Seat) (here : seat_of c.posts t ≡ Some seat) (opened : is_open_to c.posts.posted c.posts.has_round seat ≡ true) where
+module _ (c : MachineState) (sound : IsSound c) (t : ℕ) (seat : Seat) (here : seat_of c.posts t ≡ Some seat) (opened : is_open_to c.posts.posted c.posts.has_round seat ≡ true) where
   abbrev next : Seat
   next = seat_after c.posts.posted seat
 
@@ -112,8 +112,8 @@ module _ (c : Content) (sound : IsSound c) (t : ℕ) (seat : Seat) (here : seat_
   sound_then : (threads : List Thread) (o : Objects) → ((n : ℕ) → is_live_at threads n ≡ is_live_at c.threads n) →
       IsSoundHeap c.tree c.posts.posted c.posts.has_round c.limits.max_words c.progress o.spaces →
       ((n : ℕ) (x : Seat) → seat_of c.posts n ≡ Some x → IsOnTime x.phase c.posts.posted c.posts.has_round c.progress o.spaces) →
-      ((n left : ℕ) (fs : Frames) (x : Seat) → (n ≡ t → ⊥) → slice_get threads n ≡ Some (record { standing = Live fs; steps_left = left }) → seat_of c.posts n ≡ Some x → (a : Addr) → IsListed (roots fs) a → may_hold c.posts o.spaces x a ≡ true) →
-      ((left : ℕ) (fs : Frames) → slice_get threads t ≡ Some (record { standing = Live fs; steps_left = left }) → (a : Addr) → IsListed (roots fs) a → may_hold c.posts o.spaces next a ≡ true) →
+      ((n left : ℕ) (fs : Frames) (x : Seat) → (n ≡ t → ⊥) → slice_get threads n ≡ Some (record { thread_status = Live fs; steps_left = left }) → seat_of c.posts n ≡ Some x → (a : Addr) → IsListed (roots fs) a → may_hold c.posts o.spaces x a ≡ true) →
+      ((left : ℕ) (fs : Frames) → slice_get threads t ≡ Some (record { thread_status = Live fs; steps_left = left }) → (a : Addr) → IsListed (roots fs) a → may_hold c.posts o.spaces next a ≡ true) →
       ((number : ℕ) (v : Value) → slice_get c.statics number ≡ Some v → ValuePasses (static_may_hold c.posts.posted o.spaces c.progress number) v) →
       IsSound (record c { threads = threads; posts = posts; objects = o })
   sound_then threads o same heap on_time others own statics = record {
@@ -129,10 +129,10 @@ module _ (c : Content) (sound : IsSound c) (t : ℕ) (seat : Seat) (here : seat_
       on_time_then n x (inl (is, new)) late = absurd (late (ap (λ (y : Seat). y.phase) new ∙ posted_after c.posts.posted seat))
       on_time_then n x (inr (other, was)) late = on_time n x was late
 
-      threads_then : (n left : ℕ) (fs : Frames) (x : Seat) → slice_get threads n ≡ Some (record { standing = Live fs; steps_left = left }) → ((n ≡ t) × (x ≡ next)) ⊎ ((n ≡ t → ⊥) × (seat_of c.posts n ≡ Some x)) →
+      threads_then : (n left : ℕ) (fs : Frames) (x : Seat) → slice_get threads n ≡ Some (record { thread_status = Live fs; steps_left = left }) → ((n ≡ t) × (x ≡ next)) ⊎ ((n ≡ t → ⊥) × (seat_of c.posts n ≡ Some x)) →
           (a : Addr) → IsListed (roots fs) a → may_hold c.posts o.spaces x a ≡ true
       threads_then n left fs x there (inl (is, new)) a listed =
-          subst (λ y. may_hold c.posts o.spaces y a ≡ true) (sym new) (own left fs (subst (λ k. slice_get threads k ≡ Some (record { standing = Live fs; steps_left = left })) is there) a listed)
+          subst (λ y. may_hold c.posts o.spaces y a ≡ true) (sym new) (own left fs (subst (λ k. slice_get threads k ≡ Some (record { thread_status = Live fs; steps_left = left })) is there) a listed)
       threads_then n left fs x there (inr (other, was)) a listed = others n left fs x other there was a listed
 
   -- with the same threads and objects, where the thread may hold what it might
@@ -175,7 +175,7 @@ module _ (c : Content) (sound : IsSound c) (t : ℕ) (seat : Seat) (here : seat_
           subst (λ q. HasNotBegun q c.posts.has_round c.progress marked.spaces) (sym in_mark) (HasNotBegun-with_all_marked vs c.objects sound.heap.blocks.spaces c.posts.has_round c.progress was)
 
       -- all that the thread's frames hold is marked
-      own_then : (left : ℕ) (fs : Frames) → slice_get c.threads t ≡ Some (record { standing = Live fs; steps_left = left }) → (a : Addr) → IsListed (roots fs) a → may_hold c.posts marked.spaces next a ≡ true
+      own_then : (left : ℕ) (fs : Frames) → slice_get c.threads t ≡ Some (record { thread_status = Live fs; steps_left = left }) → (a : Addr) → IsListed (roots fs) a → may_hold c.posts marked.spaces next a ≡ true
       own_then left fs there a listed =
           may_hold_marked c.posts marked.spaces next a in_mark
           (listed_of_all (is_marked_address marked.spaces) (roots fs) (subst (All (ValuePasses (is_marked_address marked.spaces))) held (with_all_marked-pass vs c.objects sound.heap.blocks.spaces live)) a listed)
@@ -212,8 +212,8 @@ module _ (c : Content) (sound : IsSound c) (t : ℕ) (seat : Seat) (here : seat_
     same_answer = ap (λ (x : Seat). x.answered) (late_after c.posts.posted seat late)
 
     -- but for ThreadFlip
-    goes_on_sound : is_phase c.posts.posted ThreadFlip ≡ false → IsSound (record c { posts = posts })
-    goes_on_sound later = same_then (λ a held. by_flips a held (is_flipping c.posts.posted) refl)
+    continues_sound : is_phase c.posts.posted ThreadFlip ≡ false → IsSound (record c { posts = posts })
+    continues_sound later = same_then (λ a held. by_flips a held (is_flipping c.posts.posted) refl)
       where
         by_flips : (a : Addr) → may_hold c.posts m seat a ≡ true → (b : Bool) → is_flipping c.posts.posted ≡ b → may_hold c.posts m next a ≡ true
         by_flips a held false early = phase_held c.posts c.posts m seat next refl refl same_answer early a held
@@ -245,22 +245,22 @@ module _ (c : Content) (sound : IsSound c) (t : ℕ) (seat : Seat) (here : seat_
       own_gone none = ap (λ o. slice_get (with_flipped c.objects c.threads t o) t) none ∙ none
 
       live_then : (n : ℕ) → is_live_at flipped n ≡ is_live_at c.threads n
-      live_then n = by_place (same_or_other n t)
+      live_then n = by_index (same_or_other n t)
         where
-          same_standing : (s : Standing) (left : ℕ) → is_live (thread_flipped c.objects (record { standing = s; steps_left = left })) ≡ is_live (record { standing = s; steps_left = left })
-          same_standing (Live fs) left = refl
-          same_standing (Ended e) left = refl
+          same_status : (s : ThreadStatus) (left : ℕ) → is_live (thread_flipped c.objects (record { thread_status = s; steps_left = left })) ≡ is_live (record { thread_status = s; steps_left = left })
+          same_status (Live fs) left = refl
+          same_status (Ended e) left = refl
 
           here_then : (o : Option Thread) → slice_get c.threads t ≡ o → is_live_at flipped t ≡ is_live_at c.threads t
           here_then None none = ap (λ o. option_map_or is_live o false) (own_gone none ∙ sym none)
-          here_then (Some x) there = ap (λ o. option_map_or is_live o false) (own_is x there) ∙ same_standing x.standing x.steps_left ∙ ap (λ o. option_map_or is_live o false) (sym there)
+          here_then (Some x) there = ap (λ o. option_map_or is_live o false) (own_is x there) ∙ same_status x.thread_status x.steps_left ∙ ap (λ o. option_map_or is_live o false) (sym there)
 
-          by_place : (n ≡ t) ⊎ (n ≡ t → ⊥) → is_live_at flipped n ≡ is_live_at c.threads n
-          by_place (inl is) = ap (is_live_at flipped) is ∙ here_then (slice_get c.threads t) refl ∙ ap (is_live_at c.threads) (sym is)
-          by_place (inr other) = ap (λ o. option_map_or is_live o false) (others_stay n other)
+          by_index : (n ≡ t) ⊎ (n ≡ t → ⊥) → is_live_at flipped n ≡ is_live_at c.threads n
+          by_index (inl is) = ap (is_live_at flipped) is ∙ here_then (slice_get c.threads t) refl ∙ ap (is_live_at c.threads) (sym is)
+          by_index (inr other) = ap (λ o. option_map_or is_live o false) (others_stay n other)
 
       -- all that the thread's frames hold is new then
-      new_after : (left : ℕ) (fs : Frames) → slice_get c.threads t ≡ Some (record { standing = Live fs; steps_left = left }) → (a : Addr) → IsListed (roots (with_references (forward m) fs)) a → is_new_address m a ≡ true
+      new_after : (left : ℕ) (fs : Frames) → slice_get c.threads t ≡ Some (record { thread_status = Live fs; steps_left = left }) → (a : Addr) → IsListed (roots (with_references (forward m) fs)) a → is_new_address m a ≡ true
       new_after left fs there =
           roots_pass (is_new_address m) (with_references (forward m) fs)
           (frames_replaced (is_live_address c.posts.posted m) (is_new_address m) (forward m)
@@ -268,19 +268,19 @@ module _ (c : Content) (sound : IsSound c) (t : ℕ) (seat : Seat) (here : seat_
           (fs.running ∷ fs.below)
           (roots_passed (is_live_address c.posts.posted m) fs (thread_is_live c (sound_is_held c sound) t left fs there)))
 
-      new_then : (left : ℕ) (fs : Frames) → slice_get flipped t ≡ Some (record { standing = Live fs; steps_left = left }) → (a : Addr) → IsListed (roots fs) a → is_new_address m a ≡ true
+      new_then : (left : ℕ) (fs : Frames) → slice_get flipped t ≡ Some (record { thread_status = Live fs; steps_left = left }) → (a : Addr) → IsListed (roots fs) a → is_new_address m a ≡ true
       new_then left fs there a listed = by_thread (slice_get c.threads t) refl
         where
-          by_standing : (s : Standing) (n : ℕ) → slice_get c.threads t ≡ Some (record { standing = s; steps_left = n }) → standing_flipped c.objects s ≡ Live fs → is_new_address m a ≡ true
-          by_standing (Live gs) n was is = new_after n gs was a (subst (λ x. IsListed (roots x) a) (sym frames_are) listed)
+          by_thread_status : (s : ThreadStatus) (n : ℕ) → slice_get c.threads t ≡ Some (record { thread_status = s; steps_left = n }) → status_flipped c.objects s ≡ Live fs → is_new_address m a ≡ true
+          by_thread_status (Live gs) n was is = new_after n gs was a (subst (λ x. IsListed (roots x) a) (sym frames_are) listed)
             where
               frames_are : with_references (forward m) gs ≡ fs
               frames_are = cc
-          by_standing (Ended e) n was is = absurd cc
+          by_thread_status (Ended e) n was is = absurd cc
 
           by_thread : (o : Option Thread) → slice_get c.threads t ≡ o → is_new_address m a ≡ true
           by_thread None none = none_is_some _ (sym (own_gone none) ∙ there)
-          by_thread (Some x) was = by_standing x.standing x.steps_left was (ap (λ (y : Thread). y.standing) (same_Some (thread_flipped c.objects x) (record { standing = Live fs; steps_left = left }) (sym (own_is x was) ∙ there)))
+          by_thread (Some x) was = by_thread_status x.thread_status x.steps_left was (ap (λ (y : Thread). y.thread_status) (same_Some (thread_flipped c.objects x) (record { thread_status = Live fs; steps_left = left }) (sym (own_is x was) ∙ there)))
 
       flips_sound : IsSound (record c { threads = flipped; posts = posts })
       flips_sound = sound_then flipped c.objects live_then sound.heap sound.on_time
@@ -289,13 +289,13 @@ module _ (c : Content) (sound : IsSound c) (t : ℕ) (seat : Seat) (here : seat_
           sound.statics
 
 -- an acknowledgement keeps a machine sound
-pub acknowledgement_sound : (c : Content) (t : ℕ) → IsSound c → IsSound (with_acknowledgement c t).0
+pub acknowledgement_sound : (c : MachineState) (t : ℕ) → IsSound c → IsSound (with_acknowledgement c t).0
 acknowledgement_sound c t sound =
     after_acknowledgement c t IsSound
     (record {
       nothing = sound;
       marks = λ seat here opened seen marking. marks_sound c sound t seat here opened seen marking;
       answers = λ seat here opened seen other. answers_sound c sound t seat here opened seen other;
-      goes_on = λ seat here opened late later. goes_on_sound c sound t seat here opened late later;
+      continues = λ seat here opened late later. continues_sound c sound t seat here opened late later;
       flips = λ seat here opened late flip. flips_sound c sound t seat here opened late flip;
     })

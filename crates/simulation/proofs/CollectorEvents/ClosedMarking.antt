@@ -10,12 +10,12 @@ use Rattle.collector.specs.Phases.{is_marked_address}
 use Rattle.collector.proofs.ThreadReferences.MarkingPhases.{closed_held, closed_held-static}
 use Rattle.collector.proofs.PhaseChanges.Rounds.{is_closed-means}
 use Rattle.collector.proofs.Addresses.Tests.{marked_has_cell}
-use Rattle.simulation.specs.MachineContents.{Content}
+use Rattle.simulation.specs.MachineStates.{MachineState}
 use Rattle.simulation.specs.Reached.{IsReached, from_frame, from_slot, from_static}
 use Rattle.simulation.specs.Sound.{IsSound}
 use Rattle.simulation.proofs.Representation.NormalContents.{has_seat, sound_is_held}
 
-module _ (c : Content) (sound : IsSound c) (posted : c.posts.posted ≡ Mark) (closed : is_closed c.progress c.objects c.posts ≡ true) where
+module _ (c : MachineState) (sound : IsSound c) (posted : c.posts.posted ≡ Mark) (closed : is_closed c.progress c.objects c.posts ≡ true) where
   pub reached_is_marked : (a : Addr) → IsReached c a → is_marked_address c.objects.spaces a ≡ true
   reached_is_marked _ (from_frame t left m a there listed) =
       let seat = has_seat c (sound_is_held c sound) t left m there in

@@ -15,21 +15,21 @@ use Rattle.interpreter.specs.object_memory.declared.addresses.Addr.{Addr}
 use Rattle.interpreter.specs.object_memory.declared.values.Value.{Value}
 use Rattle.interpreter.specs.object_memory.Cells.{Cell, cell_in, size}
 use Rattle.interpreter.specs.object_memory.Objects.{Objects, object_cell}
-use Rattle.interpreter.specs.object_memory.Spaces.{Spaces, clear, first_of, found_in, is_noted, opened, other_of}
-use Rattle.interpreter.specs.instructions.barriers.Barriers.{forwarded}
+use Rattle.interpreter.specs.object_memory.Spaces.{Spaces, clear, first_of, found_in, is_noted, open_cycle, other_of}
+use Rattle.interpreter.specs.instructions.barriers.Barriers.{forward_value}
 use Rattle.collector.specs.Phases.{is_live, is_read}
 use Rattle.collector.specs.Soundness.{IsSoundHeap}
 use Rattle.collector.specs.Marking.{is_closed, marked_on, statics_scanned}
 use Rattle.collector.specs.Copying.{copied_on, looked_on}
-use Rattle.collector.specs.Flips.{cleared_at, cleared_on, flip_step, flipped_on, retired}
+use Rattle.collector.specs.Flips.{cleared_at, cleared_on, flip_step, flipped_on, retire_old}
 use Rattle.collector.specs.Holding.{AnyLive}
 use Rattle.collector.specs.declared.progress.Progress.{Progress}
 use Rattle.collector.specs.phase_handshake.Handshakes.{all_answered, all_seen}
 use Rattle.simulation.specs.Agreement.{Agree}
-use Rattle.simulation.specs.MachineContents.{Content}
+use Rattle.simulation.specs.MachineStates.{MachineState}
 use Rattle.simulation.specs.Sound.{IsSound}
-use Rattle.simulation.specs.Collecting.{cleared, collected, flipped, marked, next_posted, opening_words, round_posted, rounds, work, worked}
-use Rattle.simulation.specs.StandsFor.{AreTwins, IsCell, IsHeap, IsMonitor, IsOfContents, IsValue, Names, StandsBy}
+use Rattle.simulation.specs.Collecting.{clear_object, collect, flip_values, mark_object, next_posted, initial_words, round_posted, rounds, work, do_work}
+use Rattle.simulation.specs.Refines.{AreTwins, IsCell, IsHeap, IsMonitor, IsOfContents, IsValue, Names, StandsBy}
 use Rattle.interpreter.proofs.object_memory.TwoBlocks.{either, new_is_cell, old_is_cell}
 use Rattle.collector.proofs.Addresses.Tests.{is_new_live, live_is_late, live_is_read, never, new_has_cell, none_is_new}
 use Rattle.collector.proofs.Marking.MarkChanges.{AreDarker, AreDarker-same, stays_there}
@@ -92,7 +92,7 @@ heap_shown tree name o o' s same heap = record {
   each_literal = heap.each_literal;
 }
 
-module _ (name : Names) (c : Content) (s : State) (stands : StandsBy name c s) where
+module _ (name : Names) (c : MachineState) (s : State) (stands : StandsBy name c s) where
   -- a machine with such objects represents the same state
   pub stands_shown : (o : Objects) → ShowsNames name c.objects o → StandsBy name (record c { objects = o }) s
   stands_shown o same = record {
@@ -105,7 +105,7 @@ module _ (name : Names) (c : Content) (s : State) (stands : StandsBy name c s) w
   stands_next = record { memory = stands.memory; threads = stands.threads }
 
 -- after one of two transitions, by a test
-either_stands : (name : Names) (s : State) (b : Bool) (x y : Content × Report) → (b ≡ true → StandsBy name x.0 s) → (b ≡ false → StandsBy name y.0 s) → StandsBy name (if◌then◌else◌ {A = Content × Report} b x y).0 s
+either_stands : (name : Names) (s : State) (b : Bool) (x y : MachineState × Report) → (b ≡ true → StandsBy name x.0 s) → (b ≡ false → StandsBy name y.0 s) → StandsBy name (if◌then◌else◌ {A = MachineState × Report} b x y).0 s
 either_stands name s true x y f g = f refl
 either_stands name s false x y f g = g refl
 
@@ -145,7 +145,7 @@ module _ {A : Type 0} (tree : Tree) (posted : Phase) (has_round : Bool) (words :
 -- ---- Idle and Mark
 
 -- a cycle opens
-pub opened_shows : (name : Names) (o : Objects) (words : ℕ) → o.spaces.new.cells ≡ [] → ShowsNames name o (record o { spaces = opened o.spaces words })
+pub opened_shows : (name : Names) (o : Objects) (words : ℕ) → o.spaces.new.cells ≡ [] → ShowsNames name o (record o { spaces = open_cycle o.spaces words })
 opened_shows name o words none = record {
   literals = refl;
   shows = λ a n e c lies. (c, sym (ap (first_of (cell_in o.spaces.old (record { number = a }))) (none_is_new o.spaces (record { number = a }) none)) ∙ lies, shows_itself c);
@@ -225,7 +225,7 @@ module _ (name : Names) (o : Objects) (has_round : Bool) (tree : Tree) (words : 
       by_field : (x : Option Value) → slice_get statics p.flipped_statics ≡ x → Agree (λ v (f : FieldKey × StateValue). IsValue name v f.1) (flip_step p o statics x).1 fields
       by_field None is = agree
       by_field (Some v) is =
-          agree_changed (λ w (f : FieldKey × StateValue). IsValue name w f.1) statics fields p.flipped_statics v (forwarded o v) is (λ f stands. normal_value tree HeapFlip has_round words p o sound refl name normal v f.1 stands) agree
+          agree_changed (λ w (f : FieldKey × StateValue). IsValue name w f.1) statics fields p.flipped_statics v (forward_value o v) is (λ f stands. normal_value tree HeapFlip has_round words p o sound refl name normal v f.1 stands) agree
 
 -- ---- Reclaim
 
@@ -235,14 +235,14 @@ cleared_literals p o None = refl
 cleared_literals p o (Some at) = by_cell (cell_in o.spaces.new (record { number = at }))
   where
     by_cell : (x : Option Cell)
-        → (option_map_or {U = Progress × Objects × Bool} (λ (c : Cell). (record p { place = at - o.spaces.new.start + size c }, record o { spaces = clear o.spaces (record { number = at }) }, true)) x (p, o, false)).1.literals ≡ o.literals
+        → (option_map_or {U = Progress × Objects × Bool} (λ (c : Cell). (record p { cursor = at - o.spaces.new.start + size c }, record o { spaces = clear o.spaces (record { number = at }) }, true)) x (p, o, false)).1.literals ≡ o.literals
     by_cell None = refl
     by_cell (Some c) = refl
 
 -- a new object is cleared
 pub cleared_shows_names : (name : Names) (o : Objects) (has_round : Bool) (tree : Tree) (words : ℕ) (p : Progress) → IsSoundHeap tree Reclaim has_round words p o.spaces → IsNormal Reclaim o.spaces name → ShowsNames name o (cleared_on p o).1
 cleared_shows_names name o has_round tree words p sound normal = record {
-  literals = cleared_literals p o (found_in is_noted o.spaces.new (o.spaces.new.start + p.place));
+  literals = cleared_literals p o (found_in is_noted o.spaces.new (o.spaces.new.start + p.cursor));
   shows = λ a n e c lies. cleared_shows tree has_round words p o sound (record { number = a }) c lies;
   stay = λ a b n k ea eb twins. twins_late tree Reclaim has_round words p o.spaces sound a b (normal.live a n ea) (normal.live b k eb) (λ c. refl) twins;
   were = λ a b n k ea eb twins.
@@ -251,30 +251,30 @@ cleared_shows_names name o has_round tree words p sound normal = record {
 }
 
 -- the new block is the only one then
-pub retired_shows : (name : Names) (o : Objects) (has_round : Bool) (tree : Tree) (words : ℕ) (p : Progress) → IsSoundHeap tree Reclaim has_round words p o.spaces → IsNormal Reclaim o.spaces name → (cleared_on p o).2 ≡ false → ShowsNames name o (retired o)
+pub retired_shows : (name : Names) (o : Objects) (has_round : Bool) (tree : Tree) (words : ℕ) (p : Progress) → IsSoundHeap tree Reclaim has_round words p o.spaces → IsNormal Reclaim o.spaces name → (cleared_on p o).2 ≡ false → ShowsNames name o (retire_old o)
 retired_shows name o has_round tree words p sound normal over = record {
   literals = refl;
   shows = λ a n e c lies. (c, retired_cell o sound.blocks.spaces (record { number = a }) c (new_has_cell o.spaces sound.blocks.spaces (record { number = a }) c lies (normal.live a (Born n) e)), shows_itself c);
   stay = λ a b n k ea eb twins. twins_late tree Reclaim has_round words p o.spaces sound a b (normal.live a n ea) (normal.live b k eb) (λ c. refl) twins;
-  were = λ a b n k ea eb twins. twins_never (retired o).spaces (λ x. Unit {0}) bare a b tt tt twins;
+  were = λ a b n k ea eb twins. twins_never (retire_old o).spaces (λ x. Unit {0}) bare a b tt tt twins;
 }
   where
-    bare : (x y : Addr) → Unit {0} → Unit {0} → other_of (cell_in (retired o).spaces.old x) ≡ Some y → ⊥
+    bare : (x y : Addr) → Unit {0} → Unit {0} → other_of (cell_in (retire_old o).spaces.old x) ≡ Some y → ⊥
     bare x y _ _ e =
-        let c = other_cell (cell_in (retired o).spaces.old x) y e in
+        let c = other_cell (cell_in (retire_old o).spaces.old x) y e in
         absurd (none-some y (sym ((retired_sound tree has_round words p o sound over).copies.bare x c.0 c.1 refl) ∙ c.2))
 
 -- ---- each phase
 
 -- a step was done, or none was left
-worked_stands : (name : Names) (s : State) (c : Content) (x : Progress × Objects × Bool) → StandsBy name (record c { progress = x.0; objects = x.1 }) s → StandsBy name (next_posted c).0 s → StandsBy name (worked c x).0 s
+worked_stands : (name : Names) (s : State) (c : MachineState) (x : Progress × Objects × Bool) → StandsBy name (record c { progress = x.0; objects = x.1 }) s → StandsBy name (next_posted c).0 s → StandsBy name (do_work c x).0 s
 worked_stands name s c (p, o, true) works posts = works
 worked_stands name s c (p, o, false) works posts = posts
 
-module _ (name : Names) (c : Content) (s : State) where
+module _ (name : Names) (c : MachineState) (s : State) where
   -- a cycle opens
   opens_stand : IsSound (posting Idle c) → StandsBy name c s → StandsBy name (work Idle (posting Idle c)).0 s
-  opens_stand sound stands = let opens = stands_shown name c s stands _ (opened_shows name c.objects (opening_words c) (sound.heap.blocks.none_new refl)) in record { memory = opens.memory; threads = opens.threads }
+  opens_stand sound stands = let opens = stands_shown name c s stands _ (opened_shows name c.objects (initial_words c) (sound.heap.blocks.none_new refl)) in record { memory = opens.memory; threads = opens.threads }
 
   -- objects are marked
   dark_stands : IsSound (posting Mark c) → (o : Objects) → o.literals ≡ c.objects.literals → AreDarker c.objects.spaces o.spaces → StandsBy name c s → StandsBy name (record c { objects = o }) s
@@ -294,12 +294,12 @@ module _ (name : Names) (c : Content) (s : State) where
       here = record { memory = stands.memory; threads = stands.threads }
 
   -- a step of Mark
-  by_mark : (x : Progress × Objects × Bool) → StandsBy name (record c { objects = x.1 }) s → StandsBy name (rounds (posting Mark c)).0 s → StandsBy name (marked (posting Mark c) x).0 s
+  by_mark : (x : Progress × Objects × Bool) → StandsBy name (record c { objects = x.1 }) s → StandsBy name (rounds (posting Mark c)).0 s → StandsBy name (mark_object (posting Mark c) x).0 s
   by_mark (p, o, true) works ends = record { memory = works.memory; threads = works.threads }
   by_mark (p, o, false) works ends = ends
 
   marks_stand : IsSound (posting Mark c) → StandsBy name c s → StandsBy name (work Mark (posting Mark c)).0 s
-  marks_stand sound stands = either_stands name s c.progress.scanned_statics (marked (posting Mark c) (marked_on c.tree c.progress c.objects))
+  marks_stand sound stands = either_stands name s c.progress.scanned_statics (mark_object (posting Mark c) (marked_on c.tree c.progress c.objects))
       (record (posting Mark c) { progress = (statics_scanned c.progress c.objects c.statics).0; objects = (statics_scanned c.progress c.objects c.statics).1 }, Worked)
       (λ scanned. by_mark (marked_on c.tree c.progress c.objects)
       (dark_stands sound (marked_on c.tree c.progress c.objects).1 (marked_on-literals c.tree c.progress c.objects) (AreDarker-marked_on c.tree c.posts.has_round c.limits.max_words c.progress c.objects sound.heap) stands)
@@ -308,13 +308,13 @@ module _ (name : Names) (c : Content) (s : State) where
       record { memory = scans.memory; threads = scans.threads }))
 
   -- a step with other objects, or the next phase
-  steps_stand : (x : Phase) (step : Progress × Objects × Bool) → ShowsNames name c.objects step.1 → StandsBy name c s → StandsBy name (worked (posting x c) step).0 s
+  steps_stand : (x : Phase) (step : Progress × Objects × Bool) → ShowsNames name c.objects step.1 → StandsBy name c s → StandsBy name (do_work (posting x c) step).0 s
   steps_stand x step same stands =
       let works = stands_shown name c s stands step.1 same in
       worked_stands name s (posting x c) step (record { memory = works.memory; threads = works.threads }) (stands_next name (posting x c) s (record { memory = stands.memory; threads = stands.threads }))
 
   -- static fields are flipped
-  by_flip : (x : Progress × List Value × Bool) → StandsBy name (record c { statics = x.1 }) s → StandsBy name c s → StandsBy name (flipped (posting HeapFlip c) x).0 s
+  by_flip : (x : Progress × List Value × Bool) → StandsBy name (record c { statics = x.1 }) s → StandsBy name c s → StandsBy name (flip_values (posting HeapFlip c) x).0 s
   by_flip (p, statics, true) works stands = record { memory = works.memory; threads = works.threads }
   by_flip (p, statics, false) works stands = stands_next name (posting HeapFlip c) s (record { memory = stands.memory; threads = stands.threads })
 
@@ -331,14 +331,14 @@ module _ (name : Names) (c : Content) (s : State) where
       stands
 
   -- new objects are cleared, and the cycle ends
-  by_clear : (x : Progress × Objects × Bool) → StandsBy name (record c { objects = x.1 }) s → (x.2 ≡ false → StandsBy name (record c { objects = retired c.objects }) s) → StandsBy name (cleared (posting Reclaim c) x).0 s
+  by_clear : (x : Progress × Objects × Bool) → StandsBy name (record c { objects = x.1 }) s → (x.2 ≡ false → StandsBy name (record c { objects = retire_old c.objects }) s) → StandsBy name (clear_object (posting Reclaim c) x).0 s
   by_clear (p, o, true) works ends = record { memory = works.memory; threads = works.threads }
   by_clear (p, o, false) works ends = let over = ends refl in record { memory = over.memory; threads = over.threads }
 
   clears_stand : IsSound (posting Reclaim c) → IsNormal Reclaim c.objects.spaces name → StandsBy name c s → StandsBy name (work Reclaim (posting Reclaim c)).0 s
   clears_stand sound normal stands = by_clear (cleared_on c.progress c.objects)
       (stands_shown name c s stands (cleared_on c.progress c.objects).1 (cleared_shows_names name c.objects c.posts.has_round c.tree c.limits.max_words c.progress sound.heap normal))
-      (λ over. stands_shown name c s stands (retired c.objects) (retired_shows name c.objects c.posts.has_round c.tree c.limits.max_words c.progress sound.heap normal over))
+      (λ over. stands_shown name c s stands (retire_old c.objects) (retired_shows name c.objects c.posts.has_round c.tree c.limits.max_words c.progress sound.heap normal over))
 
   -- in each phase
   work_stands : (x : Phase) → IsSound (posting x c) → IsNormal x c.objects.spaces name → StandsBy name c s → StandsBy name (work x (posting x c)).0 s
@@ -352,5 +352,5 @@ module _ (name : Names) (c : Content) (s : State) where
   work_stands Reclaim sound normal stands = clears_stand sound normal stands
 
   -- after an event of the collector a machine represents the same state, under the same names
-  pub collected_stands : IsSound c → IsNormal c.posts.posted c.objects.spaces name → StandsBy name c s → StandsBy name (collected c).0 s
+  pub collected_stands : IsSound c → IsNormal c.posts.posted c.objects.spaces name → StandsBy name c s → StandsBy name (collect c).0 s
   collected_stands sound normal stands = either_stands name s (all_seen c.posts) (work c.posts.posted c) (c, Waiting) (λ seen. work_stands c.posts.posted sound normal stands) (λ late. stands)

@@ -8,36 +8,36 @@ use Rattle.interpreter.specs.object_memory.declared.values.Value.TheVariants.{In
 use Rattle.interpreter.specs.object_memory.Objects.{Objects}
 use Rattle.interpreter.specs.instructions.barriers.Barriers.{with_marked}
 use Rattle.interpreter.specs.threads_monitors.Roots.{roots}
-use Rattle.interpreter.specs.threads_monitors.declared.threads.Standing.{Standing}
-use Rattle.interpreter.specs.threads_monitors.declared.threads.Standing.TheVariants.{Live, Ended}
+use Rattle.interpreter.specs.threads_monitors.declared.threads.ThreadStatus.{ThreadStatus}
+use Rattle.interpreter.specs.threads_monitors.declared.threads.ThreadStatus.TheVariants.{Live, Ended}
 use Rattle.interpreter.specs.threads_monitors.declared.threads.Thread.{Thread}
 use Rattle.collector.specs.Marking.{with_all_marked}
 use Rattle.collector.specs.References.{Test, ValuePasses}
 use Rattle.collector.specs.Soundness.{IsListed}
-use Rattle.simulation.specs.Collecting.{with_roots_marked, with_standing_marked, with_thread_marked}
+use Rattle.simulation.specs.Collecting.{with_roots_marked, with_status_marked, with_thread_marked}
 
 -- what the frames of a thread refer to, as values
-abbrev pub standing_values : Standing → List Value
-standing_values (Live m) = map Ref (roots m)
-standing_values (Ended e) = []
+abbrev pub status_values : ThreadStatus → List Value
+status_values (Live m) = map Ref (roots m)
+status_values (Ended e) = []
 
 abbrev pub thread_values : Option Thread → List Value
 thread_values None = []
-thread_values (Some x) = standing_values x.standing
+thread_values (Some x) = status_values x.thread_status
 
 -- one by one, and of a thread as it stands
 roots_marked : (list : List Addr) (o : Objects) → with_roots_marked o list ≡ with_all_marked o (map Ref list)
 roots_marked [] o = refl
 roots_marked (a ∷ list) o = roots_marked list (with_marked o (Ref a))
 
-standing_marked : (o : Objects) (x : Standing) → with_standing_marked o x ≡ with_all_marked o (standing_values x)
-standing_marked o (Live m) = roots_marked (roots m) o
-standing_marked o (Ended e) = refl
+status_marked : (o : Objects) (x : ThreadStatus) → with_status_marked o x ≡ with_all_marked o (status_values x)
+status_marked o (Live m) = roots_marked (roots m) o
+status_marked o (Ended e) = refl
 
 -- a thread that acknowledges marks these
 pub thread_marked : (o : Objects) (x : Option Thread) → with_thread_marked o x ≡ with_all_marked o (thread_values x)
 thread_marked o None = refl
-thread_marked o (Some x) = standing_marked o x.standing
+thread_marked o (Some x) = status_marked o x.thread_status
 
 -- the monitors of literals stay
 one_keeps : (o : Objects) (v : Value) → (with_marked o v).literals ≡ o.literals

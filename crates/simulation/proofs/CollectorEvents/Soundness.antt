@@ -18,15 +18,15 @@ use Rattle.collector.specs.References.{ValuePasses}
 use Rattle.collector.specs.Soundness.{IsSoundHeap}
 use Rattle.collector.specs.Marking.{is_closed, is_none_grey, marked_on, statics_scanned}
 use Rattle.collector.specs.Copying.{copied_on, looked_on}
-use Rattle.collector.specs.Flips.{cleared_on, flipped_on, retired}
+use Rattle.collector.specs.Flips.{cleared_on, flipped_on, retire_old}
 use Rattle.collector.specs.Holding.{hold_of, is_flipping, is_marking, may_hold, static_may_hold}
 use Rattle.collector.specs.declared.progress.Progress.{Progress}
-use Rattle.collector.specs.phase_handshake.Handshakes.{Handshakes, all_answered, all_seen, has_seen, posted_round, seat_of, unanswered}
+use Rattle.collector.specs.phase_handshake.Handshakes.{Handshakes, all_answered, all_seen, has_seen, posted_round, seat_of, clear_answer}
 use Rattle.collector.specs.phase_handshake.declared.posts.Seat.{Seat}
-use Rattle.simulation.specs.MachineContents.{Content}
+use Rattle.simulation.specs.MachineStates.{MachineState}
 use Rattle.simulation.specs.Sound.{IsSound}
 use Rattle.simulation.proofs.CollectorEvents.NextBlockSize.{next_grows, next_within}
-use Rattle.simulation.specs.Collecting.{cleared, collected, cycle_ended, cycle_opened, flipped, marked, next_posted, opening_words, round_posted, rounds, work, worked}
+use Rattle.simulation.specs.Collecting.{clear_object, collect, cycle_ended, cycle_opened, flip_values, mark_object, next_posted, initial_words, round_posted, rounds, work, do_work}
 use Rattle.interpreter.proofs.cil_model.Lists.{none_is_some}
 use Rattle.collector.proofs.phase_handshake.Closeness.{cycle_close, passes_at, phase_close, round_close, same_phase, seat_here, seat_there}
 use Rattle.collector.proofs.Addresses.Tests.{marked_cell, may_hold_live, never, new_cell, old_cell, value_weakens}
@@ -45,7 +45,7 @@ use Rattle.collector.proofs.PhaseChanges.ReclaimWork.{cleared_sound, cleared_tes
 use Rattle.collector.proofs.ThreadReferences.FlipPhases.{end_keeps_held, flip_keeps_held}
 
 -- what a machine holds where a phase is posted
-abbrev pub posting : Phase → Content → Content
+abbrev pub posting : Phase → MachineState → MachineState
 posting x c = record c { posts = record c.posts { posted = x } }
 
 -- ---- seats
@@ -54,42 +54,42 @@ posting x c = record c { posts = record c.posts { posted = x } }
 pub seen_phase : (h : Handshakes) → all_seen h ≡ true → (t : ℕ) (seat : Seat) → seat_of h t ≡ Some seat → seat.phase ≡ h.posted
 seen_phase h seen t seat there = same_phase seat.phase h.posted (passes_at (has_seen h.posted) h.seats t seat seen (seat_there h t seat there))
 
-module _ (h k : Handshakes) (asked : k.seats ≡ map unanswered h.seats) (t : ℕ) where
+module _ (h k : Handshakes) (asked : k.seats ≡ map clear_answer h.seats) (t : ℕ) where
   -- a seat without its acknowledgement was there before
   was_seat : (seat : Seat) → seat_of k t ≡ Some seat → (was : Seat) × (seat_of h t ≡ Some was) × (seat ≡ record was { answered = false })
-  was_seat seat there = by_place (slice_get h.seats t) refl
+  was_seat seat there = by_index (slice_get h.seats t) refl
     where
-      found : option_map unanswered (slice_get h.seats t) ≡ Some (Some seat)
-      found = sym (slice_get-map unanswered h.seats t) ∙ (ap (λ l. slice_get l t) (sym asked) ∙ seat_there k t seat there)
+      found : option_map clear_answer (slice_get h.seats t) ≡ Some (Some seat)
+      found = sym (slice_get-map clear_answer h.seats t) ∙ (ap (λ l. slice_get l t) (sym asked) ∙ seat_there k t seat there)
 
-      by_place : (o : Option (Option Seat)) → slice_get h.seats t ≡ o → (was : Seat) × (seat_of h t ≡ Some was) × (seat ≡ record was { answered = false })
-      by_place None is = none_is_some (Some seat) (sym (ap (option_map unanswered) is) ∙ found)
-      by_place (Some None) is = none_is_some seat (same_Some None (Some seat) (sym (ap (option_map unanswered) is) ∙ found))
-      by_place (Some (Some was)) is =
-          (was, seat_here h t was is, sym (same_Some (record was { answered = false }) seat (same_Some (Some (record was { answered = false })) (Some seat) (sym (ap (option_map unanswered) is) ∙ found))))
+      by_index : (o : Option (Option Seat)) → slice_get h.seats t ≡ o → (was : Seat) × (seat_of h t ≡ Some was) × (seat ≡ record was { answered = false })
+      by_index None is = none_is_some (Some seat) (sym (ap (option_map clear_answer) is) ∙ found)
+      by_index (Some None) is = none_is_some seat (same_Some None (Some seat) (sym (ap (option_map clear_answer) is) ∙ found))
+      by_index (Some (Some was)) is =
+          (was, seat_here h t was is, sym (same_Some (record was { answered = false }) seat (same_Some (Some (record was { answered = false })) (Some seat) (sym (ap (option_map clear_answer) is) ∙ found))))
 
   -- the same threads have one
   same_seats : is_some (seat_of h t) ≡ is_some (seat_of k t)
   same_seats = sym (ap (λ l. is_some (option_and_then (λ (s : Option Seat). s) (slice_get l t))) asked
-      ∙ (ap (λ o. is_some (option_and_then (λ (s : Option Seat). s) o)) (slice_get-map unanswered h.seats t) ∙ by_place (slice_get h.seats t)))
+      ∙ (ap (λ o. is_some (option_and_then (λ (s : Option Seat). s) o)) (slice_get-map clear_answer h.seats t) ∙ by_index (slice_get h.seats t)))
     where
-      by_place : (o : Option (Option Seat)) → is_some (option_and_then (λ (s : Option Seat). s) (option_map unanswered o)) ≡ is_some (option_and_then (λ (s : Option Seat). s) o)
-      by_place None = refl
-      by_place (Some None) = refl
-      by_place (Some (Some seat)) = refl
+      by_index : (o : Option (Option Seat)) → is_some (option_and_then (λ (s : Option Seat). s) (option_map clear_answer o)) ≡ is_some (option_and_then (λ (s : Option Seat). s) o)
+      by_index None = refl
+      by_index (Some None) = refl
+      by_index (Some (Some seat)) = refl
 
--- ---- what a step owes
+-- ---- what is to be shown of a step
 
 -- one of two transitions, by a test
-either_soundly : (b : Bool) (x y : Content × Report) → (b ≡ true → IsSound x.0) → (b ≡ false → IsSound y.0) → IsSound (if◌then◌else◌ {A = Content × Report} b x y).0
+either_soundly : (b : Bool) (x y : MachineState × Report) → (b ≡ true → IsSound x.0) → (b ≡ false → IsSound y.0) → IsSound (if◌then◌else◌ {A = MachineState × Report} b x y).0
 either_soundly true x y f g = f refl
 either_soundly false x y f g = g refl
 
 -- the next phase is posted, with these objects
-abbrev after_post : Content → Objects → Content
+abbrev after_post : MachineState → Objects → MachineState
 after_post c o = record c { posts = record c.posts { posted = phase_after c.posts.posted }; progress = no_progress; objects = o }
 
-module _ (c : Content) (sound : IsSound c) (seen : all_seen c.posts ≡ true) where
+module _ (c : MachineState) (sound : IsSound c) (seen : all_seen c.posts ≡ true) where
   -- a step posts nothing
   works_soundly : (p : Progress) (o : Objects) (statics : List Value)
       → IsSoundHeap c.tree c.posts.posted c.posts.has_round c.limits.max_words p o.spaces
@@ -123,7 +123,7 @@ module _ (c : Content) (sound : IsSound c) (seen : all_seen c.posts ≡ true) wh
   }
 
 -- a step was done, or none was left
-worked_soundly : (c : Content) (x : Progress × Objects × Bool) → IsSound (record c { progress = x.0; objects = x.1 }) → (x.2 ≡ false → IsSound (next_posted c).0) → IsSound (worked c x).0
+worked_soundly : (c : MachineState) (x : Progress × Objects × Bool) → IsSound (record c { progress = x.0; objects = x.1 }) → (x.2 ≡ false → IsSound (next_posted c).0) → IsSound (do_work c x).0
 worked_soundly c (p, o, true) works posts = works
 worked_soundly c (p, o, false) works posts = posts refl
 
@@ -137,9 +137,9 @@ live_held h m seat a early other live = may_hold_any h m seat a (rw early (none_
 
 -- ---- Idle: a cycle opens
 
-module _ (c : Content) (sound : IsSound (posting Idle c)) (seen : all_seen (posting Idle c).posts ≡ true) where
+module _ (c : MachineState) (sound : IsSound (posting Idle c)) (seen : all_seen (posting Idle c).posts ≡ true) where
   -- what it holds then
-  abbrev opened : Content
+  abbrev opened : MachineState
   opened = cycle_opened (posting Idle c)
 
   -- each seat was there, with or without an acknowledgement
@@ -147,10 +147,10 @@ module _ (c : Content) (sound : IsSound (posting Idle c)) (seen : all_seen (post
   before_cycle t seat there = was_seat (posting Idle c).posts opened.posts refl t seat there
 
   -- the second block has at least the same number of words, and no more than the most
-  grows : c.objects.spaces.old.words ≤ opening_words c
+  grows : c.objects.spaces.old.words ≤ initial_words c
   grows = next_grows c.objects.spaces.old.words (used_words c.objects.spaces.old.cells) c.limits.max_words sound.heap.blocks.old_words
 
-  within : opening_words c ≤ c.limits.max_words
+  within : initial_words c ≤ c.limits.max_words
   within = next_within c.objects.spaces.old.words (used_words c.objects.spaces.old.cells) c.limits.max_words sound.heap.blocks.old_words
 
   -- a cycle opens
@@ -160,20 +160,20 @@ module _ (c : Content) (sound : IsSound (posting Idle c)) (seen : all_seen (post
       close = cycle_close (posting Idle c).posts sound.seated.close seen;
       live = λ t. sound.seated.live t ∙ same_seats (posting Idle c).posts opened.posts refl t;
     };
-    heap = IsSoundHeap-opened c.tree c.posts.has_round c.limits.max_words c.progress c.objects.spaces sound.heap (opening_words c) grows within;
+    heap = IsSoundHeap-opened c.tree c.posts.has_round c.limits.max_words c.progress c.objects.spaces sound.heap (initial_words c) grows within;
     rounds = λ mark round. never round;
-    on_time = λ t seat there late. HasNotBegun-opened c.tree c.posts.has_round c.limits.max_words c.progress c.objects.spaces sound.heap (opening_words c) grows within;
+    on_time = λ t seat there late. HasNotBegun-opened c.tree c.posts.has_round c.limits.max_words c.progress c.objects.spaces sound.heap (initial_words c) grows within;
     threads = λ t left fs seat at there a listed.
         (let was = before_cycle t seat there in
-        opened_held (posting Idle c).posts opened.posts c.objects.spaces (opening_words c) was.0 seat refl refl refl a (sound.threads t left fs was.0 at was.1 a listed));
+        opened_held (posting Idle c).posts opened.posts c.objects.spaces (initial_words c) was.0 seat refl refl refl a (sound.threads t left fs was.0 at was.1 a listed));
     statics = sound.statics;
   }
 
 -- ---- Mark
 
-module _ (c : Content) (sound : IsSound (posting Mark c)) (seen : all_seen (posting Mark c).posts ≡ true) where
+module _ (c : MachineState) (sound : IsSound (posting Mark c)) (seen : all_seen (posting Mark c).posts ≡ true) where
   -- what it holds
-  abbrev marking : Content
+  abbrev marking : MachineState
   marking = posting Mark c
 
   -- the static fields are scanned
@@ -250,13 +250,13 @@ module _ (c : Content) (sound : IsSound (posting Mark c)) (seen : all_seen (post
   none_grey (a ∷ rest) e = never (sym e)
 
   -- a step was done, or nothing was grey
-  marked_soundly : (x : Progress × Objects × Bool) → IsSound (record marking { progress = x.0; objects = x.1 }) → (x.2 ≡ false → IsSound (rounds marking).0) → IsSound (marked marking x).0
+  marked_soundly : (x : Progress × Objects × Bool) → IsSound (record marking { progress = x.0; objects = x.1 }) → (x.2 ≡ false → IsSound (rounds marking).0) → IsSound (mark_object marking x).0
   marked_soundly (p, o, true) works ends = works
   marked_soundly (p, o, false) works ends = ends refl
 
   -- the static fields are scanned first
   pub mark_work_soundly : IsSound (work Mark marking).0
-  mark_work_soundly = either_soundly c.progress.scanned_statics (marked marking after_mark)
+  mark_work_soundly = either_soundly c.progress.scanned_statics (mark_object marking after_mark)
       (record marking { progress = (statics_scanned c.progress c.objects c.statics).0; objects = (statics_scanned c.progress c.objects c.statics).1 }, Worked)
       (λ scanned. marked_soundly after_mark marks_soundly (λ over.
       rounds_soundly (none_grey c.objects.spaces.grey (sym (marked_on-works c.tree c.posts.has_round c.limits.max_words c.progress c.objects sound.heap) ∙ over)) scanned))
@@ -272,7 +272,7 @@ looked_tests tree has_round words p o sound = record {
   new = λ a e. (let c = new_cell o.spaces a e in ap is_some (looked_new p o tree has_round words sound a c.0 c.1));
 }
 
-module _ (c : Content) (sound : IsSound (posting Allocate c)) (seen : all_seen (posting Allocate c).posts ≡ true) where
+module _ (c : MachineState) (sound : IsSound (posting Allocate c)) (seen : all_seen (posting Allocate c).posts ≡ true) where
   -- after a step
   abbrev after_look : Progress × Objects × Bool
   after_look = looked_on c.progress c.objects
@@ -310,7 +310,7 @@ copied_tests tree has_round words p o sound =
       new = λ a e. (let c = new_cell o.spaces a e in let d = copied_new tree p o a c.0 c.1 in ap is_some d.1);
     }
 
-module _ (c : Content) (sound : IsSound (posting Copy c)) (seen : all_seen (posting Copy c).posts ≡ true) where
+module _ (c : MachineState) (sound : IsSound (posting Copy c)) (seen : all_seen (posting Copy c).posts ≡ true) where
   -- after a step
   abbrev after_copy : Progress × Objects × Bool
   after_copy = copied_on c.tree c.progress c.objects
@@ -340,7 +340,7 @@ module _ (c : Content) (sound : IsSound (posting Copy c)) (seen : all_seen (post
 
 -- ---- PreFlip, HeapFlip and ThreadFlip
 
-module _ (c : Content) where
+module _ (c : MachineState) where
   -- HeapFlip is posted
   pub pre_flip_work_soundly : IsSound (posting PreFlip c) → all_seen (posting PreFlip c).posts ≡ true → IsSound (work PreFlip (posting PreFlip c)).0
   pre_flip_work_soundly sound seen = posts_soundly (posting PreFlip c) sound seen c.objects (λ e. absurd cc)
@@ -355,7 +355,7 @@ module _ (c : Content) where
       (λ t seat a there held. flip_keeps_held (posting ThreadFlip c).posts seat (seen_phase (posting ThreadFlip c).posts seen t seat there) c.objects.spaces a refl held)
       (statics_to_reclaim c.objects.spaces c.progress no_progress c.statics sound.statics)
 
-module _ (c : Content) (sound : IsSound (posting HeapFlip c)) (seen : all_seen (posting HeapFlip c).posts ≡ true) where
+module _ (c : MachineState) (sound : IsSound (posting HeapFlip c)) (seen : all_seen (posting HeapFlip c).posts ≡ true) where
   -- after a step
   abbrev after_flip : Progress × List Value × Bool
   after_flip = flipped_on c.progress c.objects c.statics
@@ -376,7 +376,7 @@ module _ (c : Content) (sound : IsSound (posting HeapFlip c)) (seen : all_seen (
       (all_flipped c.tree c.posts.has_round c.limits.max_words c.progress c.objects sound.heap c.statics sound.statics over no_progress)
 
   -- one of both
-  by_step : (x : Progress × List Value × Bool) → IsSound (record (posting HeapFlip c) { progress = x.0; statics = x.1 }) → (x.2 ≡ false → IsSound (next_posted (posting HeapFlip c)).0) → IsSound (flipped (posting HeapFlip c) x).0
+  by_step : (x : Progress × List Value × Bool) → IsSound (record (posting HeapFlip c) { progress = x.0; statics = x.1 }) → (x.2 ≡ false → IsSound (next_posted (posting HeapFlip c)).0) → IsSound (flip_values (posting HeapFlip c) x).0
   by_step (p, statics, true) works posts = works
   by_step (p, statics, false) works posts = posts refl
 
@@ -385,7 +385,7 @@ module _ (c : Content) (sound : IsSound (posting HeapFlip c)) (seen : all_seen (
 
 -- ---- Reclaim
 
-module _ (c : Content) (sound : IsSound (posting Reclaim c)) (seen : all_seen (posting Reclaim c).posts ≡ true) where
+module _ (c : MachineState) (sound : IsSound (posting Reclaim c)) (seen : all_seen (posting Reclaim c).posts ≡ true) where
   -- after a step
   abbrev after_clear : Progress × Objects × Bool
   after_clear = cleared_on c.progress c.objects
@@ -402,13 +402,13 @@ module _ (c : Content) (sound : IsSound (posting Reclaim c)) (seen : all_seen (p
 
   -- all of them are, and the cycle ends
   pub ends_soundly : after_clear.2 ≡ false → IsSound (cycle_ended (posting Reclaim c))
-  ends_soundly over = posts_soundly (posting Reclaim c) sound seen (retired c.objects) (λ e. absurd cc)
+  ends_soundly over = posts_soundly (posting Reclaim c) sound seen (retire_old c.objects) (λ e. absurd cc)
       (retired_sound c.tree c.posts.has_round c.limits.max_words c.progress c.objects sound.heap over)
       (λ t seat a there held. end_keeps_held (posting Reclaim c).posts seat (seen_phase (posting Reclaim c).posts seen t seat there) c.objects.spaces a refl held)
       (statics_to_idle c.objects.spaces c.progress no_progress c.statics sound.statics)
 
   -- one of both
-  by_clear : (x : Progress × Objects × Bool) → IsSound (record (posting Reclaim c) { progress = x.0; objects = x.1 }) → (x.2 ≡ false → IsSound (cycle_ended (posting Reclaim c))) → IsSound (cleared (posting Reclaim c) x).0
+  by_clear : (x : Progress × Objects × Bool) → IsSound (record (posting Reclaim c) { progress = x.0; objects = x.1 }) → (x.2 ≡ false → IsSound (cycle_ended (posting Reclaim c))) → IsSound (clear_object (posting Reclaim c) x).0
   by_clear (p, o, true) works ends = works
   by_clear (p, o, false) works ends = ends refl
 
@@ -418,7 +418,7 @@ module _ (c : Content) (sound : IsSound (posting Reclaim c)) (seen : all_seen (p
 -- ---- each phase
 
 -- the work of a phase keeps a machine sound
-work_soundly : (x : Phase) (c : Content) → IsSound (posting x c) → all_seen (posting x c).posts ≡ true → IsSound (work x (posting x c)).0
+work_soundly : (x : Phase) (c : MachineState) → IsSound (posting x c) → all_seen (posting x c).posts ≡ true → IsSound (work x (posting x c)).0
 work_soundly Idle c sound seen = opens_soundly c sound seen
 work_soundly Mark c sound seen = mark_work_soundly c sound seen
 work_soundly Allocate c sound seen = allocate_work_soundly c sound seen
@@ -429,5 +429,5 @@ work_soundly ThreadFlip c sound seen = thread_flip_work_soundly c sound seen
 work_soundly Reclaim c sound seen = reclaim_work_soundly c sound seen
 
 -- an event of the collector keeps a machine sound
-pub collected_soundly : (c : Content) → IsSound c → IsSound (collected c).0
+pub collected_soundly : (c : MachineState) → IsSound c → IsSound (collect c).0
 collected_soundly c sound = either_soundly (all_seen c.posts) (work c.posts.posted c) (c, Waiting) (work_soundly c.posts.posted c sound) (λ late. sound)

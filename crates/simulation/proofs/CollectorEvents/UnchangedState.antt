@@ -19,26 +19,26 @@ use Rattle.collector.specs.Flips.{cleared_on, flipped_on}
 use Rattle.collector.specs.declared.progress.Progress.{Progress}
 use Rattle.collector.specs.phase_handshake.Handshakes.{all_answered, all_seen}
 use Rattle.simulation.specs.Counts.{IsCounted}
-use Rattle.simulation.specs.MachineContents.{Content}
-use Rattle.simulation.specs.Collecting.{cleared, collected, flipped, marked, next_posted, round_posted, rounds, work, worked}
-use Rattle.simulation.specs.StandsFor.{Names, Represents, StandsBy}
+use Rattle.simulation.specs.MachineStates.{MachineState}
+use Rattle.simulation.specs.Collecting.{clear_object, collect, flip_values, mark_object, next_posted, round_posted, rounds, work, do_work}
+use Rattle.simulation.specs.Refines.{Names, Represents, StandsBy}
 use Rattle.simulation.proofs.CollectorEvents.Soundness.{collected_soundly}
 use Rattle.simulation.proofs.CollectorEvents.RepresentedObjects.{collected_stands}
 use Rattle.simulation.proofs.Representation.NormalNames.{IsNormal}
 
 -- a machine keeps the same program, limits and threads, and has printed the same
-pub record KeepsRest (c d : Content) : Type 0 where
+pub record KeepsRest (c d : MachineState) : Type 0 where
   pub tree : d.tree ≡ c.tree
   pub limits : d.limits ≡ c.limits
   pub threads : d.threads ≡ c.threads
   pub printed : d.printed ≡ c.printed
 
-module _ (c : Content) where
+module _ (c : MachineState) where
   -- where nothing changes, and by a test
   itself : KeepsRest c c
   itself = record { tree = refl; limits = refl; threads = refl; printed = refl }
 
-  either_keeps : (b : Bool) (x y : Content × Report) → KeepsRest c x.0 → KeepsRest c y.0 → KeepsRest c (if◌then◌else◌ {A = Content × Report} b x y).0
+  either_keeps : (b : Bool) (x y : MachineState × Report) → KeepsRest c x.0 → KeepsRest c y.0 → KeepsRest c (if◌then◌else◌ {A = MachineState × Report} b x y).0
   either_keeps true x y f g = f
   either_keeps false x y f g = g
 
@@ -47,15 +47,15 @@ module _ (c : Content) where
   next_keeps = record { tree = refl; limits = refl; threads = refl; printed = refl }
 
   -- a step of Allocate and Copy, of HeapFlip, and of Reclaim
-  worked_keeps : (x : Progress × Objects × Bool) → KeepsRest c (worked c x).0
+  worked_keeps : (x : Progress × Objects × Bool) → KeepsRest c (do_work c x).0
   worked_keeps (p, o, true) = record { tree = refl; limits = refl; threads = refl; printed = refl }
   worked_keeps (p, o, false) = next_keeps
 
-  flipped_keeps : (x : Progress × List Value × Bool) → KeepsRest c (flipped c x).0
+  flipped_keeps : (x : Progress × List Value × Bool) → KeepsRest c (flip_values c x).0
   flipped_keeps (p, statics, true) = record { tree = refl; limits = refl; threads = refl; printed = refl }
   flipped_keeps (p, statics, false) = next_keeps
 
-  cleared_keeps : (x : Progress × Objects × Bool) → KeepsRest c (cleared c x).0
+  cleared_keeps : (x : Progress × Objects × Bool) → KeepsRest c (clear_object c x).0
   cleared_keeps (p, o, true) = record { tree = refl; limits = refl; threads = refl; printed = refl }
   cleared_keeps (p, o, false) = record { tree = refl; limits = refl; threads = refl; printed = refl }
 
@@ -65,14 +65,14 @@ module _ (c : Content) where
       next_keeps
       (either_keeps (c.posts.has_round && not (all_answered c.posts)) (c, Waiting) (round_posted c, Worked) itself (record { tree = refl; limits = refl; threads = refl; printed = refl }))
 
-  marked_keeps : (x : Progress × Objects × Bool) → KeepsRest c (marked c x).0
+  marked_keeps : (x : Progress × Objects × Bool) → KeepsRest c (mark_object c x).0
   marked_keeps (p, o, true) = record { tree = refl; limits = refl; threads = refl; printed = refl }
   marked_keeps (p, o, false) = rounds_keep
 
   -- in each phase
   work_keeps : (x : Phase) → KeepsRest c (work x c).0
   work_keeps Idle = record { tree = refl; limits = refl; threads = refl; printed = refl }
-  work_keeps Mark = either_keeps c.progress.scanned_statics (marked c (marked_on c.tree c.progress c.objects))
+  work_keeps Mark = either_keeps c.progress.scanned_statics (mark_object c (marked_on c.tree c.progress c.objects))
       (record c { progress = (statics_scanned c.progress c.objects c.statics).0; objects = (statics_scanned c.progress c.objects c.statics).1 }, Worked)
       (marked_keeps (marked_on c.tree c.progress c.objects))
       (record { tree = refl; limits = refl; threads = refl; printed = refl })
@@ -84,11 +84,11 @@ module _ (c : Content) where
   work_keeps Reclaim = cleared_keeps (cleared_on c.progress c.objects)
 
   -- and so in all
-  pub collected_keeps : KeepsRest c (collected c).0
+  pub collected_keeps : KeepsRest c (collect c).0
   collected_keeps = either_keeps (all_seen c.posts) (work c.posts.posted c) (c, Waiting) (work_keeps c.posts.posted) itself
 
 -- a machine that represents a state under names of what is live represents it after an event of the collector
-pub collected_represents : (c : Content) (s : State) → Represents c s → (name : Names) → IsNormal c.posts.posted c.objects.spaces name → StandsBy name c s → Represents (collected c).0 s
+pub collected_represents : (c : MachineState) (s : State) → Represents c s → (name : Names) → IsNormal c.posts.posted c.objects.spaces name → StandsBy name c s → Represents (collect c).0 s
 collected_represents c s r name normal stands =
     let keeps = collected_keeps c in
     record {

@@ -28,27 +28,27 @@ use Rattle.collector.specs.declared.progress.Progress.{Progress}
 use Rattle.interpreter.specs.object_memory.Cells.{used_words}
 use Rattle.interpreter.specs.loaded_program.MethodNumbers.{number_of}
 use Rattle.interpreter.specs.object_memory.declared.values.Value.{Value}
-use Rattle.simulation.specs.MachineContents.{Content}
+use Rattle.simulation.specs.MachineStates.{MachineState}
 use Rattle.simulation.specs.Collecting.{with_acknowledgement}
 use Rattle.simulation.specs.Owed.{AreCyclesBounded}
 use Rattle.simulation.specs.Rooms.{spaces_of}
-use Rattle.simulation.specs.Runs.{DoTurns, IsNext, IsRunOf, RefusesBeyondRoom}
+use Rattle.simulation.specs.Runs.{DoTransitions, IsNext, IsRunOf, RefusesBeyondRoom}
 use Rattle.simulation.specs.Sound.{IsSound}
-use Rattle.simulation.specs.StandsFor.{IsValue, Represents}
-use Rattle.simulation.specs.Turns.{IsTurn, content_at, opening_content}
+use Rattle.simulation.specs.Refines.{IsValue, Represents}
+use Rattle.simulation.specs.Transitions.{IsTransition, machine_state_at, initial_machine_state}
 use Rattle.interpreter.proofs.cil_model.Lists.{none_is_some}
 use Rattle.simulation.proofs.ListLaws.AgreeingLists.{agree_length}
 use Rattle.simulation.proofs.CycleBounds.CollectorWork.{collector_takes}
 use Rattle.simulation.proofs.CycleBounds.WorkLeft.{TakesWork, acknowledgement_large, acknowledgement_leaves, acknowledgement_posted, cycle_work, grey_there, heap_leaves, larger, left_in, left_with, none_left, own_is_early, static_count, takes_nothing, work_left}
 use Rattle.simulation.proofs.Threads.StepEffects.{same_program}
 use Rattle.simulation.proofs.Threads.UnchangedPosts.{KeepsCollector, step_keeps}
-use Rattle.simulation.proofs.Representation.InitialContents.{opening_represents}
+use Rattle.simulation.proofs.Representation.InitialContents.{initial_represents}
 use Rattle.simulation.proofs.Threads.StepResults.{KeepsOwnRoom}
 use Rattle.simulation.proofs.Threads.Steps.{step_follows}
 use Rattle.simulation.proofs.Runs.EventCorrespondence.{acknowledgement_keeps, collection_keeps, each_alike}
 
 -- so the heap alone may make a difference to the work that is left
-heap_alone : (c d : Content) → d.tree ≡ c.tree → KeepsCollector c d → work_left d ≡ left_with c d.objects.spaces
+heap_alone : (c d : MachineState) → d.tree ≡ c.tree → KeepsCollector c d → work_left d ≡ left_with c d.objects.spaces
 heap_alone c d tree keeps =
     ap (λ (x : Phase). left_in x d.objects.spaces.new.words (static_count d) d.posts.has_round d.progress d.objects.spaces) keeps.posts.posted
     ∙ ap (λ (u : Tree). left_in c.posts.posted d.objects.spaces.new.words (length (static_fields u)) d.posts.has_round d.progress d.objects.spaces) tree
@@ -56,10 +56,10 @@ heap_alone c d tree keeps =
     ∙ ap (λ (p : Progress). left_in c.posts.posted d.objects.spaces.new.words (static_count c) c.posts.has_round p d.objects.spaces) keeps.progress
 
 -- and no step makes it more
-step_leaves : (c : Content) (s : State) → Represents c s → (t : ℕ) (after : Content × Report) → IsTurn c (Step t) after → (s' : State) → KeepsOwnRoom c s t after.0.objects s' → work_left after.0 ≤ work_left c
-step_leaves c s r t after turn s' room =
-    let same = same_program c after (Step t) turn in
-    let alone = heap_alone c after.0 same.0 (step_keeps c t after turn) in
+step_leaves : (c : MachineState) (s : State) → Represents c s → (t : ℕ) (after : MachineState × Report) → IsTransition c (Step t) after → (s' : State) → KeepsOwnRoom c s t after.0.objects s' → work_left after.0 ≤ work_left c
+step_leaves c s r t after transition s' room =
+    let same = same_program c after (Step t) transition in
+    let alone = heap_alone c after.0 same.0 (step_keeps c t after transition) in
     let less : left_with c after.0.objects.spaces ≤ work_left c =
     heap_leaves c after.0.objects.spaces room.large.new (λ marking. (grey_there c r.sound marking, room.marking (own_is_early c.posts r.sound.seated.close marking t))) in
     subst (λ n. n ≤ work_left c) (sym alone) less
@@ -73,34 +73,34 @@ fields_length tree s (e ∷ es) (f ∷ fs) h = ap suc (fields_length tree s es f
 fields_length tree s [] (f ∷ fs) h = elim h [ ]
 fields_length tree s (e ∷ es) [] h = elim h [ ]
 
-statics_length : (c : Content) (s : State) → Represents c s → length c.statics ≡ static_count c
+statics_length : (c : MachineState) (s : State) → Represents c s → length c.statics ≡ static_count c
 statics_length c s r =
     agree_length (λ (v : Value) (f : FieldKey × StateValue). IsValue r.stands.name v f.1) c.statics s.statics r.stands.by.memory.static_values
     ∙ fields_length c.tree s s.statics (static_fields c.tree) r.typed.statics
 
 -- the state that an event reaches, and what it takes of the work that is left
-record Goes (c : Content) (s : State) (e : Event) (after : Content × Report) : Type 0 where
+record Goes (c : MachineState) (s : State) (e : Event) (after : MachineState × Report) : Type 0 where
   state : State
   next : IsNext c.tree c.limits s e after.1 state
   represents : Represents after.0 state
   takes : TakesWork c e after
 
-goes : (c : Content) (s : State) → Represents c s → (e : Event) (after : Content × Report) → IsTurn c e after → Goes c s e after
-goes c s r (Step t) after turn =
-    let follows = step_follows each_alike c s r t after turn in
-    record { state = follows.0; next = follows.1; represents = follows.2; takes = takes_nothing c (Step t) after.0 after.1 refl refl (λ is. sym (step_keeps c t after turn).posts.posted ∙ is) (step_leaves c s r t after turn follows.0 follows.3) follows.3.large }
-goes c s r (Ack t) after turn = record {
+goes : (c : MachineState) (s : State) → Represents c s → (e : Event) (after : MachineState × Report) → IsTransition c e after → Goes c s e after
+goes c s r (Step t) after transition =
+    let follows = step_follows each_alike c s r t after transition in
+    record { state = follows.0; next = follows.1; represents = follows.2; takes = takes_nothing c (Step t) after.0 after.1 refl refl (λ is. sym (step_keeps c t after transition).posts.posted ∙ is) (step_leaves c s r t after transition follows.0 follows.3) follows.3.large }
+goes c s r (Ack t) after transition = record {
   state = s;
   next = refl;
-  represents = acknowledgement_keeps c s r t after turn;
-  takes = subst (TakesWork c (Ack t)) (sym turn)
+  represents = acknowledgement_keeps c s r t after transition;
+  takes = subst (TakesWork c (Ack t)) (sym transition)
       (takes_nothing c (Ack t) (with_acknowledgement c t).0 (with_acknowledgement c t).1 refl refl (λ is. sym (acknowledgement_posted c t) ∙ is) (acknowledgement_leaves c t r.sound) (acknowledgement_large c t));
 }
-goes c s r Gc after turn = record {
+goes c s r Gc after transition = record {
   state = s;
   next = refl;
-  represents = collection_keeps c s r after turn;
-  takes = subst (TakesWork c Gc) (sym turn) (collector_takes c (statics_length c s r) r.sound);
+  represents = collection_keeps c s r after transition;
+  takes = subst (TakesWork c Gc) (sym transition) (collector_takes c (statics_length c s r) r.sound);
 }
 
 -- ---- runs
@@ -118,23 +118,23 @@ is_idle_or Reclaim = inr (λ e. absurd cc)
 
 module _ (tree : Tree) (limits : Limits) where
   -- all that a cycle may have, with the words of the larger block
-  abbrev bound : Content → ℕ
+  abbrev bound : MachineState → ℕ
   bound c = 10 + length (static_fields tree) + 13 * larger c.objects.spaces
 
   -- after these events, the newest first
-  record IsBounded (past : List (Event × Report)) (c : Content) : Type 0 where
+  record IsBounded (past : List (Event × Report)) (c : MachineState) : Type 0 where
     tree_is : c.tree ≡ tree
     between : c.posts.posted ≡ Idle → work_since past ≡ 0
     since : work_since past + work_left c ≤ bound c
     newest : work_of_newest past ≤ bound c
 
-  whole : (c : Content) → c.tree ≡ tree → cycle_work c ≡ bound c
+  whole : (c : MachineState) → c.tree ≡ tree → cycle_work c ≡ bound c
   whole c is = ap (λ (u : Tree). 10 + length (static_fields u) + 13 * larger c.objects.spaces) is
 
   -- one event more
-  module _ (past : List (Event × Report)) (c : Content) (h : IsBounded past c) (e : Event) (after : Content × Report) (turn : IsTurn c e after) (takes : TakesWork c e after) where
+  module _ (past : List (Event × Report)) (c : MachineState) (h : IsBounded past c) (e : Event) (after : MachineState × Report) (transition : IsTransition c e after) (takes : TakesWork c e after) where
     tree_then : after.0.tree ≡ tree
-    tree_then = (same_program c after e turn).0 ∙ h.tree_is
+    tree_then = (same_program c after e transition).0 ∙ h.tree_is
 
     -- what was done since the last cycle, and what is left
     all_then : (work_of (e, after.1) + work_since past) + work_left after.0 ≤ bound after.0
@@ -167,35 +167,35 @@ module _ (tree : Tree) (limits : Limits) where
   one_more e es past = ap (λ l. l ++ past) (reverse-append (e ∷ []) es) ∙ append_assoc (reverse es) (e ∷ []) past
 
   -- what the machine holds after some of the events, and that it is bounded
-  abbrev IsBoundedAfter : (events past : List (Event × Report)) (c : Content) → Type 0
-  IsBoundedAfter events past c = (d : Content) × DoTurns c events d × (work_of_newest (reverse events ++ past) ≤ bound d) × (s : State) × Represents d s
+  abbrev IsBoundedAfter : (events past : List (Event × Report)) (c : MachineState) → Type 0
+  IsBoundedAfter events past c = (d : MachineState) × DoTransitions c events d × (work_of_newest (reverse events ++ past) ≤ bound d) × (s : State) × Represents d s
 
-  bounded_after : (events rest past : List (Event × Report)) (c : Content) (s : State) (last : Content) → IsBounded past c → Represents c s → RefusesBeyondRoom c s (events ++ rest) last → IsBoundedAfter events past c
+  bounded_after : (events rest past : List (Event × Report)) (c : MachineState) (s : State) (last : MachineState) → IsBounded past c → Represents c s → RefusesBeyondRoom c s (events ++ rest) last → IsBoundedAfter events past c
   bounded_after [] rest past c s last h r run = (c, refl, h.newest, s, r)
-  bounded_after (e ∷ es) rest past c s last h r (next, turn, refused, later) =
-      let step = goes c s r e.0 (next, e.1) turn in
-      let more = bounded_after es rest (e ∷ past) next step.state last (bounded_then past c h e.0 (next, e.1) turn step.takes) step.represents (later step.state step.next) in
-      (more.0, (next, turn, more.1), subst (λ l. work_of_newest l ≤ bound more.0) (sym (one_more e es past)) more.2, more.3, more.4)
+  bounded_after (e ∷ es) rest past c s last h r (next, transition, refused, later) =
+      let step = goes c s r e.0 (next, e.1) transition in
+      let more = bounded_after es rest (e ∷ past) next step.state last (bounded_then past c h e.0 (next, e.1) transition step.takes) step.represents (later step.state step.next) in
+      (more.0, (next, transition, more.1), subst (λ l. work_of_newest l ≤ bound more.0) (sym (one_more e es past)) more.2, more.3, more.4)
 
   -- ---- the initial state
 
   -- no cycle is open at first
-  record IsUnbegun (c : Content) : Type 0 where
+  record IsUnbegun (c : MachineState) : Type 0 where
     tree_is : c.tree ≡ tree
     left : work_left c ≡ 0
 
-  opened_unbegun : (c : Content) → opening_content tree limits ≡ Some c → IsUnbegun c
+  opened_unbegun : (c : MachineState) → initial_machine_state tree limits ≡ Some c → IsUnbegun c
   opened_unbegun c e = by_entry (slice_get (entry_points tree) 0) e
     where
-      by_number : (entry : ClassName × Method) (n : Option ℕ) → option_map (content_at tree limits entry) n ≡ Some c → IsUnbegun c
+      by_number : (entry : ClassName × Method) (n : Option ℕ) → option_map (machine_state_at tree limits entry) n ≡ Some c → IsUnbegun c
       by_number entry None h = none_is_some c h
-      by_number entry (Some n) h = subst IsUnbegun (same_Some (content_at tree limits entry n) c h) (record { tree_is = refl; left = refl })
+      by_number entry (Some n) h = subst IsUnbegun (same_Some (machine_state_at tree limits entry n) c h) (record { tree_is = refl; left = refl })
 
-      by_entry : (entry : Option (ClassName × Method)) → option_and_then (λ (x : ClassName × Method). option_map (content_at tree limits x) (number_of tree x)) entry ≡ Some c → IsUnbegun c
+      by_entry : (entry : Option (ClassName × Method)) → option_and_then (λ (x : ClassName × Method). option_map (machine_state_at tree limits x) (number_of tree x)) entry ≡ Some c → IsUnbegun c
       by_entry None h = none_is_some c h
       by_entry (Some entry) h = by_number entry (number_of tree entry) h
 
-  bounded_first : (c : Content) → IsUnbegun c → IsBounded [] c
+  bounded_first : (c : MachineState) → IsUnbegun c → IsBounded [] c
   bounded_first c h = record {
     tree_is = h.tree_is;
     between = λ is. refl;
@@ -204,7 +204,7 @@ module _ (tree : Tree) (limits : Limits) where
   }
 
   -- the larger block, as a user sees it
-  larger_seen : (c : Content) → IsSound c → larger_words (spaces_of c.objects) ≡ larger c.objects.spaces
+  larger_seen : (c : MachineState) → IsSound c → larger_words (spaces_of c.objects) ≡ larger c.objects.spaces
   larger_seen c sound = by_open c.objects.spaces.is_open refl
     where
       by_open : (t : Bool) → c.objects.spaces.is_open ≡ t
@@ -221,10 +221,10 @@ module _ (tree : Tree) (limits : Limits) where
     -- no cycle of a run has more working events than that
     pub cycles_bounded : (events : List Event) (reports : List Report) (s : State) → IsRunOf tree limits events reports s → AreCyclesBounded tree limits (zip events reports)
     cycles_bounded events reports s h done rest split =
-        let opened = opening_represents tree limits accepted in_range in
-        let content : opened.0 ≡ h.machine = same_Some opened.0 h.machine (sym opened.2 ∙ h.opened) in
+        let opened = initial_represents tree limits accepted in_range in
+        let machine_state : opened.0 ≡ h.machine = same_Some opened.0 h.machine (sym opened.2 ∙ h.opened) in
         let state : opened.1 ≡ h.first = same_Some opened.1 h.first (sym opened.3 ∙ h.begins) in
-        let represents : Represents h.machine h.first = subst (λ (c : Content). Represents c h.first) content (subst (λ (x : State). Represents opened.0 x) state opened.4) in
+        let represents : Represents h.machine h.first = subst (λ (c : MachineState). Represents c h.first) machine_state (subst (λ (x : State). Represents opened.0 x) state opened.4) in
         let first : IsBounded [] h.machine = bounded_first h.machine (opened_unbegun h.machine h.opened) in
         let after = bounded_after done rest [] h.machine h.first h.last first represents (subst (λ l. RefusesBeyondRoom h.machine h.first l h.last) split h.refuses) in
         let all : work_of_newest (reverse done) ≤ bound after.0 = subst (λ l. work_of_newest l ≤ bound after.0) (append-nil (reverse done)) after.2 in

@@ -15,16 +15,16 @@ use Rattle.interpreter.specs.reference_machine.Cycles.{phase_after}
 use Rattle.interpreter.specs.object_memory.declared.addresses.Addr.{Addr}
 use Rattle.interpreter.specs.object_memory.declared.values.Value.{Value}
 use Rattle.interpreter.specs.object_memory.declared.values.Value.TheVariants.{Ref}
-use Rattle.interpreter.specs.object_memory.Cells.{Cell, address_behind, cell_in, size, used_words}
+use Rattle.interpreter.specs.object_memory.Cells.{Cell, address_after_cell, cell_in, size, used_words}
 use Rattle.interpreter.specs.object_memory.Objects.{Objects}
-use Rattle.interpreter.specs.object_memory.Spaces.{Spaces, clear, found_in, has_other, is_noted, is_old, opened, with_shell}
+use Rattle.interpreter.specs.object_memory.Spaces.{Spaces, clear, found_in, has_other, is_noted, is_old, open_cycle, with_shell}
 use Rattle.interpreter.specs.instructions.barriers.Barriers.{with_marked}
 use Rattle.interpreter.proofs.object_memory.Blocks.{range_in}
-use Rattle.interpreter.proofs.object_memory.Places.{found_here}
+use Rattle.interpreter.proofs.object_memory.Offsets.{found_here}
 use Rattle.collector.specs.References.{holds_reference, reference_in}
 use Rattle.collector.specs.Marking.{is_closed, is_none_grey, mark_step, marked_on, object_scanned, oldest_cell, slot_scanned, statics_scanned, with_all_marked, without_oldest, word_of}
-use Rattle.collector.specs.Attempts.{has_loaded, most_spent, no_attempt, spent, stage_number, with_loaded}
-use Rattle.collector.specs.Copying.{before_word, behind_word, copied_at, copied_on, looked_on, needs_copy, object_copied, shell_step, word_step, word_stored}
+use Rattle.collector.specs.Attempts.{has_loaded, most_spent, no_attempt, attempt_cost, stage_number, with_loaded}
+use Rattle.collector.specs.Copying.{before_word, after_word, copied_at, copied_on, looked_on, needs_copy, object_copied, shell_step, word_step, word_stored}
 use Rattle.collector.specs.Flips.{cleared_at, flip_step}
 use Rattle.collector.specs.declared.progress.Attempt.{Attempt}
 use Rattle.collector.specs.declared.progress.Progress.{Progress}
@@ -35,31 +35,31 @@ use Rattle.collector.specs.phase_handshake.Handshakes.{all_answered, all_seen}
 use Rattle.collector.proofs.Copying.CopyWork.{IsStep, copied_cases, none_stored, one_stored}
 use Rattle.collector.proofs.Copying.CopiedWords.{loaded_checks, loaded_stage}
 use Rattle.collector.proofs.BlockWalks.FirstCells.{found_is}
-use Rattle.simulation.specs.Collecting.{cleared, collected, cycle_opened, flipped, marked, next_posted, opening_words, round_posted, rounds, work, worked}
-use Rattle.simulation.specs.MachineContents.{Content}
+use Rattle.simulation.specs.Collecting.{clear_object, collect, cycle_opened, flip_values, mark_object, next_posted, initial_words, round_posted, rounds, work, do_work}
+use Rattle.simulation.specs.MachineStates.{MachineState}
 use Rattle.simulation.specs.Sound.{IsSound}
 use Rattle.simulation.proofs.CollectorEvents.Soundness.{posting}
 use Rattle.simulation.proofs.CycleBounds.MarkingWork.{AreGreyThere, LeavesNoMore, black_lessens, leaves_itself, most_left, round_left, slot_lessens}
-use Rattle.simulation.proofs.CycleBounds.MarkingByThreads.{all_marks_leave, value_mark_leaves}
+use Rattle.simulation.proofs.CycleBounds.MarkingByThreads.{all_marks_stay, value_mark_leaves}
 use Rattle.simulation.proofs.CollectorEvents.NextBlockSize.{next_grows}
 use Rattle.simulation.proofs.CollectedHeap.UsedWords.{AreAsLarge, all_marked_uses, as_large, marked_uses}
 use Rattle.simulation.proofs.CycleBounds.WorkLeft.{TakesWork, grey_there, larger, larger_same, static_count, statics_left, takes_nothing, work_left}
 
 -- one of two transitions, by a test
-either_takes : (c : Content) (b : Bool) (x y : Content × Report) → (b ≡ true → TakesWork c Gc x) → (b ≡ false → TakesWork c Gc y) → TakesWork c Gc (if◌then◌else◌ {A = Content × Report} b x y)
+either_takes : (c : MachineState) (b : Bool) (x y : MachineState × Report) → (b ≡ true → TakesWork c Gc x) → (b ≡ false → TakesWork c Gc y) → TakesWork c Gc (if◌then◌else◌ {A = MachineState × Report} b x y)
 either_takes c true x y f g = f refl
 either_takes c false x y f g = g refl
 
 -- an event that waits takes nothing
-waits : (c : Content) → TakesWork c Gc (c, Waiting)
+waits : (c : MachineState) → TakesWork c Gc (c, Waiting)
 waits c = takes_nothing c Gc c Waiting refl refl (λ is. is) (omega arith) (record { old = refl; new = refl })
 
 -- one that works in a cycle and leaves less, and continues the cycle
-works : (c d : Content) → c.posts.posted ≢ Idle → d.posts.posted ≢ Idle → AreAsLarge c.objects.spaces d.objects.spaces → 1 + work_left d ≤ work_left c → TakesWork c Gc (d, Worked)
-works c d going goes_on large less = record {
+works : (c d : MachineState) → c.posts.posted ≢ Idle → d.posts.posted ≢ Idle → AreAsLarge c.objects.spaces d.objects.spaces → 1 + work_left d ≤ work_left c → TakesWork c Gc (d, Worked)
+works c d going continues large less = record {
   less = λ is. less;
   anew = λ is. absurd (going is);
-  between = λ is. absurd (goes_on is);
+  between = λ is. absurd (continues is);
   ended = λ e. absurd cc;
   larger_stays = larger_same c.objects.spaces d.objects.spaces large;
 }
@@ -69,37 +69,37 @@ itself_large : (m : Spaces) → AreAsLarge m m
 itself_large m = record { old = refl; new = refl }
 
 -- a step of a phase leaves less of it, or the next phase is posted
-worked_takes : (c : Content) (x : Progress × Objects × Bool) → c.posts.posted ≢ Idle → phase_after c.posts.posted ≢ Idle → AreAsLarge c.objects.spaces x.1.spaces
-    → (x.2 ≡ true → 1 + work_left (record c { progress = x.0; objects = x.1 }) ≤ work_left c) → 1 + work_left (next_posted c).0 ≤ work_left c → TakesWork c Gc (worked c x)
-worked_takes c (p, o, true) going goes_on large step post = works c (record c { progress = p; objects = o }) going going large (step refl)
-worked_takes c (p, o, false) going goes_on large step post = works c (next_posted c).0 going goes_on (itself_large c.objects.spaces) post
+worked_takes : (c : MachineState) (x : Progress × Objects × Bool) → c.posts.posted ≢ Idle → phase_after c.posts.posted ≢ Idle → AreAsLarge c.objects.spaces x.1.spaces
+    → (x.2 ≡ true → 1 + work_left (record c { progress = x.0; objects = x.1 }) ≤ work_left c) → 1 + work_left (next_posted c).0 ≤ work_left c → TakesWork c Gc (do_work c x)
+worked_takes c (p, o, true) going continues large step post = works c (record c { progress = p; objects = o }) going going large (step refl)
+worked_takes c (p, o, false) going continues large step post = works c (next_posted c).0 going continues (itself_large c.objects.spaces) post
 
 -- ---- Idle
 
 -- a cycle opens
-opening_takes : (c : Content) → IsSound (posting Idle c) → TakesWork (posting Idle c) Gc (work Idle (posting Idle c))
-opening_takes c sound = record {
+initial_takes : (c : MachineState) → IsSound (posting Idle c) → TakesWork (posting Idle c) Gc (work Idle (posting Idle c))
+initial_takes c sound = record {
   less = λ going. absurd (going refl);
   anew = λ is. (
       let fits = sound.heap.blocks.spaces.old.fits in
-      let most = most_left (opened c.objects.spaces (opening_words c)) fits refl false 0 in
-      let right = le-max_right c.objects.spaces.old.words (opening_words c) in
+      let most = most_left (open_cycle c.objects.spaces (initial_words c)) fits refl false 0 in
+      let right = le-max_right c.objects.spaces.old.words (initial_words c) in
       omega (arith, grows, most, right));
   between = λ is. absurd cc;
   ended = λ e. absurd cc;
   larger_stays = (
       let none : c.objects.spaces.new.words ≡ 0 = (let few = sound.heap.blocks.new_words in omega (arith, few)) in
-      let left = le-max_left c.objects.spaces.old.words (opening_words c) in
+      let left = le-max_left c.objects.spaces.old.words (initial_words c) in
       max-le {a = c.objects.spaces.old.words} {b = c.objects.spaces.new.words} {k = larger (cycle_opened (posting Idle c)).objects.spaces} left (omega (arith, none)));
 }
   where
-    grows : c.objects.spaces.old.words ≤ opening_words c
+    grows : c.objects.spaces.old.words ≤ initial_words c
     grows = next_grows c.objects.spaces.old.words (used_words c.objects.spaces.old.cells) c.limits.max_words sound.heap.blocks.old_words
 
 -- ---- Mark
 
-module _ (c : Content) (sound : IsSound (posting Mark c)) where
-  abbrev marking : Content
+module _ (c : MachineState) (sound : IsSound (posting Mark c)) where
+  abbrev marking : MachineState
   marking = posting Mark c
 
   there : AreGreyThere c.objects.spaces
@@ -113,7 +113,7 @@ module _ (c : Content) (sound : IsSound (posting Mark c)) where
       1 + work_left (record marking { progress = (statics_scanned c.progress c.objects c.statics).0; objects = (statics_scanned c.progress c.objects c.statics).1 }) ≤ work_left marking
   scan_takes early =
       let one : statics_left c.progress.scanned_statics ≡ 1 = ap statics_left early in
-      let less = (all_marks_leave c.statics c.objects).less there c.posts.has_round c.progress.scanned_slots in
+      let less = (all_marks_stay c.statics c.objects).less there c.posts.has_round c.progress.scanned_slots in
       omega (arith, one, less, scan_large.new)
 
   -- a slot of a grey object is scanned, or all of them are
@@ -177,35 +177,35 @@ module _ (c : Content) (sound : IsSound (posting Mark c)) where
   rounds_take : c.progress.scanned_statics ≡ true → is_none_grey c.objects.spaces.grey ≡ true → TakesWork marking Gc (rounds marking)
   rounds_take scanned none =
       either_takes marking (is_closed c.progress c.objects marking.posts) (next_posted marking)
-      (if◌then◌else◌ {A = Content × Report} (c.posts.has_round && not (all_answered marking.posts)) (marking, Waiting) (round_posted marking, Worked))
+      (if◌then◌else◌ {A = MachineState × Report} (c.posts.has_round && not (all_answered marking.posts)) (marking, Waiting) (round_posted marking, Worked))
       (λ closed. works marking (next_posted marking).0 (λ e. absurd cc) (λ e. absurd cc) (itself_large c.objects.spaces) closing_takes)
       (λ more. either_takes marking (c.posts.has_round && not (all_answered marking.posts)) (marking, Waiting) (round_posted marking, Worked) (λ late. waits marking) (λ answered. works marking (round_posted marking) (λ e. absurd cc) (λ e. absurd cc) (record { old = refl; new = refl }) (round_takes scanned none more answered)))
 
   -- the oldest grey object is there
-  marks_take : c.progress.scanned_statics ≡ true → TakesWork marking Gc (marked marking (marked_on c.tree c.progress c.objects))
+  marks_take : c.progress.scanned_statics ≡ true → TakesWork marking Gc (mark_object marking (marked_on c.tree c.progress c.objects))
   marks_take scanned = by_grey c.objects.spaces.grey refl
     where
-      by_cell : (g : Addr) (rest : List Addr) → c.objects.spaces.grey ≡ g ∷ rest → (o : Option Cell) → cell_in c.objects.spaces.old g ≡ o → TakesWork marking Gc (marked marking (mark_step c.tree c.progress c.objects (g ∷ rest) o))
+      by_cell : (g : Addr) (rest : List Addr) → c.objects.spaces.grey ≡ g ∷ rest → (o : Option Cell) → cell_in c.objects.spaces.old g ≡ o → TakesWork marking Gc (mark_object marking (mark_step c.tree c.progress c.objects (g ∷ rest) o))
       by_cell g rest grey None none =
           let here : is_old c.objects.spaces g ≡ true = All-head (λ a. is_old c.objects.spaces a ≡ true) g rest (rw grey at there) in
           absurd cc
       by_cell g rest grey (Some cell) lies = works marking (record marking { progress = (object_scanned c.tree c.progress c.objects rest cell).0; objects = (object_scanned c.tree c.progress c.objects rest cell).1 }) (λ e. absurd cc) (λ e. absurd cc) (object_large g rest cell grey lies) (object_takes g rest cell grey lies)
 
-      by_grey : (grey : List Addr) → c.objects.spaces.grey ≡ grey → TakesWork marking Gc (marked marking (mark_step c.tree c.progress c.objects grey (oldest_cell c.objects grey)))
+      by_grey : (grey : List Addr) → c.objects.spaces.grey ≡ grey → TakesWork marking Gc (mark_object marking (mark_step c.tree c.progress c.objects grey (oldest_cell c.objects grey)))
       by_grey [] none = rounds_take scanned (ap is_none_grey none)
       by_grey (g ∷ rest) grey = by_cell g rest grey (cell_in c.objects.spaces.old g) refl
 
   marking_takes : TakesWork marking Gc (work Mark marking)
   marking_takes =
-      either_takes marking c.progress.scanned_statics (marked marking (marked_on c.tree c.progress c.objects))
+      either_takes marking c.progress.scanned_statics (mark_object marking (marked_on c.tree c.progress c.objects))
       (record marking { progress = (statics_scanned c.progress c.objects c.statics).0; objects = (statics_scanned c.progress c.objects c.statics).1 }, Worked)
       marks_take
       (λ early. works marking (record marking { progress = (statics_scanned c.progress c.objects c.statics).0; objects = (statics_scanned c.progress c.objects c.statics).1 }) (λ e. absurd cc) (λ e. absurd cc) scan_large (scan_takes early))
 
 -- ---- Allocate
 
-module _ (c : Content) (sound : IsSound (posting Allocate c)) where
-  abbrev allocating : Content
+module _ (c : MachineState) (sound : IsSound (posting Allocate c)) where
+  abbrev allocating : MachineState
   allocating = posting Allocate c
 
   -- a shell or none leaves each block as large
@@ -213,28 +213,28 @@ module _ (c : Content) (sound : IsSound (posting Allocate c)) where
   look_large None = itself_large c.objects.spaces
   look_large (Some cell) = by_test (needs_copy cell)
     where
-      by_test : (t : Bool) → AreAsLarge c.objects.spaces (if◌then◌else◌ {A = Objects} t (record c.objects { spaces = with_shell c.objects.spaces (address_behind c.objects.spaces.old c.progress.place) cell }) c.objects).spaces
+      by_test : (t : Bool) → AreAsLarge c.objects.spaces (if◌then◌else◌ {A = Objects} t (record c.objects { spaces = with_shell c.objects.spaces (address_after_cell c.objects.spaces.old c.progress.cursor) cell }) c.objects).spaces
       by_test true = record { old = refl; new = refl }
       by_test false = itself_large c.objects.spaces
 
-  -- the place advances to after an object
-  look_takes : (o : Option Cell) → cell_in c.objects.spaces.old (address_behind c.objects.spaces.old c.progress.place) ≡ o → (shell_step c.progress c.objects o).2 ≡ true →
+  -- the cursor advances past an object
+  look_takes : (o : Option Cell) → cell_in c.objects.spaces.old (address_after_cell c.objects.spaces.old c.progress.cursor) ≡ o → (shell_step c.progress c.objects o).2 ≡ true →
       1 + work_left (record allocating { progress = (shell_step c.progress c.objects o).0; objects = (shell_step c.progress c.objects o).1 }) ≤ work_left allocating
   look_takes None none some = absurd cc
   look_takes (Some cell) lies some =
-      let within = (range_in c.objects.spaces.old (address_behind c.objects.spaces.old c.progress.place) cell lies).1 in
+      let within = (range_in c.objects.spaces.old (address_after_cell c.objects.spaces.old c.progress.cursor) cell lies).1 in
       let fits = sound.heap.blocks.spaces.old.fits in
       let long = sound.heap.blocks.grows refl in
       let large = (look_large (Some cell)).new in
       omega (arith, within, fits, long, large)
 
   allocating_takes : TakesWork allocating Gc (work Allocate allocating)
-  allocating_takes = worked_takes allocating (looked_on c.progress c.objects) (λ e. absurd cc) (λ e. absurd cc) (look_large (cell_in c.objects.spaces.old (address_behind c.objects.spaces.old c.progress.place))) (look_takes (cell_in c.objects.spaces.old (address_behind c.objects.spaces.old c.progress.place)) refl) (omega arith)
+  allocating_takes = worked_takes allocating (looked_on c.progress c.objects) (λ e. absurd cc) (λ e. absurd cc) (look_large (cell_in c.objects.spaces.old (address_after_cell c.objects.spaces.old c.progress.cursor))) (look_takes (cell_in c.objects.spaces.old (address_after_cell c.objects.spaces.old c.progress.cursor)) refl) (omega arith)
 
 -- ---- Copy
 
-module _ (c : Content) (sound : IsSound (posting Copy c)) where
-  abbrev copying : Content
+module _ (c : MachineState) (sound : IsSound (posting Copy c)) where
+  abbrev copying : MachineState
   copying = posting Copy c
 
   abbrev start : ℕ
@@ -245,10 +245,10 @@ module _ (c : Content) (sound : IsSound (posting Copy c)) where
   stored_large t from to zero = record { old = refl; new = refl }
   stored_large t from to (suc slot) = record { old = refl; new = refl }
 
-  -- what is copied of the object at the place is a part of the one that is found
-  module _ (at : ℕ) (found : found_in has_other c.objects.spaces.old (start + c.progress.place) ≡ Some at) (cell : Cell) (lies : cell_in c.objects.spaces.old (record { number = at }) ≡ Some cell) where
-    behind : start + c.progress.place ≤ at
-    behind = (found_is has_other c.objects.spaces.old (start + c.progress.place) at found).behind
+  -- what is copied of the object at the cursor is a part of the one that is found
+  module _ (at : ℕ) (found : found_in has_other c.objects.spaces.old (start + c.progress.cursor) ≡ Some at) (cell : Cell) (lies : cell_in c.objects.spaces.old (record { number = at }) ≡ Some cell) where
+    following : start + c.progress.cursor ≤ at
+    following = (found_is has_other c.objects.spaces.old (start + c.progress.cursor) at found).following
 
     few : c.progress.copied_words ≤ length cell.slots
     few = by_words c.progress.copied_words refl
@@ -256,9 +256,9 @@ module _ (c : Content) (sound : IsSound (posting Copy c)) where
         by_words : (n : ℕ) → c.progress.copied_words ≡ n → c.progress.copied_words ≤ length cell.slots
         by_words zero none = omega (arith, none)
         by_words (suc n) some =
-            let one = sound.heap.place.words refl (λ none. absurd (omega (arith, none, some))) in
+            let one = sound.heap.cursor.words refl (λ none. absurd (omega (arith, none, some))) in
             let other : has_other one.0 ≡ true = has_copy one.0.other one.2 in
-            let same : at ≡ start + c.progress.place = same_Some at (start + c.progress.place) (sym found ∙ found_here has_other c.objects.spaces.old (start + c.progress.place) one.0 one.1 other) in
+            let same : at ≡ start + c.progress.cursor = same_Some at (start + c.progress.cursor) (sym found ∙ found_here has_other c.objects.spaces.old (start + c.progress.cursor) one.0 one.1 other) in
             let itself : one.0 ≡ cell = same_Some one.0 cell (sym one.1 ∙ subst (λ (n : ℕ). cell_in c.objects.spaces.old (record { number = n }) ≡ Some cell) same lies) in
             let slots : length one.0.slots ≡ length cell.slots = ap (λ (x : Cell). length x.slots) itself in
             omega (arith, slots, one.3)
@@ -270,35 +270,35 @@ module _ (c : Content) (sound : IsSound (posting Copy c)) where
     within : at + size cell ≤ start + used_words c.objects.spaces.old.cells
     within = (range_in c.objects.spaces.old (record { number = at }) cell lies).1
 
-    most : spent c.progress.attempt ≤ most_spent
-    most = sound.heap.place.attempts refl
+    most : attempt_cost c.progress.attempt ≤ most_spent
+    most = sound.heap.cursor.attempts refl
 
     -- a step of an attempt
-    attempt_takes : (o : Objects) → AreAsLarge c.objects.spaces o.spaces → (t : Attempt) → spent t ≡ 1 + spent c.progress.attempt
+    attempt_takes : (o : Objects) → AreAsLarge c.objects.spaces o.spaces → (t : Attempt) → attempt_cost t ≡ 1 + attempt_cost c.progress.attempt
         → 1 + work_left (record copying { progress = before_word c.progress c.objects.spaces.old (record { number = at }) t; objects = o }) ≤ work_left copying
     attempt_takes o large t one =
         let fits = sound.heap.blocks.spaces.old.fits in
         let long = sound.heap.blocks.grows refl in
-        omega (arith, one, within, fits, long, large.new, behind, few, most)
+        omega (arith, one, within, fits, long, large.new, following, few, most)
 
     -- the word is done
-    word_takes : (o : Objects) → AreAsLarge c.objects.spaces o.spaces → 1 + work_left (record copying { progress = behind_word c.progress c.objects.spaces.old (record { number = at }) cell c.progress.copied_words; objects = o }) ≤ work_left copying
+    word_takes : (o : Objects) → AreAsLarge c.objects.spaces o.spaces → 1 + work_left (record copying { progress = after_word c.progress c.objects.spaces.old (record { number = at }) cell c.progress.copied_words; objects = o }) ≤ work_left copying
     word_takes o large = by_test (nat_lt c.progress.copied_words (length cell.slots)) refl
       where
         by_test : (b : Bool) → nat_lt c.progress.copied_words (length cell.slots) ≡ b →
             1 + work_left (record copying {
-              progress = if◌then◌else◌ {A = Progress} b (record c.progress { place = at - start; copied_words = c.progress.copied_words + 1; attempt = no_attempt }) (record c.progress { place = at - start + size cell; copied_words = 0; attempt = no_attempt });
+              progress = if◌then◌else◌ {A = Progress} b (record c.progress { cursor = at - start; copied_words = c.progress.copied_words + 1; attempt = no_attempt }) (record c.progress { cursor = at - start + size cell; copied_words = 0; attempt = no_attempt });
               objects = o;
             }) ≤ work_left copying
         by_test true test =
             let near : c.progress.copied_words < length cell.slots = grind (arith, nat_tests) in
             let fits = sound.heap.blocks.spaces.old.fits in
             let long = sound.heap.blocks.grows refl in
-            omega (arith, near, within, fits, long, large.new, behind, most)
+            omega (arith, near, within, fits, long, large.new, following, most)
         by_test false test =
             let fits = sound.heap.blocks.spaces.old.fits in
             let long = sound.heap.blocks.grows refl in
-            omega (arith, within, fits, long, large.new, behind, few, most)
+            omega (arith, within, fits, long, large.new, following, few, most)
 
     -- each step at a word
     module _ (b : Addr) where
@@ -307,7 +307,7 @@ module _ (c : Content) (sound : IsSound (posting Copy c)) where
 
       begun_takes : c.progress.attempt.stage ≡ Begins → (t : Bool)
           → LeavesLess (if◌then◌else◌ {A = Progress × Objects} t (before_word c.progress c.objects.spaces.old (record { number = at }) (with_loaded cell c.progress.copied_words c.progress.attempt), c.objects)
-          (behind_word c.progress c.objects.spaces.old (record { number = at }) cell c.progress.copied_words, word_stored c.tree c.objects (with_loaded cell c.progress.copied_words c.progress.attempt) cell b c.progress.copied_words))
+          (after_word c.progress c.objects.spaces.old (record { number = at }) cell c.progress.copied_words, word_stored c.tree c.objects (with_loaded cell c.progress.copied_words c.progress.attempt) cell b c.progress.copied_words))
       begun_takes begins true =
           let checks = loaded_checks cell c.progress.copied_words c.progress.attempt in
           let stage = ap stage_number (loaded_stage cell c.progress.copied_words c.progress.attempt) in
@@ -318,7 +318,7 @@ module _ (c : Content) (sound : IsSound (posting Copy c)) where
 
       checked_takes : c.progress.attempt.stage ≡ Stored → (t : Bool)
           → LeavesLess (
-            if t then behind_word c.progress c.objects.spaces.old (record { number = at }) cell c.progress.copied_words
+            if t then after_word c.progress c.objects.spaces.old (record { number = at }) cell c.progress.copied_words
                 else before_word c.progress c.objects.spaces.old (record { number = at }) (record no_attempt { failed_checks = c.progress.attempt.failed_checks + 1 }),
             c.objects,
           )
@@ -345,7 +345,7 @@ module _ (c : Content) (sound : IsSound (posting Copy c)) where
   abbrev Leaves : Progress × Objects × Bool → Type 0
   Leaves x = x.2 ≡ true → 1 + work_left (record copying { progress = x.0; objects = x.1 }) ≤ work_left copying
 
-  module _ (at : ℕ) (found : found_in has_other c.objects.spaces.old (start + c.progress.place) ≡ Some at) where
+  module _ (at : ℕ) (found : found_in has_other c.objects.spaces.old (start + c.progress.cursor) ≡ Some at) where
     by_other : (cell : Cell) → cell_in c.objects.spaces.old (record { number = at }) ≡ Some cell → (other : Option Addr) → Leaves (copied_cell at cell other)
     by_other cell lies None some = absurd cc
     by_other cell lies (Some b) some = stage_takes at found cell lies b c.progress.attempt.stage refl
@@ -354,7 +354,7 @@ module _ (c : Content) (sound : IsSound (posting Copy c)) where
     by_cell None none some = absurd cc
     by_cell (Some cell) lies some = by_other cell lies cell.other some
 
-  copy_takes : (found : Option ℕ) → found_in has_other c.objects.spaces.old (start + c.progress.place) ≡ found → Leaves (copied_at c.tree c.progress c.objects found)
+  copy_takes : (found : Option ℕ) → found_in has_other c.objects.spaces.old (start + c.progress.cursor) ≡ found → Leaves (copied_at c.tree c.progress c.objects found)
   copy_takes None none some = absurd cc
   copy_takes (Some at) found some = by_cell at found (cell_in c.objects.spaces.old (record { number = at })) refl some
 
@@ -363,16 +363,16 @@ module _ (c : Content) (sound : IsSound (posting Copy c)) where
   step_large o (one_stored at cell b t lies other same) = subst (λ (x : Objects). AreAsLarge c.objects.spaces x.spaces) (sym same) (record { old = refl; new = refl })
 
   copying_takes : TakesWork copying Gc (work Copy copying)
-  copying_takes = worked_takes copying (copied_on c.tree c.progress c.objects) (λ e. absurd cc) (λ e. absurd cc) (step_large (copied_on c.tree c.progress c.objects).1 (copied_cases c.tree c.progress c.objects)) (copy_takes (found_in has_other c.objects.spaces.old (start + c.progress.place)) refl) (omega arith)
+  copying_takes = worked_takes copying (copied_on c.tree c.progress c.objects) (λ e. absurd cc) (λ e. absurd cc) (step_large (copied_on c.tree c.progress c.objects).1 (copied_cases c.tree c.progress c.objects)) (copy_takes (found_in has_other c.objects.spaces.old (start + c.progress.cursor)) refl) (omega arith)
 
 -- ---- HeapFlip
 
-module _ (c : Content) (statics : length c.statics ≡ static_count c) where
-  abbrev flipping : Content
+module _ (c : MachineState) (statics : length c.statics ≡ static_count c) where
+  abbrev flipping : MachineState
   flipping = posting HeapFlip c
 
   -- the next static field is flipped
-  flip_takes : (o : Option Value) → slice_get c.statics c.progress.flipped_statics ≡ o → TakesWork flipping Gc (flipped flipping (flip_step c.progress c.objects c.statics o))
+  flip_takes : (o : Option Value) → slice_get c.statics c.progress.flipped_statics ≡ o → TakesWork flipping Gc (flip_values flipping (flip_step c.progress c.objects c.statics o))
   flip_takes None none = works flipping (next_posted flipping).0 (λ e. absurd cc) (λ e. absurd cc) (itself_large c.objects.spaces) (omega arith)
   flip_takes (Some v) there =
       let near = slice_get_within c.statics c.progress.flipped_statics v there in
@@ -383,15 +383,15 @@ module _ (c : Content) (statics : length c.statics ≡ static_count c) where
 
 -- ---- Reclaim
 
-module _ (c : Content) (sound : IsSound (posting Reclaim c)) where
-  abbrev clearing : Content
+module _ (c : MachineState) (sound : IsSound (posting Reclaim c)) where
+  abbrev clearing : MachineState
   clearing = posting Reclaim c
 
   abbrev new_start : ℕ
   new_start = c.objects.spaces.new.start
 
   -- the last event of a cycle
-  ends : TakesWork clearing Gc (cleared clearing (c.progress, c.objects, false))
+  ends : TakesWork clearing Gc (clear_object clearing (c.progress, c.objects, false))
   ends = record {
     less = λ going. omega arith;
     anew = λ is. absurd cc;
@@ -405,29 +405,29 @@ module _ (c : Content) (sound : IsSound (posting Reclaim c)) where
 
   abbrev cleared_cell : ℕ → Option Cell → Progress × Objects × Bool
   cleared_cell at o =
-      option_map_or {U = Progress × Objects × Bool} (λ (x : Cell). (record c.progress { place = at - new_start + size x }, record c.objects { spaces = clear c.objects.spaces (record { number = at }) }, true)) o (c.progress, c.objects, false)
+      option_map_or {U = Progress × Objects × Bool} (λ (x : Cell). (record c.progress { cursor = at - new_start + size x }, record c.objects { spaces = clear c.objects.spaces (record { number = at }) }, true)) o (c.progress, c.objects, false)
 
-  -- the place advances to after an object
-  cell_takes : (at : ℕ) → found_in is_noted c.objects.spaces.new (new_start + c.progress.place) ≡ Some at → (o : Option Cell) → cell_in c.objects.spaces.new (record { number = at }) ≡ o → TakesWork clearing Gc (cleared clearing (cleared_cell at o))
+  -- the cursor advances past an object
+  cell_takes : (at : ℕ) → found_in is_noted c.objects.spaces.new (new_start + c.progress.cursor) ≡ Some at → (o : Option Cell) → cell_in c.objects.spaces.new (record { number = at }) ≡ o → TakesWork clearing Gc (clear_object clearing (cleared_cell at o))
   cell_takes at found None none = ends
   cell_takes at found (Some cell) lies =
-      let behind : new_start + c.progress.place ≤ at = (found_is is_noted c.objects.spaces.new (new_start + c.progress.place) at found).behind in
+      let following : new_start + c.progress.cursor ≤ at = (found_is is_noted c.objects.spaces.new (new_start + c.progress.cursor) at found).following in
       let within : at + size cell ≤ new_start + used_words c.objects.spaces.new.cells = (range_in c.objects.spaces.new (record { number = at }) cell lies).1 in
       let fits = sound.heap.blocks.spaces.new.fits in
-      works clearing (record clearing { progress = (cleared_cell at (Some cell)).0; objects = (cleared_cell at (Some cell)).1 }) (λ e. absurd cc) (λ e. absurd cc) (record { old = refl; new = refl }) (omega (arith, behind, within, fits))
+      works clearing (record clearing { progress = (cleared_cell at (Some cell)).0; objects = (cleared_cell at (Some cell)).1 }) (λ e. absurd cc) (λ e. absurd cc) (record { old = refl; new = refl }) (omega (arith, following, within, fits))
 
-  clear_takes : (found : Option ℕ) → found_in is_noted c.objects.spaces.new (new_start + c.progress.place) ≡ found → TakesWork clearing Gc (cleared clearing (cleared_at c.progress c.objects found))
+  clear_takes : (found : Option ℕ) → found_in is_noted c.objects.spaces.new (new_start + c.progress.cursor) ≡ found → TakesWork clearing Gc (clear_object clearing (cleared_at c.progress c.objects found))
   clear_takes None none = ends
   clear_takes (Some at) found = cell_takes at found (cell_in c.objects.spaces.new (record { number = at })) refl
 
   clearing_takes : TakesWork clearing Gc (work Reclaim clearing)
-  clearing_takes = clear_takes (found_in is_noted c.objects.spaces.new (new_start + c.progress.place)) refl
+  clearing_takes = clear_takes (found_in is_noted c.objects.spaces.new (new_start + c.progress.cursor)) refl
 
 -- ---- each phase
 
-module _ (c : Content) (statics : length c.statics ≡ static_count c) where
+module _ (c : MachineState) (statics : length c.statics ≡ static_count c) where
   work_takes : (x : Phase) → IsSound (posting x c) → TakesWork (posting x c) Gc (work x (posting x c))
-  work_takes Idle sound = opening_takes c sound
+  work_takes Idle sound = initial_takes c sound
   work_takes Mark sound = marking_takes c sound
   work_takes Allocate sound = allocating_takes c sound
   work_takes Copy sound = copying_takes c sound
@@ -437,5 +437,5 @@ module _ (c : Content) (statics : length c.statics ≡ static_count c) where
   work_takes Reclaim sound = clearing_takes c sound
 
   -- so does each event of the collector
-  pub collector_takes : IsSound c → TakesWork c Gc (collected c)
+  pub collector_takes : IsSound c → TakesWork c Gc (collect c)
   collector_takes sound = either_takes c (all_seen c.posts) (work c.posts.posted c) (c, Waiting) (λ seen. work_takes c.posts.posted sound) (λ late. waits c)

@@ -28,9 +28,9 @@ value_mark_leaves o (Int64 n) = leaves_itself o.spaces
 value_mark_leaves o (Native n) = leaves_itself o.spaces
 
 -- and of all that a list does
-pub all_marks_leave : (vs : List Value) (o : Objects) → LeavesNoMore o.spaces (with_all_marked o vs).spaces
-all_marks_leave [] o = leaves_itself o.spaces
-all_marks_leave (v ∷ vs) o = leaves_then o.spaces (with_marked o v).spaces (with_all_marked (with_marked o v) vs).spaces (value_mark_leaves o v) (all_marks_leave vs (with_marked o v))
+pub all_marks_stay : (vs : List Value) (o : Objects) → LeavesNoMore o.spaces (with_all_marked o vs).spaces
+all_marks_stay [] o = leaves_itself o.spaces
+all_marks_stay (v ∷ vs) o = leaves_then o.spaces (with_marked o v).spaces (with_all_marked (with_marked o v) vs).spaces (value_mark_leaves o v) (all_marks_stay vs (with_marked o v))
 
 -- ---- stores
 

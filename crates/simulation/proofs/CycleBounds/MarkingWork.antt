@@ -8,7 +8,7 @@ use Rattle.std.proofs.lemmas.Option.{none-some}
 use Rattle.interpreter.specs.object_memory.declared.addresses.Addr.{Addr}
 use Rattle.interpreter.specs.object_memory.declared.kinds.Kind.{Kind}
 use Rattle.interpreter.specs.object_memory.Cells.{Cell, Cells, cell_in, change_in, empty_cell, free_words, next_address, size, slots_in, used_words, with_last}
-use Rattle.interpreter.specs.object_memory.Spaces.{Spaces, born, change_at, is_old, is_white, mark, marked_if, set_mark}
+use Rattle.interpreter.specs.object_memory.Spaces.{Spaces, give_birth, change_at, is_old, is_white, mark, marked_if, set_mark}
 use Rattle.interpreter.specs.object_memory.declared.birth_spaces.BirthSpace.TheVariants.{InOld, Listed}
 use Rattle.interpreter.proofs.object_memory.Blocks.{kept_in, last_in, own_in, sum_in, sum_last, unchanged_in, used_in, used_last}
 use Rattle.interpreter.proofs.object_memory.Rooms.{size-empty}
@@ -226,7 +226,7 @@ module _ (m : Spaces) (k : Kind) (n : ℕ) (fits : 3 + n ≤ free_words m.old) w
   taken : (marked : Bool) → free_words (with_last m.old (fresh marked)) + (3 + n) ≡ free_words m.old
   taken marked = (let used = used_last m.old (fresh marked) in let long = size-empty k n marked None in omega (arith, used, long, fits))
 
-  pub old_birth_leaves : LeavesNoMore m (born InOld m k n)
+  pub old_birth_leaves : LeavesNoMore m (give_birth InOld m k n)
   old_birth_leaves = record {
     there = grey_still m (fresh false);
     less = λ there has_round scanned.
@@ -237,7 +237,7 @@ module _ (m : Spaces) (k : Kind) (n : ℕ) (fits : 3 + n ≤ free_words m.old) w
         omega (arith, free, whites, slots, scans));
   }
 
-  pub listed_birth_leaves : LeavesNoMore m (born Listed m k n)
+  pub listed_birth_leaves : LeavesNoMore m (give_birth Listed m k n)
   listed_birth_leaves = record {
     there = λ there. All-push (λ b. is_some (cell_in (with_last m.old (fresh true)) b) ≡ true) m.grey (next_address m.old) (grey_still m (fresh true) there) (ap is_some (last_in m.old (fresh true)));
     less = λ there has_round scanned.

@@ -21,10 +21,10 @@ use Rattle.interpreter.proofs.reference_machine.Runs.InstructionEffects.{same_af
 use Rattle.interpreter.proofs.cil_model.Lists.{none_is_some}
 use Rattle.interpreter.proofs.cil_model.SameLaws.{never}
 use Rattle.collector.specs.Phases.{is_of_cycle}
-use Rattle.simulation.specs.MachineContents.{Content}
+use Rattle.simulation.specs.MachineStates.{MachineState}
 use Rattle.simulation.specs.Runs.{IsNext}
-use Rattle.simulation.specs.StandsFor.{Represents}
-use Rattle.simulation.specs.Turns.{IsTurn, content_at, opening_content}
+use Rattle.simulation.specs.Refines.{Represents}
+use Rattle.simulation.specs.Transitions.{IsTransition, machine_state_at, initial_machine_state}
 use Rattle.simulation.proofs.CollectorEvents.Reports.{IsCollected, collected_is, ends, waits, works}
 use Rattle.simulation.proofs.Instructions.Correspondence.{InstructionsAreAlike}
 use Rattle.simulation.proofs.Threads.UnchangedPosts.{step_posted}
@@ -47,55 +47,55 @@ pub open_then : (xs : List (Event × Report)) (e : Event) (r : Report) → is_cy
 open_then xs e r = ap (λ l. nat_lt 0 (work_since l)) (reverse-append xs ((e, r) ∷ [])) ∙ open_by (ends_cycle e r) (is_working e r) (work_since (reverse xs))
 
 -- a phase of a cycle is posted then too
-posted_then : (c : Content) (x : Content × Report) → IsCollected c x → (b : Bool) → is_of_cycle c.posts.posted ≡ b → is_of_cycle x.0.posts.posted ≡ then_open (ends_cycle Gc x.1) (is_working Gc x.1) b
+posted_then : (c : MachineState) (x : MachineState × Report) → IsCollected c x → (b : Bool) → is_of_cycle c.posts.posted ≡ b → is_of_cycle x.0.posts.posted ≡ then_open (ends_cycle Gc x.1) (is_working Gc x.1) b
 posted_then c _ waits b is = is
 posted_then c _ (works d of) b is = of
 posted_then c _ (ends d last idle spaces) b is = ap is_of_cycle idle
 
 -- the outcome of an event of the collector
-pub gc_is : (c : Content) (x : Content × Report) → IsTurn c Gc x → IsCollected c x
-gc_is c x turn = subst (IsCollected c) (sym turn) (collected_is c)
+pub gc_is : (c : MachineState) (x : MachineState × Report) → IsTransition c Gc x → IsCollected c x
+gc_is c x transition = subst (IsCollected c) (sym transition) (collected_is c)
 
 -- ---- before the cycle
 
 -- a machine represents the state, and a phase of a cycle is posted where the events leave one open
-pub record IsBefore (done : List (Event × Report)) (c : Content) (s : State) : Type 0 where
+pub record IsBefore (done : List (Event × Report)) (c : MachineState) (s : State) : Type 0 where
   pub represents : Represents c s
   pub posted : is_of_cycle c.posts.posted ≡ is_cycle_open done
 
 module _ (each : InstructionsAreAlike) where
-  pub before_goes : (done : List (Event × Report)) (e : Event) (r : Report) (c next : Content) (s after : State) → IsBefore done c s → IsTurn c e (next, r) → IsNext c.tree c.limits s e r after → IsBefore (done ++ (e, r) ∷ []) next after
-  before_goes done (Step t) r c next s after h turn is =
-      let f = step_follows each c s h.represents t (next, r) turn in
+  pub before_goes : (done : List (Event × Report)) (e : Event) (r : Report) (c next : MachineState) (s after : State) → IsBefore done c s → IsTransition c e (next, r) → IsNext c.tree c.limits s e r after → IsBefore (done ++ (e, r) ∷ []) next after
+  before_goes done (Step t) r c next s after h transition is =
+      let f = step_follows each c s h.represents t (next, r) transition in
       record {
         represents = subst (λ (u : State). Represents next u) (same_after r r f.0 after (sym f.1 ∙ is)) f.2;
-        posted = ap is_of_cycle (step_posted c t (next, r) turn) ∙ (h.posted ∙ sym (open_then done (Step t) r));
+        posted = ap is_of_cycle (step_posted c t (next, r) transition) ∙ (h.posted ∙ sym (open_then done (Step t) r));
       }
-  before_goes done (Ack t) r c next s after h turn is = record {
-    represents = subst (λ (u : State). Represents next u) (sym is) (acknowledgement_keeps c s h.represents t (next, r) turn);
-    posted = ap (λ (x : Content × Report). is_of_cycle x.0.posts.posted) turn ∙ (ap is_of_cycle (acknowledged_posted c t) ∙ (h.posted ∙ sym (open_then done (Ack t) r)));
+  before_goes done (Ack t) r c next s after h transition is = record {
+    represents = subst (λ (u : State). Represents next u) (sym is) (acknowledgement_keeps c s h.represents t (next, r) transition);
+    posted = ap (λ (x : MachineState × Report). is_of_cycle x.0.posts.posted) transition ∙ (ap is_of_cycle (acknowledged_posted c t) ∙ (h.posted ∙ sym (open_then done (Ack t) r)));
   }
-  before_goes done Gc r c next s after h turn is = record {
-    represents = subst (λ (u : State). Represents next u) (sym is) (collection_keeps c s h.represents (next, r) turn);
-    posted = posted_then c (next, r) (gc_is c (next, r) turn) (is_cycle_open done) h.posted ∙ sym (open_then done Gc r);
+  before_goes done Gc r c next s after h transition is = record {
+    represents = subst (λ (u : State). Represents next u) (sym is) (collection_keeps c s h.represents (next, r) transition);
+    posted = posted_then c (next, r) (gc_is c (next, r) transition) (is_cycle_open done) h.posted ∙ sym (open_then done Gc r);
   }
 
 -- ---- the initial state
 
 -- it is of this program, and no cycle is open
-pub record IsOpened (tree : Tree) (limits : Limits) (c : Content) : Type 0 where
+pub record IsOpened (tree : Tree) (limits : Limits) (c : MachineState) : Type 0 where
   pub tree_is : c.tree ≡ tree
   pub limits_are : c.limits ≡ limits
   pub idle : c.posts.posted ≡ Idle
 
-pub opened_is : (tree : Tree) (limits : Limits) (c : Content) → opening_content tree limits ≡ Some c → IsOpened tree limits c
+pub opened_is : (tree : Tree) (limits : Limits) (c : MachineState) → initial_machine_state tree limits ≡ Some c → IsOpened tree limits c
 opened_is tree limits c e = by_entry (slice_get (entry_points tree) 0) e
   where
-    by_number : (entry : ClassName × Method) (n : Option ℕ) → option_map (content_at tree limits entry) n ≡ Some c → IsOpened tree limits c
+    by_number : (entry : ClassName × Method) (n : Option ℕ) → option_map (machine_state_at tree limits entry) n ≡ Some c → IsOpened tree limits c
     by_number entry None h = none_is_some c h
-    by_number entry (Some n) h = subst (IsOpened tree limits) (same_Some (content_at tree limits entry n) c h) (record { tree_is = refl; limits_are = refl; idle = refl })
+    by_number entry (Some n) h = subst (IsOpened tree limits) (same_Some (machine_state_at tree limits entry n) c h) (record { tree_is = refl; limits_are = refl; idle = refl })
 
-    by_entry : (entry : Option (ClassName × Method)) → option_and_then (λ (x : ClassName × Method). option_map (content_at tree limits x) (number_of tree x)) entry ≡ Some c → IsOpened tree limits c
+    by_entry : (entry : Option (ClassName × Method)) → option_and_then (λ (x : ClassName × Method). option_map (machine_state_at tree limits x) (number_of tree x)) entry ≡ Some c → IsOpened tree limits c
     by_entry None h = none_is_some c h
     by_entry (Some entry) h = by_number entry (number_of tree entry) h
 

@@ -11,18 +11,18 @@ use Rattle.interpreter.specs.cil_model.Fields.{static_fields}
 use Rattle.interpreter.specs.reference_machine.Cycles.{ends_cycle, phase_after, work_of}
 use Rattle.interpreter.specs.object_memory.Objects.{Objects}
 use Rattle.interpreter.specs.object_memory.Spaces.{Spaces, is_old}
-use Rattle.collector.specs.Attempts.{spent}
+use Rattle.collector.specs.Attempts.{attempt_cost}
 use Rattle.collector.specs.Phases.{is_before_copies, is_marked_old}
 use Rattle.collector.specs.declared.progress.Progress.{Progress}
 use Rattle.collector.specs.phase_handshake.Handshakes.{AreClose, Handshakes, IsClose, own_phase, seat_of}
 use Rattle.collector.specs.phase_handshake.declared.posts.Seat.{Seat}
 use Rattle.collector.proofs.Addresses.Tests.{marked_cell}
 use Rattle.simulation.specs.Collecting.{with_acknowledgement, with_thread_marked}
-use Rattle.simulation.specs.MachineContents.{Content}
+use Rattle.simulation.specs.MachineStates.{MachineState}
 use Rattle.simulation.specs.Sound.{IsSound}
 use Rattle.simulation.proofs.CollectorEvents.AcknowledgementCases.{after_acknowledgement}
 use Rattle.simulation.proofs.CycleBounds.MarkingWork.{AreGreyThere, LeavesNoMore, heap_left}
-use Rattle.simulation.proofs.CycleBounds.MarkingByThreads.{all_marks_leave}
+use Rattle.simulation.proofs.CycleBounds.MarkingByThreads.{all_marks_stay}
 use Rattle.simulation.proofs.CollectorEvents.RootMarks.{thread_marked, thread_values}
 use Rattle.simulation.proofs.CollectedHeap.UsedWords.{AreAsLarge, all_marked_uses}
 
@@ -33,27 +33,27 @@ abbrev pub statics_left : Bool → ℕ
 statics_left true = 0
 statics_left false = 1
 
--- What a phase has left, and one for the next post: what is to be marked, the words after the place, of which each may take ten events to be copied, or
--- static fields; and the most that the phases after it may have. Between cycles it is nothing. The words are those of the new block, which has no fewer than the old
--- one.
+-- What a phase has left, and one for the next post: what is to be marked, the words after the cursor, of which each may take ten events to be copied, or
+-- static fields; and the most that the phases after it may have. Between cycles it is nothing. The words are those of the new block, which has no
+-- fewer than the old one.
 abbrev pub left_in : Phase → (words statics : ℕ) → (has_round : Bool) → Progress → Spaces → ℕ
 left_in Idle words statics has_round p m = 0
 left_in Mark words statics has_round p m = statics_left p.scanned_statics + heap_left has_round p.scanned_slots m + (7 + statics + 12 * words)
-left_in Allocate words statics has_round p m = (words - p.place) + (6 + statics + 11 * words)
-left_in Copy words statics has_round p m = (10 * (words - (p.place + p.copied_words)) - spent p.attempt) + (5 + statics + words)
+left_in Allocate words statics has_round p m = (words - p.cursor) + (6 + statics + 11 * words)
+left_in Copy words statics has_round p m = (10 * (words - (p.cursor + p.copied_words)) - attempt_cost p.attempt) + (5 + statics + words)
 left_in PreFlip words statics has_round p m = 4 + statics + words
 left_in HeapFlip words statics has_round p m = (statics - p.flipped_statics) + (3 + words)
 left_in ThreadFlip words statics has_round p m = 2 + words
-left_in Reclaim words statics has_round p m = (words - p.place) + 1
+left_in Reclaim words statics has_round p m = (words - p.cursor) + 1
 
-abbrev pub static_count : Content → ℕ
+abbrev pub static_count : MachineState → ℕ
 static_count c = length (static_fields c.tree)
 
 -- with other objects, and as it is
-abbrev pub left_with : Content → Spaces → ℕ
+abbrev pub left_with : MachineState → Spaces → ℕ
 left_with c m = left_in c.posts.posted m.new.words (static_count c) c.posts.has_round c.progress m
 
-abbrev pub work_left : Content → ℕ
+abbrev pub work_left : MachineState → ℕ
 work_left c = left_with c c.objects.spaces
 
 -- the words of the larger block: of the new one, while there is one
@@ -61,12 +61,12 @@ abbrev pub larger : Spaces → ℕ
 larger m = max m.old.words m.new.words
 
 -- all that a cycle may have
-abbrev pub cycle_work : Content → ℕ
+abbrev pub cycle_work : MachineState → ℕ
 cycle_work c = 10 + static_count c + 13 * larger c.objects.spaces
 
 -- In a cycle an event that works takes one of them at least, and one that ends the cycle is the last. Between cycles none works but the one that opens a cycle,
 -- which is the first of all that the cycle may have. No event makes the larger block smaller.
-pub record TakesWork (c : Content) (e : Event) (after : Content × Report) : Type 0 where
+pub record TakesWork (c : MachineState) (e : Event) (after : MachineState × Report) : Type 0 where
   pub less : c.posts.posted ≢ Idle → work_of (e, after.1) + work_left after.0 ≤ work_left c
   pub anew : c.posts.posted ≡ Idle → work_of (e, after.1) + work_left after.0 ≤ cycle_work after.0
   pub between : after.0.posts.posted ≡ Idle → (ends_cycle e after.1 ≡ true) ⊎ ((c.posts.posted ≡ Idle) × (work_of (e, after.1) ≡ 0))
@@ -82,7 +82,7 @@ pub larger_same : (m n : Spaces) → AreAsLarge m n → larger m ≤ larger n
 larger_same m n same = subst (λ w. larger m ≤ max w n.new.words) (sym same.old) (subst (λ w. larger m ≤ max m.old.words w) (sym same.new) (omega arith))
 
 -- an event that doesn't work takes nothing
-pub takes_nothing : (c : Content) (e : Event) (d : Content) (r : Report) → work_of (e, r) ≡ 0 → ends_cycle e r ≡ false → (d.posts.posted ≡ Idle → c.posts.posted ≡ Idle) → work_left d ≤ work_left c → AreAsLarge c.objects.spaces d.objects.spaces → TakesWork c e (d, r)
+pub takes_nothing : (c : MachineState) (e : Event) (d : MachineState) (r : Report) → work_of (e, r) ≡ 0 → ends_cycle e r ≡ false → (d.posts.posted ≡ Idle → c.posts.posted ≡ Idle) → work_left d ≤ work_left c → AreAsLarge c.objects.spaces d.objects.spaces → TakesWork c e (d, r)
 takes_nothing c e d r idles stays posts less large = record {
   less = λ going. omega (arith, idles, less);
   anew = λ is. (let none = none_left c.posts.posted c.objects.spaces.new.words (static_count c) c.posts.has_round c.progress c.objects.spaces is in omega (arith, idles, less, none));
@@ -108,13 +108,13 @@ heap_matters ThreadFlip words statics has_round p m n h = omega arith
 heap_matters Reclaim words statics has_round p m n h = omega arith
 
 -- where the new block is as large
-pub heap_leaves : (c : Content) (n : Spaces) → n.new.words ≡ c.objects.spaces.new.words → (c.posts.posted ≡ Mark → AreGreyThere c.objects.spaces × LeavesNoMore c.objects.spaces n) → left_with c n ≤ work_left c
+pub heap_leaves : (c : MachineState) (n : Spaces) → n.new.words ≡ c.objects.spaces.new.words → (c.posts.posted ≡ Mark → AreGreyThere c.objects.spaces × LeavesNoMore c.objects.spaces n) → left_with c n ≤ work_left c
 heap_leaves c n same h =
     subst (λ w. left_in c.posts.posted w (static_count c) c.posts.has_round c.progress n ≤ work_left c) (sym same)
     (heap_matters c.posts.posted c.objects.spaces.new.words (static_count c) c.posts.has_round c.progress c.objects.spaces n h)
 
 -- in Mark each grey object is there
-pub grey_there : (c : Content) → IsSound c → c.posts.posted ≡ Mark → AreGreyThere c.objects.spaces
+pub grey_there : (c : MachineState) → IsSound c → c.posts.posted ≡ Mark → AreGreyThere c.objects.spaces
 grey_there c sound marking =
     All-weaker (λ a. is_marked_old c.objects.spaces a ≡ true) (λ a. is_old c.objects.spaces a ≡ true) (λ a dark. ap is_some (marked_cell c.objects.spaces a dark).1) c.objects.spaces.grey (sound.heap.marks marking).listed
 
@@ -143,14 +143,14 @@ own_is_early h close marking t = by_seat (seat_of h t) refl
 -- ---- acknowledgements
 
 -- an acknowledgement leaves each block as large
-pub acknowledgement_large : (c : Content) (t : ℕ) → AreAsLarge c.objects.spaces (with_acknowledgement c t).0.objects.spaces
+pub acknowledgement_large : (c : MachineState) (t : ℕ) → AreAsLarge c.objects.spaces (with_acknowledgement c t).0.objects.spaces
 acknowledgement_large c t =
     after_acknowledgement c t (λ d. AreAsLarge c.objects.spaces d.objects.spaces)
     (record {
       nothing = same;
       marks = λ seat here opened seen marking. marked;
       answers = λ seat here opened seen other. same;
-      goes_on = λ seat here opened late later. same;
+      continues = λ seat here opened late later. same;
       flips = λ seat here opened late flip. same;
     })
   where
@@ -162,38 +162,38 @@ acknowledgement_large c t =
         (let uses = all_marked_uses (thread_values (slice_get c.threads t)) c.objects in record { old = uses.old_words; new = uses.new_words })
 
 -- and the posted phase
-pub acknowledgement_posted : (c : Content) (t : ℕ) → (with_acknowledgement c t).0.posts.posted ≡ c.posts.posted
+pub acknowledgement_posted : (c : MachineState) (t : ℕ) → (with_acknowledgement c t).0.posts.posted ≡ c.posts.posted
 acknowledgement_posted c t =
     after_acknowledgement c t (λ d. d.posts.posted ≡ c.posts.posted)
     (record {
       nothing = refl;
       marks = λ seat here opened seen marking. refl;
       answers = λ seat here opened seen other. refl;
-      goes_on = λ seat here opened late later. refl;
+      continues = λ seat here opened late later. refl;
       flips = λ seat here opened late flip. refl;
     })
 
 -- and no more work
-pub acknowledgement_leaves : (c : Content) (t : ℕ) → IsSound c → work_left (with_acknowledgement c t).0 ≤ work_left c
+pub acknowledgement_leaves : (c : MachineState) (t : ℕ) → IsSound c → work_left (with_acknowledgement c t).0 ≤ work_left c
 acknowledgement_leaves c t sound =
     after_acknowledgement c t (λ d. work_left d ≤ work_left c)
     (record {
       nothing = same;
       marks = λ seat here opened seen marking. marks_less;
       answers = λ seat here opened seen other. same;
-      goes_on = λ seat here opened late later. same;
+      continues = λ seat here opened late later. same;
       flips = λ seat here opened late flip. same;
     })
   where
     same : work_left c ≤ work_left c
     same = omega arith
 
-    marks_leave : LeavesNoMore c.objects.spaces (with_thread_marked c.objects (slice_get c.threads t)).spaces
-    marks_leave = subst (λ (o : Objects). LeavesNoMore c.objects.spaces o.spaces) (sym (thread_marked c.objects (slice_get c.threads t))) (all_marks_leave (thread_values (slice_get c.threads t)) c.objects)
+    marks_stay : LeavesNoMore c.objects.spaces (with_thread_marked c.objects (slice_get c.threads t)).spaces
+    marks_stay = subst (λ (o : Objects). LeavesNoMore c.objects.spaces o.spaces) (sym (thread_marked c.objects (slice_get c.threads t))) (all_marks_stay (thread_values (slice_get c.threads t)) c.objects)
 
     marks_large : AreAsLarge c.objects.spaces (with_thread_marked c.objects (slice_get c.threads t)).spaces
     marks_large = subst (λ (o : Objects). AreAsLarge c.objects.spaces o.spaces) (sym (thread_marked c.objects (slice_get c.threads t)))
         (let uses = all_marked_uses (thread_values (slice_get c.threads t)) c.objects in record { old = uses.old_words; new = uses.new_words })
 
     marks_less : left_with c (with_thread_marked c.objects (slice_get c.threads t)).spaces ≤ work_left c
-    marks_less = heap_leaves c (with_thread_marked c.objects (slice_get c.threads t)).spaces marks_large.new (λ is. (grey_there c sound is, marks_leave))
+    marks_less = heap_leaves c (with_thread_marked c.objects (slice_get c.threads t)).spaces marks_large.new (λ is. (grey_there c sound is, marks_stay))

@@ -30,10 +30,10 @@ use Rattle.collector.specs.References.{holds_reference, is_reference_value}
 use Rattle.interpreter.specs.threads_monitors.Frames.{Frames, with_stack}
 use Rattle.interpreter.specs.instructions.Frames.{given}
 use Rattle.interpreter.specs.loaded_program.Prepared.{kind_at, kind_of_type}
-use Rattle.interpreter.specs.instructions.ObjectTurns.{object_of, index_of, slots_of, place_in, in_range, load_slot, store_slot, load_element_turn, store_element_turn}
-use Rattle.interpreter.specs.Instructions.{operation_turn, of_objects}
+use Rattle.interpreter.specs.instructions.ObjectTransitions.{object_of, index_of, slots_of, checked_index, in_range, load_slot, store_slot, load_element_transition, store_element_transition}
+use Rattle.interpreter.specs.Instructions.{operation_transition, of_objects}
 use Rattle.simulation.specs.Agreement.{Agree}
-use Rattle.simulation.specs.StandsFor.{Names, IsValue, IsWord, IsOfContents, IsCell}
+use Rattle.simulation.specs.Refines.{Names, IsValue, IsWord, IsOfContents, IsCell}
 use Rattle.simulation.proofs.ListLaws.AgreeingLists.{agree_get, agree_set}
 use Rattle.simulation.proofs.Instructions.Correspondence.{IsSetting, DoesAlike}
 use Rattle.simulation.proofs.Instructions.StackOperands.{fine, two_operands, three_operands}
@@ -143,10 +143,10 @@ module _ (here : Setting) (model : MemoryModel here.tree) (name : Names) (m : Fr
 
     -- ldelem.i4, ldelem.i8 and ldelem.ref, by what elements they are for
     load_alike : (test : DeclaredType → Bool) (kind : ValueKind) → ((t : DeclaredType) → IsTrue (test t) → kind ≡ kind_of_type t) → IsTypedEffect here.tree (load_element here s f below test) →
-        DoesAlike here model name m o statics printed s f below (of_objects o statics printed (load_element_turn kind m o)) (load_element here s f below test)
+        DoesAlike here model name m o statics printed s f below (of_objects o statics printed (load_element_transition kind m o)) (load_element here s f below test)
     load_alike test kind fits typed =
         two_operands here model name m o statics printed s f below i operation at (of_objects o statics printed)
-        (λ array index k. object_of array k o (λ a. index_of index (λ z. given (slots_of o a) (λ slots. in_range (place_in z (length slots)) k o (λ slot. load_slot kind slot a k o)))))
+        (λ array index k. object_of array k o (λ a. index_of index (λ z. given (slots_of o a) (λ slots. in_range (checked_index z (length slots)) k o (λ slot. load_slot kind slot a k o)))))
         (λ array index rest. element here s f below test array index (λ n t z v. next here s f below (v ∷ rest)))
         typed
         (λ v w rest u x rest' is is' stands stands' k shorter t.
@@ -156,10 +156,10 @@ module _ (here : Setting) (model : MemoryModel here.tree) (name : Names) (m : Fr
 
     -- stelem.i4 and stelem.i8
     store_alike : (test : DeclaredType → Bool) → IsTypedEffect here.tree (store_element here s f below test) →
-        DoesAlike here model name m o statics printed s f below (of_objects o statics printed (store_element_turn model.phase m o)) (store_element here s f below test)
+        DoesAlike here model name m o statics printed s f below (of_objects o statics printed (store_element_transition model.phase m o)) (store_element here s f below test)
     store_alike test typed =
         three_operands here model name m o statics printed s f below i operation at (of_objects o statics printed)
-        (λ array index v k. object_of array k o (λ a. index_of index (λ z. given (slots_of o a) (λ slots. in_range (place_in z (length slots)) k o (λ slot. store_slot model.phase v slot a k o)))))
+        (λ array index v k. object_of array k o (λ a. index_of index (λ z. given (slots_of o a) (λ slots. in_range (checked_index z (length slots)) k o (λ slot. store_slot model.phase v slot a k o)))))
         (λ array index v rest. element here s f below test array index (λ n t z old. state_given (with_element s n z v) (λ s'. onward_frame f below s' rest)))
         typed
         (λ v w c rest u x y rest' is is' stands stands' stored k shorter t.
@@ -175,7 +175,7 @@ module _ (here : Setting) (model : MemoryModel here.tree) (name : Names) (m : Fr
 
   -- it does the same
   abbrev IsAlike : Instruction → Operation → Type 0
-  IsAlike i operation = DoesAlike here model name m o statics printed s f below (operation_turn here.tree (mutator_in here model) operation m o statics printed) (execute here s f below i)
+  IsAlike i operation = DoesAlike here model name m o statics printed s f below (operation_transition here.tree (mutator_in here model) operation m o statics printed) (execute here s f below i)
 
   pub load_element_int32_alike : At Named.LoadElementInt32 Resolved.LoadElementInt32 → IsAlike Named.LoadElementInt32 Resolved.LoadElementInt32
   load_element_int32_alike at = load_alike Named.LoadElementInt32 Resolved.LoadElementInt32 at (same_type (plain Int32Element)) Kind.Int32 (λ t. of_integer t Int32Element) (fine here model name m o statics printed s f below Named.LoadElementInt32 Resolved.LoadElementInt32 at)

@@ -20,9 +20,9 @@ use Rattle.interpreter.specs.reference_machine.Effects.{Setting, Raises as State
 use Rattle.interpreter.specs.reference_machine.Steps.{execute, next, new_array}
 use Rattle.interpreter.specs.resolved_code.Numbered.{class_name, element_at, type_at}
 use Rattle.interpreter.specs.resolved_code.declared.operations.Operation.TheVariants as Resolved
-use Rattle.interpreter.specs.resolved_code.declared.types.NumberedElement.{NumberedElement}
-use Rattle.interpreter.specs.resolved_code.declared.types.NumberedElement.TheVariants.{Int32 as NumberedInt32, Int64 as NumberedInt64, Object as NumberedObject, String as NumberedString, Class as NumberedClass}
-use Rattle.interpreter.specs.resolved_code.declared.types.NumberedType.{NumberedType}
+use Rattle.interpreter.specs.resolved_code.declared.types.ResolvedElement.{ResolvedElement}
+use Rattle.interpreter.specs.resolved_code.declared.types.ResolvedElement.TheVariants.{Int32 as ResolvedInt32, Int64 as ResolvedInt64, Object as ResolvedObject, String as ResolvedString, Class as ClassById}
+use Rattle.interpreter.specs.resolved_code.declared.types.ResolvedType.{ResolvedType}
 use Rattle.simulation.proofs.ProgramSizes.ClassesAndFields.{class_number_small}
 use Rattle.simulation.proofs.ProgramSizes.Methods.{arrays_shallow}
 use Rattle.interpreter.specs.object_memory.declared.addresses.Addr.{Addr}
@@ -35,25 +35,25 @@ use Rattle.interpreter.specs.object_memory.declared.values.Value.TheVariants.{In
 use Rattle.interpreter.specs.object_memory.Cells.{Cell, null}
 use Rattle.interpreter.specs.object_memory.Objects.{Objects}
 use Rattle.interpreter.specs.instructions.barriers.Barriers.{object_born}
-use Rattle.interpreter.specs.instructions.TypeTurns.{numbered, held_type}
-use Rattle.interpreter.specs.threads_monitors.Frames.{Frames, with_place, with_stack}
-use Rattle.interpreter.specs.threads_monitors.declared.effects.Effect.TheVariants.{GoesOn, Raises}
-use Rattle.interpreter.specs.instructions.Frames.{given, leaves}
-use Rattle.interpreter.specs.instructions.ObjectTurns.{beside, object_of, index_of, slots_of, leaves_born, new_array_of, new_array_turn}
+use Rattle.interpreter.specs.instructions.TypeTransitions.{resolved_element, held_type}
+use Rattle.interpreter.specs.threads_monitors.Frames.{Frames, with_pc, with_stack}
+use Rattle.interpreter.specs.threads_monitors.declared.effects.Effect.TheVariants.{Continues, Raises}
+use Rattle.interpreter.specs.instructions.Frames.{given, value_pushed}
+use Rattle.interpreter.specs.instructions.ObjectTransitions.{beside, object_of, index_of, slots_of, object_pushed, new_array_of, new_array_transition}
 use Rattle.interpreter.specs.declared.outcomes.Outcome.TheVariants.{Comes}
 use Rattle.interpreter.specs.loaded_program.declared.instructions.LinkedInstruction.TheVariants as Linked
-use Rattle.interpreter.specs.Instructions.{operation_turn, of_objects, answer_of}
+use Rattle.interpreter.specs.Instructions.{operation_transition, of_objects, answer_of}
 use Rattle.interpreter.proofs.Linking.{link_does}
 use Rattle.interpreter.specs.loaded_program.Operands.{element_held, array_held}
 use Rattle.simulation.specs.Agreement.{Agree}
-use Rattle.simulation.specs.StandsFor.{Names, IsValue, native, int32, int64, null_reference, reference, IsWord}
+use Rattle.simulation.specs.Refines.{Names, IsValue, native, int32, int64, null_reference, reference, IsWord}
 use Rattle.simulation.proofs.ListLaws.AgreeingLists.{agree_length}
 use Rattle.simulation.proofs.Representation.MoreNames.{values_extend}
 use Rattle.simulation.proofs.Instructions.FrameProgress.{leaves_is, onward_alike}
 use Rattle.simulation.proofs.Instructions.Correspondence.{IsSetting, GoesAlike, DoesAlike}
 use Rattle.simulation.proofs.Instructions.StackOperands.{fine, one_operand}
 use Rattle.simulation.proofs.Memory.ObjectsAtAddresses.{IsArrayThere, array_there}
-use Rattle.simulation.proofs.Instructions.ObjectInstructionParts.{alike_turn, given_alike, raised_alike, left_alike, object_alike, same_index}
+use Rattle.simulation.proofs.Instructions.ObjectInstructionParts.{alike_transition, given_alike, raised_alike, left_alike, object_alike, same_index}
 use Rattle.std.proofs.lemmas.List.{length-replicate}
 use Rattle.simulation.proofs.Memory.CellSizes.{contents_size}
 use Rattle.interpreter.proofs.cil_model.SameLaws.{never}
@@ -68,23 +68,23 @@ count_fits name n k few same = subst (λ x. IsValue name (Native (pos n)) (Nativ
 
 -- ---- the kinds of new arrays
 
--- a numbered element that represents one is what an array can hold
-held_back : (tree : Tree) → IsLegal tree → (e : NumberedElement) (x : Element) → element_at tree e ≡ Some x → (h : ElementType) × (element_held e ≡ Some h) × (numbered h ≡ e)
-held_back tree legal NumberedInt32 x is = (HeldInt32, refl, refl)
-held_back tree legal NumberedInt64 x is = (HeldInt64, refl, refl)
-held_back tree legal NumberedObject x is = (HeldObject, refl, refl)
-held_back tree legal NumberedString x is = (HeldString, refl, refl)
-held_back tree legal (NumberedClass n) x is = by_name (class_name tree n) refl is
+-- a resolved element that represents one is what an array can hold
+held_back : (tree : Tree) → IsLegal tree → (e : ResolvedElement) (x : Element) → element_at tree e ≡ Some x → (h : ElementType) × (element_held e ≡ Some h) × (resolved_element h ≡ e)
+held_back tree legal ResolvedInt32 x is = (HeldInt32, refl, refl)
+held_back tree legal ResolvedInt64 x is = (HeldInt64, refl, refl)
+held_back tree legal ResolvedObject x is = (HeldObject, refl, refl)
+held_back tree legal ResolvedString x is = (HeldString, refl, refl)
+held_back tree legal (ClassById n) x is = by_name (class_name tree n) refl is
   where
     small : n < 2 ^ 16 → nat_lt n (2 ^ 16) ≡ true
     small h = grind (arith, nat_tests)
 
-    by_name : (c : Option ClassName) → class_name tree n ≡ c → option_map ClassElement c ≡ Some x → (h : ElementType) × (element_held (NumberedClass n) ≡ Some h) × (numbered h ≡ NumberedClass n)
+    by_name : (c : Option ClassName) → class_name tree n ≡ c → option_map ClassElement c ≡ Some x → (h : ElementType) × (element_held (ClassById n) ≡ Some h) × (resolved_element h ≡ ClassById n)
     by_name None named e = none_is_some x e
     by_name (Some c) named e = (HeldClass n, ap (λ b. if b then Some (HeldClass n) else None) (small (class_number_small tree legal n c named)), refl)
 
--- so is a numbered type with few brackets
-type_held_back : (tree : Tree) → IsLegal tree → (n : NumberedType) (t : DeclaredType) → type_at tree n ≡ Some t → t.brackets < 256 → (a : ArrayElement) × (array_held n ≡ Some a) × (type_at tree (held_type a) ≡ Some t)
+-- so is a resolved type with few brackets
+type_held_back : (tree : Tree) → IsLegal tree → (n : ResolvedType) (t : DeclaredType) → type_at tree n ≡ Some t → t.brackets < 256 → (a : ArrayElement) × (array_held n ≡ Some a) × (type_at tree (held_type a) ≡ Some t)
 type_held_back tree legal n t is few = by_element (element_at tree n.element) refl is
   where
     test : n.brackets < 256 → nat_lt n.brackets 256 ≡ true
@@ -130,10 +130,10 @@ module _ (here : Setting) (model : MemoryModel here.tree) (name : Names) (m : Fr
 
   -- the length of the array is that of the cell
   pub load_length_alike : IsSetting here model name m o statics printed s f below Named.LoadLength Resolved.LoadLength →
-      DoesAlike here model name m o statics printed s f below (operation_turn here.tree (mutator_in here model) Resolved.LoadLength m o statics printed) (execute here s f below Named.LoadLength)
+      DoesAlike here model name m o statics printed s f below (operation_transition here.tree (mutator_in here model) Resolved.LoadLength m o statics printed) (execute here s f below Named.LoadLength)
   load_length_alike at =
       one_operand here model name m o statics printed s f below Named.LoadLength Resolved.LoadLength at (of_objects o statics printed)
-      (λ array k. object_of array k o (λ a. given (slots_of o a) (λ slots. beside o (leaves (Native (pos (length slots))) k))))
+      (λ array k. object_of array k o (λ a. given (slots_of o a) (λ slots. beside o (value_pushed (Native (pos (length slots))) k))))
       (λ array rest. not_null array NullReference (λ n. state_given (array_at s n) (λ held. next here s f below (NativeValue (pos (length held.1)) ∷ rest))))
       (fine here model name m o statics printed s f below Named.LoadLength Resolved.LoadLength at)
       (λ v rest u rest' is is' stands k shorter t.
@@ -142,22 +142,22 @@ module _ (here : Setting) (model : MemoryModel here.tree) (name : Names) (m : Fr
       in_array a n held.0 held.1 (array_there here.tree name o s (model.reads name o statics s at.memory.fits at.running.typed) a n held.0 held.1 named there) rest rest' k shorter)))
     where
       in_array : (a : Addr) (n : ObjectName) (t : DeclaredType) (elements : List StateValue) → IsArrayThere here.tree name o s (model.reads name o statics s at.memory.fits at.running.typed) a n t elements → (rest : List Value) (rest' : List StateValue) → Agree (IsValue name) rest rest' → length rest ≤ length m.running.stack →
-          DoesAlike here model name m o statics printed s f below (of_objects o statics printed (given (slots_of o a) (λ slots. beside o (leaves (Native (pos (length slots))) (with_stack m rest))))) (next here s f below (NativeValue (pos (length elements)) ∷ rest'))
+          DoesAlike here model name m o statics printed s f below (of_objects o statics printed (given (slots_of o a) (λ slots. beside o (value_pushed (Native (pos (length slots))) (with_stack m rest))))) (next here s f below (NativeValue (pos (length elements)) ∷ rest'))
       in_array a n t elements array rest rest' k shorter =
           let slots : List ℕ = array.thing.cell.slots in
           let few : length slots ≤ MOST_WORDS = (model.reads name o statics s at.memory.fits at.running.typed).sizes a array.thing.cell array.thing.lies in
-          alike_turn here model name m o statics printed s f below Named.LoadLength Resolved.LoadLength at _ (of_objects o statics printed (beside o (leaves (Native (pos (length slots))) (with_stack m rest)))) _
-          (ap (λ (c : Option Cell). of_objects o statics printed (given (option_map (λ (y : Cell). y.slots) c) (λ xs. beside o (leaves (Native (pos (length xs))) (with_stack m rest))))) array.thing.lies)
+          alike_transition here model name m o statics printed s f below Named.LoadLength Resolved.LoadLength at _ (of_objects o statics printed (beside o (value_pushed (Native (pos (length slots))) (with_stack m rest)))) _
+          (ap (λ (c : Option Cell). of_objects o statics printed (given (option_map (λ (y : Cell). y.slots) c) (λ xs. beside o (value_pushed (Native (pos (length xs))) (with_stack m rest))))) array.thing.lies)
           (left_alike here model name m o statics printed s f below Named.LoadLength Resolved.LoadLength at (Native (pos (length slots))) (NativeValue (pos (length elements)))
           (count_fits name (length slots) (length elements) few (agree_length (IsWord name) slots elements array.values)) rest rest' k shorter)
 
   -- ---- newarr
 
-  module _ (t : DeclaredType) (n : NumberedType) (is : type_at here.tree n ≡ Some t) (at : IsSetting here model name m o statics printed s f below (Named.NewArray t) (Resolved.NewArray n)) where
+  module _ (t : DeclaredType) (n : ResolvedType) (is : type_at here.tree n ≡ Some t) (at : IsSetting here model name m o statics printed s f below (Named.NewArray t) (Resolved.NewArray n)) where
     -- an array is born, or memory is refused
     born_alike : (element : ArrayElement) → type_at here.tree (held_type element) ≡ Some t → (count : ℕ) (o' : Objects) (x : Option Addr) → ◌≡◌ {A = Objects × Option Addr} (object_born model.phase o (Array element) count) (o', x) →
         (rest : List Value) (rest' : List StateValue) → Agree (IsValue name) rest rest' → length rest ≤ length m.running.stack →
-        DoesAlike here model name m o statics printed s f below (of_objects o statics printed (beside o' (leaves_born x (with_stack m rest)))) (new_array here s f below t (pos count) rest')
+        DoesAlike here model name m o statics printed s f below (of_objects o statics printed (beside o' (object_pushed x (with_stack m rest)))) (new_array here s f below t (pos count) rest')
     born_alike element element_is count o' None born rest rest' k shorter = record {
       answer = answer_of (with_stack m rest) o' statics printed (Comes (Raises OutOfMemory));
       is = refl;
@@ -177,11 +177,11 @@ module _ (here : Setting) (model : MemoryModel here.tree) (name : Names) (m : Fr
       );
     }
     born_alike element element_is count o' (Some a) born rest rest' k shorter = record {
-      answer = answer_of (with_place (with_stack m (Ref a ∷ rest)) (m.running.place + 1)) o' statics printed (Comes GoesOn);
-      is = ap (λ turn. of_objects o statics printed (beside o' turn)) (leaves_is here model name m o statics printed s f below (Named.NewArray t) (Resolved.NewArray n) at (Ref a) rest shorter);
+      answer = answer_of (with_pc (with_stack m (Ref a ∷ rest)) (m.running.pc + 1)) o' statics printed (Comes Continues);
+      is = ap (λ transition. of_objects o statics printed (beside o' transition)) (leaves_is here model name m o statics printed s f below (Named.NewArray t) (Resolved.NewArray n) at (Ref a) rest shorter);
       refuses = λ _ h. never h;
       alike = λ r.
-          subst (λ e. GoesAlike here model name m o statics printed s f below (answer_of (with_place (with_stack m (Ref a ∷ rest)) (m.running.place + 1)) o' statics printed (Comes GoesOn)) e)
+          subst (λ e. GoesAlike here model name m o statics printed s f below (answer_of (with_pc (with_stack m (Ref a ∷ rest)) (m.running.pc + 1)) o' statics printed (Comes Continues)) e)
           (sym (ap (λ b. if b then StateRaises OutOfMemory else onward_frame f below (with_state_birth s (IsArray t (replicate count (zero_of t)))) (Reference (next_name s) ∷ rest')) r))
           (onward_alike here model name m o statics printed s f below (Named.NewArray t) (Resolved.NewArray n) at birth.names birth.extends o' statics printed (with_state_birth s (IsArray t (replicate count (zero_of t)))) refl memory
           (Ref a ∷ rest) (Reference (next_name s) ∷ rest') (reference a (next_name s) birth.named, values_extend name birth.names birth.extends rest rest' k));
@@ -199,18 +199,18 @@ module _ (here : Setting) (model : MemoryModel here.tree) (name : Names) (m : Fr
     counted_alike element element_is (negsuc count) rest rest' k shorter = raised_alike here model name m o statics printed s f below (Named.NewArray t) (Resolved.NewArray n) at (with_stack m rest) Overflow
     counted_alike element element_is (pos count) rest rest' k shorter =
         let birth : Objects × Option Addr = object_born model.phase o (Array element) count in
-        alike_turn here model name m o statics printed s f below (Named.NewArray t) (Resolved.NewArray n) at (of_objects o statics printed (new_array_of model.phase element (pos count) (with_stack m rest) o))
-        (of_objects o statics printed (beside birth.0 (leaves_born birth.1 (with_stack m rest)))) (new_array here s f below t (pos count) rest')
-        (ap (λ b. of_objects o statics printed (if b then beside birth.0 (leaves_born birth.1 (with_stack m rest)) else None)) (model.bears name o statics s at.memory.fits))
+        alike_transition here model name m o statics printed s f below (Named.NewArray t) (Resolved.NewArray n) at (of_objects o statics printed (new_array_of model.phase element (pos count) (with_stack m rest) o))
+        (of_objects o statics printed (beside birth.0 (object_pushed birth.1 (with_stack m rest)))) (new_array here s f below t (pos count) rest')
+        (ap (λ b. of_objects o statics printed (if b then beside birth.0 (object_pushed birth.1 (with_stack m rest)) else None)) (model.bears name o statics s at.memory.fits))
         (born_alike element element_is count birth.0 birth.1 refl rest rest' k shorter)
 
     -- the whole instruction
-    pub new_array_alike : DoesAlike here model name m o statics printed s f below (operation_turn here.tree (mutator_in here model) (Resolved.NewArray n) m o statics printed) (execute here s f below (Named.NewArray t))
+    pub new_array_alike : DoesAlike here model name m o statics printed s f below (operation_transition here.tree (mutator_in here model) (Resolved.NewArray n) m o statics printed) (execute here s f below (Named.NewArray t))
     new_array_alike =
         let shallow : t.brackets < 256 =
-        (let low : t.brackets < MOST_BRACKETS = arrays_shallow here.tree at.running.accepted.legal f.owner at.running.frame.is_declared.0 f.method at.running.frame.is_declared.1 at.running.frame.code at.running.frame.has_code f.place at.running.line at.running.at t at.running.is in omega (arith, low)) in
+        (let low : t.brackets < MOST_BRACKETS = arrays_shallow here.tree at.running.accepted.legal f.owner at.running.frame.is_declared.0 f.method at.running.frame.is_declared.1 at.running.frame.code at.running.frame.has_code f.pc at.running.line at.running.at t at.running.is in omega (arith, low)) in
         let held = type_held_back here.tree at.running.accepted.legal n t is shallow in
-        alike_turn here model name m o statics printed s f below (Named.NewArray t) (Resolved.NewArray n) at _ (of_objects o statics printed (new_array_turn model.phase held.0 m o)) _
+        alike_transition here model name m o statics printed s f below (Named.NewArray t) (Resolved.NewArray n) at _ (of_objects o statics printed (new_array_transition model.phase held.0 m o)) _
         (link_does here.tree (mutator_in here model) m o statics printed (Resolved.NewArray n) (Linked.NewArray held.0) (ap (option_map (λ element. Linked.NewArray element)) held.1))
         (one_operand here model name m o statics printed s f below (Named.NewArray t) (Resolved.NewArray n) at (of_objects o statics printed)
         (λ v k. index_of v (λ z. new_array_of model.phase held.0 z k o))
@@ -218,6 +218,6 @@ module _ (here : Setting) (model : MemoryModel here.tree) (name : Names) (m : Fr
         (fine here model name m o statics printed s f below (Named.NewArray t) (Resolved.NewArray n) at)
         (λ v rest u rest' is' is'' stands k shorter typed.
         given_alike here model name m o statics printed s f below (Named.NewArray t) (Resolved.NewArray n) at _ (as_index u) _ typed (λ z index typed'.
-        alike_turn here model name m o statics printed s f below (Named.NewArray t) (Resolved.NewArray n) at _ (of_objects o statics printed (new_array_of model.phase held.0 z (with_stack m rest) o)) _
+        alike_transition here model name m o statics printed s f below (Named.NewArray t) (Resolved.NewArray n) at _ (of_objects o statics printed (new_array_of model.phase held.0 z (with_stack m rest) o)) _
         (ap (λ x. of_objects o statics printed (given x (λ y. new_array_of model.phase held.0 y (with_stack m rest) o))) (same_index here model name m o statics printed s f below (Named.NewArray t) (Resolved.NewArray n) at v u stands ∙ index))
         (counted_alike held.0 held.2 z rest rest' k shorter))))

@@ -22,17 +22,17 @@ use Rattle.interpreter.specs.object_memory.declared.values.Value.{Value}
 use Rattle.interpreter.specs.object_memory.declared.values.Value.TheVariants.{Ref}
 use Rattle.interpreter.specs.object_memory.Objects.{Objects}
 use Rattle.interpreter.specs.loaded_program.Prepared.{local_kinds}
-use Rattle.interpreter.specs.threads_monitors.Frames.{Frames, size, with_place, with_inserted, with_call}
-use Rattle.interpreter.specs.threads_monitors.declared.effects.Effect.TheVariants.{GoesOn}
-use Rattle.interpreter.specs.instructions.Calls.{Called, behind, is_full, entered, construct_turn}
+use Rattle.interpreter.specs.threads_monitors.Frames.{Frames, size, with_pc, with_inserted, with_call}
+use Rattle.interpreter.specs.threads_monitors.declared.effects.Effect.TheVariants.{Continues}
+use Rattle.interpreter.specs.instructions.Calls.{Called, following, is_full, enter_callee, construct_transition}
 use Rattle.interpreter.specs.Calls.{called_as}
 use Rattle.simulation.specs.Agreement.{Agree}
-use Rattle.simulation.specs.MachineContents.{frame_room}
-use Rattle.simulation.specs.StandsFor.{Names, IsValue, reference, IsFrame, AreFrames}
+use Rattle.simulation.specs.MachineStates.{frame_room}
+use Rattle.simulation.specs.Refines.{Names, IsValue, reference, IsFrame, AreFrames}
 use Rattle.simulation.proofs.ListLaws.AgreeingLists.{agree_length, agree_take, agree_drop, agree_reverse}
 use Rattle.simulation.proofs.Representation.MoreNames.{values_extend, frame_list_extends, object_extends}
 use Rattle.simulation.proofs.Instructions.Correspondence.{IsSetting}
-use Rattle.simulation.proofs.Instructions.FrameProgress.{own_frame, place_is_small, room_left}
+use Rattle.simulation.proofs.Instructions.FrameProgress.{own_frame, index_is_small, room_left}
 use Rattle.simulation.proofs.ListLaws.InsertedItems.{drop_inserted, reverse_inserted, length_inserted}
 use Rattle.simulation.proofs.Memory.InitialValues.{locals_stand}
 use Rattle.simulation.proofs.Instructions.Constructors.{constructor, arguments_count, few_arguments, few_locals, is_numbered}
@@ -94,7 +94,7 @@ module _ (here : Setting) (model : MemoryModel here.tree) (name : Names) (m : Fr
 
     -- the caller after the instruction
     abbrev caller : Frames
-    caller = with_place (with_inserted m (length parameters) (Ref a)) (m.running.place + 1)
+    caller = with_pc (with_inserted m (length parameters) (Ref a)) (m.running.pc + 1)
 
     -- the frames in the constructor
     abbrev pub frames_in : Frames
@@ -116,14 +116,14 @@ module _ (here : Setting) (model : MemoryModel here.tree) (name : Names) (m : Fr
         and_from _ _ (and_from _ _ shallow there) (le-leb (count + length (local_kinds built)) m.room low)
 
     -- the constructor's frame is entered
-    pub constructs_is : construct_turn (called_as (c, built) (is_numbered here.tree legal c parameters number is).0) a m ≡ Some (frames_in, GoesOn)
+    pub constructs_is : construct_transition (called_as (c, built) (is_numbered here.tree legal c parameters number is).0) a m ≡ Some (frames_in, Continues)
     constructs_is =
         let callee : Called = called_as (c, built) (is_numbered here.tree legal c parameters number is).0 in
         let fewer : count - 1 ≡ length parameters = omega (arith, counted) in
-        ap (λ n. if nat_lt 0 count && (nat_lt (size m.running) m.room && nat_le n (length m.running.stack)) then behind (with_inserted m n (Ref a)) (entered callee (Some a)) else None) fewer ∙
-        ap (λ b. if b then behind (with_inserted m (length parameters) (Ref a)) (entered callee (Some a)) else None) object_fits ∙
-        ap (λ b. if b then entered callee (Some a) caller else None) (place_is_small here model name m o statics printed s f below (Named.NewObject c parameters) (Resolved.NewObject number) at) ∙
-        ap (λ b. if b then Some (frames_in, GoesOn) else None) frame_fits
+        ap (λ n. if nat_lt 0 count && (nat_lt (size m.running) m.room && nat_le n (length m.running.stack)) then following (with_inserted m n (Ref a)) (enter_callee callee (Some a)) else None) fewer ∙
+        ap (λ b. if b then following (with_inserted m (length parameters) (Ref a)) (enter_callee callee (Some a)) else None) object_fits ∙
+        ap (λ b. if b then enter_callee callee (Some a) caller else None) (index_is_small here model name m o statics printed s f below (Named.NewObject c parameters) (Resolved.NewObject number) at) ∙
+        ap (λ b. if b then Some (frames_in, Continues) else None) frame_fits
 
     -- ---- what they represent
 
@@ -149,7 +149,7 @@ module _ (here : Setting) (model : MemoryModel here.tree) (name : Names) (m : Fr
       caller_stands : IsFrame here.tree birth.names (record caller.running { stack = drop count inserted }) (after f (drop (length parameters) f.stack))
       caller_stands = record {
         method = own.method;
-        place = ap (λ n. n + 1) own.place;
+        pc = ap (λ n. n + 1) own.pc;
         arguments = extended m.running.arguments f.arguments own.arguments;
         locals = extended m.running.locals f.locals own.locals;
         stack = rest_stands;
@@ -162,7 +162,7 @@ module _ (here : Setting) (model : MemoryModel here.tree) (name : Names) (m : Fr
         frames = (
           record {
             method = (is_numbered here.tree legal c parameters number is).2;
-            place = refl;
+            pc = refl;
             arguments = arguments_stand;
             locals = locals_stand birth.names built code has;
             stack = tt;

@@ -40,16 +40,16 @@ abbrev Owned : Type 0
 Owned = ClassName × Method
 
 -- the class of a method's number is the method's
-class_of_number : (tree : Tree) (class place : ℕ) (c : ClassName) (m : Method) → method_at tree (class, place) ≡ Some (c, m) → class_name tree class ≡ Some c
-class_of_number tree class place c m h = by_entry (slice_get (declarations tree) class) h
+class_of_number : (tree : Tree) (class index : ℕ) (c : ClassName) (m : Method) → method_at tree (class, index) ≡ Some (c, m) → class_name tree class ≡ Some c
+class_of_number tree class index c m h = by_entry (slice_get (declarations tree) class) h
   where
     by_method : (k : ClassName) (o : Option Method) → option_map {U = Owned} (λ x. (k, x)) o ≡ Some (c, m) → k ≡ c
     by_method k None e = none_is_some (c, m) e
     by_method k (Some x) e = ap (λ (p : ClassName × Method). p.0) (same_Some (k, x) (c, m) e)
 
-    by_entry : (o : Option (ClassName × Declaration)) → option_and_then (λ (e : ClassName × Declaration). option_map {U = Owned} (λ x. (e.0, x)) (slice_get e.1.methods place)) o ≡ Some (c, m) → option_map (λ (e : ClassName × Declaration). e.0) o ≡ Some c
+    by_entry : (o : Option (ClassName × Declaration)) → option_and_then (λ (e : ClassName × Declaration). option_map {U = Owned} (λ x. (e.0, x)) (slice_get e.1.methods index)) o ≡ Some (c, m) → option_map (λ (e : ClassName × Declaration). e.0) o ≡ Some c
     by_entry None e = none_is_some (c, m) e
-    by_entry (Some (k, d)) e = ap Some (by_method k (slice_get d.methods place) e)
+    by_entry (Some (k, d)) e = ap Some (by_method k (slice_get d.methods index) e)
 
 -- a constructor is looked for in its owner alone
 own_class : (tree : Tree) (c k : ClassName) (parameters : List DeclaredType) (m : Method) → find_method tree true (constructor_reference c parameters) ≡ Some (k, m) → c ≡ k
@@ -69,7 +69,7 @@ module _ (tree : Tree) (legal : IsLegal tree) (c : ClassName) (parameters : List
   pub finds_own : find_method tree true (constructor_reference c parameters) ≡ Some (c, constructor)
   finds_own = is.finds ∙ ap (λ k. Some (k, constructor)) (sym is_own)
 
-  pub numbered_own : method_at tree (number.class, number.place) ≡ Some (c, constructor)
+  pub numbered_own : method_at tree (number.class, number.index) ≡ Some (c, constructor)
   numbered_own = is.numbered ∙ ap (λ k. Some (k, constructor)) (sym is_own)
 
   is_found : IsFound tree true (constructor_reference c parameters) c constructor
@@ -78,7 +78,7 @@ module _ (tree : Tree) (legal : IsLegal tree) (c : ClassName) (parameters : List
   -- ---- the class
 
   pub class_named : class_name tree number.class ≡ Some c
-  class_named = class_of_number tree number.class number.place c constructor numbered_own
+  class_named = class_of_number tree number.class number.index c constructor numbered_own
 
   pub class_is_in : class_in number ≡ Some number.class
   class_is_in = ap (λ b. if b then Some number.class else None) (lt-ltb number.class (2 ^ 16) (class_number_small tree legal number.class c class_named))

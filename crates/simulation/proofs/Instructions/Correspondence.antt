@@ -22,11 +22,11 @@ use Rattle.interpreter.specs.object_memory.Objects.{Objects}
 use Rattle.interpreter.specs.object_memory.Spaces.{room_for}
 use Rattle.interpreter.specs.threads_monitors.Frames.{Frames}
 use Rattle.interpreter.specs.threads_monitors.declared.effects.Effect.{Effect}
-use Rattle.interpreter.specs.threads_monitors.declared.effects.Effect.TheVariants.{GoesOn, Returns, Blocks, Raises}
+use Rattle.interpreter.specs.threads_monitors.declared.effects.Effect.TheVariants.{Continues, Returns, Blocks, Raises}
 use Rattle.interpreter.specs.declared.outcomes.Outcome.{Outcome}
 use Rattle.interpreter.specs.declared.outcomes.Outcome.TheVariants.{Comes, Starts, Joins}
-use Rattle.interpreter.specs.Instructions.{HasSmallConstant, MachineTurn, operation_turn, Answer}
-use Rattle.simulation.specs.StandsFor.{Names, Extends, IsValue, AreFrames}
+use Rattle.interpreter.specs.Instructions.{HasSmallConstant, MachineTransition, operation_transition, Answer}
+use Rattle.simulation.specs.Refines.{Names, Extends, IsValue, AreFrames}
 use Rattle.interpreter.proofs.cil_model.SameLaws.{never}
 use Rattle.simulation.proofs.Memory.MemoryModels.{MemoryModel, IsModelled, mutator_in}
 
@@ -51,7 +51,7 @@ is_refused_fault _ = false
 
 abbrev pub is_refused_effect : Effect → Bool
 is_refused_effect (Raises x) = is_refused_fault x
-is_refused_effect GoesOn = false
+is_refused_effect Continues = false
 is_refused_effect Returns = false
 is_refused_effect Blocks = false
 
@@ -105,7 +105,7 @@ module _ (here : Setting) (model : MemoryModel here.tree) (name : Names) (m : Fr
 
   -- the outcome of an instruction, and the same of the reference machine
   abbrev pub ComesAlike : Outcome → Answer → StateEffect → Type 0
-  ComesAlike (Comes GoesOn) a e = GoesAlike a e
+  ComesAlike (Comes Continues) a e = GoesAlike a e
   ComesAlike (Comes Returns) a e = (e ≡ Goes [] s) × LeavesMemory a
   ComesAlike (Comes Blocks) a e = (e ≡ StateBlocks) × (a.frames ≡ m) × LeavesMemory a
   ComesAlike (Comes (Raises x)) a e = (e ≡ StateRaises x) × LeavesMemory a
@@ -122,9 +122,9 @@ module _ (here : Setting) (model : MemoryModel here.tree) (name : Names) (m : Fr
 
   -- The rule has a result, and where the reference machine is refused memory exactly where the machine is, both do the same. The machine is refused
   -- it only where the reference machine, if it weren't, would make an object that exceeds the room.
-  pub record DoesAlike (turn : MachineTurn) (e : StateEffect) : Type 0 where
+  pub record DoesAlike (transition : MachineTransition) (e : StateEffect) : Type 0 where
     pub answer : Answer
-    pub is : turn ≡ Some answer
+    pub is : transition ≡ Some answer
     pub alike : here.is_refused ≡ is_refused_outcome answer.outcome → ComesAlike answer.outcome answer e
     pub refuses : here.is_refused ≡ false → is_refused_outcome answer.outcome ≡ true → ExceedsRoom e ⊎ (e ≡ StateRaises OutOfMemory)
 
@@ -133,4 +133,4 @@ abbrev pub InstructionsAreAlike : Type 1
 InstructionsAreAlike =
     (here : Setting) (model : MemoryModel here.tree) (name : Names) (m : Frames) (o : Objects) (statics : List Value) (printed : List ℕ) (s : State) (f : Frame) (below : List Frame) (i : Instruction) (operation : Operation) →
     IsSetting here model name m o statics printed s f below i operation →
-    DoesAlike here model name m o statics printed s f below (operation_turn here.tree (mutator_in here model) operation m o statics printed) (execute here s f below i)
+    DoesAlike here model name m o statics printed s f below (operation_transition here.tree (mutator_in here model) operation m o statics printed) (execute here s f below i)

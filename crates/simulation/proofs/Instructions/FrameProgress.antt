@@ -19,14 +19,14 @@ use Rattle.reference_machine.specs.TypedStates.{HaveTypes, HaveStackTypes, IsTyp
 use Rattle.interpreter.specs.resolved_code.declared.operations.Operation.{Operation}
 use Rattle.interpreter.specs.object_memory.declared.values.Value.{Value}
 use Rattle.interpreter.specs.object_memory.Objects.{Objects}
-use Rattle.interpreter.specs.threads_monitors.Frames.{Frame, Frames, size, with_place, with_stack}
-use Rattle.interpreter.specs.threads_monitors.declared.effects.Effect.TheVariants.{GoesOn}
-use Rattle.interpreter.specs.instructions.Frames.{onward, leaves}
+use Rattle.interpreter.specs.threads_monitors.Frames.{Frame, Frames, size, with_pc, with_stack}
+use Rattle.interpreter.specs.threads_monitors.declared.effects.Effect.TheVariants.{Continues}
+use Rattle.interpreter.specs.instructions.Frames.{onward, value_pushed}
 use Rattle.interpreter.specs.declared.outcomes.Outcome.TheVariants.{Comes}
 use Rattle.simulation.proofs.ProgramSizes.Methods.{arguments_few, instructions_few, locals_few, stack_low}
 use Rattle.simulation.specs.Agreement.{Agree}
-use Rattle.simulation.specs.MachineContents.{frame_room}
-use Rattle.simulation.specs.StandsFor.{Names, Extends, IsValue, IsFrame, AreFrames}
+use Rattle.simulation.specs.MachineStates.{frame_room}
+use Rattle.simulation.specs.Refines.{Names, Extends, IsValue, IsFrame, AreFrames}
 use Rattle.simulation.proofs.ListLaws.AgreeingLists.{agree_length}
 use Rattle.simulation.proofs.Representation.MoreNames.{values_extend, frame_list_extends, object_extends}
 use Rattle.simulation.proofs.Instructions.Correspondence.{IsSetting, GoesAlike}
@@ -73,7 +73,7 @@ module _ (tree : Tree) (legal : IsLegal tree) (s : State) (given : Option Declar
   stack_is_low : length f.stack ≤ 64
   stack_is_low =
       let mapped : List StackType = typed.reaches.0 in
-      let height : length mapped ≤ 64 = at_most (length mapped) typed.code.max_stack (typed.is_typing.height f.place mapped typed.reaches.1) (stack_low tree legal f.owner typed.is_declared.0 f.method typed.is_declared.1 typed.code typed.has_code) in
+      let height : length mapped ≤ 64 = at_most (length mapped) typed.code.max_stack (typed.is_typing.height f.pc mapped typed.reaches.1) (stack_low tree legal f.owner typed.is_declared.0 f.method typed.is_declared.1 typed.code typed.has_code) in
       let same : length (give given typed.stack) ≡ length mapped = below_length tree (give given typed.stack) mapped typed.reaches.2 in
       let own : length f.stack ≡ length typed.stack = stack_length tree s f.stack typed.stack typed.values in
       omega (arith, height, same, own, given_length given typed.stack)
@@ -97,29 +97,29 @@ module _ (here : Setting) (model : MemoryModel here.tree) (name : Names) (m : Fr
       lt-ltb _ m.room (subst (λ r. length m.running.arguments + (length m.running.locals + length rest) < r) (sym at.frames.room) (omega (arith, left, shorter)))
 
   -- a frame is at an instruction, and those are few
-  pub place_is_small : nat_lt m.running.place MOST_INSTRUCTIONS ≡ true
-  place_is_small =
-      let inside : f.place < length at.running.frame.code.lines = slice_get_within at.running.frame.code.lines f.place at.running.line at.running.at in
+  pub index_is_small : nat_lt m.running.pc MOST_INSTRUCTIONS ≡ true
+  index_is_small =
+      let inside : f.pc < length at.running.frame.code.lines = slice_get_within at.running.frame.code.lines f.pc at.running.line at.running.at in
       let few : length at.running.frame.code.lines ≤ MOST_INSTRUCTIONS = instructions_few here.tree at.running.accepted.legal f.owner at.running.frame.is_declared.0 f.method at.running.frame.is_declared.1 at.running.frame.code at.running.frame.has_code in
-      lt-ltb _ _ (subst (λ p. p < MOST_INSTRUCTIONS) (sym own_frame.place) (omega (arith, inside, few)))
+      lt-ltb _ _ (subst (λ p. p < MOST_INSTRUCTIONS) (sym own_frame.pc) (omega (arith, inside, few)))
 
   -- on to the next instruction
-  pub onward_is : (stack : List Value) → onward (with_stack m stack) ≡ Some (with_place (with_stack m stack) (m.running.place + 1), GoesOn)
-  onward_is stack = ap (λ b. if b then Some (with_place (with_stack m stack) (m.running.place + 1), GoesOn) else None) place_is_small
+  pub onward_is : (stack : List Value) → onward (with_stack m stack) ≡ Some (with_pc (with_stack m stack) (m.running.pc + 1), Continues)
+  onward_is stack = ap (λ b. if b then Some (with_pc (with_stack m stack) (m.running.pc + 1), Continues) else None) index_is_small
 
   -- with a value more
-  pub leaves_is : (v : Value) (rest : List Value) → length rest ≤ length m.running.stack → leaves v (with_stack m rest) ≡ Some (with_place (with_stack m (v ∷ rest)) (m.running.place + 1), GoesOn)
+  pub leaves_is : (v : Value) (rest : List Value) → length rest ≤ length m.running.stack → value_pushed v (with_stack m rest) ≡ Some (with_pc (with_stack m (v ∷ rest)) (m.running.pc + 1), Continues)
   leaves_is v rest shorter = ap (λ b. if b then onward (with_stack m (v ∷ rest)) else None) (has_room rest shorter) ∙ onward_is (v ∷ rest)
 
-  -- the frames with another stack, at another place, under more names
-  pub moved_frames : (names : Names) → Extends name names → (arguments locals stack : List Value) (arguments' locals' stack' : List StateValue) (place : ℕ) →
+  -- the frames with another stack, at another pc, under more names
+  pub moved_frames : (names : Names) → Extends name names → (arguments locals stack : List Value) (arguments' locals' stack' : List StateValue) (pc : ℕ) →
       Agree (IsValue names) arguments arguments' → Agree (IsValue names) locals locals' → Agree (IsValue names) stack stack' →
-      AreFrames here.tree here.limits names (record m { running = record m.running { place = place; arguments = arguments; locals = locals; stack = stack } })
-      (record f { place = place; arguments = arguments'; locals = locals'; stack = stack' } ∷ below)
-  moved_frames names extends arguments locals stack arguments' locals' stack' place h k l =
+      AreFrames here.tree here.limits names (record m { running = record m.running { pc = pc; arguments = arguments; locals = locals; stack = stack } })
+      (record f { pc = pc; arguments = arguments'; locals = locals'; stack = stack' } ∷ below)
+  moved_frames names extends arguments locals stack arguments' locals' stack' pc h k l =
       record {
         frames = (
-          record { method = own_frame.method; place = refl; arguments = h; locals = k; stack = l; constructed = object_extends name names extends m.running.constructed f.constructed own_frame.constructed },
+          record { method = own_frame.method; pc = refl; arguments = h; locals = k; stack = l; constructed = object_extends name names extends m.running.constructed f.constructed own_frame.constructed },
           frame_list_extends name names extends here.tree m.below below at.frames.frames.1,
         );
         depth = at.frames.depth;
@@ -130,7 +130,7 @@ module _ (here : Setting) (model : MemoryModel here.tree) (name : Names) (m : Fr
   -- on to the next instruction in another memory
   pub onward_alike : (names : Names) → Extends name names → (o' : Objects) (statics' : List Value) (printed' : List ℕ) (s' : State) → s'.threads ≡ s.threads → IsModelled here.tree model names o' statics' printed' s' →
       (stack : List Value) (stack' : List StateValue) → Agree (IsValue names) stack stack' →
-      GoesAlike here model name m o statics printed s f below (answer_of (with_place (with_stack m stack) (m.running.place + 1)) o' statics' printed' (Comes GoesOn)) (onward_frame f below s' stack')
+      GoesAlike here model name m o statics printed s f below (answer_of (with_pc (with_stack m stack) (m.running.pc + 1)) o' statics' printed' (Comes Continues)) (onward_frame f below s' stack')
   onward_alike names extends o' statics' printed' s' others memory stack stack' h =
       record {
         running = after f stack';
@@ -140,8 +140,8 @@ module _ (here : Setting) (model : MemoryModel here.tree) (name : Names) (m : Fr
         names = names;
         extends = extends;
         others = others;
-        frames = subst (λ p. AreFrames here.tree here.limits names (with_place (with_stack m stack) (p + 1)) (after f stack' ∷ below)) (sym own_frame.place)
-            (moved_frames names extends m.running.arguments m.running.locals stack f.arguments f.locals stack' (f.place + 1)
+        frames = subst (λ p. AreFrames here.tree here.limits names (with_pc (with_stack m stack) (p + 1)) (after f stack' ∷ below)) (sym own_frame.pc)
+            (moved_frames names extends m.running.arguments m.running.locals stack f.arguments f.locals stack' (f.pc + 1)
             (values_extend name names extends m.running.arguments f.arguments own_frame.arguments) (values_extend name names extends m.running.locals f.locals own_frame.locals) h);
         memory = memory;
       }
@@ -151,21 +151,21 @@ module _ (here : Setting) (model : MemoryModel here.tree) (name : Names) (m : Fr
 
   -- on to the next instruction with another stack alone
   pub next_alike : (stack : List Value) (stack' : List StateValue) → Agree (IsValue name) stack stack' →
-      GoesAlike here model name m o statics printed s f below (answer_of (with_place (with_stack m stack) (m.running.place + 1)) o statics printed (Comes GoesOn)) (onward_frame f below s stack')
+      GoesAlike here model name m o statics printed s f below (answer_of (with_pc (with_stack m stack) (m.running.pc + 1)) o statics printed (Comes Continues)) (onward_frame f below s stack')
   next_alike stack stack' h = onward_alike name same_names o statics printed s refl at.memory stack stack' h
 
-  -- on to another place of the method with another stack
-  pub jump_alike : (place : ℕ) (stack : List Value) (stack' : List StateValue) → Agree (IsValue name) stack stack' →
-      GoesAlike here model name m o statics printed s f below (answer_of (with_place (with_stack m stack) place) o statics printed (Comes GoesOn)) (Goes (record f { place = place; stack = stack' } ∷ below) s)
-  jump_alike place stack stack' h =
+  -- on to another pc of the method with another stack
+  pub jump_alike : (pc : ℕ) (stack : List Value) (stack' : List StateValue) → Agree (IsValue name) stack stack' →
+      GoesAlike here model name m o statics printed s f below (answer_of (with_pc (with_stack m stack) pc) o statics printed (Comes Continues)) (Goes (record f { pc = pc; stack = stack' } ∷ below) s)
+  jump_alike pc stack stack' h =
       record {
-        running = record f { place = place; stack = stack' };
+        running = record f { pc = pc; stack = stack' };
         waiting = below;
         state = s;
         is = refl;
         names = name;
         extends = same_names;
         others = refl;
-        frames = moved_frames name same_names m.running.arguments m.running.locals stack f.arguments f.locals stack' place own_frame.arguments own_frame.locals h;
+        frames = moved_frames name same_names m.running.arguments m.running.locals stack f.arguments f.locals stack' pc own_frame.arguments own_frame.locals h;
         memory = at.memory;
       }

@@ -29,20 +29,20 @@ use Rattle.interpreter.specs.object_memory.Objects.{Objects}
 use Rattle.interpreter.specs.object_memory.Values.{value_word}
 use Rattle.interpreter.specs.threads_monitors.Frames.{Frames, with_stack}
 use Rattle.interpreter.specs.loaded_program.Prepared.{kind_of_type}
-use Rattle.interpreter.specs.instructions.ObjectTurns.{object_of, load_slot, store_slot, load_field_turn, store_field_turn}
+use Rattle.interpreter.specs.instructions.ObjectTransitions.{object_of, load_slot, store_slot, load_field_transition, store_field_transition}
 use Rattle.interpreter.specs.loaded_program.declared.instructions.LinkedInstruction.TheVariants as Linked
-use Rattle.interpreter.specs.Instructions.{operation_turn, of_objects}
+use Rattle.interpreter.specs.Instructions.{operation_transition, of_objects}
 use Rattle.interpreter.proofs.Linking.{link_does}
 use Rattle.interpreter.specs.loaded_program.Operands.{held_at}
 use Rattle.simulation.specs.Agreement.{Agree}
-use Rattle.simulation.specs.StandsFor.{Names, IsValue, IsWord, thread_word, IsInstanceCell, IsOfContents, IsCell}
+use Rattle.simulation.specs.Refines.{Names, IsValue, IsWord, thread_word, IsInstanceCell, IsOfContents, IsCell}
 use Rattle.simulation.proofs.ListLaws.AgreeingLists.{agree_get, agree_set}
 use Rattle.simulation.proofs.Instructions.Correspondence.{IsSetting, DoesAlike}
 use Rattle.simulation.proofs.Instructions.StackOperands.{fine, one_operand, two_operands}
 use Rattle.simulation.proofs.Memory.TypedWords.{word_value, kind_fits, kind_of_state}
 use Rattle.simulation.proofs.Memory.ReferenceSlots.{IsLinked, field_linked, is_reference_kind, is_reference_state, same_hidden, same_kinds, slot_says, value_says}
 use Rattle.simulation.proofs.Memory.ObjectsAtAddresses.{IsInstanceThere, instance_there, there_is_linked}
-use Rattle.simulation.proofs.Instructions.ObjectInstructionParts.{alike_turn, given_alike, known_alike, loaded_alike, replaced_alike, object_alike}
+use Rattle.simulation.proofs.Instructions.ObjectInstructionParts.{alike_transition, given_alike, known_alike, loaded_alike, replaced_alike, object_alike}
 use Rattle.simulation.proofs.Memory.FieldSlots.{slot_get, slot_set, position, slot, slot_is, held_is, IsFieldAt, field_at_slot}
 use Rattle.interpreter.proofs.cil_model.Lists.{none_is_some}
 use Rattle.simulation.proofs.Memory.MemoryModels.{MemoryModel, mutator_in}
@@ -111,12 +111,12 @@ module _ (here : Setting) (model : MemoryModel here.tree) (name : Names) (m : Fr
     abbrev own_key : FieldKey
     own_key = key_of (is.declared_in, is.found)
 
-    -- its slot, and its place among the fields
+    -- its slot, and its index among the fields
     abbrev own_slot : ℕ
     own_slot = slot here.tree at.running.accepted.legal r field is
 
-    abbrev own_place : ℕ
-    own_place = (position here.tree at.running.accepted.legal r field is).0
+    abbrev own_index : ℕ
+    own_index = (position here.tree at.running.accepted.legal r field is).0
 
     -- ---- a field that is there
 
@@ -124,7 +124,7 @@ module _ (here : Setting) (model : MemoryModel here.tree) (name : Names) (m : Fr
       thing : IsInstanceThere here.tree name o s (model.reads name o statics s at.memory.fits at.running.typed) a n own.class own.fields own.object
       thing = instance_there here.tree name o s (model.reads name o statics s at.memory.fits at.running.typed) a n own.class own.fields own.object named own.there own.holds
 
-      -- the field is at its place
+      -- the field is at its index
       at_slot : IsFieldAt here.tree at.running.accepted.legal r field is s own.class own.fields v
       at_slot =
           let contents : IsTypedContents here.tree s (IsInstance own.class own.fields) = subst (λ c. IsTypedContents here.tree s c) own.holds (contents_typed here.tree at.running.accepted.legal s at.running.typed n own.object own.there) in
@@ -135,14 +135,14 @@ module _ (here : Setting) (model : MemoryModel here.tree) (name : Names) (m : Fr
       HoldsField w x = IsWord name w x.1
 
       -- a word holds its value
-      word : (w : ℕ) × (slice_get thing.contents.words own_place ≡ Some w) × IsWord name w at_slot.entry.1
-      word = agree_get HoldsField thing.contents.words own.fields thing.contents.values own_place at_slot.entry at_slot.there
+      word : (w : ℕ) × (slice_get thing.contents.words own_index ≡ Some w) × IsWord name w at_slot.entry.1
+      word = agree_get HoldsField thing.contents.words own.fields thing.contents.values own_index at_slot.entry at_slot.there
 
       -- the word is in its slot
       word_there : slice_get thing.thing.cell.slots own_slot ≡ Some word.0
       word_there =
           ap (λ l. slice_get l own_slot) thing.contents.slots_are ∙
-          slot_get (thread_word own.object.thread) own_place thing.contents.words (is_thread_class here.tree own.class) (is_thread_class here.tree is.declared_in) at_slot.hidden ∙ word.1
+          slot_get (thread_word own.object.thread) own_index thing.contents.words (is_thread_class here.tree own.class) (is_thread_class here.tree is.declared_in) at_slot.hidden ∙ word.1
 
       -- it is loaded
       field_loaded : (rest : List Value) (rest' : List StateValue) → Agree (IsValue name) rest rest' → length rest ≤ length m.running.stack →
@@ -164,11 +164,11 @@ module _ (here : Setting) (model : MemoryModel here.tree) (name : Names) (m : Fr
         cell_after : IsInstanceCell here.tree name thing.kind (slice_set thing.thing.cell.slots own_slot (value_word w)) own.class changed_fields own.object.thread
         cell_after = record {
           class_is = thing.contents.class_is;
-          words = slice_set thing.contents.words own_place (value_word w);
+          words = slice_set thing.contents.words own_index (value_word w);
           slots_are = ap (λ l. slice_set l own_slot (value_word w)) thing.contents.slots_are ∙
-              slot_set (thread_word own.object.thread) own_place thing.contents.words (value_word w) (is_thread_class here.tree own.class) (is_thread_class here.tree is.declared_in) at_slot.hidden;
-          values = subst (λ fs. Agree HoldsField (slice_set thing.contents.words own_place (value_word w)) fs) (sym (at_slot.changed u))
-              (agree_set HoldsField thing.contents.words own.fields thing.contents.values own_place (value_word w) (at_slot.entry.0, u) (record { value = w; stands = stands; is = refl }));
+              slot_set (thread_word own.object.thread) own_index thing.contents.words (value_word w) (is_thread_class here.tree own.class) (is_thread_class here.tree is.declared_in) at_slot.hidden;
+          values = subst (λ fs. Agree HoldsField (slice_set thing.contents.words own_index (value_word w)) fs) (sym (at_slot.changed u))
+              (agree_set HoldsField thing.contents.words own.fields thing.contents.values own_index (value_word w) (at_slot.entry.0, u) (record { value = w; stands = stands; is = refl }));
         }
 
         stands_after : IsCell here.tree name (with_cell_slot own_slot (value_word w) thing.thing.cell) object_after
@@ -181,16 +181,16 @@ module _ (here : Setting) (model : MemoryModel here.tree) (name : Names) (m : Fr
         own_sort : same_kind v u ≡ true → is_reference_value w ≡ holds_reference here.tree thing.thing.cell.kind own_slot
         own_sort kinds =
             let contents : IsTypedContents here.tree s (IsInstance own.class own.fields) = subst (λ c. IsTypedContents here.tree s c) own.holds (contents_typed here.tree at.running.accepted.legal s at.running.typed n own.object own.there) in
-            let says = slot_says here.tree at.running.accepted.legal s own.class thing.kind thing.contents.class_is own.fields contents.2 own_place at_slot.entry at_slot.there in
+            let says = slot_says here.tree at.running.accepted.legal s own.class thing.kind thing.contents.class_is own.fields contents.2 own_index at_slot.entry at_slot.there in
             value_says name w u stands ∙ sym (same_kinds v u kinds) ∙ ap (λ x. is_reference_kind (kind_of_state x)) (sym at_slot.value_is) ∙ sym says ∙
-            ap (λ h. holds_reference here.tree (Instance thing.kind) (h + own_place)) (same_hidden here.tree own.class is.declared_in at_slot.hidden) ∙
+            ap (λ h. holds_reference here.tree (Instance thing.kind) (h + own_index)) (same_hidden here.tree own.class is.declared_in at_slot.hidden) ∙
             ap (λ k. holds_reference here.tree k own_slot) (sym thing.kind_is)
 
         -- and so are all
         linked : same_kind v u ≡ true → IsLinked here.tree thing.thing.cell.kind (IsInstance own.class changed_fields)
         linked kinds =
             subst (λ fs. IsLinked here.tree thing.thing.cell.kind (IsInstance own.class fs)) (sym (at_slot.changed u))
-            (field_linked here.tree thing.thing.cell.kind own.class own.fields own_place at_slot.entry (at_slot.entry.0, u) at_slot.there (ap is_reference_state at_slot.value_is ∙ same_kinds v u kinds)
+            (field_linked here.tree thing.thing.cell.kind own.class own.fields own_index at_slot.entry (at_slot.entry.0, u) at_slot.there (ap is_reference_state at_slot.value_is ∙ same_kinds v u kinds)
             (subst (IsLinked here.tree thing.thing.cell.kind) own.holds (there_is_linked here.tree name o s (model.reads name o statics s at.memory.fits at.running.typed) at.running.accepted.legal at.running.typed a n own.object thing.thing)))
 
         field_stored : same_kind v u ≡ true → (rest : List Value) (rest' : List StateValue) → Agree (IsValue name) rest rest' →
@@ -203,13 +203,13 @@ module _ (here : Setting) (model : MemoryModel here.tree) (name : Names) (m : Fr
 
   module _ (r : FieldReference) (owner : ℕ) (field : MemberNumber) (named : class_name here.tree owner ≡ Some r.owner) (finds : IsField here.tree false r field) (at : IsSetting here model name m o statics printed s f below (Named.LoadField r) (Resolved.LoadField owner field)) where
     -- the whole instruction
-    pub load_field_alike : DoesAlike here model name m o statics printed s f below (operation_turn here.tree (mutator_in here model) (Resolved.LoadField owner field) m o statics printed) (execute here s f below (Named.LoadField r))
+    pub load_field_alike : DoesAlike here model name m o statics printed s f below (operation_transition here.tree (mutator_in here model) (Resolved.LoadField owner field) m o statics printed) (execute here s f below (Named.LoadField r))
     load_field_alike =
         let slot_there = slot_is here.tree at.running.accepted.legal r field finds in
         let kind_there = held_is here.tree at.running.accepted.legal r field finds in
         let kind : ValueKind = kind_of_type finds.found.field_type in
         let number : ℕ = slot here.tree at.running.accepted.legal r field finds in
-        alike_turn here model name m o statics printed s f below (Named.LoadField r) (Resolved.LoadField owner field) at _ (of_objects o statics printed (load_field_turn kind number m o)) _
+        alike_transition here model name m o statics printed s f below (Named.LoadField r) (Resolved.LoadField owner field) at _ (of_objects o statics printed (load_field_transition kind number m o)) _
         (link_does here.tree (mutator_in here model) m o statics printed (Resolved.LoadField owner field) (Linked.LoadField number kind)
         (ap (option_and_then (λ n. option_map (λ k. Linked.LoadField n k) (held_at here.tree field))) slot_there ∙ ap (option_map (λ k. Linked.LoadField number k)) kind_there))
         (one_operand here model name m o statics printed s f below (Named.LoadField r) (Resolved.LoadField owner field) at (of_objects o statics printed)
@@ -233,11 +233,11 @@ module _ (here : Setting) (model : MemoryModel here.tree) (name : Names) (m : Fr
         (field_stored (Named.StoreField r) (Resolved.StoreField owner field) at r field finds a n here_named stored.old stored.field w u stands stored.kinds rest rest' k)
 
     -- the whole instruction
-    pub store_field_alike : DoesAlike here model name m o statics printed s f below (operation_turn here.tree (mutator_in here model) (Resolved.StoreField owner field) m o statics printed) (execute here s f below (Named.StoreField r))
+    pub store_field_alike : DoesAlike here model name m o statics printed s f below (operation_transition here.tree (mutator_in here model) (Resolved.StoreField owner field) m o statics printed) (execute here s f below (Named.StoreField r))
     store_field_alike =
         let slot_there = slot_is here.tree at.running.accepted.legal r field finds in
         let number : ℕ = slot here.tree at.running.accepted.legal r field finds in
-        alike_turn here model name m o statics printed s f below (Named.StoreField r) (Resolved.StoreField owner field) at _ (of_objects o statics printed (store_field_turn model.phase number m o)) _
+        alike_transition here model name m o statics printed s f below (Named.StoreField r) (Resolved.StoreField owner field) at _ (of_objects o statics printed (store_field_transition model.phase number m o)) _
         (link_does here.tree (mutator_in here model) m o statics printed (Resolved.StoreField owner field) (Linked.StoreField number) (ap (option_map (λ n. Linked.StoreField n)) slot_there))
         (two_operands here model name m o statics printed s f below (Named.StoreField r) (Resolved.StoreField owner field) at (of_objects o statics printed)
         (λ object v k. object_of object k o (λ a. store_slot model.phase v number a k o))

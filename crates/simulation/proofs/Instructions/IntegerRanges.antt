@@ -17,7 +17,7 @@ use Rattle.interpreter.specs.cil_model.declared.instructions.ShiftOperation.TheV
 use Rattle.interpreter.specs.cil_model.declared.reports.Fault.{Fault}
 use Rattle.interpreter.specs.cil_model.declared.reports.Fault.TheVariants.{DivideByZero, Arithmetic, Overflow}
 use Rattle.interpreter.proofs.cil_model.SameLaws.{both_first, both_second}
-use Rattle.interpreter.specs.reference_machine.Arithmetic.{bit_count, least, is_in_range, exact, divided, binary, unary, shifted, shift}
+use Rattle.interpreter.specs.reference_machine.Arithmetic.{bit_count, least, is_in_range, exact, quotient, binary, unary, shift_by, shift}
 
 -- half of the numbers that the size has
 abbrev half : Width → ℕ
@@ -73,7 +73,7 @@ exact_fits w z = by_test (is_in_range w z) refl
 
 -- ---- divisions
 
-divided_fits : (w : Width) (x y r : ℤ) → ((int_eq x (least w) && int_eq y (negsuc 0)) ≡ false → FitsSigned w r) → FitsResult w (divided w x y r)
+divided_fits : (w : Width) (x y r : ℤ) → ((int_eq x (least w) && int_eq y (negsuc 0)) ≡ false → FitsSigned w r) → FitsResult w (quotient w x y r)
 divided_fits w x y r fits = by_zero (int_eq y (pos 0))
   where
     by_least : (b : Bool) → (int_eq x (least w) && int_eq y (negsuc 0)) ≡ b → FitsResult w (if b then Err Arithmetic else Ok r)
@@ -128,7 +128,7 @@ pub unary_fits : (w : Width) (op : UnaryOperation) (x : ℤ) → FitsSigned w (u
 unary_fits w Negate x = cast_fits w _
 unary_fits w Complement x = cast_fits w _
 
-shifted_fits : (w : Width) (op : ShiftOperation) (x : ℤ) (k : ℕ) → FitsSigned w x → FitsSigned w (shifted w op x k)
+shifted_fits : (w : Width) (op : ShiftOperation) (x : ℤ) (k : ℕ) → FitsSigned w x → FitsSigned w (shift_by w op x k)
 shifted_fits w Left x k fits = cast_fits w _
 shifted_fits w Right x k fits = record { sfits = omega (arith, fits.sfits, mag_shr x (2 ^ k)) }
 shifted_fits w RightUnsigned x k fits = cast_fits w _

@@ -5,7 +5,7 @@ use Rattle.interpreter.specs.reference_machine.Values.{Value as StateValue}
 use Rattle.interpreter.specs.reference_machine.Arithmetic.{not_option}
 use Rattle.interpreter.specs.object_memory.declared.values.Value.{Value}
 use Rattle.simulation.specs.Agreement.{Agree}
-use Rattle.simulation.specs.StandsFor.{Names, IsValue}
+use Rattle.simulation.specs.Refines.{Names, IsValue}
 
 -- where there is a result of the second machine, the first has one too, and they stand in the relation
 abbrev pub Meets : {X Y : Type 0} → (X → Y → Type 0) → Option X → Option Y → Type 0
@@ -39,7 +39,7 @@ meets_opposite o None h = tt
 meets_opposite (Some a) (Some b) h = ap not h
 meets_opposite None (Some b) h = elim h [ ]
 
--- elements at one place of agreeing lists
+-- elements at one index of agreeing lists
 pub meets_at : {X Y : Type 0} (R : X → Y → Type 0) (xs : List X) (ys : List Y) → Agree R xs ys → (n : ℕ) → Meets R (slice_get xs n) (slice_get ys n)
 meets_at R [] [] h n = tt
 meets_at R (x ∷ xs) (y ∷ ys) h zero = h.0

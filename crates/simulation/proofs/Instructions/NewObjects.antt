@@ -27,16 +27,16 @@ use Rattle.interpreter.specs.object_memory.Objects.{Objects}
 use Rattle.interpreter.specs.object_memory.Spaces.{room_for}
 use Rattle.interpreter.specs.instructions.barriers.Barriers.{object_born}
 use Rattle.interpreter.specs.loaded_program.MethodNumbers.{number_of}
-use Rattle.interpreter.specs.threads_monitors.Frames.{Frames, with_place, with_stack}
-use Rattle.interpreter.specs.threads_monitors.declared.effects.Effect.TheVariants.{GoesOn, Raises}
+use Rattle.interpreter.specs.threads_monitors.Frames.{Frames, with_pc, with_stack}
+use Rattle.interpreter.specs.threads_monitors.declared.effects.Effect.TheVariants.{Continues, Raises}
 use Rattle.interpreter.specs.instructions.Frames.{given}
-use Rattle.interpreter.specs.instructions.ObjectTurns.{ObjectTurn, bears, beside, born as born_turn}
-use Rattle.interpreter.specs.instructions.Calls.{constructs, is_full, new_object_turn, new_plain_object_turn}
+use Rattle.interpreter.specs.instructions.ObjectTransitions.{ObjectTransition, bears, beside, birth_transition as born_transition}
+use Rattle.interpreter.specs.instructions.Calls.{constructs, is_full, new_object_transition, new_plain_object_transition}
 use Rattle.interpreter.specs.declared.outcomes.Outcome.TheVariants.{Comes}
-use Rattle.interpreter.specs.Instructions.{MachineTurn, operation_turn, Answer, answer_of, of_objects}
+use Rattle.interpreter.specs.Instructions.{MachineTransition, operation_transition, Answer, answer_of, of_objects}
 use Rattle.interpreter.proofs.Linking.{new_does}
-use Rattle.interpreter.specs.Calls.{called_as, made}
-use Rattle.simulation.specs.StandsFor.{Names, reference}
+use Rattle.interpreter.specs.Calls.{called_as, make_object}
+use Rattle.simulation.specs.Refines.{Names, reference}
 use Rattle.simulation.proofs.Representation.MoreNames.{values_extend}
 use Rattle.simulation.proofs.Instructions.Correspondence.{IsSetting, GoesAlike, DoesAlike}
 use Rattle.simulation.proofs.Instructions.FrameProgress.{own_frame, leaves_is, onward_alike}
@@ -71,11 +71,11 @@ module _ (here : Setting) (model : MemoryModel here.tree) (name : Names) (m : Fr
   contents = new_instance here.tree c
 
   -- a transition of frames and objects, as one of the machine, and what the reference machine does
-  abbrev as_turn : ObjectTurn → MachineTurn
-  as_turn turn = of_objects o statics printed turn
+  abbrev as_transition : ObjectTransition → MachineTransition
+  as_transition transition = of_objects o statics printed transition
 
-  abbrev Alike : ObjectTurn → StateEffect → Type 0
-  Alike turn e = DoesAlike here model name m o statics printed s f below (as_turn turn) e
+  abbrev Alike : ObjectTransition → StateEffect → Type 0
+  Alike transition e = DoesAlike here model name m o statics printed s f below (as_transition transition) e
 
   -- ---- the operands
 
@@ -118,8 +118,8 @@ module _ (here : Setting) (model : MemoryModel here.tree) (name : Names) (m : Fr
 
   -- ---- what the machine finds
 
-  turn_is : operation_turn here.tree (mutator_in here model) (Resolved.NewObject number) m o statics printed ≡ as_turn (made here.tree (mutator_in here model) number.class slots (c, built) m o)
-  turn_is =
+  transition_is : operation_transition here.tree (mutator_in here model) (Resolved.NewObject number) m o statics printed ≡ as_transition (make_object here.tree (mutator_in here model) number.class slots (c, built) m o)
+  transition_is =
       new_does here.tree (mutator_in here model) m o statics printed number (c, built) (numbered_own here.tree legal c parameters number is) number.class slots (class_is_in here.tree legal c parameters number is)
       (slots_are_at here.tree legal c parameters number is)
 
@@ -153,35 +153,35 @@ module _ (here : Setting) (model : MemoryModel here.tree) (name : Names) (m : Fr
   }
 
   -- a thread of this phase can bear
-  bears_alike : (go : Objects × Option Addr → ObjectTurn) (e : StateEffect) → Alike (go (object_born model.phase o (Instance number.class) slots)) e → Alike (bears model.phase o (Instance number.class) slots go) e
+  bears_alike : (go : Objects × Option Addr → ObjectTransition) (e : StateEffect) → Alike (go (object_born model.phase o (Instance number.class) slots)) e → Alike (bears model.phase o (Instance number.class) slots go) e
   bears_alike go e h = subst (λ b. Alike (if b then go (object_born model.phase o (Instance number.class) slots) else None) e) (sym (model.bears name o statics s at.memory.fits)) h
 
   -- an object that was born
-  birth_of : (born : Objects) (a : Addr) → object_born model.phase o (Instance number.class) slots ≡ (born, Some a) → IsBirth model.Fits name statics s contents born a
-  birth_of born a e =
-      model.births name o statics s at.memory.fits (Instance number.class) slots contents (new_instance_stands here.tree c number.class (class_named here.tree legal c parameters number is)) born a e
+  birth_of : (birth_transition : Objects) (a : Addr) → object_born model.phase o (Instance number.class) slots ≡ (birth_transition, Some a) → IsBirth model.Fits name statics s contents birth_transition a
+  birth_of birth_transition a e =
+      model.births name o statics s at.memory.fits (Instance number.class) slots contents (new_instance_stands here.tree c number.class (class_named here.tree legal c parameters number is)) birth_transition a e
 
   -- ---- a constructor that is built in
 
   abbrev pushed : ObjectName → State → StateEffect
   pushed n s' = state_onward f below s' (Reference n ∷ f.stack)
 
-  plain_born : (born : Objects) (a : Addr) → object_born model.phase o (Instance number.class) slots ≡ (born, Some a) → Alike (born_turn m (born, Some a)) (state_birth here s f below contents pushed)
-  plain_born born a e =
-      let birth : IsBirth model.Fits name statics s contents born a = birth_of born a e in
-      let answer : Answer = (answer_of (with_place (with_stack m (Ref a ∷ m.running.stack)) (m.running.place + 1)) born statics printed (Comes GoesOn)) in
+  plain_born : (birth_transition : Objects) (a : Addr) → object_born model.phase o (Instance number.class) slots ≡ (birth_transition, Some a) → Alike (born_transition m (birth_transition, Some a)) (state_birth here s f below contents pushed)
+  plain_born birth_transition a e =
+      let birth : IsBirth model.Fits name statics s contents birth_transition a = birth_of birth_transition a e in
+      let answer : Answer = (answer_of (with_pc (with_stack m (Ref a ∷ m.running.stack)) (m.running.pc + 1)) birth_transition statics printed (Comes Continues)) in
       record {
         answer = answer;
-        is = ap (λ turn. as_turn (beside born turn)) (leaves_is here model name m o statics printed s f below (Named.NewObject c parameters) (Resolved.NewObject number) at (Ref a) m.running.stack (omega arith));
+        is = ap (λ transition. as_transition (beside birth_transition transition)) (leaves_is here model name m o statics printed s f below (Named.NewObject c parameters) (Resolved.NewObject number) at (Ref a) m.running.stack (omega arith));
         refuses = λ _ h. never h;
         alike = λ r. subst (λ e'. GoesAlike here model name m o statics printed s f below answer e') (sym (birth_goes here s f below contents pushed r))
-            (onward_alike here model name m o statics printed s f below (Named.NewObject c parameters) (Resolved.NewObject number) at birth.names birth.extends born statics printed (with_state_birth s contents) refl
-            (memory_after here model name o statics printed s at.memory contents born a birth) (Ref a ∷ m.running.stack) (Reference (next_name s) ∷ f.stack)
+            (onward_alike here model name m o statics printed s f below (Named.NewObject c parameters) (Resolved.NewObject number) at birth.names birth.extends birth_transition statics printed (with_state_birth s contents) refl
+            (memory_after here model name o statics printed s at.memory contents birth_transition a birth) (Ref a ∷ m.running.stack) (Reference (next_name s) ∷ f.stack)
             (reference a (next_name s) birth.named, values_extend name birth.names birth.extends m.running.stack f.stack (own_frame here model name m o statics printed s f below (Named.NewObject c parameters) (Resolved.NewObject number) at).stack));
       }
 
-  plain_alike : Alike (new_plain_object_turn model.phase number.class slots m o) (state_birth here s f below contents pushed)
-  plain_alike = bears_alike (born_turn m) (state_birth here s f below contents pushed) (by_birth here.tree model name o statics s at.memory.fits (Instance number.class) slots (λ w. Alike (born_turn m w) (state_birth here s f below contents pushed)) (refused pushed (λ r. (after f (Reference (next_name s) ∷ f.stack), below, refl))) plain_born)
+  plain_alike : Alike (new_plain_object_transition model.phase number.class slots m o) (state_birth here s f below contents pushed)
+  plain_alike = bears_alike (born_transition m) (state_birth here s f below contents pushed) (by_birth here.tree model name o statics s at.memory.fits (Instance number.class) slots (λ w. Alike (born_transition m w) (state_birth here s f below contents pushed)) (refused pushed (λ r. (after f (Reference (next_name s) ∷ f.stack), below, refl))) plain_born)
 
   -- ---- a constructor with code
 
@@ -189,22 +189,22 @@ module _ (here : Setting) (model : MemoryModel here.tree) (name : Names) (m : Fr
   entered_by n s' = frame_for here s f below c built (Reference n ∷ arguments) (Some n) s' rest
 
   module _ (deep : is_full m ≡ false) (typed_birth : IsTypedEffect here.tree (state_birth here s f below contents entered_by)) where
-    framed_born : (born : Objects) (a : Addr) → object_born model.phase o (Instance number.class) slots ≡ (born, Some a) →
-        Alike (constructs (called_as (c, built) (is_numbered here.tree legal c parameters number is).0) m (born, Some a)) (state_birth here s f below contents entered_by)
-    framed_born born a e =
+    framed_born : (birth_transition : Objects) (a : Addr) → object_born model.phase o (Instance number.class) slots ≡ (birth_transition, Some a) →
+        Alike (constructs (called_as (c, built) (is_numbered here.tree legal c parameters number is).0) m (birth_transition, Some a)) (state_birth here s f below contents entered_by)
+    framed_born birth_transition a e =
         record {
           answer = answer;
-          is = ap (λ turn. as_turn (beside born turn)) (constructs_is here model name m o statics printed s f below c parameters number is at enough deep a);
+          is = ap (λ transition. as_transition (beside birth_transition transition)) (constructs_is here model name m o statics printed s f below c parameters number is at enough deep a);
           refuses = λ _ h. never h;
           alike = λ r. subst (λ e'. GoesAlike here model name m o statics printed s f below answer e') (sym (birth_goes here s f below contents entered_by r))
               (by_code (code_of built.kind) refl (subst (IsTypedEffect here.tree) (birth_goes here s f below contents entered_by r) typed_birth));
         }
       where
-        birth : IsBirth model.Fits name statics s contents born a
-        birth = birth_of born a e
+        birth : IsBirth model.Fits name statics s contents birth_transition a
+        birth = birth_of birth_transition a e
 
         answer : Answer
-        answer = (answer_of (frames_in here model name m o statics printed s f below c parameters number is at enough deep a) born statics printed (Comes GoesOn))
+        answer = (answer_of (frames_in here model name m o statics printed s f below c parameters number is at enough deep a) birth_transition statics printed (Comes Continues))
 
         waiting : List StateFrame
         waiting = after f rest ∷ below
@@ -221,8 +221,8 @@ module _ (here : Setting) (model : MemoryModel here.tree) (name : Names) (m : Fr
           names = birth.names;
           extends = birth.extends;
           others = refl;
-          frames = frames_stand here model name m o statics printed s f below c parameters number is at enough deep a contents born birth code has;
-          memory = memory_after here model name o statics printed s at.memory contents born a birth;
+          frames = frames_stand here model name m o statics printed s f below c parameters number is at enough deep a contents birth_transition birth code has;
+          memory = memory_after here model name o statics printed s at.memory contents birth_transition a birth;
         }
 
     enters : here.is_refused ≡ false → Enters (entered_by (next_name s) (with_state_birth s contents))
@@ -251,28 +251,28 @@ module _ (here : Setting) (model : MemoryModel here.tree) (name : Names) (m : Fr
 
   -- in the method of its number
   by_number : IsTypedEffect here.tree (if is_too_deep here s f below then StateRaises StackOverflow else state_birth here s f below contents entered_by) →
-      Alike (given (number_of here.tree (c, built)) (λ n. new_object_turn model.phase number.class slots (called_as (c, built) n) m o)) (if is_too_deep here s f below then StateRaises StackOverflow else state_birth here s f below contents entered_by)
+      Alike (given (number_of here.tree (c, built)) (λ n. new_object_transition model.phase number.class slots (called_as (c, built) n) m o)) (if is_too_deep here s f below then StateRaises StackOverflow else state_birth here s f below contents entered_by)
   by_number t =
       let framed : Bool → StateEffect = λ b. if b then StateRaises StackOverflow else state_birth here s f below contents entered_by in
       let same : is_full m ≡ is_too_deep here s f below = depth_is here model name m o statics printed s f below c parameters number is at in
       let own = is_numbered here.tree legal c parameters number is in
-      subst (λ x. Alike (given x (λ n. new_object_turn model.phase number.class slots (called_as (c, built) n) m o)) (framed (is_too_deep here s f below))) (sym own.1)
-      (subst (λ b. Alike (new_object_turn model.phase number.class slots (called_as (c, built) own.0) m o) (framed b)) same
+      subst (λ x. Alike (given x (λ n. new_object_transition model.phase number.class slots (called_as (c, built) n) m o)) (framed (is_too_deep here s f below))) (sym own.1)
+      (subst (λ b. Alike (new_object_transition model.phase number.class slots (called_as (c, built) own.0) m o) (framed b)) same
       (by_depth (is_full m) refl (subst (λ b. IsTypedEffect here.tree (framed b)) (sym same) t)))
 
   by_action : (x : Option Action) → action_of c built ≡ x →
       IsTypedEffect here.tree (if is_some x then state_birth here s f below contents (λ n s'. state_onward f below s' (Reference n ∷ rest))
       else if is_too_deep here s f below then StateRaises StackOverflow else state_birth here s f below contents entered_by) →
-      Alike (option_map_or (λ (a : Action). new_plain_object_turn model.phase number.class slots m o) x (given (number_of here.tree (c, built)) (λ n. new_object_turn model.phase number.class slots (called_as (c, built) n) m o)))
+      Alike (option_map_or (λ (a : Action). new_plain_object_transition model.phase number.class slots m o) x (given (number_of here.tree (c, built)) (λ n. new_object_transition model.phase number.class slots (called_as (c, built) n) m o)))
       (if is_some x then state_birth here s f below contents (λ n s'. state_onward f below s' (Reference n ∷ rest))
       else if is_too_deep here s f below then StateRaises StackOverflow else state_birth here s f below contents entered_by)
   by_action (Some a) acts t =
       let whole : rest ≡ f.stack = ap (λ n. drop n f.stack) (plain_has_none here.tree legal c parameters number is a acts) in
-      subst (λ us. Alike (new_plain_object_turn model.phase number.class slots m o) (state_birth here s f below contents (λ n s'. state_onward f below s' (Reference n ∷ us)))) (sym whole) plain_alike
+      subst (λ us. Alike (new_plain_object_transition model.phase number.class slots m o) (state_birth here s f below contents (λ n s'. state_onward f below s' (Reference n ∷ us)))) (sym whole) plain_alike
   by_action None acts t = by_number t
 
   -- newobj
-  pub new_object_alike : DoesAlike here model name m o statics printed s f below (operation_turn here.tree (mutator_in here model) (Resolved.NewObject number) m o statics printed) (execute here s f below (Named.NewObject c parameters))
+  pub new_object_alike : DoesAlike here model name m o statics printed s f below (operation_transition here.tree (mutator_in here model) (Resolved.NewObject number) m o statics printed) (execute here s f below (Named.NewObject c parameters))
   new_object_alike =
-      subst (λ turn. DoesAlike here model name m o statics printed s f below turn (execute here s f below (Named.NewObject c parameters))) (sym turn_is)
-      (subst (Alike (made here.tree (mutator_in here model) number.class slots (c, built) m o)) (sym executes) (by_action (action_of c built) refl typed))
+      subst (λ transition. DoesAlike here model name m o statics printed s f below transition (execute here s f below (Named.NewObject c parameters))) (sym transition_is)
+      (subst (Alike (make_object here.tree (mutator_in here model) number.class slots (c, built) m o)) (sym executes) (by_action (action_of c built) refl typed))

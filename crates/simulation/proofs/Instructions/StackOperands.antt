@@ -13,17 +13,17 @@ use Rattle.interpreter.specs.object_memory.declared.values.Value.{Value}
 use Rattle.interpreter.specs.object_memory.Objects.{Objects}
 use Rattle.interpreter.specs.threads_monitors.Frames.{Frames, with_stack}
 use Rattle.interpreter.specs.instructions.Frames.{top_of, with_top}
-use Rattle.interpreter.specs.Instructions.{MachineTurn}
+use Rattle.interpreter.specs.Instructions.{MachineTransition}
 use Rattle.simulation.specs.Agreement.{Agree}
-use Rattle.simulation.specs.StandsFor.{Names, IsValue}
+use Rattle.simulation.specs.Refines.{Names, IsValue}
 use Rattle.simulation.proofs.Instructions.Correspondence.{IsSetting, DoesAlike}
 use Rattle.simulation.proofs.Instructions.FrameProgress.{own_frame}
 use Rattle.simulation.proofs.Memory.MemoryModels.{MemoryModel}
 
 module _ (here : Setting) (model : MemoryModel here.tree) (name : Names) (m : Frames) (o : Objects) (statics : List Value) (printed : List ℕ) (s : State) (f : StateFrame) (below : List StateFrame) (i : Instruction) (operation : Operation)
     (at : IsSetting here model name m o statics printed s f below i operation) where
-  abbrev Alike : MachineTurn → StateEffect → Type 0
-  Alike turn e = DoesAlike here model name m o statics printed s f below turn e
+  abbrev Alike : MachineTransition → StateEffect → Type 0
+  Alike transition e = DoesAlike here model name m o statics printed s f below transition e
 
   abbrev Typed : StateEffect → Type 0
   Typed e = IsTypedEffect here.tree e
@@ -36,7 +36,7 @@ module _ (here : Setting) (model : MemoryModel here.tree) (name : Names) (m : Fr
   own_stack = (own_frame here model name m o statics printed s f below i operation at).stack
 
   -- one operand, with the stacks below it
-  pub one_operand : {R : Type 0} (lift : Option R → MachineTurn) (go : Value → Frames → Option R) (go' : StateValue → List StateValue → StateEffect) →
+  pub one_operand : {R : Type 0} (lift : Option R → MachineTransition) (go : Value → Frames → Option R) (go' : StateValue → List StateValue → StateEffect) →
       Typed (take_one Sticks f.stack go') →
       ((v : Value) (rest : List Value) (u : StateValue) (rest' : List StateValue) → m.running.stack ≡ v ∷ rest → f.stack ≡ u ∷ rest' → IsValue name v u → Agree (IsValue name) rest rest' → length rest ≤ length m.running.stack →
       Typed (go' u rest') → Alike (lift (go v (with_stack m rest))) (go' u rest')) →
@@ -50,7 +50,7 @@ module _ (here : Setting) (model : MemoryModel here.tree) (name : Names) (m : Fr
       by_stacks (v ∷ vs) [] is is' h t = elim h [ ]
 
   -- two, the second topmost
-  pub two_operands : {R : Type 0} (lift : Option R → MachineTurn) (go : Value → Value → Frames → Option R) (go' : StateValue → StateValue → List StateValue → StateEffect) →
+  pub two_operands : {R : Type 0} (lift : Option R → MachineTransition) (go : Value → Value → Frames → Option R) (go' : StateValue → StateValue → List StateValue → StateEffect) →
       Typed (take_two Sticks f.stack go') →
       ((v w : Value) (rest : List Value) (u x : StateValue) (rest' : List StateValue) → m.running.stack ≡ w ∷ v ∷ rest → f.stack ≡ x ∷ u ∷ rest' → IsValue name v u → IsValue name w x → Agree (IsValue name) rest rest' → length rest + 1 ≤ length m.running.stack →
       Typed (go' u x rest') → Alike (lift (go v w (with_stack m rest))) (go' u x rest')) →
@@ -68,7 +68,7 @@ module _ (here : Setting) (model : MemoryModel here.tree) (name : Names) (m : Fr
       by_stacks (w ∷ v ∷ vs) (u ∷ []) is is' h t = elim h.1 [ ]
 
   -- three, the third topmost
-  pub three_operands : {R : Type 0} (lift : Option R → MachineTurn) (go : Value → Value → Value → Frames → Option R) (go' : StateValue → StateValue → StateValue → List StateValue → StateEffect) →
+  pub three_operands : {R : Type 0} (lift : Option R → MachineTransition) (go : Value → Value → Value → Frames → Option R) (go' : StateValue → StateValue → StateValue → List StateValue → StateEffect) →
       Typed (take_three Sticks f.stack go') →
       ((a b c : Value) (rest : List Value) (p q r : StateValue) (rest' : List StateValue) → m.running.stack ≡ c ∷ b ∷ a ∷ rest → f.stack ≡ r ∷ q ∷ p ∷ rest' →
       IsValue name a p → IsValue name b q → IsValue name c r → Agree (IsValue name) rest rest' → length rest + 2 ≤ length m.running.stack →

@@ -32,22 +32,22 @@ use Rattle.interpreter.specs.resolved_code.declared.operations.Operation.TheVari
 use Rattle.interpreter.specs.object_memory.declared.values.Value.{Value}
 use Rattle.interpreter.specs.object_memory.Objects.{Objects}
 use Rattle.interpreter.specs.instructions.barriers.Barriers.{is_static_storable, stored_static}
-use Rattle.interpreter.specs.threads_monitors.Frames.{Frames, with_place, with_stack}
-use Rattle.interpreter.specs.threads_monitors.declared.effects.Effect.TheVariants.{GoesOn}
-use Rattle.interpreter.specs.instructions.Frames.{given, leaves, onward, Turn}
-use Rattle.interpreter.specs.instructions.ObjectTurns.{load_static_turn, store_static_turn, StaticTurn, beside_statics}
+use Rattle.interpreter.specs.threads_monitors.Frames.{Frames, with_pc, with_stack}
+use Rattle.interpreter.specs.threads_monitors.declared.effects.Effect.TheVariants.{Continues}
+use Rattle.interpreter.specs.instructions.Frames.{given, value_pushed, onward, Transition}
+use Rattle.interpreter.specs.instructions.ObjectTransitions.{load_static_transition, store_static_transition, StaticTransition, beside_statics}
 use Rattle.interpreter.specs.declared.outcomes.Outcome.TheVariants.{Comes}
 use Rattle.interpreter.specs.loaded_program.declared.instructions.LinkedInstruction.TheVariants as Linked
-use Rattle.interpreter.specs.Instructions.{operation_turn, of_statics, answer_of, of_frames}
+use Rattle.interpreter.specs.Instructions.{operation_transition, of_statics, answer_of, of_frames}
 use Rattle.interpreter.proofs.Linking.{link_does}
 use Rattle.interpreter.specs.loaded_program.Operands.{small, static_in, static_at}
 use Rattle.simulation.specs.Agreement.{Agree}
-use Rattle.simulation.specs.StandsFor.{Names, IsValue}
+use Rattle.simulation.specs.Refines.{Names, IsValue}
 use Rattle.simulation.proofs.ListLaws.AgreeingLists.{agree_get, agree_set}
 use Rattle.simulation.proofs.Instructions.FrameProgress.{own_frame, leaves_is, onward_is, next_alike, onward_alike}
 use Rattle.simulation.proofs.Instructions.Correspondence.{IsSetting, DoesAlike}
 use Rattle.simulation.proofs.Instructions.StackOperands.{fine, one_operand}
-use Rattle.simulation.proofs.Instructions.ObjectInstructionParts.{alike_turn, given_alike, known_alike}
+use Rattle.simulation.proofs.Instructions.ObjectInstructionParts.{alike_transition, given_alike, known_alike}
 use Rattle.simulation.proofs.Memory.FieldPositions.{IsPlaced, placed, key_there, replaced_is}
 use Rattle.simulation.proofs.Memory.MemoryModels.{MemoryModel, IsModelled, mutator_in}
 
@@ -82,55 +82,55 @@ module _ (here : Setting) (model : MemoryModel here.tree) (name : Names) (m : Fr
     abbrev key : FieldKey
     key = key_of (is.declared_in, is.found)
 
-    place : IsPlaced key (static_fields here.tree) s.statics
-    place = placed here.tree s key (static_fields here.tree) [] s.statics (subst (λ fs. HaveFieldTypes here.tree s s.statics fs) (sym (append-nil (static_fields here.tree))) at.running.typed.statics)
+    field_index : IsPlaced key (static_fields here.tree) s.statics
+    field_index = placed here.tree s key (static_fields here.tree) [] s.statics (subst (λ fs. HaveFieldTypes here.tree s s.statics fs) (sym (append-nil (static_fields here.tree))) at.running.typed.statics)
         (key_there key r.field_type (static_fields here.tree) (static_field_there here.tree at.running.accepted.legal r is.declared_in is.found is.finds))
 
-    -- the place of the entry is the number that the machine computes
-    number_is : static_at here.tree field ≡ Some place.place
+    -- the index of the entry is the number that the machine computes
+    number_is : static_at here.tree field ≡ Some field_index.index
     number_is =
-        let slot : static_slot here.tree key ≡ Some place.place = (let e : 0 + place.place ≡ place.place = omega arith in place.position 0 ∙ ap Some e) in
+        let slot : static_slot here.tree key ≡ Some field_index.index = (let e : 0 + field_index.index ≡ field_index.index = omega arith in field_index.position 0 ∙ ap Some e) in
         ap (option_and_then (static_in here.tree)) is.numbered ∙ ap (λ b. if b then option_and_then small (static_slot here.tree key) else None) (found_flag here.tree true r is.declared_in is.found is.finds) ∙
-        ap (option_and_then small) slot ∙ is_small place.place (static_slot_small here.tree at.running.accepted.legal key place.place slot)
+        ap (option_and_then small) slot ∙ is_small field_index.index (static_slot_small here.tree at.running.accepted.legal key field_index.index slot)
 
     -- the machine holds the same value there
-    held : (v : Value) × (slice_get statics place.place ≡ Some v) × IsValue name v place.entry.1
-    held = agree_get HoldsStatic statics s.statics (model.statics name o statics s at.memory.fits) place.place place.entry place.there
+    held : (v : Value) × (slice_get statics field_index.index ≡ Some v) × IsValue name v field_index.entry.1
+    held = agree_get HoldsStatic statics s.statics (model.statics name o statics s at.memory.fits) field_index.index field_index.entry field_index.there
 
   -- ---- ldsfld
 
   module _ (r : FieldReference) (field : MemberNumber) (is : IsField here.tree true r field) (at : IsSetting here model name m o statics printed s f below (Named.LoadStaticField r) (Resolved.LoadStaticField field)) where
     -- the transition, by the number of the field
-    abbrev loads : ℕ → Turn
-    loads n = load_static_turn n m statics
+    abbrev loads : ℕ → Transition
+    loads n = load_static_transition n m statics
 
     -- once the value is found
     load_after : (n : ℕ) (v : Value) (u : StateValue) → slice_get statics n ≡ Some v → IsValue name v u → DoesAlike here model name m o statics printed s f below (of_frames o statics printed (loads n)) (next here s f below (u ∷ f.stack))
     load_after n v u there stands = record {
-      answer = answer_of (with_place (with_stack m (v ∷ m.running.stack)) (m.running.place + 1)) o statics printed (Comes GoesOn);
-      is = ap (λ x. of_frames o statics printed (given x (λ w. leaves w m))) there ∙
+      answer = answer_of (with_pc (with_stack m (v ∷ m.running.stack)) (m.running.pc + 1)) o statics printed (Comes Continues);
+      is = ap (λ x. of_frames o statics printed (given x (λ w. value_pushed w m))) there ∙
           ap (of_frames o statics printed) (leaves_is here model name m o statics printed s f below (Named.LoadStaticField r) (Resolved.LoadStaticField field) at v m.running.stack (omega arith));
       refuses = λ _ h. never h;
       alike = λ refused. next_alike here model name m o statics printed s f below (Named.LoadStaticField r) (Resolved.LoadStaticField field) at (v ∷ m.running.stack) (u ∷ f.stack) (stands, (own_frame here model name m o statics printed s f below (Named.LoadStaticField r) (Resolved.LoadStaticField field) at).stack);
     }
 
     -- the whole instruction
-    pub load_static_field_alike : DoesAlike here model name m o statics printed s f below (operation_turn here.tree (mutator_in here model) (Resolved.LoadStaticField field) m o statics printed) (execute here s f below (Named.LoadStaticField r))
+    pub load_static_field_alike : DoesAlike here model name m o statics printed s f below (operation_transition here.tree (mutator_in here model) (Resolved.LoadStaticField field) m o statics printed) (execute here s f below (Named.LoadStaticField r))
     load_static_field_alike =
-        let own = place (Named.LoadStaticField r) (Resolved.LoadStaticField field) at r field is in
+        let own = field_index (Named.LoadStaticField r) (Resolved.LoadStaticField field) at r field is in
         let there = held (Named.LoadStaticField r) (Resolved.LoadStaticField field) at r field is in
-        alike_turn here model name m o statics printed s f below (Named.LoadStaticField r) (Resolved.LoadStaticField field) at _ (of_frames o statics printed (loads own.place)) _
-        (link_does here.tree (mutator_in here model) m o statics printed (Resolved.LoadStaticField field) (Linked.LoadStaticField own.place) (ap (option_map (λ n. Linked.LoadStaticField n)) (number_is (Named.LoadStaticField r) (Resolved.LoadStaticField field) at r field is)))
+        alike_transition here model name m o statics printed s f below (Named.LoadStaticField r) (Resolved.LoadStaticField field) at _ (of_frames o statics printed (loads own.index)) _
+        (link_does here.tree (mutator_in here model) m o statics printed (Resolved.LoadStaticField field) (Linked.LoadStaticField own.index) (ap (option_map (λ n. Linked.LoadStaticField n)) (number_is (Named.LoadStaticField r) (Resolved.LoadStaticField field) at r field is)))
         (known_alike here model name m o statics printed s f below (Named.LoadStaticField r) (Resolved.LoadStaticField field) at _ (find_field here.tree true r) (is.declared_in, is.found) is.finds _
         (fine here model name m o statics printed s f below (Named.LoadStaticField r) (Resolved.LoadStaticField field) at) (λ typed.
         known_alike here model name m o statics printed s f below (Named.LoadStaticField r) (Resolved.LoadStaticField field) at _ (entry_at same_key (key_of (is.declared_in, is.found)) s.statics) own.entry.1 own.found _ typed (λ typed'.
-        load_after own.place there.0 own.entry.1 there.1 there.2)))
+        load_after own.index there.0 own.entry.1 there.1 there.2)))
 
   -- ---- stsfld
 
   module _ (r : FieldReference) (field : MemberNumber) (is : IsField here.tree true r field) (at : IsSetting here model name m o statics printed s f below (Named.StoreStaticField r) (Resolved.StoreStaticField field)) where
     -- the transition, by the number of the field
-    abbrev stores : ℕ → Value → Frames → StaticTurn
+    abbrev stores : ℕ → Value → Frames → StaticTransition
     stores n v k = if nat_lt n (length statics) && is_static_storable model.phase o v then beside_statics (stored_static model.phase o statics n v) (onward k) else None
 
     -- the number is one of the static fields
@@ -141,7 +141,7 @@ module _ (here : Setting) (model : MemoryModel here.tree) (name : Names) (m : Fr
     store_after : (n : ℕ) (v : Value) (u : StateValue) → IsValue name v u → (entries : List (FieldKey × StateValue)) → n < length statics → Agree HoldsStatic (slice_set statics n v) entries → (rest : List Value) (rest' : List StateValue) → Agree (IsValue name) rest rest' →
         DoesAlike here model name m o statics printed s f below (of_statics o statics printed (stores n v (with_stack m rest))) (onward_frame f below (record s { statics = entries }) rest')
     store_after n v u is entries near agree rest rest' k = record {
-      answer = answer_of (with_place (with_stack m rest) (m.running.place + 1)) memory_after.0 memory_after.1 printed (Comes GoesOn);
+      answer = answer_of (with_pc (with_stack m rest) (m.running.pc + 1)) memory_after.0 memory_after.1 printed (Comes Continues);
       is = ap (λ b. of_statics o statics printed (if b then beside_statics memory_after (onward (with_stack m rest)) else None))
           (and_from (nat_lt n (length statics)) (is_static_storable model.phase o v) (inside n near) (model.static_storable name o statics s at.memory.fits v u is)) ∙
           ap (λ x. of_statics o statics printed (beside_statics memory_after x)) (onward_is here model name m o statics printed s f below (Named.StoreStaticField r) (Resolved.StoreStaticField field) at rest);
@@ -156,19 +156,19 @@ module _ (here : Setting) (model : MemoryModel here.tree) (name : Names) (m : Fr
         memory = record { fits = model.static_stores name o statics s at.memory.fits n v u near is entries agree; printed_is = at.memory.printed_is }
 
     -- the whole instruction
-    pub store_static_field_alike : DoesAlike here model name m o statics printed s f below (operation_turn here.tree (mutator_in here model) (Resolved.StoreStaticField field) m o statics printed) (execute here s f below (Named.StoreStaticField r))
+    pub store_static_field_alike : DoesAlike here model name m o statics printed s f below (operation_transition here.tree (mutator_in here model) (Resolved.StoreStaticField field) m o statics printed) (execute here s f below (Named.StoreStaticField r))
     store_static_field_alike =
-        let own = place (Named.StoreStaticField r) (Resolved.StoreStaticField field) at r field is in
+        let own = field_index (Named.StoreStaticField r) (Resolved.StoreStaticField field) at r field is in
         let there = held (Named.StoreStaticField r) (Resolved.StoreStaticField field) at r field is in
         let key' : FieldKey = key_of (is.declared_in, is.found) in
-        alike_turn here model name m o statics printed s f below (Named.StoreStaticField r) (Resolved.StoreStaticField field) at _ (of_statics o statics printed (store_static_turn model.phase own.place m o statics)) _
-        (link_does here.tree (mutator_in here model) m o statics printed (Resolved.StoreStaticField field) (Linked.StoreStaticField own.place) (ap (option_map (λ n. Linked.StoreStaticField n)) (number_is (Named.StoreStaticField r) (Resolved.StoreStaticField field) at r field is)))
-        (one_operand here model name m o statics printed s f below (Named.StoreStaticField r) (Resolved.StoreStaticField field) at (of_statics o statics printed) (stores own.place)
+        alike_transition here model name m o statics printed s f below (Named.StoreStaticField r) (Resolved.StoreStaticField field) at _ (of_statics o statics printed (store_static_transition model.phase own.index m o statics)) _
+        (link_does here.tree (mutator_in here model) m o statics printed (Resolved.StoreStaticField field) (Linked.StoreStaticField own.index) (ap (option_map (λ n. Linked.StoreStaticField n)) (number_is (Named.StoreStaticField r) (Resolved.StoreStaticField field) at r field is)))
+        (one_operand here model name m o statics printed s f below (Named.StoreStaticField r) (Resolved.StoreStaticField field) at (of_statics o statics printed) (stores own.index)
         (λ v rest. state_given (find_field here.tree true r) (λ found. state_given (replaced_entry (key_of found) v s.statics) (λ entries. onward_frame f below (record s { statics = entries }) rest)))
         (fine here model name m o statics printed s f below (Named.StoreStaticField r) (Resolved.StoreStaticField field) at)
         (λ v rest u rest' is' is'' stands k shorter typed.
         known_alike here model name m o statics printed s f below (Named.StoreStaticField r) (Resolved.StoreStaticField field) at _ (find_field here.tree true r) (is.declared_in, is.found) is.finds _ typed (λ typed'.
         given_alike here model name m o statics printed s f below (Named.StoreStaticField r) (Resolved.StoreStaticField field) at _ (replaced_entry key' u s.statics) _ typed' (λ entries replaced typed''.
-        store_after own.place v u stands entries (slice_get_within statics own.place there.0 there.1)
-        (subst (λ es. Agree HoldsStatic (slice_set statics own.place v) es) (sym (replaced_is key' u s.statics entries replaced ∙ own.changed u)) (agree_set HoldsStatic statics s.statics (model.statics name o statics s at.memory.fits) own.place v (own.entry.0, u) stands))
+        store_after own.index v u stands entries (slice_get_within statics own.index there.0 there.1)
+        (subst (λ es. Agree HoldsStatic (slice_set statics own.index v) es) (sym (replaced_is key' u s.statics entries replaced ∙ own.changed u)) (agree_set HoldsStatic statics s.statics (model.statics name o statics s at.memory.fits) own.index v (own.entry.0, u) stands))
         rest rest' k))))

@@ -20,7 +20,7 @@ use Rattle.interpreter.specs.object_memory.Cells.{null}
 use Rattle.interpreter.specs.object_memory.Objects.{Objects}
 use Rattle.interpreter.specs.instructions.barriers.Barriers.{are_comparable}
 use Rattle.interpreter.specs.instructions.Frames.{binary_result, unary_result, shift_result, comparison, branch_test, one_or_zero, is_set, in_32_bits, in_64_bits}
-use Rattle.simulation.specs.StandsFor.{Names, IsValue, int32, int64, native, null_reference, reference}
+use Rattle.simulation.specs.Refines.{Names, IsValue, int32, int64, native, null_reference, reference}
 use Rattle.simulation.proofs.Instructions.IntegerRanges.{FitsResult, binary_fits, unary_fits, shift_fits, cast_fits, widened_fits}
 use Rattle.simulation.proofs.Instructions.MatchingResults.{Meets, IsResult, Same, meets_itself}
 use Rattle.simulation.proofs.Memory.NamedAddresses.{named_is_not_null}

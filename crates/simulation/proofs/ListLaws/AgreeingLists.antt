@@ -16,7 +16,7 @@ module _ {A B : Type 0} (R : A → B → Type 0) where
 
   -- ---- elements
 
-  -- an element of the second is at the same place of the first
+  -- an element of the second is at the same index of the first
   pub agree_get : (xs : List A) (ys : List B) → Agree R xs ys → (n : ℕ) (y : B) → slice_get ys n ≡ Some y → (x : A) × (slice_get xs n ≡ Some x) × R x y
   agree_get [] [] h n y is = none_is_some y is
   agree_get (x ∷ xs) (z ∷ zs) h zero y is = (x, refl, subst (λ w. R x w) (same_Some z y is) h.0)
@@ -40,7 +40,7 @@ module _ {A B : Type 0} (R : A → B → Type 0) where
   agree_beyond [] (y ∷ ys) h n is = elim h [ ]
   agree_beyond (x ∷ xs) [] h n is = elim h [ ]
 
-  -- other elements that agree, at one place
+  -- other elements that agree, at one index
   pub agree_set : (xs : List A) (ys : List B) → Agree R xs ys → (n : ℕ) (x : A) (y : B) → R x y → Agree R (slice_set xs n x) (slice_set ys n y)
   agree_set [] [] h n x y r = h
   agree_set (z ∷ zs) (w ∷ ws) h zero x y r = (r, h.1)
@@ -92,7 +92,7 @@ agree_map R S f g k (x ∷ xs) (y ∷ ys) h = (k x y h.0, agree_map R S f g k xs
 agree_map R S f g k [] (y ∷ ys) h = elim h [ ]
 agree_map R S f g k (x ∷ xs) [] h = elim h [ ]
 
--- another element at a place that is in each relation that the one before is in
+-- another element at an index that is in each relation that the one before is in
 pub agree_changed : {A B : Type 0} (R : A → B → Type 0) (xs : List A) (ys : List B) (t : ℕ) (x z : A) → slice_get xs t ≡ Some x → ((y : B) → R x y → R z y) → Agree R xs ys → Agree R (slice_set xs t z) ys
 agree_changed R [] [] t x z is f h = h
 agree_changed R (w ∷ xs) (y ∷ ys) zero x z is f h = (f y (subst (λ k. R k y) (same_Some w x is) h.0), h.1)

@@ -13,7 +13,7 @@ use Rattle.interpreter.proofs.cil_model.SameLaws.{both_first, both_second}
 
 -- ---- tests
 
--- what all items pass, the one at a place passes
+-- what all items pass, the one at an index passes
 pub item_passes : {X : Type 0} (test : X → Bool) (xs : List X) (n : ℕ) (x : X) → IsTrue (list_all test xs) → slice_get xs n ≡ Some x → IsTrue (test x)
 item_passes test [] n x all e = none_is_some x e
 item_passes test (y ∷ ys) zero x all e = subst (λ z. IsTrue (test z)) (same_Some y x e) (both_first _ _ all)
@@ -39,7 +39,7 @@ all_of_parts test also f each (x ∷ xs) all = list_all-append also (f x) (flat_
 
 -- ---- lengths
 
--- a place that is found is one of the list
+-- an index that is found is one of the list
 pub found_within : {X : Type 0} (test : X → Bool) (first : ℕ) (xs : List X) (n : ℕ) → position_from test first xs ≡ Some n → n < first + length xs
 found_within test first [] n e = none_is_some n e
 found_within test first (x ∷ xs) n e = by_test (test x) e (found_within test (first + 1) xs n)

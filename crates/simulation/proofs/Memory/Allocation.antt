@@ -12,7 +12,7 @@ use Rattle.interpreter.specs.object_memory.declared.values.Value.{Value}
 use Rattle.interpreter.specs.object_memory.Objects.{Objects}
 use Rattle.interpreter.specs.object_memory.Spaces.{room_for}
 use Rattle.interpreter.specs.instructions.barriers.Barriers.{object_born}
-use Rattle.simulation.specs.StandsFor.{Names}
+use Rattle.simulation.specs.Refines.{Names}
 use Rattle.simulation.proofs.Memory.MemoryModels.{MemoryModel, IsModelled, IsBirth}
 
 -- a birth is refused beyond the room, and nothing is changed, or an object lies at an address

@@ -11,7 +11,7 @@ use Rattle.interpreter.specs.reference_machine.Values.{Value as StateValue}
 use Rattle.interpreter.specs.object_memory.declared.kinds.Kind.{Kind}
 use Rattle.interpreter.specs.object_memory.declared.kinds.Kind.TheVariants.{Instance, Array}
 use Rattle.interpreter.specs.object_memory.Cells.{Cell, size}
-use Rattle.simulation.specs.StandsFor.{Names, IsCell, IsOfContents, IsWord, thread_word}
+use Rattle.simulation.specs.Refines.{Names, IsCell, IsOfContents, IsWord, thread_word}
 use Rattle.simulation.proofs.ListLaws.AgreeingLists.{agree_length}
 use Rattle.interpreter.proofs.cil_model.Lists.{none_is_some}
 
@@ -35,7 +35,7 @@ contents_size tree name (Array e) slots (IsInstance c fields) thread h = elim h 
 pub cell_size : (tree : Tree) (name : Names) (cell : Cell) (object : HeapObject) → IsCell tree name cell object → size cell ≡ cell_words tree object.contents
 cell_size tree name cell object h = contents_size tree name cell.kind cell.slots object.contents object.thread h.contents
 
--- the words of all, where one object is in the place of another with the same number
+-- the words of all, where one object is in place of another with the same number
 pub words_stay : (tree : Tree) (objects : List HeapObject) (n : ℕ) (old new : HeapObject) → slice_get objects n ≡ Some old → cell_words tree new.contents ≡ cell_words tree old.contents →
     words_of_all tree (slice_set objects n new) ≡ words_of_all tree objects
 words_stay tree [] n old new is same = none_is_some old is

@@ -15,8 +15,8 @@ use Rattle.interpreter.specs.object_memory.declared.kinds.Kind.{Kind}
 use Rattle.interpreter.specs.object_memory.declared.kinds.Kind.TheVariants.{Instance, Array}
 use Rattle.interpreter.specs.object_memory.Cells.{Cell}
 use Rattle.interpreter.specs.object_memory.Objects.{Objects, object_cell}
-use Rattle.interpreter.specs.Calls.{class_of_kind, class_at, chosen_by, chosen}
-use Rattle.simulation.specs.StandsFor.{Names, IsOfContents, IsBornAt, IsLiteralAt}
+use Rattle.interpreter.specs.Calls.{class_of_kind, class_at, chosen_by, chosen_method}
+use Rattle.simulation.specs.Refines.{Names, IsOfContents, IsBornAt, IsLiteralAt}
 use Rattle.simulation.proofs.Memory.MemoryModels.{IsReadable}
 
 -- ---- the class of an object
@@ -65,7 +65,7 @@ module _ (tree : Tree) (name : Names) (o : Objects) (s : State) (heap : IsReadab
       (Some 1, ap (λ l. option_map_or (λ k. Some (Some 1)) l (option_map (λ (c : Cell). class_of_kind c.kind) (object_cell o a))) at.numbered, refl)
 
   -- the method that is chosen for the address is the one that runs for the object
-  pub chosen_is : (found : ClassName × Method) (a : Addr) (n : ObjectName) → name a.number ≡ Some n → chosen tree o a found ≡ method_by tree found (class_of s n)
+  pub chosen_is : (found : ClassName × Method) (a : Addr) (n : ObjectName) → name a.number ≡ Some n → chosen_method tree o a found ≡ method_by tree found (class_of s n)
   chosen_is found a n is =
       let class = class_at_named a n is in
       ap (option_and_then (chosen_by tree found)) class.1 ∙ chosen_by_is tree found class.0 (class_of s n) class.2

@@ -29,12 +29,12 @@ position_there k (f ∷ fs) h = by_test (has_key k f) refl h (position_there k f
 
 -- an entry of typed fields at the position that its key has among the first ones
 pub record IsPlaced (k : FieldKey) (fs : List (FieldKey × DeclaredType)) (es : List (FieldKey × StateValue)) : Type 0 where
-  pub place : ℕ
-  pub position : (i : ℕ) → position_from (has_key k) i fs ≡ Some (i + place)
+  pub index : ℕ
+  pub position : (i : ℕ) → position_from (has_key k) i fs ≡ Some (i + index)
   pub entry : FieldKey × StateValue
-  pub there : slice_get es place ≡ Some entry
+  pub there : slice_get es index ≡ Some entry
   pub found : entry_at same_key k es ≡ Some entry.1
-  pub changed : (v : StateValue) → with_entry same_key k v es ≡ slice_set es place (entry.0, v)
+  pub changed : (v : StateValue) → with_entry same_key k v es ≡ slice_set es index (entry.0, v)
 
 -- each key of the first ones has such an entry
 pub placed : (tree : Tree) (s : State) (k : FieldKey) (fs more : List (FieldKey × DeclaredType)) (es : List (FieldKey × StateValue)) → HaveFieldTypes tree s es (fs ++ more) → IsTrue (list_any (has_key k) fs) → IsPlaced k fs es
@@ -46,7 +46,7 @@ placed tree s k (f ∷ fs) more (e ∷ es) h is = by_test (has_key k f) refl is 
     by_test true test here later =
         let own : same_key e.0 k ≡ true = ap (λ x. same_key x k) h.0 ∙ test in
         record {
-          place = 0;
+          index = 0;
           position = λ i. (let e' : i ≡ i + 0 = omega arith in ap (λ b. cond b (Some i) (position_from (has_key k) (i + 1) fs)) test ∙ ap Some e');
           entry = e;
           there = refl;
@@ -57,8 +57,8 @@ placed tree s k (f ∷ fs) more (e ∷ es) h is = by_test (has_key k f) refl is 
         let own : same_key e.0 k ≡ false = ap (λ x. same_key x k) h.0 ∙ test in
         let further = later there in
         record {
-          place = suc further.place;
-          position = λ i. (let e' : i + 1 + further.place ≡ i + suc further.place = omega arith in ap (λ b. cond b (Some i) (position_from (has_key k) (i + 1) fs)) test ∙ further.position (i + 1) ∙ ap Some e');
+          index = suc further.index;
+          position = λ i. (let e' : i + 1 + further.index ≡ i + suc further.index = omega arith in ap (λ b. cond b (Some i) (position_from (has_key k) (i + 1) fs)) test ∙ further.position (i + 1) ∙ ap Some e');
           entry = further.entry;
           there = further.there;
           found = if_false (same_key e.0 k) (Some e.1) (entry_at same_key k es) own ∙ further.found;

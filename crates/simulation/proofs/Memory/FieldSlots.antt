@@ -35,7 +35,7 @@ use Rattle.simulation.proofs.Instructions.StaticFields.{is_small, asked, found_i
 -- ---- slots after a hidden one, or none
 
 module _ (x p : ℕ) (words : List ℕ) where
-  -- what the place of a field holds
+  -- what the slot of a field holds
   pub slot_get : (a b : Bool) → a ≡ b → slice_get ((if a then x ∷ [] else []) ++ words) (length {A = Option DeclaredType} (if b then None ∷ [] else []) + p) ≡ slice_get words p
   slot_get true true e = let further : 1 + p ≡ suc p = omega arith in ap (slice_get (x ∷ words)) further
   slot_get false false e = let same : 0 + p ≡ p = omega arith in ap (slice_get words) same
@@ -49,7 +49,7 @@ module _ (x p : ℕ) (words : List ℕ) where
   slot_set w true false e = absurd cc
   slot_set w false true e = absurd cc
 
--- the class of a numbered field has that number
+-- the class of a resolved field has that number
 class_of_field : (tree : Tree) (n p : ℕ) (d : ClassName) (g : Field) → field_at tree (n, p) ≡ Some (d, g) → class_name tree n ≡ Some d
 class_of_field tree n p d g is = by_entry (slice_get (declarations tree) n) is
   where
@@ -81,7 +81,7 @@ module _ (tree : Tree) (legal : IsLegal tree) (r : FieldReference) (field : Memb
   among : IsTrue (list_any (has_key key) (instance_fields tree is.declared_in))
   among = among_own tree is.declared_in (asked false r) is.found found.0 (subst (λ b. IsTrue (same_flag b false)) (sym no_static) refl)
 
-  -- the place of its key
+  -- the index of its key
   pub position : (p : ℕ) × ((i : ℕ) → position_from (has_key key) i (instance_fields tree is.declared_in) ≡ Some (i + p))
   position = position_there key (instance_fields tree is.declared_in) among
 
@@ -96,7 +96,7 @@ module _ (tree : Tree) (legal : IsLegal tree) (r : FieldReference) (field : Memb
   slot_is =
       let instance_is : instance_slot tree key ≡ Some slot = position.1 (length (hidden_slots tree is.declared_in)) in
       ap (option_and_then (slot_in tree)) is.numbered ∙ ap (λ b. if b then None else option_and_then small (instance_slot tree key)) no_static ∙ ap (option_and_then small) instance_is ∙
-      is_small slot (instance_slot_small tree legal key slot field.class (class_of_field tree field.class field.place is.declared_in is.found is.numbered) instance_is)
+      is_small slot (instance_slot_small tree legal key slot field.class (class_of_field tree field.class field.index is.declared_in is.found is.numbered) instance_is)
 
   -- so is the kind of what it holds
   pub held_is : held_at tree field ≡ Some (kind_of_type is.found.field_type)
@@ -134,24 +134,24 @@ module _ (tree : Tree) (legal : IsLegal tree) (r : FieldReference) (field : Memb
     pub changed : (u : StateValue) → with_entry same_key key u fields ≡ slice_set fields position.0 (entry.0, u)
     pub typed : HasType tree s v is.found.field_type
 
-  -- a field of an object that has it is at its place, with a value of its type
+  -- a field of an object that has it is at its index, with a value of its type
   pub field_at_slot : (s : State) (c : ClassName) (fields : List (FieldKey × StateValue)) (v : StateValue) → HaveFieldTypes tree s fields (instance_fields tree c) → entry_at same_key key fields ≡ Some v → IsFieldAt s c fields v
   field_at_slot s c fields v typed value =
       let own = type_there tree s key v fields (instance_fields tree c) typed value in
       let inside : IsTrue (list_any (same_class is.declared_in) (chain_of tree c)) = chain_of_field tree key own.0 c own.1 in
       let begins = fields_begin tree legal c is.declared_in inside in
-      let place : IsPlaced key (instance_fields tree is.declared_in) fields = placed tree s key (instance_fields tree is.declared_in) begins.0 fields (subst (λ fs. HaveFieldTypes tree s fields fs) begins.1 typed) among in
-      let numbers : 0 + place.place ≡ 0 + position.0 = same_Some (0 + place.place) (0 + position.0) (sym (place.position 0) ∙ position.1 0) in
-      let same : place.place ≡ position.0 = omega (arith, numbers) in
+      let field_index : IsPlaced key (instance_fields tree is.declared_in) fields = placed tree s key (instance_fields tree is.declared_in) begins.0 fields (subst (λ fs. HaveFieldTypes tree s fields fs) begins.1 typed) among in
+      let numbers : 0 + field_index.index ≡ 0 + position.0 = same_Some (0 + field_index.index) (0 + position.0) (sym (field_index.position 0) ∙ position.1 0) in
+      let same : field_index.index ≡ position.0 = omega (arith, numbers) in
       let type_is : entry_at same_key key (instance_fields tree c) ≡ Some r.field_type = ap (entry_at same_key key) begins.1 ∙ entry_of_first key (instance_fields tree is.declared_in) begins.0 among ∙ own_entry in
       let loaded = entry_typed tree legal s key r.field_type fields (instance_fields tree c) typed type_is in
       let same_value : loaded.0 ≡ v = same_Some loaded.0 v (sym loaded.1 ∙ value) in
       let same_type : r.field_type ≡ is.found.field_type = sym (found_type tree legal false r is.declared_in is.found is.finds) in
       record {
         hidden = same_thread tree legal c is.declared_in inside no_object;
-        entry = place.entry;
-        there = subst (λ p. slice_get fields p ≡ Some place.entry) same place.there;
-        value_is = same_Some place.entry.1 v (sym place.found ∙ value);
-        changed = λ u. subst (λ p. with_entry same_key key u fields ≡ slice_set fields p (place.entry.0, u)) same (place.changed u);
+        entry = field_index.entry;
+        there = subst (λ p. slice_get fields p ≡ Some field_index.entry) same field_index.there;
+        value_is = same_Some field_index.entry.1 v (sym field_index.found ∙ value);
+        changed = λ u. subst (λ p. with_entry same_key key u fields ≡ slice_set fields p (field_index.entry.0, u)) same (field_index.changed u);
         typed = subst (λ x. HasType tree s v x) same_type (subst (λ x. HasType tree s x r.field_type) same_value loaded.2);
       }

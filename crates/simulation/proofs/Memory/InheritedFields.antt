@@ -19,7 +19,7 @@ use Rattle.interpreter.proofs.cil_model.CompleteLaws.{chain_of_base}
 use Rattle.interpreter.proofs.cil_model.Lists.{none_is_some}
 use Rattle.interpreter.proofs.cil_model.SameLaws.{either, same_class_equal, same_class_itself, same_text_itself, class_equivalence, never}
 use Rattle.interpreter.specs.reference_machine.States.{entry_at}
-use Rattle.interpreter.proofs.reference_machine.Programs.DeclaredFields.{entry_behind}
+use Rattle.interpreter.proofs.reference_machine.Programs.DeclaredFields.{entry_after}
 
 -- ---- lists
 
@@ -93,7 +93,7 @@ module _ (tree : Tree) where
       by_test : (b : Bool) → same_class x k.declared_in ≡ b → (entry_at same_key k (flat_map (keyed_fields tree false) xs) ≡ Some t → IsTrue (list_any (same_class k.declared_in) xs)) → IsTrue (list_any (same_class k.declared_in) (x ∷ xs))
       by_test true is later = or_left (same_class k.declared_in x) (list_any (same_class k.declared_in) xs) (class_equivalence.symm k.declared_in x ∙ is)
       by_test false is later =
-          or_right (same_class k.declared_in x) (list_any (same_class k.declared_in) xs) (later (sym (entry_behind k x (filter (λ (f : Field). same_flag f.is_static false) (fields_declared tree x)) (flat_map (keyed_fields tree false) xs) is) ∙ h))
+          or_right (same_class k.declared_in x) (list_any (same_class k.declared_in) xs) (later (sym (entry_after k x (filter (λ (f : Field). same_flag f.is_static false) (fields_declared tree x)) (flat_map (keyed_fields tree false) xs) is) ∙ h))
 
   -- the class of an object's field is in its chain
   pub chain_of_field : (k : FieldKey) (t : DeclaredType) (c : ClassName) → entry_at same_key k (instance_fields tree c) ≡ Some t → IsTrue (list_any (same_class k.declared_in) (chain_of tree c))

@@ -13,12 +13,12 @@ use Rattle.interpreter.specs.cil_model.Bodies.{code_of}
 use Rattle.interpreter.specs.cil_model.Fields.{FieldKey}
 use Rattle.interpreter.proofs.cil_model.BelowLaws.{typed as typed_as}
 use Rattle.interpreter.specs.reference_machine.Values.{Value as StateValue, zero_of}
-use Rattle.interpreter.specs.reference_machine.States.{zeroed}
+use Rattle.interpreter.specs.reference_machine.States.{zero_fields}
 use Rattle.interpreter.specs.object_memory.Values.{value_word}
 use Rattle.interpreter.specs.loaded_program.Prepared.{kind_at, kind_of_type, local_kinds}
 use Rattle.interpreter.specs.threads_monitors.Frames.{zero_value}
 use Rattle.simulation.specs.Agreement.{Agree}
-use Rattle.simulation.specs.StandsFor.{Names, IsValue, int32, int64, null_reference, IsWord}
+use Rattle.simulation.specs.Refines.{Names, IsValue, int32, int64, null_reference, IsWord}
 
 -- 0 has the bits of either size
 zero_fits_32 : FitsSigned w32 (pos 0)
@@ -44,7 +44,7 @@ locals_low m most each = by_code (code_of m.kind) refl
     by_code (Some code) e = subst (λ n. n ≤ most) (sym (length-map (flat_map (λ (c : Code). c.locals) (code ∷ [])) kind_of_type ∙ ap length (append-nil code.locals))) (each code e)
 
 module _ (name : Names) where
-  -- what a place of a type holds at first
+  -- what a variable of a type holds at first
   zero_stands : (t : DeclaredType) → IsValue name (zero_value (kind_of_type t)) (zero_of t)
   zero_stands t = by_type t.element t.brackets
     where
@@ -78,11 +78,11 @@ module _ (name : Names) where
   locals_stand m code coded = subst (λ ks. Agree (IsValue name) (map zero_value ks) (map zero_of code.locals)) (sym (locals_are m code coded)) (zeros_stand code.locals)
 
   -- static fields
-  pub fields_stand : (fs : List (FieldKey × DeclaredType)) → Agree (λ v (f : FieldKey × StateValue). IsValue name v f.1) (map (λ (f : FieldKey × DeclaredType). zero_value (kind_of_type f.1)) fs) (zeroed fs)
+  pub fields_stand : (fs : List (FieldKey × DeclaredType)) → Agree (λ v (f : FieldKey × StateValue). IsValue name v f.1) (map (λ (f : FieldKey × DeclaredType). zero_value (kind_of_type f.1)) fs) (zero_fields fs)
   fields_stand [] = tt
   fields_stand (f ∷ fs) = (zero_stands f.1, fields_stand fs)
 
   -- the words of an object's fields
-  pub words_stand : (fs : List (FieldKey × DeclaredType)) → Agree (λ w (f : FieldKey × StateValue). IsWord name w f.1) (replicate (length fs) 0) (zeroed fs)
+  pub words_stand : (fs : List (FieldKey × DeclaredType)) → Agree (λ w (f : FieldKey × StateValue). IsWord name w f.1) (replicate (length fs) 0) (zero_fields fs)
   words_stand [] = tt
   words_stand (f ∷ fs) = (record { value = zero_value (kind_of_type f.1); stands = zero_stands f.1; is = zero_word f.1 }, words_stand fs)

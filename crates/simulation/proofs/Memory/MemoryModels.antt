@@ -23,7 +23,7 @@ use Rattle.interpreter.specs.threads_monitors.declared.mutators.Mutator.{Mutator
 use Rattle.reference_machine.specs.TypedStates.{IsTyped}
 use Rattle.collector.specs.References.{holds_reference, is_reference_value}
 use Rattle.simulation.specs.Agreement.{Agree}
-use Rattle.simulation.specs.StandsFor.{Names, Extends, IsValue, IsMonitor, IsOfContents, IsCell, IsBornAt, IsLiteralAt}
+use Rattle.simulation.specs.Refines.{Names, Extends, IsValue, IsMonitor, IsOfContents, IsCell, IsBornAt, IsLiteralAt}
 use Rattle.simulation.proofs.Memory.ReferenceSlots.{IsLinked}
 
 -- what loads find: each named address has its object or its literal, each literal its name, and null none; no object has more slots than
@@ -71,7 +71,8 @@ pub record MemoryModel (tree : Tree) : Type 1 where
   pub same_null : (name : Names) (o : Objects) (ss : List Value) (s : State) → Fits name o ss s → are_same phase o null null ≡ true
   pub null_name : (name : Names) (o : Objects) (ss : List Value) (s : State) → Fits name o ss s → (b : Addr) (k : ObjectName) → name b.number ≡ Some k → are_same phase o null b ≡ false
   pub name_null : (name : Names) (o : Objects) (ss : List Value) (s : State) → Fits name o ss s → (a : Addr) (n : ObjectName) → name a.number ≡ Some n → are_same phase o a null ≡ false
-  -- storing: a value to a slot that is of its sort, a word to a slot that holds no reference, a monitor of an object, each of a typed state and so that the slots of the object still hold references where its values are; a monitor of a literal; a value to a static field
+  -- storing: a value to a slot that is of its sort, a word to a slot that holds no reference, a monitor of an object, each of a typed state and so
+  -- that the slots of the object still hold references where its values are; a monitor of a literal; a value to a static field
   pub storable : (name : Names) (o : Objects) (ss : List Value) (s : State) → Fits name o ss s →
       (a : Addr) (n : ℕ) → name a.number ≡ Some (Born n) → (cell : Cell) → object_cell o a ≡ Some cell →
       (slot : ℕ) (v : Value) (u : StateValue) → slot < length cell.slots → IsValue name v u → is_storable phase o a slot v ≡ true

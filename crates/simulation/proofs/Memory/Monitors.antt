@@ -13,7 +13,7 @@ use Rattle.interpreter.specs.object_memory.declared.values.Value.{Value}
 use Rattle.interpreter.specs.object_memory.Cells.{Cell}
 use Rattle.interpreter.specs.object_memory.Objects.{Objects, object_cell, monitor_at}
 use Rattle.interpreter.specs.instructions.barriers.Barriers.{stored_monitor}
-use Rattle.simulation.specs.StandsFor.{Names, IsMonitor, IsBornAt, IsLiteralAt}
+use Rattle.simulation.specs.Refines.{Names, IsMonitor, IsBornAt, IsLiteralAt}
 use Rattle.simulation.proofs.Memory.ReferenceSlots.{IsLinked, typed_is_linked}
 use Rattle.interpreter.specs.cil_model.Legality.{IsLegal}
 use Rattle.interpreter.specs.reference_machine.TypedStates.{IsTyped}

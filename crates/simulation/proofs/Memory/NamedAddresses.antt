@@ -9,7 +9,7 @@ use Rattle.interpreter.specs.reference_machine.States.{State, entry_at}
 use Rattle.interpreter.specs.object_memory.declared.values.Value.{Value}
 use Rattle.interpreter.specs.object_memory.Objects.{Objects}
 use Rattle.simulation.specs.Agreement.{Agree}
-use Rattle.simulation.specs.StandsFor.{Names, IsValue, IsHeap, IsMemory}
+use Rattle.simulation.specs.Refines.{Names, IsValue, IsHeap, IsMemory}
 use Rattle.simulation.proofs.Memory.MemoryModels.{IsReadable}
 use Rattle.interpreter.proofs.cil_model.Lists.{none_is_some}
 

@@ -7,7 +7,7 @@ use Rattle.interpreter.specs.cil_model.declared.trees.Tree.{Tree}
 use Rattle.interpreter.specs.cil_model.Fields.{FieldKey}
 use Rattle.interpreter.specs.reference_machine.Values.{ObjectName, Born, Literal, Value as StateValue}
 use Rattle.interpreter.specs.reference_machine.States.{Contents, Instance as IsInstance, Array as IsArray, HeapObject, State, object_at, elements_of_contents, array_at}
-use Rattle.interpreter.specs.instructions.TypeTurns.{held_type}
+use Rattle.interpreter.specs.instructions.TypeTransitions.{held_type}
 use Rattle.interpreter.specs.resolved_code.Numbered.{type_at}
 use Rattle.interpreter.specs.object_memory.declared.addresses.Addr.{Addr}
 use Rattle.interpreter.specs.object_memory.declared.kinds.Kind.{Kind}
@@ -16,7 +16,7 @@ use Rattle.interpreter.specs.object_memory.declared.kinds.ArrayElement.{ArrayEle
 use Rattle.interpreter.specs.object_memory.Cells.{Cell}
 use Rattle.interpreter.specs.object_memory.Objects.{Objects, object_cell}
 use Rattle.simulation.specs.Agreement.{Agree}
-use Rattle.simulation.specs.StandsFor.{Names, IsWord, IsInstanceCell, IsOfContents, IsCell, IsBornAt}
+use Rattle.simulation.specs.Refines.{Names, IsWord, IsInstanceCell, IsOfContents, IsCell, IsBornAt}
 use Rattle.interpreter.proofs.cil_model.Lists.{none_is_some}
 use Rattle.simulation.proofs.Memory.MemoryModels.{IsReadable}
 use Rattle.simulation.proofs.Memory.ReferenceSlots.{IsLinked, typed_is_linked}

@@ -26,9 +26,9 @@ use Rattle.interpreter.specs.object_memory.declared.values.Value.{Value}
 use Rattle.interpreter.specs.object_memory.declared.values.ValueKind.{ValueKind}
 use Rattle.interpreter.specs.object_memory.declared.values.ValueKind.TheVariants as Kinds
 use Rattle.collector.specs.References.{holds_reference, is_reference_value, is_reference_element as is_reference_type}
-use Rattle.interpreter.specs.instructions.TypeTurns.{held_type, numbered}
+use Rattle.interpreter.specs.instructions.TypeTransitions.{held_type, resolved_element}
 use Rattle.interpreter.specs.loaded_program.Prepared.{kind_at, kind_of_type}
-use Rattle.simulation.specs.StandsFor.{IsOfContents, Names, IsValue, int32, int64, native, null_reference, reference}
+use Rattle.simulation.specs.Refines.{IsOfContents, Names, IsValue, int32, int64, native, null_reference, reference}
 use Rattle.collector.proofs.PhaseChanges.StaticFlips.{set_here_or_there}
 use Rattle.simulation.proofs.Memory.TypedWords.{kind_of_state, kind_fits}
 
@@ -87,14 +87,14 @@ same_kinds (Reference n) (NativeValue y) e = never e
 
 -- ---- fields
 
--- the type of a field at its place
-type_at_place : (tree : Tree) (s : State) (es : List (FieldKey × StateValue)) (ts : List (FieldKey × DeclaredType)) → HaveFieldTypes tree s es ts → (p : ℕ) (e : FieldKey × StateValue) → slice_get es p ≡ Some e →
+-- the type of the field at an index
+type_at_index : (tree : Tree) (s : State) (es : List (FieldKey × StateValue)) (ts : List (FieldKey × DeclaredType)) → HaveFieldTypes tree s es ts → (p : ℕ) (e : FieldKey × StateValue) → slice_get es p ≡ Some e →
     (t : FieldKey × DeclaredType) × (slice_get ts p ≡ Some t) × HasType tree s e.1 t.1
-type_at_place tree s [] [] h p e is = none_is_some e is
-type_at_place tree s (x ∷ xs) (t ∷ ts) h zero e is = (t, refl, subst (λ (y : FieldKey × StateValue). HasType tree s y.1 t.1) (same_Some x e is) h.1)
-type_at_place tree s (x ∷ xs) (t ∷ ts) h (suc p) e is = type_at_place tree s xs ts h.2 p e is
-type_at_place tree s [] (t ∷ ts) h p e is = elim h [ ]
-type_at_place tree s (x ∷ xs) [] h p e is = elim h [ ]
+type_at_index tree s [] [] h p e is = none_is_some e is
+type_at_index tree s (x ∷ xs) (t ∷ ts) h zero e is = (t, refl, subst (λ (y : FieldKey × StateValue). HasType tree s y.1 t.1) (same_Some x e is) h.1)
+type_at_index tree s (x ∷ xs) (t ∷ ts) h (suc p) e is = type_at_index tree s xs ts h.2 p e is
+type_at_index tree s [] (t ∷ ts) h p e is = elim h [ ]
+type_at_index tree s (x ∷ xs) [] h p e is = elim h [ ]
 
 mapped_at : (ts : List (FieldKey × DeclaredType)) (p : ℕ) (t : FieldKey × DeclaredType) → slice_get ts p ≡ Some t → slice_get (map (λ (f : FieldKey × DeclaredType). Some f.1) ts) p ≡ Some (Some t.1)
 mapped_at [] p t is = none_is_some t is
@@ -102,11 +102,11 @@ mapped_at (x ∷ xs) zero t is = ap (λ (y : FieldKey × DeclaredType). Some (So
 mapped_at (x ∷ xs) (suc p) t is = mapped_at xs p t is
 
 -- after the hidden slots
-behind : (xs ys : List (Option DeclaredType)) (p : ℕ) (x : Option DeclaredType) → slice_get ys p ≡ Some x → slice_get (xs ++ ys) (length xs + p) ≡ Some x
-behind [] ys p x is = let place : p ≡ 0 + p = omega arith in subst (λ n. slice_get ys n ≡ Some x) place is
-behind (z ∷ zs) ys p x is =
-    let place : suc (length zs + p) ≡ length (z ∷ zs) + p = omega arith in
-    subst (λ n. slice_get (z ∷ (zs ++ ys)) n ≡ Some x) place (behind zs ys p x is)
+following : (xs ys : List (Option DeclaredType)) (p : ℕ) (x : Option DeclaredType) → slice_get ys p ≡ Some x → slice_get (xs ++ ys) (length xs + p) ≡ Some x
+following [] ys p x is = let index : p ≡ 0 + p = omega arith in subst (λ n. slice_get ys n ≡ Some x) index is
+following (z ∷ zs) ys p x is =
+    let index : suc (length zs + p) ≡ length (z ∷ zs) + p = omega arith in
+    subst (λ n. slice_get (z ∷ (zs ++ ys)) n ≡ Some x) index (following zs ys p x is)
 
 -- the same number of hidden slots, in classes that are both of threads or both not
 pub same_hidden : (tree : Tree) (c d : ClassName) → is_thread_class tree c ≡ is_thread_class tree d → length (hidden_slots tree c) ≡ length (hidden_slots tree d)
@@ -117,8 +117,8 @@ module _ (tree : Tree) (legal : IsLegal tree) (s : State) where
   pub slot_says : (c : ClassName) (class : ℕ) → class_name tree class ≡ Some c → (fields : List (FieldKey × StateValue)) → HaveFieldTypes tree s fields (instance_fields tree c) → (p : ℕ) (e : FieldKey × StateValue) → slice_get fields p ≡ Some e →
       holds_reference tree (Instance class) (length (hidden_slots tree c) + p) ≡ is_reference_kind (kind_of_state e.1)
   slot_says c class is fields typed p e there =
-      let at = type_at_place tree s fields (instance_fields tree c) typed p e there in
-      let slot : slice_get (slot_types tree c) (length (hidden_slots tree c) + p) ≡ Some (Some at.0.1) = behind (hidden_slots tree c) (map (λ (f : FieldKey × DeclaredType). Some f.1) (instance_fields tree c)) p (Some at.0.1) (mapped_at (instance_fields tree c) p at.0 at.1) in
+      let at = type_at_index tree s fields (instance_fields tree c) typed p e there in
+      let slot : slice_get (slot_types tree c) (length (hidden_slots tree c) + p) ≡ Some (Some at.0.1) = following (hidden_slots tree c) (map (λ (f : FieldKey × DeclaredType). Some f.1) (instance_fields tree c)) p (Some at.0.1) (mapped_at (instance_fields tree c) p at.0 at.1) in
       ap (λ x. option_map_or (λ c'. is_reference_slot tree c' (length (hidden_slots tree c) + p)) x false) is ∙
       ap (λ x. option_map_or (λ o. option_map_or is_reference o false) x false) slot ∙
       kind_says at.0.1.element at.0.1.brackets ∙
@@ -134,9 +134,9 @@ hidden_says tree c class is test =
 
 -- the elements of an array, by their type
 pub element_says : (tree : Tree) (e : ArrayElement) (t : DeclaredType) → type_at tree (held_type e) ≡ Some t → (slot : ℕ) → holds_reference tree (Array e) slot ≡ is_reference_kind (kind_of_type t)
-element_says tree e t is slot = by_type (element_at tree (numbered e.element)) refl is
+element_says tree e t is slot = by_type (element_at tree (resolved_element e.element)) refl is
   where
-    by_kind : (x : ElementType) (n : ℕ) (d : Element) → element_at tree (numbered x) ≡ Some d → is_reference_type x n ≡ is_reference_kind (kind_at d n)
+    by_kind : (x : ElementType) (n : ℕ) (d : Element) → element_at tree (resolved_element x) ≡ Some d → is_reference_type x n ≡ is_reference_kind (kind_at d n)
     by_kind x (suc n) d h = refl
     by_kind Int32Type zero d h = ap (λ y. is_reference_kind (kind_at y 0)) (same_Some Int32Element d h)
     by_kind Int64Type zero d h = ap (λ y. is_reference_kind (kind_at y 0)) (same_Some Int64Element d h)
@@ -148,7 +148,7 @@ element_says tree e t is slot = by_type (element_at tree (numbered e.element)) r
         by_name None k = none_is_some d k
         by_name (Some y) k = ap (λ z. is_reference_kind (kind_at z 0)) (same_Some (Class y) d k)
 
-    by_type : (o : Option Element) → element_at tree (numbered e.element) ≡ o → option_map (λ d. record { element = d; brackets = e.brackets }) o ≡ Some t → holds_reference tree (Array e) slot ≡ is_reference_kind (kind_of_type t)
+    by_type : (o : Option Element) → element_at tree (resolved_element e.element) ≡ o → option_map (λ d. record { element = d; brackets = e.brackets }) o ≡ Some t → holds_reference tree (Array e) slot ≡ is_reference_kind (kind_of_type t)
     by_type None h k = none_is_some t k
     by_type (Some d) h k = by_kind e.element e.brackets d h ∙ ap (λ (y : DeclaredType). is_reference_kind (kind_of_type y)) (same_Some (record { element = d; brackets = e.brackets }) t k)
 
@@ -159,54 +159,54 @@ abbrev pub is_reference_state : StateValue → Bool
 is_reference_state u = is_reference_kind (kind_of_state u)
 
 -- the slot of a field, after the hidden one of a class of threads
-abbrev pub slot_behind : Bool → ℕ → ℕ
-slot_behind true place = suc place
-slot_behind false place = place
+abbrev pub following_slot : Bool → ℕ → ℕ
+following_slot true index = suc index
+following_slot false index = index
 
 -- each slot holds a reference exactly where the object's value is one
 abbrev pub IsLinked : Tree → Kind → Contents → Type 0
 IsLinked tree (Instance class) (IsInstance c fields) =
-    (place : ℕ) (e : FieldKey × StateValue) → slice_get fields place ≡ Some e → holds_reference tree (Instance class) (slot_behind (is_thread_class tree c) place) ≡ is_reference_state e.1
-IsLinked tree (Array a) (IsArray t elements) = (place : ℕ) (u : StateValue) → slice_get elements place ≡ Some u → holds_reference tree (Array a) place ≡ is_reference_state u
+    (index : ℕ) (e : FieldKey × StateValue) → slice_get fields index ≡ Some e → holds_reference tree (Instance class) (following_slot (is_thread_class tree c) index) ≡ is_reference_state e.1
+IsLinked tree (Array a) (IsArray t elements) = (index : ℕ) (u : StateValue) → slice_get elements index ≡ Some u → holds_reference tree (Array a) index ≡ is_reference_state u
 IsLinked tree (Instance class) (IsArray t elements) = ⊥
 IsLinked tree (Array a) (IsInstance c fields) = ⊥
 
 -- the type of an element
-type_of_element : (tree : Tree) (s : State) (t : DeclaredType) (elements : List StateValue) → AllHaveType tree s t elements → (place : ℕ) (u : StateValue) → slice_get elements place ≡ Some u → HasType tree s u t
-type_of_element tree s t [] h place u is = none_is_some u is
+type_of_element : (tree : Tree) (s : State) (t : DeclaredType) (elements : List StateValue) → AllHaveType tree s t elements → (index : ℕ) (u : StateValue) → slice_get elements index ≡ Some u → HasType tree s u t
+type_of_element tree s t [] h index u is = none_is_some u is
 type_of_element tree s t (x ∷ xs) h zero u is = subst (λ y. HasType tree s y t) (same_Some x u is) h.0
-type_of_element tree s t (x ∷ xs) h (suc place) u is = type_of_element tree s t xs h.1 place u is
+type_of_element tree s t (x ∷ xs) h (suc index) u is = type_of_element tree s t xs h.1 index u is
 
-behind_hidden : (tree : Tree) (c : ClassName) (place : ℕ) → length (hidden_slots tree c) + place ≡ slot_behind (is_thread_class tree c) place
-behind_hidden tree c place = by_class (is_thread_class tree c)
+after_hidden : (tree : Tree) (c : ClassName) (index : ℕ) → length (hidden_slots tree c) + index ≡ following_slot (is_thread_class tree c) index
+after_hidden tree c index = by_class (is_thread_class tree c)
   where
-    by_class : (b : Bool) → length {A = Option DeclaredType} (if b then None ∷ [] else []) + place ≡ slot_behind b place
+    by_class : (b : Bool) → length {A = Option DeclaredType} (if b then None ∷ [] else []) + index ≡ following_slot b index
     by_class true = omega arith
     by_class false = omega arith
 
 -- so it is of a typed object
 pub typed_is_linked : (tree : Tree) → IsLegal tree → (s : State) (name : Names) (k : Kind) (slots : List ℕ) (contents : Contents) (thread : Option ℕ) → IsTypedContents tree s contents → IsOfContents tree name k slots contents thread → IsLinked tree k contents
 typed_is_linked tree legal s name (Instance class) slots (IsInstance c fields) thread typed h =
-    λ place e is. ap (holds_reference tree (Instance class)) (sym (behind_hidden tree c place)) ∙ slot_says tree legal s c class h.class_is fields typed.2 place e is
+    λ index e is. ap (holds_reference tree (Instance class)) (sym (after_hidden tree c index)) ∙ slot_says tree legal s c class h.class_is fields typed.2 index e is
 typed_is_linked tree legal s name (Array a) slots (IsArray t elements) thread typed h =
-    λ place u is. element_says tree a t h.0 place ∙ ap is_reference_kind (kind_fits tree legal s u t (type_of_element tree s t elements typed place u is))
+    λ index u is. element_says tree a t h.0 index ∙ ap is_reference_kind (kind_fits tree legal s u t (type_of_element tree s t elements typed index u is))
 typed_is_linked tree legal s name (Instance class) slots (IsArray t elements) thread typed h = elim h [ ]
 typed_is_linked tree legal s name (Array a) slots (IsInstance c fields) thread typed h = elim h [ ]
 
--- so it is where a value of the same sort comes in the place of an element,
-pub element_linked : (tree : Tree) (k : Kind) (t : DeclaredType) (elements : List StateValue) (place : ℕ) (old u : StateValue) → slice_get elements place ≡ Some old → is_reference_state old ≡ is_reference_state u → IsLinked tree k (IsArray t elements) →
-    IsLinked tree k (IsArray t (slice_set elements place u))
-element_linked tree (Array a) t elements place old u is same linked = λ i x there. elim (set_here_or_there elements place i u x there) [
+-- so it is where a value of the same sort comes in place of an element,
+pub element_linked : (tree : Tree) (k : Kind) (t : DeclaredType) (elements : List StateValue) (index : ℕ) (old u : StateValue) → slice_get elements index ≡ Some old → is_reference_state old ≡ is_reference_state u → IsLinked tree k (IsArray t elements) →
+    IsLinked tree k (IsArray t (slice_set elements index u))
+element_linked tree (Array a) t elements index old u is same linked = λ i x there. elim (set_here_or_there elements index i u x there) [
   | inl here ↦ linked i old (subst (λ j. slice_get elements j ≡ Some old) (sym here.0) is) ∙ same ∙ ap is_reference_state (sym here.1)
   | inr still ↦ linked i x still.1
 ]
-element_linked tree (Instance class) t elements place old u is same linked = elim linked [ ]
+element_linked tree (Instance class) t elements index old u is same linked = elim linked [ ]
 
 -- and in that of a field
-pub field_linked : (tree : Tree) (k : Kind) (c : ClassName) (fields : List (FieldKey × StateValue)) (place : ℕ) (old new : FieldKey × StateValue) → slice_get fields place ≡ Some old → is_reference_state old.1 ≡ is_reference_state new.1 → IsLinked tree k (IsInstance c fields) →
-    IsLinked tree k (IsInstance c (slice_set fields place new))
-field_linked tree (Instance class) c fields place old new is same linked = λ i x there. elim (set_here_or_there fields place i new x there) [
+pub field_linked : (tree : Tree) (k : Kind) (c : ClassName) (fields : List (FieldKey × StateValue)) (index : ℕ) (old new : FieldKey × StateValue) → slice_get fields index ≡ Some old → is_reference_state old.1 ≡ is_reference_state new.1 → IsLinked tree k (IsInstance c fields) →
+    IsLinked tree k (IsInstance c (slice_set fields index new))
+field_linked tree (Instance class) c fields index old new is same linked = λ i x there. elim (set_here_or_there fields index i new x there) [
   | inl here ↦ linked i old (subst (λ j. slice_get fields j ≡ Some old) (sym here.0) is) ∙ same ∙ ap (λ (e : FieldKey × StateValue). is_reference_state e.1) (sym here.1)
   | inr still ↦ linked i x still.1
 ]
-field_linked tree (Array a) c fields place old new is same linked = elim linked [ ]
+field_linked tree (Array a) c fields index old new is same linked = elim linked [ ]

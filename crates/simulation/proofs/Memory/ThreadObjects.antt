@@ -20,10 +20,10 @@ use Rattle.interpreter.specs.object_memory.declared.values.Value.{Value}
 use Rattle.interpreter.specs.object_memory.declared.values.Value.TheVariants.{Ref}
 use Rattle.interpreter.specs.object_memory.Cells.{Cell, literal_number, null}
 use Rattle.interpreter.specs.object_memory.Objects.{Objects, object_cell}
-use Rattle.interpreter.specs.threads_monitors.Threads.{thread_told, thread_on}
+use Rattle.interpreter.specs.threads_monitors.Threads.{thread_decoded, thread_on}
 use Rattle.interpreter.specs.Calls.{class_at, class_of_kind}
 use Rattle.simulation.specs.Agreement.{Agree}
-use Rattle.simulation.specs.StandsFor.{Names, IsValue, int32, int64, native, null_reference, reference, IsWord, IsMonitor, thread_word, IsOfContents, IsBornAt}
+use Rattle.simulation.specs.Refines.{Names, IsValue, int32, int64, native, null_reference, reference, IsWord, IsMonitor, thread_word, IsOfContents, IsBornAt}
 use Rattle.simulation.proofs.Memory.MemoryModels.{IsReadable}
 
 -- an address represents null, or the object that it names
@@ -53,15 +53,15 @@ pub record IsThreadObject (tree : Tree) (name : Names) (o : Objects) (s : State)
   pub values : Agree (λ w (f : FieldKey × StateValue). IsWord name w f.1) words fields
   pub monitor : IsMonitor cell.monitor object.monitor
 
-told : (o : Option ℕ) → thread_told (thread_word o) ≡ o
-told None = refl
-told (Some n) = refl
+decoded : (o : Option ℕ) → thread_decoded (thread_word o) ≡ o
+decoded None = refl
+decoded (Some n) = refl
 
 module _ (tree : Tree) (name : Names) (o : Objects) (s : State) (a : Addr) (number : ℕ) (x : IsThreadObject tree name o s a number) where
   pub thread_on_is : thread_on o a ≡ x.object.thread
   thread_on_is =
-      ap (λ c. thread_told (slice_index (unwrap_or (option_map (λ (y : Cell). y.slots) c) []) 0)) x.lies ∙
-      ap (λ l. thread_told (slice_index l 0)) x.slots ∙ told x.object.thread
+      ap (λ c. thread_decoded (slice_index (unwrap_or (option_map (λ (y : Cell). y.slots) c) []) 0)) x.lies ∙
+      ap (λ l. thread_decoded (slice_index l 0)) x.slots ∙ decoded x.object.thread
 
   pub class_at_is : class_at o a ≡ Some (Some x.class)
   class_at_is =

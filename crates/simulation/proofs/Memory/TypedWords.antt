@@ -21,7 +21,7 @@ use Rattle.interpreter.specs.object_memory.declared.values.ValueKind.{ValueKind}
 use Rattle.interpreter.specs.object_memory.declared.values.ValueKind.TheVariants as Kind
 use Rattle.interpreter.specs.object_memory.Values.{value_word, value_in}
 use Rattle.interpreter.specs.loaded_program.Prepared.{kind_at, kind_of_type}
-use Rattle.simulation.specs.StandsFor.{Names, IsValue, int32, int64, native, null_reference, reference, IsWord}
+use Rattle.simulation.specs.Refines.{Names, IsValue, int32, int64, native, null_reference, reference, IsWord}
 use Rattle.interpreter.proofs.cil_model.SameLaws.{never}
 
 -- the kind of a value of the reference machine

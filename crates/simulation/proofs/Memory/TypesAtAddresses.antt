@@ -12,7 +12,7 @@ use Rattle.interpreter.specs.reference_machine.States.{Contents, Instance as IsI
 use Rattle.interpreter.specs.reference_machine.Effects.{Setting}
 use Rattle.interpreter.specs.reference_machine.Steps.{may_hold}
 use Rattle.interpreter.specs.resolved_code.Numbered.{type_at}
-use Rattle.interpreter.specs.resolved_code.declared.types.NumberedType.{NumberedType}
+use Rattle.interpreter.specs.resolved_code.declared.types.ResolvedType.{ResolvedType}
 use Rattle.interpreter.specs.object_memory.declared.addresses.Addr.{Addr}
 use Rattle.interpreter.specs.object_memory.declared.kinds.ArrayElement.{ArrayElement}
 use Rattle.interpreter.specs.object_memory.declared.kinds.Kind.{Kind}
@@ -20,9 +20,9 @@ use Rattle.interpreter.specs.object_memory.declared.kinds.Kind.TheVariants.{Inst
 use Rattle.interpreter.specs.object_memory.declared.values.Value.{Value}
 use Rattle.interpreter.specs.object_memory.Cells.{Cell}
 use Rattle.interpreter.specs.object_memory.Objects.{Objects, object_cell}
-use Rattle.interpreter.specs.instructions.TypeTurns.{held_type, type_of_kind, type_of_address, may_stand, may_stand_as}
+use Rattle.interpreter.specs.instructions.TypeTransitions.{held_type, type_of_kind, type_of_address, may_stand, may_stand_as}
 use Rattle.simulation.specs.Agreement.{Agree}
-use Rattle.simulation.specs.StandsFor.{Names, IsValue, int32, int64, native, null_reference, reference, IsWord, IsOfContents, IsMonitor, IsBornAt, IsLiteralAt}
+use Rattle.simulation.specs.Refines.{Names, IsValue, int32, int64, native, null_reference, reference, IsWord, IsOfContents, IsMonitor, IsBornAt, IsLiteralAt}
 use Rattle.simulation.proofs.Memory.NamedAddresses.{named_is_not_null}
 use Rattle.interpreter.proofs.cil_model.Lists.{none_is_some}
 use Rattle.simulation.proofs.Memory.MemoryModels.{IsReadable}
@@ -49,7 +49,7 @@ module _ (tree : Tree) (name : Names) (o : Objects) (s : State) (heap : IsReadab
       let at : IsLiteralAt tree o s a.number characters = heap.literals a.number characters is in
       ap (λ l. option_map_or (λ k. Some (plain String)) l (option_and_then (λ (c : Cell). type_of_kind tree c.kind) (object_cell o a))) at.numbered
 
--- ---- what may stand where a type is wanted
+-- ---- what may be given where a type is required
 
 module _ (here : Setting) (name : Names) (o : Objects) (s : State) (f : StateFrame) (below : List StateFrame) (heap : IsReadable here.tree name o s) where
   -- a value may stand where the one that it represents may
@@ -63,7 +63,7 @@ module _ (here : Setting) (name : Names) (o : Objects) (s : State) (f : StateFra
       ap (option_map (λ own. is_assignable here.tree own t)) (type_of_named here.tree name o s heap a n is)
 
   -- the same of a type by its number
-  pub may_stand_as_is : (v : Value) (u : StateValue) (t : DeclaredType) (n : NumberedType) → type_at here.tree n ≡ Some t → IsValue name v u → may_stand_as here.tree o v n ≡ may_hold here s f below t u
+  pub may_stand_as_is : (v : Value) (u : StateValue) (t : DeclaredType) (n : ResolvedType) → type_at here.tree n ≡ Some t → IsValue name v u → may_stand_as here.tree o v n ≡ may_hold here s f below t u
   may_stand_as_is v u t n numbered h = ap (option_and_then (may_stand here.tree o v)) numbered ∙ may_stand_is v u t h
 
 -- ---- arrays

@@ -10,7 +10,7 @@ use Rattle.interpreter.specs.cil_model.Same.{same_text}
 use Rattle.interpreter.specs.cil_model.Mentions.{literals_of}
 use Rattle.interpreter.specs.cil_model.Bodies.{code_of, entry_points}
 use Rattle.interpreter.specs.reference_machine.States.{Monitor, Free, Thread, State, entry_at}
-use Rattle.interpreter.specs.reference_machine.Runs.{opening_at, opening}
+use Rattle.interpreter.specs.reference_machine.Runs.{initial_state_at, initial_state}
 use Rattle.simulation.specs.Counts.{IsCountedMonitor, IsCounted}
 use Rattle.interpreter.proofs.cil_model.Lists.{none_is_some}
 
@@ -25,8 +25,8 @@ free_at_first (d ∷ ds) c m h = by_test (same_text d c) h (free_at_first ds c m
 
 module _ (tree : Tree) (limits : Limits) (allowed : 1 ≤ limits.budget) where
   -- the state at the beginning of a method
-  opening_at_counted : (entry : ClassName × Method) (code : Code) → IsCounted limits (opening_at tree limits entry code)
-  opening_at_counted entry code = record {
+  initial_at_counted : (entry : ClassName × Method) (code : Code) → IsCounted limits (initial_state_at tree limits entry code)
+  initial_at_counted entry code = record {
     objects = λ n o there. none_is_some o there;
     literals = λ c m there. subst (λ x. IsCountedMonitor limits first x) (free_at_first (literals_of tree) c m there) tt;
     live = λ n t there lives. subst (λ x. 1 ≤ x) (sym (whole n t there)) allowed;
@@ -34,16 +34,16 @@ module _ (tree : Tree) (limits : Limits) (allowed : 1 ≤ limits.budget) where
   }
     where
       first : State
-      first = opening_at tree limits entry code
+      first = initial_state_at tree limits entry code
 
       whole : (n : ℕ) (t : Thread) → slice_get first.threads n ≡ Some t → t.steps_left ≡ limits.budget
       whole zero t there = ap (λ (x : Thread). x.steps_left) (sym (same_Some _ t there))
       whole (suc n) t there = none_is_some t there
 
   -- the initial state
-  pub opening_counted : (s : State) → opening tree limits ≡ Some s → IsCounted limits s
-  opening_counted s h = option_and_then_some _ (slice_get (entry_points tree) 0) s h (λ entry there h'. by_code entry (code_of entry.1.kind) h')
+  pub initial_counted : (s : State) → initial_state tree limits ≡ Some s → IsCounted limits s
+  initial_counted s h = option_and_then_some _ (slice_get (entry_points tree) 0) s h (λ entry there h'. by_code entry (code_of entry.1.kind) h')
     where
-      by_code : (entry : ClassName × Method) (code : Option Code) → option_map (opening_at tree limits entry) code ≡ Some s → IsCounted limits s
+      by_code : (entry : ClassName × Method) (code : Option Code) → option_map (initial_state_at tree limits entry) code ≡ Some s → IsCounted limits s
       by_code entry None e = none_is_some s e
-      by_code entry (Some code) e = subst (λ x. IsCounted limits x) (same_Some (opening_at tree limits entry code) s e) (opening_at_counted entry code)
+      by_code entry (Some code) e = subst (λ x. IsCounted limits x) (same_Some (initial_state_at tree limits entry code) s e) (initial_at_counted entry code)

@@ -73,14 +73,14 @@ module _ (here : Setting) (s : State) (left : ℕ) (stepping : IsStepping here s
     stay = λ n t there. there;
   }
 
-  -- another object in the place of one
+  -- another object in place of one
   object_keeps : (n : ObjectName) (o : HeapObject) → IsCountedAfter here s left o.monitor → KeepsCounts here s left (with_object s n o)
   object_keeps (Literal characters) o h = itself_keeps
-  object_keeps (Born n) o h = record { objects = λ k x there. by_place k x (set_or_was s.objects n k o x there); literals = itself_keeps.literals; threads = itself_keeps.threads; stay = itself_keeps.stay }
+  object_keeps (Born n) o h = record { objects = λ k x there. by_index k x (set_or_was s.objects n k o x there); literals = itself_keeps.literals; threads = itself_keeps.threads; stay = itself_keeps.stay }
     where
-      by_place : (k : ℕ) (x : HeapObject) → (x ≡ o) ⊎ (slice_get s.objects k ≡ Some x) → IsCountedAfter here s left x.monitor
-      by_place k x (inl is) = subst (λ (y : HeapObject). IsCountedAfter here s left y.monitor) (sym is) h
-      by_place k x (inr was) = itself_keeps.objects k x was
+      by_index : (k : ℕ) (x : HeapObject) → (x ≡ o) ⊎ (slice_get s.objects k ≡ Some x) → IsCountedAfter here s left x.monitor
+      by_index k x (inl is) = subst (λ (y : HeapObject). IsCountedAfter here s left y.monitor) (sym is) h
+      by_index k x (inr was) = itself_keeps.objects k x was
 
   -- another monitor
   pub monitor_keeps : (n : ObjectName) (m : Monitor) → IsCountedAfter here s left m → KeepsCounts here s left (with_monitor s n m)
@@ -97,14 +97,14 @@ module _ (here : Setting) (s : State) (left : ℕ) (stepping : IsStepping here s
 
   -- an object more
   pub birth_keeps : (contents : Contents) → KeepsCounts here s left (with_birth s contents)
-  birth_keeps contents = record { objects = λ n o there. by_place n o (last_or_was s.objects n newborn o there); literals = itself_keeps.literals; threads = itself_keeps.threads; stay = itself_keeps.stay }
+  birth_keeps contents = record { objects = λ n o there. by_index n o (last_or_was s.objects n newborn o there); literals = itself_keeps.literals; threads = itself_keeps.threads; stay = itself_keeps.stay }
     where
       newborn : HeapObject
       newborn = record { contents = contents; monitor = Free; thread = None }
 
-      by_place : (n : ℕ) (o : HeapObject) → (o ≡ newborn) ⊎ (slice_get s.objects n ≡ Some o) → IsCountedAfter here s left o.monitor
-      by_place n o (inl is) = subst (λ (x : HeapObject). IsCountedAfter here s left x.monitor) (sym is) (inl tt)
-      by_place n o (inr was) = itself_keeps.objects n o was
+      by_index : (n : ℕ) (o : HeapObject) → (o ≡ newborn) ⊎ (slice_get s.objects n ≡ Some o) → IsCountedAfter here s left o.monitor
+      by_index n o (inl is) = subst (λ (x : HeapObject). IsCountedAfter here s left x.monitor) (sym is) (inl tt)
+      by_index n o (inr was) = itself_keeps.objects n o was
 
   -- another value of a field
   pub field_keeps : (n : ObjectName) (k : FieldKey) (v : Value) (after : State) → with_field s n k v ≡ Some after → KeepsCounts here s left after
@@ -139,8 +139,8 @@ module _ (here : Setting) (s : State) (left : ℕ) (stepping : IsStepping here s
       KeepsCounts here s left (let marked : State = with_object s n (record o { thread = number }) in record marked { threads = s.threads ++ thread ∷ [] })
   start_keeps n o number thread there whole =
       let marked : KeepsCounts here s left (with_object s n (record o { thread = number })) = object_keeps n (record o { thread = number }) (inl (object_counted n o there)) in
-      record { objects = marked.objects; literals = marked.literals; threads = λ k t found. by_place k t (last_or_was s.threads k thread t found); stay = λ k t was. get_before s.threads (thread ∷ []) k t was }
+      record { objects = marked.objects; literals = marked.literals; threads = λ k t found. by_index k t (last_or_was s.threads k thread t found); stay = λ k t was. get_before s.threads (thread ∷ []) k t was }
     where
-      by_place : (k : ℕ) (t : Thread) → (t ≡ thread) ⊎ (slice_get s.threads k ≡ Some t) → (slice_get s.threads k ≡ Some t) ⊎ (t.steps_left ≡ here.limits.budget)
-      by_place k t (inl is) = inr (ap (λ (x : Thread). x.steps_left) is ∙ whole)
-      by_place k t (inr was) = inl was
+      by_index : (k : ℕ) (t : Thread) → (t ≡ thread) ⊎ (slice_get s.threads k ≡ Some t) → (slice_get s.threads k ≡ Some t) ⊎ (t.steps_left ≡ here.limits.budget)
+      by_index k t (inl is) = inr (ap (λ (x : Thread). x.steps_left) is ∙ whole)
+      by_index k t (inr was) = inl was

@@ -9,7 +9,7 @@ use Rattle.interpreter.specs.cil_model.declared.reports.Report.{Report}
 use Rattle.interpreter.specs.cil_model.declared.reports.Report.TheVariants.{Ran, Blocked, Absent}
 use Rattle.interpreter.specs.reference_machine.States.{Monitor, Free, Held, Frame, Thread, State}
 use Rattle.interpreter.specs.reference_machine.Effects.{Setting, Effect, Goes, Blocks, Raises, Sticks}
-use Rattle.interpreter.specs.reference_machine.Steps.{Outcome, Answers, Stuck, effect_of, with_thread_at, ended_as, goes_on, settled, step_of, step}
+use Rattle.interpreter.specs.reference_machine.Steps.{Outcome, Answers, Stuck, effect_of, with_thread_at, ended_as, continues, charge, step_of, step}
 use Rattle.simulation.specs.Counts.{IsCountedMonitor, IsCounted}
 use Rattle.simulation.proofs.ListLaws.ChangedItems.{set_or_stays}
 use Rattle.simulation.proofs.MonitorCounts.StateChanges.{IsStepping, IsCountedAfter, KeepsCounts, own_count, itself_keeps}
@@ -85,17 +85,17 @@ module _ (here : Setting) (allowed : 1 ≤ here.limits.budget) (s : State) where
   ended_counted left stepping after keeps e = moved_counted left stepping after keeps _ refl (λ live. none_is_some e (sym live))
 
   -- where it continues, or its budget is used up
-  going_counted : (r : Report) (left : ℕ) → IsStepping here s left → (after : State) → KeepsCounts here s left after → (frames : List Frame) → LeavesCounted here.limits (goes_on r after here.thread left frames)
+  going_counted : (r : Report) (left : ℕ) → IsStepping here s left → (after : State) → KeepsCounts here s left after → (frames : List Frame) → LeavesCounted here.limits (continues r after here.thread left frames)
   going_counted r zero stepping after keeps frames = ended_counted zero stepping after keeps Budget
   going_counted r (suc left) stepping after keeps frames = moved_counted (suc left) stepping after keeps _ refl (λ live. omega arith)
 
   -- whatever the effect was
-  settled_counted : (left : ℕ) → IsStepping here s left → (frames : List Frame) (e : Effect) → KeepsInEffect here s left e → LeavesCounted here.limits (settled s here.thread left frames e)
-  settled_counted left stepping frames (Goes [] after) (goes _ _ keeps) = ended_counted left stepping after keeps Done
-  settled_counted left stepping frames (Goes (f ∷ below) after) (goes _ _ keeps) = going_counted Ran left stepping after keeps (f ∷ below)
-  settled_counted left stepping frames Blocks k = going_counted Blocked left stepping s (itself_keeps here s left stepping) frames
-  settled_counted left stepping frames (Raises x) k = ended_counted left stepping s (itself_keeps here s left stepping) (ByFault x)
-  settled_counted left stepping frames Sticks k = tt
+  step_charged_counted : (left : ℕ) → IsStepping here s left → (frames : List Frame) (e : Effect) → KeepsInEffect here s left e → LeavesCounted here.limits (charge s here.thread left frames e)
+  step_charged_counted left stepping frames (Goes [] after) (goes _ _ keeps) = ended_counted left stepping after keeps Done
+  step_charged_counted left stepping frames (Goes (f ∷ below) after) (goes _ _ keeps) = going_counted Ran left stepping after keeps (f ∷ below)
+  step_charged_counted left stepping frames Blocks k = going_counted Blocked left stepping s (itself_keeps here s left stepping) frames
+  step_charged_counted left stepping frames (Raises x) k = ended_counted left stepping s (itself_keeps here s left stepping) (ByFault x)
+  step_charged_counted left stepping frames Sticks k = tt
 
   -- a live thread's step; one that has ended is absent
   thread_counted : IsCounted here.limits s → (thread : Thread) → slice_get s.threads here.thread ≡ Some thread → LeavesCounted here.limits (step_of here s thread)
@@ -104,8 +104,8 @@ module _ (here : Setting) (allowed : 1 ≤ here.limits.budget) (s : State) where
       stepping : thread.ended ≡ None → IsStepping here s (thread.steps_left - 1)
       stepping is = let h = counted.live here.thread thread there is in record { counted = counted; thread = thread; there = there; one_less = omega (arith, h) }
 
-      by_end : (e : Option End) → thread.ended ≡ e → LeavesCounted here.limits (if is_none e then settled s here.thread (thread.steps_left - 1) thread.frames (effect_of here s thread.frames) else Answers Absent s)
-      by_end None is = settled_counted (thread.steps_left - 1) (stepping is) thread.frames (effect_of here s thread.frames) (effect_keeps here s (thread.steps_left - 1) (stepping is) thread.frames)
+      by_end : (e : Option End) → thread.ended ≡ e → LeavesCounted here.limits (if is_none e then charge s here.thread (thread.steps_left - 1) thread.frames (effect_of here s thread.frames) else Answers Absent s)
+      by_end None is = step_charged_counted (thread.steps_left - 1) (stepping is) thread.frames (effect_of here s thread.frames) (effect_keeps here s (thread.steps_left - 1) (stepping is) thread.frames)
       by_end (Some e) is = counted
 
 -- a step from a counted state leaves a counted state

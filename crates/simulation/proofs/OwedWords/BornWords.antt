@@ -1,5 +1,5 @@
--- No space of a machine has more words in use than all objects that were born so far, whatever events of the collector there were: so a machine with a collector
--- refuses no birth for which one space without a collector has room.
+-- No space of a machine has more words in use than all objects that were born so far, whatever events of the collector there were: so a machine with
+-- a collector refuses no birth for which one space without a collector has room.
 use Rattle.std.proofs.Common.{◌≡◌, ◌≤◌, ◌<◌, ◌+◌, ◌-◌, ◌&&◌, ℕ, zero, suc, Bool, true, false, if◌then◌else◌, is_none, List, [], ◌∷◌, length, Option, Some, None, option_map, option_and_then, slice_get, refl, inr, sym, ap, ◌∙◌, subst, arith}
 use Rattle.std.specs.Prelude.{nat_lt, not}
 use Rattle.std.specs.Option.{option_map_or}
@@ -29,14 +29,14 @@ use Rattle.interpreter.specs.object_memory.Spaces.{AreSpaces, HasShellRoom, Spac
 use Rattle.interpreter.specs.instructions.barriers.Barriers.{with_marked}
 use Rattle.interpreter.specs.threads_monitors.Roots.{roots}
 use Rattle.interpreter.specs.threads_monitors.Threads.{is_live_at}
-use Rattle.interpreter.specs.threads_monitors.declared.threads.Standing.{Standing}
-use Rattle.interpreter.specs.threads_monitors.declared.threads.Standing.TheVariants.{Live, Ended}
+use Rattle.interpreter.specs.threads_monitors.declared.threads.ThreadStatus.{ThreadStatus}
+use Rattle.interpreter.specs.threads_monitors.declared.threads.ThreadStatus.TheVariants.{Live, Ended}
 use Rattle.interpreter.specs.threads_monitors.declared.threads.Thread.{Thread}
 use Rattle.interpreter.proofs.cil_model.Lists.{none_is_some}
 use Rattle.interpreter.proofs.object_memory.Blocks.{used_in}
 use Rattle.interpreter.proofs.object_memory.Rooms.{HasShellRoom-shell}
 use Rattle.interpreter.proofs.object_memory.TwoBlocks.{slot_keeps}
-use Rattle.collector.specs.Copying.{address_behind, copied_at, copied_on, looked_on, object_copied, shell_made, shell_step, word_step, word_stored, behind_word, before_word}
+use Rattle.collector.specs.Copying.{address_after_cell, copied_at, copied_on, looked_on, object_copied, shell_made, shell_step, word_step, word_stored, after_word, before_word}
 use Rattle.collector.specs.Attempts.{with_loaded}
 use Rattle.collector.specs.Flips.{cleared_at, cleared_on, flipped_on}
 use Rattle.collector.specs.Marking.{is_closed, mark_step, marked_on, object_scanned, oldest_cell, slot_scanned, statics_scanned, without_oldest, word_of}
@@ -49,12 +49,12 @@ use Rattle.collector.specs.declared.progress.Stage.{Stage}
 use Rattle.collector.specs.declared.progress.Stage.TheVariants.{Begins, Loaded, Stored}
 use Rattle.collector.specs.declared.progress.TheConstants.{MOST_FAILED_CHECKS}
 use Rattle.collector.specs.phase_handshake.Handshakes.{all_answered, all_seen, is_open, own_phase}
-use Rattle.simulation.specs.Collecting.{answers_round, cleared, collected, flipped, mark_work, marked, next_posted, objects_after, round_posted, rounds, with_acknowledgement, with_roots_marked, with_standing_marked, with_thread_marked, work, worked}
-use Rattle.simulation.specs.MachineContents.{Content}
+use Rattle.simulation.specs.Collecting.{answers_round, clear_object, collect, flip_values, mark_work, mark_object, next_posted, objects_after, round_posted, rounds, with_acknowledgement, with_roots_marked, with_status_marked, with_thread_marked, work, do_work}
+use Rattle.simulation.specs.MachineStates.{MachineState}
 use Rattle.simulation.specs.Rooms.{ExceedsRoom, spaces_of}
 use Rattle.simulation.specs.Sound.{IsSound}
-use Rattle.simulation.specs.StandsFor.{Represents}
-use Rattle.simulation.specs.Turns.{IsTurn, content_at, opening_content}
+use Rattle.simulation.specs.Refines.{Represents}
+use Rattle.simulation.specs.Transitions.{IsTransition, machine_state_at, initial_machine_state}
 use Rattle.simulation.proofs.CollectorEvents.Reports.{IsCollected, ends, waits, works}
 use Rattle.simulation.proofs.Instructions.Correspondence.{InstructionsAreAlike}
 use Rattle.simulation.proofs.CycleBounds.OpenCycles.{gc_is}
@@ -70,7 +70,7 @@ pub record AreWithin (least all : ℕ) (m : Spaces) : Type 0 where
   pub new : used_words m.new.cells ≤ all
 
 -- the old space is as large as the limit at least, and neither has more words in use than all objects that were born
-abbrev pub IsWithinBirths : Content → State → Type 0
+abbrev pub IsWithinBirths : MachineState → State → Type 0
 IsWithinBirths c s = AreWithin c.limits.words (words_of_all c.tree s.objects) c.objects.spaces
 
 -- one of two, by a test
@@ -85,15 +85,15 @@ roots_use : (list : List Addr) (o : Objects) → UsesAsMuch o.spaces (with_roots
 roots_use [] o = uses_itself o.spaces
 roots_use (a ∷ rest) o = uses_then o.spaces (with_marked o (Ref a)).spaces (with_roots_marked (with_marked o (Ref a)) rest).spaces (marked_uses o (Ref a)) (roots_use rest (with_marked o (Ref a)))
 
-standing_uses : (standing : Standing) (o : Objects) → UsesAsMuch o.spaces (with_standing_marked o standing).spaces
-standing_uses (Live m) o = roots_use (roots m) o
-standing_uses (Ended e) o = uses_itself o.spaces
+status_uses : (thread_status : ThreadStatus) (o : Objects) → UsesAsMuch o.spaces (with_status_marked o thread_status).spaces
+status_uses (Live m) o = roots_use (roots m) o
+status_uses (Ended e) o = uses_itself o.spaces
 
 thread_uses : (thread : Option Thread) (o : Objects) → UsesAsMuch o.spaces (with_thread_marked o thread).spaces
 thread_uses None o = uses_itself o.spaces
-thread_uses (Some x) o = standing_uses x.standing o
+thread_uses (Some x) o = status_uses x.thread_status o
 
-acknowledgement_uses : (c : Content) (t : ℕ) → UsesAsMuch c.objects.spaces (objects_after c t).spaces
+acknowledgement_uses : (c : MachineState) (t : ℕ) → UsesAsMuch c.objects.spaces (objects_after c t).spaces
 acknowledgement_uses c t =
     either (λ (o : Objects). UsesAsMuch c.objects.spaces o.spaces) (answers_round c t) (with_thread_marked c.objects (slice_get c.threads t)) c.objects (thread_uses (slice_get c.threads t) c.objects) (uses_itself c.objects.spaces)
 
@@ -120,7 +120,7 @@ stored_uses tree o t from to (suc slot) = let word = copied_word tree o.spaces f
 step_uses : (stage : Stage) (tree : Tree) (p : Progress) (o : Objects) (a : Addr) (c : Cell) (b : Addr) → UsesAsMuch o.spaces (word_step stage tree p o a c b).1.spaces
 step_uses Begins tree p o a c b =
     let loaded = with_loaded c p.copied_words p.attempt in
-    either (λ (x : Progress × Objects). UsesAsMuch o.spaces x.1.spaces) (nat_lt p.attempt.failed_checks MOST_FAILED_CHECKS) (before_word p o.spaces.old a loaded, o) (behind_word p o.spaces.old a c p.copied_words, word_stored tree o loaded c b p.copied_words)
+    either (λ (x : Progress × Objects). UsesAsMuch o.spaces x.1.spaces) (nat_lt p.attempt.failed_checks MOST_FAILED_CHECKS) (before_word p o.spaces.old a loaded, o) (after_word p o.spaces.old a c p.copied_words, word_stored tree o loaded c b p.copied_words)
     (uses_itself o.spaces) (stored_uses tree o loaded c b p.copied_words)
 step_uses Loaded tree p o a c b = stored_uses tree o p.attempt c b p.copied_words
 step_uses Stored tree p o a c b = uses_itself o.spaces
@@ -142,7 +142,7 @@ clear_uses : (p : Progress) (o : Objects) (found : Option ℕ) → UsesAsMuch o.
 clear_uses p o None = uses_itself o.spaces
 clear_uses p o (Some at) = by_cell (cell_in o.spaces.new (record { number = at }))
   where
-    by_cell : (cell : Option Cell) → UsesAsMuch o.spaces (option_map_or {U = Progress × Objects × Bool} (λ (c : Cell). (record p { place = at - o.spaces.new.start + size c }, record o { spaces = clear o.spaces (record { number = at }) }, true)) cell (p, o, false)).1.spaces
+    by_cell : (cell : Option Cell) → UsesAsMuch o.spaces (option_map_or {U = Progress × Objects × Bool} (λ (c : Cell). (record p { cursor = at - o.spaces.new.start + size c }, record o { spaces = clear o.spaces (record { number = at }) }, true)) cell (p, o, false)).1.spaces
     by_cell None = uses_itself o.spaces
     by_cell (Some c) = change_uses (store_copies false None) (λ x. refl) o.spaces (record { number = at })
 
@@ -156,7 +156,7 @@ module _ (least all : ℕ) where
   shell_within : (o : Objects) (a : Addr) (c : Cell) → AreSpaces o.spaces → HasShellRoom o.spaces → cell_in o.spaces.old a ≡ Some c → AreWithin least all o.spaces → AreWithin least all (shell_made o a c).spaces
   shell_within o a c are room lies h = by_need c.marked c.other refl
     where
-      by_need : (marked : Bool) (other : Option Addr) → c.other ≡ other → AreWithin least all (if◌then◌else◌ {A = Objects} (marked && is_none other) (record o { spaces = with_shell o.spaces a c }) o).spaces
+      by_need : (mark_object : Bool) (other : Option Addr) → c.other ≡ other → AreWithin least all (if◌then◌else◌ {A = Objects} (mark_object && is_none other) (record o { spaces = with_shell o.spaces a c }) o).spaces
       by_need true None bare =
           let more = HasShellRoom-shell o.spaces are room a c lies bare in
           let kept = used_in (set_other (next_address o.spaces.new)) (λ x. refl) o.spaces.old a in
@@ -165,40 +165,40 @@ module _ (least all : ℕ) where
       by_need false None other = h
       by_need false (Some b) other = h
 
-  look_within : (p : Progress) (o : Objects) (cell : Option Cell) → AreSpaces o.spaces → HasShellRoom o.spaces → cell_in o.spaces.old (address_behind o.spaces.old p.place) ≡ cell → AreWithin least all o.spaces → AreWithin least all (shell_step p o cell).1.spaces
+  look_within : (p : Progress) (o : Objects) (cell : Option Cell) → AreSpaces o.spaces → HasShellRoom o.spaces → cell_in o.spaces.old (address_after_cell o.spaces.old p.cursor) ≡ cell → AreWithin least all o.spaces → AreWithin least all (shell_step p o cell).1.spaces
   look_within p o None are room lies h = h
-  look_within p o (Some c) are room lies h = shell_within o (address_behind o.spaces.old p.place) c are room lies h
+  look_within p o (Some c) are room lies h = shell_within o (address_after_cell o.spaces.old p.cursor) c are room lies h
 
   -- ---- the collector
 
-  abbrev Within : Content × Report → Type 0
+  abbrev Within : MachineState × Report → Type 0
   Within x = AreWithin least all x.0.objects.spaces
 
-  module _ (c : Content) (sound : IsSound c) (h : AreWithin least all c.objects.spaces) where
-    worked_within : (x : Progress × Objects × Bool) → AreWithin least all x.1.spaces → Within (worked c x)
+  module _ (c : MachineState) (sound : IsSound c) (h : AreWithin least all c.objects.spaces) where
+    worked_within : (x : Progress × Objects × Bool) → AreWithin least all x.1.spaces → Within (do_work c x)
     worked_within (p, o, true) done = done
     worked_within (p, o, false) done = h
 
     rounds_within : Within (rounds c)
     rounds_within =
-        either Within (is_closed c.progress c.objects c.posts) (next_posted c) (if◌then◌else◌ {A = Content × Report} (c.posts.has_round && not (all_answered c.posts)) (c, Waiting) (round_posted c, Worked)) h
+        either Within (is_closed c.progress c.objects c.posts) (next_posted c) (if◌then◌else◌ {A = MachineState × Report} (c.posts.has_round && not (all_answered c.posts)) (c, Waiting) (round_posted c, Worked)) h
         (either Within (c.posts.has_round && not (all_answered c.posts)) (c, Waiting) (round_posted c, Worked) h (record { words = h.words; old = h.old; new = h.new }))
 
-    marked_within : (x : Progress × Objects × Bool) → AreWithin least all x.1.spaces → Within (marked c x)
+    marked_within : (x : Progress × Objects × Bool) → AreWithin least all x.1.spaces → Within (mark_object c x)
     marked_within (p, o, true) done = done
     marked_within (p, o, false) done = rounds_within
 
-    flipped_within : (x : Progress × List Value × Bool) → Within (flipped c x)
+    flipped_within : (x : Progress × List Value × Bool) → Within (flip_values c x)
     flipped_within (p, statics, true) = h
     flipped_within (p, statics, false) = h
 
-    cleared_within : c.posts.posted ≡ Reclaim → (x : Progress × Objects × Bool) → AreWithin least all x.1.spaces → Within (cleared c x)
+    cleared_within : c.posts.posted ≡ Reclaim → (x : Progress × Objects × Bool) → AreWithin least all x.1.spaces → Within (clear_object c x)
     cleared_within posted (p, o, true) done = done
     cleared_within posted (p, o, false) done = record { words = omega (arith, h.words, sound.heap.blocks.grows (ap is_of_cycle posted)); old = h.new; new = omega arith }
 
     mark_within : Within (mark_work c)
     mark_within =
-        either Within c.progress.scanned_statics (marked c (marked_on c.tree c.progress c.objects))
+        either Within c.progress.scanned_statics (mark_object c (marked_on c.tree c.progress c.objects))
         (record c { progress = (statics_scanned c.progress c.objects c.statics).0; objects = (statics_scanned c.progress c.objects c.statics).1 }, Worked)
         (marked_within (marked_on c.tree c.progress c.objects) (uses_within c.objects.spaces _ (mark_uses c.tree c.progress c.objects c.objects.spaces.grey (oldest_cell c.objects c.objects.spaces.grey)) h))
         (uses_within c.objects.spaces _ (all_marked_uses c.statics c.objects) h)
@@ -208,41 +208,41 @@ module _ (least all : ℕ) where
     work_within Mark is = mark_within
     work_within Allocate is =
         worked_within (looked_on c.progress c.objects)
-        (look_within c.progress c.objects (cell_in c.objects.spaces.old (address_behind c.objects.spaces.old c.progress.place)) sound.heap.blocks.spaces (sound.heap.copies.room (inr is)) refl h)
+        (look_within c.progress c.objects (cell_in c.objects.spaces.old (address_after_cell c.objects.spaces.old c.progress.cursor)) sound.heap.blocks.spaces (sound.heap.copies.room (inr is)) refl h)
     work_within Copy is =
         worked_within (copied_on c.tree c.progress c.objects)
-        (uses_within c.objects.spaces _ (copy_uses c.tree c.progress c.objects (found_in has_other c.objects.spaces.old (c.objects.spaces.old.start + c.progress.place))) h)
+        (uses_within c.objects.spaces _ (copy_uses c.tree c.progress c.objects (found_in has_other c.objects.spaces.old (c.objects.spaces.old.start + c.progress.cursor))) h)
     work_within PreFlip is = h
     work_within HeapFlip is = flipped_within (flipped_on c.progress c.objects c.statics)
     work_within ThreadFlip is = h
     work_within Reclaim is =
         cleared_within is (cleared_on c.progress c.objects)
-        (uses_within c.objects.spaces _ (clear_uses c.progress c.objects (found_in is_noted c.objects.spaces.new (c.objects.spaces.new.start + c.progress.place))) h)
+        (uses_within c.objects.spaces _ (clear_uses c.progress c.objects (found_in is_noted c.objects.spaces.new (c.objects.spaces.new.start + c.progress.cursor))) h)
 
-    collected_within : Within (collected c)
+    collected_within : Within (collect c)
     collected_within = either Within (all_seen c.posts) (work c.posts.posted c) (c, Waiting) (work_within c.posts.posted refl) h
 
 -- what is no step keeps within births
-pub collection_within : (c : Content) (s : State) → Represents c s → IsWithinBirths c s → (after : Content × Report) → IsTurn c Gc after → AreWithin c.limits.words (words_of_all c.tree s.objects) after.0.objects.spaces
-collection_within c s r h after turn =
-    subst (λ (x : Content × Report). AreWithin c.limits.words (words_of_all c.tree s.objects) x.0.objects.spaces) (sym turn) (collected_within c.limits.words (words_of_all c.tree s.objects) c r.sound h)
+pub collection_within : (c : MachineState) (s : State) → Represents c s → IsWithinBirths c s → (after : MachineState × Report) → IsTransition c Gc after → AreWithin c.limits.words (words_of_all c.tree s.objects) after.0.objects.spaces
+collection_within c s r h after transition =
+    subst (λ (x : MachineState × Report). AreWithin c.limits.words (words_of_all c.tree s.objects) x.0.objects.spaces) (sym transition) (collected_within c.limits.words (words_of_all c.tree s.objects) c r.sound h)
 
-pub acknowledgement_within : (c : Content) (s : State) (t : ℕ) → IsWithinBirths c s → (after : Content × Report) → IsTurn c (Ack t) after → AreWithin c.limits.words (words_of_all c.tree s.objects) after.0.objects.spaces
-acknowledgement_within c s t h after turn =
-    subst (λ (x : Content × Report). AreWithin c.limits.words (words_of_all c.tree s.objects) x.0.objects.spaces) (sym turn)
+pub acknowledgement_within : (c : MachineState) (s : State) (t : ℕ) → IsWithinBirths c s → (after : MachineState × Report) → IsTransition c (Ack t) after → AreWithin c.limits.words (words_of_all c.tree s.objects) after.0.objects.spaces
+acknowledgement_within c s t h after transition =
+    subst (λ (x : MachineState × Report). AreWithin c.limits.words (words_of_all c.tree s.objects) x.0.objects.spaces) (sym transition)
     (uses_within c.limits.words (words_of_all c.tree s.objects) c.objects.spaces (with_acknowledgement c t).0.objects.spaces (acknowledgement_uses c t) h)
 
 -- and is refused no memory
-pub collection_granted : (c : Content) (after : Content × Report) → IsTurn c Gc after → is_refusal after.1 ≡ false
-collection_granted c after turn = by_kind after (gc_is c after turn)
+pub collection_granted : (c : MachineState) (after : MachineState × Report) → IsTransition c Gc after → is_refusal after.1 ≡ false
+collection_granted c after transition = by_kind after (gc_is c after transition)
   where
-    by_kind : (x : Content × Report) → IsCollected c x → is_refusal x.1 ≡ false
+    by_kind : (x : MachineState × Report) → IsCollected c x → is_refusal x.1 ≡ false
     by_kind _ waits = refl
     by_kind _ (works d now) = refl
     by_kind _ (ends d at idle spaces) = refl
 
-pub acknowledgement_granted : (c : Content) (t : ℕ) (after : Content × Report) → IsTurn c (Ack t) after → is_refusal after.1 ≡ false
-acknowledgement_granted c t after turn = ap (λ (x : Content × Report). is_refusal x.1) turn ∙ by_tests (is_open c.posts t) (is_live_at c.threads t)
+pub acknowledgement_granted : (c : MachineState) (t : ℕ) (after : MachineState × Report) → IsTransition c (Ack t) after → is_refusal after.1 ≡ false
+acknowledgement_granted c t after transition = ap (λ (x : MachineState × Report). is_refusal x.1) transition ∙ by_tests (is_open c.posts t) (is_live_at c.threads t)
   where
     by_tests : (opened live : Bool) → is_refusal (if opened then Acked else if live then NothingPosted else Absent) ≡ false
     by_tests true live = refl
@@ -250,10 +250,10 @@ acknowledgement_granted c t after turn = ap (λ (x : Content × Report). is_refu
     by_tests false false = refl
 
 -- a step adds no more words than it adds to those of all objects
-module _ (each : InstructionsAreAlike) (c : Content) (s : State) (r : Represents c s) (t : ℕ) (after : Content × Report) (turn : IsTurn c (Step t) after) where
+module _ (each : InstructionsAreAlike) (c : MachineState) (s : State) (r : Represents c s) (t : ℕ) (after : MachineState × Report) (transition : IsTransition c (Step t) after) where
   pub step_within : IsWithinBirths c s → (s' : State) × (step c.tree c.limits s t (is_refusal after.1) ≡ Answers after.1 s') × Represents after.0 s' × AreWithin c.limits.words (words_of_all c.tree s'.objects) after.0.objects.spaces
   step_within h =
-      let follows = step_follows each c s r t after turn in
+      let follows = step_follows each c s r t after transition in
       let room = follows.3 in (
         follows.0,
         follows.1,
@@ -274,7 +274,7 @@ least_room m n old new HeapFlip = omega arith
 least_room m n old new ThreadFlip = new
 least_room m n old new Reclaim = new
 
-module _ (c : Content) (s : State) (r : Represents c s) (h : IsWithinBirths c s) (t : ℕ) where
+module _ (c : MachineState) (s : State) (r : Represents c s) (h : IsWithinBirths c s) (t : ℕ) where
   abbrev left : ℕ
   left = c.limits.words - words_of_all c.tree s.objects
 
@@ -312,13 +312,13 @@ module _ (c : Content) (s : State) (r : Represents c s) (h : IsWithinBirths c s)
 -- ---- the initial state
 
 module _ (tree : Tree) (limits : Limits) where
-  pub opened_within : (c : Content) → opening_content tree limits ≡ Some c → (s : State) → IsWithinBirths c s
+  pub opened_within : (c : MachineState) → initial_machine_state tree limits ≡ Some c → (s : State) → IsWithinBirths c s
   opened_within c e s = by_entry (slice_get (entry_points tree) 0) e
     where
-      by_number : (entry : ClassName × Method) (n : Option ℕ) → option_map (content_at tree limits entry) n ≡ Some c → IsWithinBirths c s
+      by_number : (entry : ClassName × Method) (n : Option ℕ) → option_map (machine_state_at tree limits entry) n ≡ Some c → IsWithinBirths c s
       by_number entry None h = none_is_some c h
-      by_number entry (Some n) h = subst (λ (x : Content). IsWithinBirths x s) (same_Some (content_at tree limits entry n) c h) (record { words = omega arith; old = omega arith; new = omega arith })
+      by_number entry (Some n) h = subst (λ (x : MachineState). IsWithinBirths x s) (same_Some (machine_state_at tree limits entry n) c h) (record { words = omega arith; old = omega arith; new = omega arith })
 
-      by_entry : (entry : Option (ClassName × Method)) → option_and_then (λ (x : ClassName × Method). option_map (content_at tree limits x) (number_of tree x)) entry ≡ Some c → IsWithinBirths c s
+      by_entry : (entry : Option (ClassName × Method)) → option_and_then (λ (x : ClassName × Method). option_map (machine_state_at tree limits x) (number_of tree x)) entry ≡ Some c → IsWithinBirths c s
       by_entry None h = none_is_some c h
       by_entry (Some entry) h = by_number entry (number_of tree entry) h

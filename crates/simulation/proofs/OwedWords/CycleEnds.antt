@@ -26,14 +26,14 @@ use Rattle.interpreter.proofs.cil_model.SameLaws.{never}
 use Rattle.interpreter.proofs.reference_machine.ReachableObjects.ClosedSets.{IsReachedOrUnborn, reached_is_closed}
 use Rattle.interpreter.specs.object_memory.Cells.{used_words}
 use Rattle.interpreter.specs.object_memory.Objects.{used_space}
-use Rattle.interpreter.specs.object_memory.Spaces.{Spaces, closed}
+use Rattle.interpreter.specs.object_memory.Spaces.{Spaces, close_cycle}
 use Rattle.collector.specs.Phases.{is_of_cycle}
-use Rattle.simulation.specs.MachineContents.{Content}
-use Rattle.simulation.specs.Collecting.{collected}
-use Rattle.simulation.specs.Owed.{LeavesWhatIsOwed, OwesAfter}
+use Rattle.simulation.specs.MachineStates.{MachineState}
+use Rattle.simulation.specs.Collecting.{collect}
+use Rattle.simulation.specs.Owed.{LeavesOnlyOwed, OwesAfter}
 use Rattle.simulation.specs.Runs.{IsNext, IsRunOf, RefusesBeyondRoom, StandsAfter}
-use Rattle.simulation.specs.StandsFor.{Represents}
-use Rattle.simulation.specs.Turns.{IsTurn}
+use Rattle.simulation.specs.Refines.{Represents}
+use Rattle.simulation.specs.Transitions.{IsTransition}
 use Rattle.simulation.proofs.CollectorEvents.Reports.{IsCollected, ends, waits, works}
 use Rattle.simulation.proofs.OwedWords.NewBlockWords.{new_words}
 use Rattle.simulation.proofs.Instructions.Correspondence.{InstructionsAreAlike}
@@ -42,68 +42,68 @@ use Rattle.simulation.proofs.OwedWords.SumsOverNames.{is_listed}
 use Rattle.simulation.proofs.OwedWords.NamesInSets.{born_inside}
 use Rattle.simulation.proofs.Threads.LiveThreads.{normally}
 use Rattle.simulation.proofs.CycleBounds.OpenCycles.{IsBefore, IsOpened, before_goes, gc_is, idle_of, open_then, opened_is, split_at_last, then_open}
-use Rattle.simulation.proofs.Representation.InitialContents.{opening_represents}
+use Rattle.simulation.proofs.Representation.InitialContents.{initial_represents}
 use Rattle.simulation.proofs.OwedWords.NewestCycles.{end_owes}
 use Rattle.simulation.proofs.Threads.UnchangedPosts.{step_posted}
 use Rattle.simulation.proofs.OwedWords.OpenCycleStates.{IsOwedBy, acknowledged_owed, acknowledged_posted, begins_owed, collected_owed, stepped_owed_as}
-use Rattle.simulation.proofs.Runs.EventByEvent.{Comes, GoesOn, IsAt, goes_on, walk}
+use Rattle.simulation.proofs.Runs.EventByEvent.{Comes, Continues, IsAt, continues, walk}
 
 module _ (each : InstructionsAreAlike) where
   -- ---- the cycle
 
   module _ (earlier later : List (Event × Report)) (newest : (between rest : List (Event × Report)) → later ≡ between ++ rest → 0 < length between → is_cycle_open (earlier ++ between) ≡ false → begins_cycle rest ≡ false)
-      (Inside : ℕ → Type 0) (is_inside : ℕ → Bool) (told : (n : ℕ) → Inside n → is_inside n ≡ true) (inside : (n : ℕ) → is_inside n ≡ true → Inside n) where
+      (Inside : ℕ → Type 0) (is_inside : ℕ → Bool) (decoded : (n : ℕ) → Inside n → is_inside n ≡ true) (inside : (n : ℕ) → is_inside n ≡ true → Inside n) where
     -- the cycle is over, and no other one begins
-    record IsOver (done : List (Event × Report)) (c : Content) : Type 0 where
+    record IsOver (done : List (Event × Report)) (c : MachineState) : Type 0 where
       idle : is_of_cycle c.posts.posted ≡ false
       some : 0 < length done
       closed_now : is_cycle_open (earlier ++ done) ≡ false
 
     -- what is kept is owed, or the cycle is over
-    abbrev Within : List (Event × Report) → Content → State → Type 0
-    Within done c s = IsOwedBy Inside is_inside told inside c s ⊎ IsOver done c
+    abbrev Within : List (Event × Report) → MachineState → State → Type 0
+    Within done c s = IsOwedBy Inside is_inside decoded inside c s ⊎ IsOver done c
 
     some_done : (done : List (Event × Report)) (e : Event × Report) → 0 < length (done ++ e ∷ [])
     some_done done e = let one = length-append done (e ∷ []) in omega (arith, one)
 
-    open_behind : (done : List (Event × Report)) (e : Event) (r : Report) → is_cycle_open (earlier ++ (done ++ (e, r) ∷ [])) ≡ then_open (ends_cycle e r) (is_working e r) (is_cycle_open (earlier ++ done))
-    open_behind done e r = ap is_cycle_open (sym (append_assoc earlier done ((e, r) ∷ []))) ∙ open_then (earlier ++ done) e r
+    open_after : (done : List (Event × Report)) (e : Event) (r : Report) → is_cycle_open (earlier ++ (done ++ (e, r) ∷ [])) ≡ then_open (ends_cycle e r) (is_working e r) (is_cycle_open (earlier ++ done))
+    open_after done e r = ap is_cycle_open (sym (append_assoc earlier done ((e, r) ∷ []))) ∙ open_then (earlier ++ done) e r
 
     -- an event of the collector
-    owed_collected : (done : List (Event × Report)) (c : Content) (s : State) (x : Content × Report) → x ≡ collected c → IsCollected c x → IsOwedBy Inside is_inside told inside c s → Within (done ++ (Gc, x.1) ∷ []) x.0 s
+    owed_collected : (done : List (Event × Report)) (c : MachineState) (s : State) (x : MachineState × Report) → x ≡ collect c → IsCollected c x → IsOwedBy Inside is_inside decoded inside c s → Within (done ++ (Gc, x.1) ∷ []) x.0 s
     owed_collected done c s _ e waits h = inl h
-    owed_collected done c s _ e (works d of) h = inl (subst (λ (x : Content × Report). IsOwedBy Inside is_inside told inside x.0 s) (sym e) (collected_owed Inside is_inside told inside c s h))
-    owed_collected done c s _ e (ends d last idle spaces) h = inr (record { idle = ap is_of_cycle idle; some = some_done done (Gc, CycleDone); closed_now = open_behind done Gc CycleDone })
+    owed_collected done c s _ e (works d of) h = inl (subst (λ (x : MachineState × Report). IsOwedBy Inside is_inside decoded inside x.0 s) (sym e) (collected_owed Inside is_inside decoded inside c s h))
+    owed_collected done c s _ e (ends d last idle spaces) h = inr (record { idle = ap is_of_cycle idle; some = some_done done (Gc, CycleDone); closed_now = open_after done Gc CycleDone })
 
-    over_collected : (done rest : List (Event × Report)) (c : Content) (x : Content × Report) → later ≡ done ++ (Gc, x.1) ∷ rest → IsCollected c x → IsOver done c → IsOver (done ++ (Gc, x.1) ∷ []) x.0
-    over_collected done rest c _ split waits o = record { idle = o.idle; some = some_done done (Gc, Waiting); closed_now = open_behind done Gc Waiting ∙ o.closed_now }
+    over_collected : (done rest : List (Event × Report)) (c : MachineState) (x : MachineState × Report) → later ≡ done ++ (Gc, x.1) ∷ rest → IsCollected c x → IsOver done c → IsOver (done ++ (Gc, x.1) ∷ []) x.0
+    over_collected done rest c _ split waits o = record { idle = o.idle; some = some_done done (Gc, Waiting); closed_now = open_after done Gc Waiting ∙ o.closed_now }
     over_collected done rest c _ split (works d of) o = never (sym (newest done ((Gc, Worked) ∷ rest) split o.some o.closed_now))
     over_collected done rest c _ split (ends d last idle spaces) o = never (sym o.idle ∙ ap is_of_cycle last)
 
-    within_goes : (done rest : List (Event × Report)) (e : Event) (r : Report) (c next : Content) (s after : State) → later ≡ done ++ (e, r) ∷ rest → Within done c s → IsTurn c e (next, r) → IsNext c.tree c.limits s e r after → Within (done ++ (e, r) ∷ []) next after
-    within_goes done rest (Step t) r c next s after split (inl h) turn is = inl (stepped_owed_as Inside is_inside told inside each c s t next r h turn after is)
-    within_goes done rest (Ack t) r c next s after split (inl h) turn is =
-        inl (subst (λ (u : State). IsOwedBy Inside is_inside told inside next u) (sym is) (subst (λ (x : Content × Report). IsOwedBy Inside is_inside told inside x.0 s) (sym turn) (acknowledged_owed Inside is_inside told inside c s t h)))
-    within_goes done rest Gc r c next s after split (inl h) turn is = subst (λ (u : State). Within (done ++ (Gc, r) ∷ []) next u) (sym is) (owed_collected done c s (next, r) turn (gc_is c (next, r) turn) h)
-    within_goes done rest (Step t) r c next s after split (inr o) turn is =
-        inr (record { idle = ap is_of_cycle (step_posted c t (next, r) turn) ∙ o.idle; some = some_done done (Step t, r); closed_now = open_behind done (Step t) r ∙ o.closed_now })
-    within_goes done rest (Ack t) r c next s after split (inr o) turn is = inr (record {
-      idle = ap (λ (x : Content × Report). is_of_cycle x.0.posts.posted) turn ∙ (ap is_of_cycle (acknowledged_posted c t) ∙ o.idle);
+    within_goes : (done rest : List (Event × Report)) (e : Event) (r : Report) (c next : MachineState) (s after : State) → later ≡ done ++ (e, r) ∷ rest → Within done c s → IsTransition c e (next, r) → IsNext c.tree c.limits s e r after → Within (done ++ (e, r) ∷ []) next after
+    within_goes done rest (Step t) r c next s after split (inl h) transition is = inl (stepped_owed_as Inside is_inside decoded inside each c s t next r h transition after is)
+    within_goes done rest (Ack t) r c next s after split (inl h) transition is =
+        inl (subst (λ (u : State). IsOwedBy Inside is_inside decoded inside next u) (sym is) (subst (λ (x : MachineState × Report). IsOwedBy Inside is_inside decoded inside x.0 s) (sym transition) (acknowledged_owed Inside is_inside decoded inside c s t h)))
+    within_goes done rest Gc r c next s after split (inl h) transition is = subst (λ (u : State). Within (done ++ (Gc, r) ∷ []) next u) (sym is) (owed_collected done c s (next, r) transition (gc_is c (next, r) transition) h)
+    within_goes done rest (Step t) r c next s after split (inr o) transition is =
+        inr (record { idle = ap is_of_cycle (step_posted c t (next, r) transition) ∙ o.idle; some = some_done done (Step t, r); closed_now = open_after done (Step t) r ∙ o.closed_now })
+    within_goes done rest (Ack t) r c next s after split (inr o) transition is = inr (record {
+      idle = ap (λ (x : MachineState × Report). is_of_cycle x.0.posts.posted) transition ∙ (ap is_of_cycle (acknowledged_posted c t) ∙ o.idle);
       some = some_done done (Ack t, r);
-      closed_now = open_behind done (Ack t) r ∙ o.closed_now;
+      closed_now = open_after done (Ack t) r ∙ o.closed_now;
     })
-    within_goes done rest Gc r c next s after split (inr o) turn is = inr (over_collected done rest c (next, r) split (gc_is c (next, r) turn) o)
+    within_goes done rest Gc r c next s after split (inr o) transition is = inr (over_collected done rest c (next, r) split (gc_is c (next, r) transition) o)
 
     -- ---- its end
 
     -- the collector was in its last phase, and the new block is the only one then
-    ended : (c : Content) (x : Content × Report) → IsCollected c x → x.1 ≡ CycleDone → (c.posts.posted ≡ Reclaim) × (x.0.objects.spaces ≡ closed c.objects.spaces)
+    ended : (c : MachineState) (x : MachineState × Report) → IsCollected c x → x.1 ≡ CycleDone → (c.posts.posted ≡ Reclaim) × (x.0.objects.spaces ≡ close_cycle c.objects.spaces)
     ended c _ waits e = absurd cc
     ended c _ (works d of) e = absurd cc
     ended c _ (ends d last idle spaces) e = (last, spaces)
 
     -- each object of the new block has words that are owed
-    owed_words : (c : Content) (s : State) → c.posts.posted ≡ Reclaim → IsOwedBy Inside is_inside told inside c s → (names : List ℕ) → ((n : ℕ) → n < length s.objects → is_inside n ≡ true → is_listed names n ≡ true) →
+    owed_words : (c : MachineState) (s : State) → c.posts.posted ≡ Reclaim → IsOwedBy Inside is_inside decoded inside c s → (names : List ℕ) → ((n : ℕ) → n < length s.objects → is_inside n ≡ true → is_listed names n ≡ true) →
         used_words c.objects.spaces.new.cells ≤ sum_by (λ n. words_of_object c.tree (slice_get s.objects n)) names
     owed_words c s last h names listed =
         let own = normally c s h.represents in
@@ -127,9 +127,9 @@ module _ (tree : Tree) (before now : State) (words : ℕ) (owes : OwesWords tree
   of_listed : (n : ℕ) → is_listed owes.names n ≡ true → Contains owes.names n
   of_listed n h = Contains-from_any {eq = ◌==◌} eqb-true n owes.names h
 
-  owed_told : (n : ℕ) → Owed n → is_owed n ≡ true
-  owed_told n (inl reached) = or_left (is_listed owes.names n) (nat_le (length before.objects) n) (listed_of n ((owes.owed n).1 (inl reached)))
-  owed_told n (inr more) = or_right (is_listed owes.names n) (nat_le (length before.objects) n) (let test : nat_le (length before.objects) n ≡ true = grind (arith, nat_tests) in test)
+  owed_decoded : (n : ℕ) → Owed n → is_owed n ≡ true
+  owed_decoded n (inl reached) = or_left (is_listed owes.names n) (nat_le (length before.objects) n) (listed_of n ((owes.owed n).1 (inl reached)))
+  owed_decoded n (inr more) = or_right (is_listed owes.names n) (nat_le (length before.objects) n) (let test : nat_le (length before.objects) n ≡ true = grind (arith, nat_tests) in test)
 
   owed_is : (n : ℕ) → is_owed n ≡ true → Owed n
   owed_is n h = elim (or_cases (is_listed owes.names n) (nat_le (length before.objects) n) h) [
@@ -152,7 +152,7 @@ module _ (tree : Tree) (before now : State) (words : ℕ) (owes : OwesWords tree
 
 -- ---- runs
 
-module _ (each : InstructionsAreAlike) (tree : Tree) (accepted : IsAccepted tree) (limits : Limits) (in_range : IsTrue (are_in_range limits)) (events : List Event) (reports : List Report) (c : Content) (stands : StandsAfter tree limits events reports c)
+module _ (each : InstructionsAreAlike) (tree : Tree) (accepted : IsAccepted tree) (limits : Limits) (in_range : IsTrue (are_in_range limits)) (events : List Event) (reports : List Report) (c : MachineState) (stands : StandsAfter tree limits events reports c)
     (most : List (Event × Report)) (over : zip events reports ≡ most ++ (Gc, CycleDone) ∷ []) (words : ℕ) (o : OwesAfter tree limits events reports words) where
   abbrev all : List (Event × Report)
   all = zip events reports
@@ -163,10 +163,10 @@ module _ (each : InstructionsAreAlike) (tree : Tree) (accepted : IsAccepted tree
   -- the machine at the beginning
   first_represents : Represents h.machine o.first
   first_represents =
-      let opened = opening_represents tree limits accepted in_range in
-      let content : opened.0 ≡ h.machine = same_Some opened.0 h.machine (sym opened.2 ∙ h.opened) in
+      let opened = initial_represents tree limits accepted in_range in
+      let machine_state : opened.0 ≡ h.machine = same_Some opened.0 h.machine (sym opened.2 ∙ h.opened) in
       let state : opened.1 ≡ o.first = same_Some opened.1 o.first (sym opened.3 ∙ o.opens) in
-      subst (λ (x : Content). Represents x o.first) content (subst (λ (x : State). Represents opened.0 x) state opened.4)
+      subst (λ (x : MachineState). Represents x o.first) machine_state (subst (λ (x : State). Represents opened.0 x) state opened.4)
 
   abbrev opened : IsOpened tree limits h.machine
   opened = opened_is tree limits h.machine h.opened
@@ -184,16 +184,16 @@ module _ (each : InstructionsAreAlike) (tree : Tree) (accepted : IsAccepted tree
       })
 
   -- where the newest cycle begins
-  abbrev begun : Comes tree limits all o.now h.last IsBefore (λ done rest e r d next s after split k turn is. before_goes each done e r d next s after k turn is) o.earlier o.later [] o.first
+  abbrev begun : Comes tree limits all o.now h.last IsBefore (λ done rest e r d next s after split k transition is. before_goes each done e r d next s after k transition is) o.earlier o.later [] o.first
   begun =
-      walk tree limits all o.now h.last IsBefore (λ done rest e r d next s after split k turn is. before_goes each done e r d next s after k turn is) o.earlier o.later [] h.machine o.first at_first
+      walk tree limits all o.now h.last IsBefore (λ done rest e r d next s after split k transition is. before_goes each done e r d next s after k transition is) o.earlier o.later [] h.machine o.first at_first
       (record { represents = first_represents; posted = ap is_of_cycle opened.idle })
 
   same_before : begun.state ≡ o.before
   same_before = same_state (step_reports o.earlier) (step_reports o.earlier) begun.state o.before (sym begun.ran ∙ o.began)
 
-  none_open : begun.content.posts.posted ≡ Idle
-  none_open = idle_of begun.content.posts.posted (begun.holds.posted ∙ o.split.none_was_open)
+  none_open : begun.machine_state.posts.posted ≡ Idle
+  none_open = idle_of begun.machine_state.posts.posted (begun.holds.posted ∙ o.split.none_was_open)
 
   abbrev owes : OwesWords tree begun.state o.now words
   owes = subst (λ (u : State). OwesWords tree u o.now words) (sym same_before) o.owes
@@ -207,55 +207,55 @@ module _ (each : InstructionsAreAlike) (tree : Tree) (accepted : IsAccepted tree
   later_is : o.later ≡ front ++ (Gc, CycleDone) ∷ []
   later_is = (split_at_last o.earlier o.later most (Gc, CycleDone) o.split.begins (sym o.split.whole ∙ over)).1
 
-  at_cycle : IsAt tree limits o.later o.now h.last [] (front ++ (Gc, CycleDone) ∷ []) begun.content begun.state
-  at_cycle = subst (λ l. IsAt tree limits o.later o.now h.last [] l begun.content begun.state) later_is
+  at_cycle : IsAt tree limits o.later o.now h.last [] (front ++ (Gc, CycleDone) ∷ []) begun.machine_state begun.state
+  at_cycle = subst (λ l. IsAt tree limits o.later o.now h.last [] l begun.machine_state begun.state) later_is
       (record { of_tree = begun.there.of_tree; of_limits = begun.there.of_limits; split = refl; runs = begun.there.runs; refuses = begun.there.refuses })
 
   -- what the cycle keeps is owed
-  abbrev Holds : List (Event × Report) → Content → State → Type 0
-  Holds = Within each o.earlier o.later o.split.newest (IsReachedOrUnborn begun.state) owed (owed_told tree begun.state o.now words owes) (owed_is tree begun.state o.now words owes)
+  abbrev Holds : List (Event × Report) → MachineState → State → Type 0
+  Holds = Within each o.earlier o.later o.split.newest (IsReachedOrUnborn begun.state) owed (owed_decoded tree begun.state o.now words owes) (owed_is tree begun.state o.now words owes)
 
-  abbrev come : Comes tree limits o.later o.now h.last Holds (within_goes each o.earlier o.later o.split.newest (IsReachedOrUnborn begun.state) owed (owed_told tree begun.state o.now words owes) (owed_is tree begun.state o.now words owes)) front ((Gc, CycleDone) ∷ []) [] begun.state
+  abbrev come : Comes tree limits o.later o.now h.last Holds (within_goes each o.earlier o.later o.split.newest (IsReachedOrUnborn begun.state) owed (owed_decoded tree begun.state o.now words owes) (owed_is tree begun.state o.now words owes)) front ((Gc, CycleDone) ∷ []) [] begun.state
   come =
-      walk tree limits o.later o.now h.last Holds (within_goes each o.earlier o.later o.split.newest (IsReachedOrUnborn begun.state) owed (owed_told tree begun.state o.now words owes) (owed_is tree begun.state o.now words owes)) front ((Gc, CycleDone) ∷ []) [] begun.content begun.state at_cycle
-      (inl (begins_owed (IsReachedOrUnborn begun.state) owed (owed_told tree begun.state o.now words owes) (owed_is tree begun.state o.now words owes) begun.content begun.state begun.holds.represents (reached_is_closed begun.state) none_open))
+      walk tree limits o.later o.now h.last Holds (within_goes each o.earlier o.later o.split.newest (IsReachedOrUnborn begun.state) owed (owed_decoded tree begun.state o.now words owes) (owed_is tree begun.state o.now words owes)) front ((Gc, CycleDone) ∷ []) [] begun.machine_state begun.state at_cycle
+      (inl (begins_owed (IsReachedOrUnborn begun.state) owed (owed_decoded tree begun.state o.now words owes) (owed_is tree begun.state o.now words owes) begun.machine_state begun.state begun.holds.represents (reached_is_closed begun.state) none_open))
 
   -- its last event
-  abbrev on : GoesOn tree limits o.later o.now h.last ([] ++ front) [] come.content come.state Gc CycleDone
-  on = goes_on tree limits o.later o.now h.last ([] ++ front) [] come.content come.state Gc CycleDone come.there
+  abbrev on : Continues tree limits o.later o.now h.last ([] ++ front) [] come.machine_state come.state Gc CycleDone
+  on = continues tree limits o.later o.now h.last ([] ++ front) [] come.machine_state come.state Gc CycleDone come.there
 
   same_now : come.state ≡ o.now
   same_now = sym on.is_next ∙ same_state [] [] on.after o.now on.there.runs
 
-  done : (come.content.posts.posted ≡ Reclaim) × (on.next.objects.spaces ≡ closed come.content.objects.spaces)
-  done = ended each o.earlier o.later o.split.newest (IsReachedOrUnborn begun.state) owed (owed_told tree begun.state o.now words owes) (owed_is tree begun.state o.now words owes) come.content (on.next, CycleDone) (gc_is come.content (on.next, CycleDone) on.turn) refl
+  done : (come.machine_state.posts.posted ≡ Reclaim) × (on.next.objects.spaces ≡ close_cycle come.machine_state.objects.spaces)
+  done = ended each o.earlier o.later o.split.newest (IsReachedOrUnborn begun.state) owed (owed_decoded tree begun.state o.now words owes) (owed_is tree begun.state o.now words owes) come.machine_state (on.next, CycleDone) (gc_is come.machine_state (on.next, CycleDone) on.transition) refl
 
-  new_is_owed : used_words come.content.objects.spaces.new.cells ≤ words
+  new_is_owed : used_words come.machine_state.objects.spaces.new.cells ≤ words
   new_is_owed = by_way come.holds
     where
-      total : (d : Tree) (u : State) → d ≡ tree → u ≡ o.now → used_words come.content.objects.spaces.new.cells ≤ sum_by (λ n. words_of_object d (slice_get u.objects n)) owes.names → used_words come.content.objects.spaces.new.cells ≤ words
+      total : (d : Tree) (u : State) → d ≡ tree → u ≡ o.now → used_words come.machine_state.objects.spaces.new.cells ≤ sum_by (λ n. words_of_object d (slice_get u.objects n)) owes.names → used_words come.machine_state.objects.spaces.new.cells ≤ words
       total d u is same less =
-          subst (λ k. used_words come.content.objects.spaces.new.cells ≤ k) owes.total
-          (subst (λ (v : State). used_words come.content.objects.spaces.new.cells ≤ sum_by (λ n. words_of_object tree (slice_get v.objects n)) owes.names) same
-          (subst (λ (w : Tree). used_words come.content.objects.spaces.new.cells ≤ sum_by (λ n. words_of_object w (slice_get u.objects n)) owes.names) is less))
+          subst (λ k. used_words come.machine_state.objects.spaces.new.cells ≤ k) owes.total
+          (subst (λ (v : State). used_words come.machine_state.objects.spaces.new.cells ≤ sum_by (λ n. words_of_object tree (slice_get v.objects n)) owes.names) same
+          (subst (λ (w : Tree). used_words come.machine_state.objects.spaces.new.cells ≤ sum_by (λ n. words_of_object w (slice_get u.objects n)) owes.names) is less))
 
-      by_way : Holds ([] ++ front) come.content come.state → used_words come.content.objects.spaces.new.cells ≤ words
+      by_way : Holds ([] ++ front) come.machine_state come.state → used_words come.machine_state.objects.spaces.new.cells ≤ words
       by_way (inl k) =
-          total come.content.tree come.state come.there.of_tree same_now
-          (owed_words each o.earlier o.later o.split.newest (IsReachedOrUnborn begun.state) owed (owed_told tree begun.state o.now words owes) (owed_is tree begun.state o.now words owes) come.content come.state done.0 k owes.names
+          total come.machine_state.tree come.state come.there.of_tree same_now
+          (owed_words each o.earlier o.later o.split.newest (IsReachedOrUnborn begun.state) owed (owed_decoded tree begun.state o.now words owes) (owed_is tree begun.state o.now words owes) come.machine_state come.state done.0 k owes.names
           (λ n there is. there_listed tree begun.state o.now words owes n (subst (λ (u : State). n < length u.objects) same_now there) is))
       by_way (inr k) = never (sym k.idle ∙ ap is_of_cycle done.0)
 
-  spaces_are : c.objects.spaces ≡ closed come.content.objects.spaces
-  spaces_are = ap (λ (x : Content). x.objects.spaces) (sym stands.ends ∙ on.there.refuses) ∙ done.1
+  spaces_are : c.objects.spaces ≡ close_cycle come.machine_state.objects.spaces
+  spaces_are = ap (λ (x : MachineState). x.objects.spaces) (sym stands.ends ∙ on.there.refuses) ∙ done.1
 
   -- no more words are in use at the end of a cycle than are owed
   pub cycle_leaves_owed : (used_space c.objects ≤ words) × (used_words c.objects.spaces.new.cells ≡ 0)
   cycle_leaves_owed = (subst (λ (m : Spaces). used_words m.old.cells ≤ words) (sym spaces_are) new_is_owed, ap (λ (m : Spaces). used_words m.new.cells) spaces_are)
 
 -- and there are such words
-pub leaves_owed : InstructionsAreAlike → (tree : Tree) → IsAccepted tree → (limits : Limits) → IsTrue (are_in_range limits) → (events : List Event) (reports : List Report) (c : Content) → StandsAfter tree limits events reports c →
-    LeavesWhatIsOwed tree limits events reports c
+pub leaves_owed : InstructionsAreAlike → (tree : Tree) → IsAccepted tree → (limits : Limits) → IsTrue (are_in_range limits) → (events : List Event) (reports : List Report) (c : MachineState) → StandsAfter tree limits events reports c →
+    LeavesOnlyOwed tree limits events reports c
 leaves_owed each tree accepted limits in_range events reports c stands most over =
     let owes = end_owes each tree accepted limits in_range events reports stands.state stands.is_run most over in
     let left = cycle_leaves_owed each tree accepted limits in_range events reports c stands most over owes.0 owes.1 in

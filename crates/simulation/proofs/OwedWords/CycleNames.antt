@@ -12,7 +12,7 @@ use Rattle.interpreter.specs.object_memory.declared.values.Value.{Value}
 use Rattle.interpreter.specs.object_memory.declared.values.Value.TheVariants.{Int32, Int64, Native, Ref}
 use Rattle.interpreter.specs.object_memory.Cells.{Cell, cell_in, empty_cell, next_address}
 use Rattle.interpreter.specs.object_memory.Objects.{Objects}
-use Rattle.interpreter.specs.object_memory.Spaces.{AreSpaces, Spaces, address_at, birth_space_of, born, forward, is_old, is_white, mark, marked_if, other_of, set_mark}
+use Rattle.interpreter.specs.object_memory.Spaces.{AreSpaces, Spaces, address_at, birth_space_of, give_birth, forward, is_old, is_white, mark, marked_if, other_of, set_mark}
 use Rattle.interpreter.specs.object_memory.declared.birth_spaces.BirthSpace.{BirthSpace}
 use Rattle.interpreter.specs.object_memory.declared.birth_spaces.BirthSpace.TheVariants.{InBoth, InNew, InOld, Listed}
 use Rattle.interpreter.specs.instructions.barriers.Barriers.{object_born, with_marked}
@@ -30,7 +30,7 @@ use Rattle.collector.proofs.Births.BirthSoundness.{IsNear, granted}
 use Rattle.collector.proofs.Marking.MarkedHeaps.{AreDarker-with_marked}
 use Rattle.collector.proofs.Addresses.TagChanges.{AreAlike}
 use Rattle.collector.proofs.Addresses.Tests.{HoldMeans, is_new_live, mark_is, marked_cell, marked_is_old, never, new_cell, new_is, old_is}
-use Rattle.simulation.specs.StandsFor.{Names}
+use Rattle.simulation.specs.Refines.{Names}
 
 -- ---- what has to have a name
 
@@ -217,23 +217,23 @@ module _ (own posted : Phase) (o : Objects) (spaces : AreSpaces o.spaces) (v : V
 -- ---- births
 
 module _ (m : Spaces) (spaces : AreSpaces m) (k : Kind) (n : ℕ) where
-  part_address : (place : BirthSpace) (a : Addr) (d : Cell) → a.number ≡ (next_address m.old).number → old_part place m k n ≡ Some d → a ≡ address_at place m
+  part_address : (space : BirthSpace) (a : Addr) (d : Cell) → a.number ≡ (next_address m.old).number → old_part space m k n ≡ Some d → a ≡ address_at space m
   part_address InOld a d same part = ap (λ (x : ℕ). record { number = x }) same
   part_address Listed a d same part = ap (λ (x : ℕ). record { number = x }) same
   part_address InBoth a d same part = ap (λ (x : ℕ). record { number = x }) same
   part_address InNew a d same part = none_is_some d part
 
   -- a marked object was marked before or is the one that was born
-  pub born_marked : (place : BirthSpace) (a : Addr) → is_marked_old (born place m k n) a ≡ true → (is_marked_old m a ≡ true) ⊎ (a ≡ address_at place m)
-  born_marked place a h =
-      let d = marked_cell (born place m k n) a h in
-      elim (born-was_old m spaces k n place a d.0 d.1) [
+  pub born_marked : (space : BirthSpace) (a : Addr) → is_marked_old (give_birth space m k n) a ≡ true → (is_marked_old m a ≡ true) ⊎ (a ≡ address_at space m)
+  born_marked space a h =
+      let d = marked_cell (give_birth space m k n) a h in
+      elim (born-was_old m spaces k n space a d.0 d.1) [
         | inl was ↦ inl (mark_is m a d.0 was ∙ d.2)
-        | inr here ↦ inr (part_address place a d.0 here.0 here.1)
+        | inr here ↦ inr (part_address space a d.0 here.0 here.1)
       ]
 
-  new_address : (place : BirthSpace) (a : Addr) (d : Cell) → a.number ≡ (next_address m.new).number → new_part place m k n ≡ Some d →
-      (a ≡ address_at place m) ⊎ (other_of (cell_in (born place m k n).old (address_at place m)) ≡ Some a)
+  new_address : (space : BirthSpace) (a : Addr) (d : Cell) → a.number ≡ (next_address m.new).number → new_part space m k n ≡ Some d →
+      (a ≡ address_at space m) ⊎ (other_of (cell_in (give_birth space m k n).old (address_at space m)) ≡ Some a)
   new_address InOld a d same part = none_is_some d part
   new_address Listed a d same part = none_is_some d part
   new_address InBoth a d same part =
@@ -241,30 +241,30 @@ module _ (m : Spaces) (spaces : AreSpaces m) (k : Kind) (n : ℕ) where
   new_address InNew a d same part = inl (ap (λ (x : ℕ). record { number = x }) same)
 
   -- and a new one was new before, or is that one or its copy
-  pub born_new : (place : BirthSpace) (a : Addr) → is_new (born place m k n) a ≡ true → (is_new m a ≡ true) ⊎ ((a ≡ address_at place m) ⊎ (other_of (cell_in (born place m k n).old (address_at place m)) ≡ Some a))
-  born_new place a h =
-      let d = new_cell (born place m k n) a h in
-      elim (born-was_new m spaces k n place a d.0 d.1) [
+  pub born_new : (space : BirthSpace) (a : Addr) → is_new (give_birth space m k n) a ≡ true → (is_new m a ≡ true) ⊎ ((a ≡ address_at space m) ⊎ (other_of (cell_in (give_birth space m k n).old (address_at space m)) ≡ Some a))
+  born_new space a h =
+      let d = new_cell (give_birth space m k n) a h in
+      elim (born-was_new m spaces k n space a d.0 d.1) [
         | inl was ↦ inl (new_is m a d.0 was)
-        | inr here ↦ inr (new_address place a d.0 here.0 here.1)
+        | inr here ↦ inr (new_address space a d.0 here.0 here.1)
       ]
 
   -- what was a copy is one
-  still_copy : (place : BirthSpace) (y : Addr) → IsCopyOfMarked m y → IsCopyOfMarked (born place m k n) y
-  still_copy place y x =
+  still_copy : (space : BirthSpace) (y : Addr) → IsCopyOfMarked m y → IsCopyOfMarked (give_birth space m k n) y
+  still_copy space y x =
       let c = marked_cell m x.old x.marked in
       record {
         old = x.old;
-        marked = mark_is (born place m k n) x.old c.0 (born-kept_old m spaces k n place x.old c.0 c.1) ∙ c.2;
-        copy = forward-born m spaces k n place x.old (λ same. none_is_some c.0 (sym (next_in m.old) ∙ subst (λ (z : ℕ). cell_in m.old (record { number = z }) ≡ Some c.0) same c.1)) ∙ x.copy;
+        marked = mark_is (give_birth space m k n) x.old c.0 (born-kept_old m spaces k n space x.old c.0 c.1) ∙ c.2;
+        copy = forward-born m spaces k n space x.old (λ same. none_is_some c.0 (sym (next_in m.old) ∙ subst (λ (z : ℕ). cell_in m.old (record { number = z }) ≡ Some c.0) same c.1)) ∙ x.copy;
       }
 
-  copies_born : (place : BirthSpace) → (place ≡ InNew → ⊥) → ((y : Addr) → is_new m y ≡ true → IsCopyOfMarked m y) → (y : Addr) → is_new (born place m k n) y ≡ true → IsCopyOfMarked (born place m k n) y
+  copies_born : (space : BirthSpace) → (space ≡ InNew → ⊥) → ((y : Addr) → is_new m y ≡ true → IsCopyOfMarked m y) → (y : Addr) → is_new (give_birth space m k n) y ≡ true → IsCopyOfMarked (give_birth space m k n) y
   copies_born InOld else' are y new = still_copy InOld y (are y new)
   copies_born Listed else' are y new = still_copy Listed y (are y new)
   copies_born InNew else' are y new = absurd (else' refl)
   copies_born InBoth else' are y new =
-      let d = new_cell (born InBoth m k n) y new in
+      let d = new_cell (give_birth InBoth m k n) y new in
       let last = born-old_last m spaces k n InBoth (empty_cell k n true (Some (next_address m.new))) refl in
       elim (born-was_new m spaces k n InBoth y d.0 d.1) [
         | inl was ↦ still_copy InBoth y (are y (new_is m y d.0 was))
@@ -304,25 +304,25 @@ not_in_new own posted is_open near copying = by_near near
     by_near (inr is) = at_next own is_open (ap is_copying is ∙ copying)
 
 module _ (own posted : Phase) (near : IsNear own posted) (o : Objects) (spaces : AreSpaces o.spaces) (k : Kind) (n : ℕ) (o' : Objects) (a : Addr) (e : ◌≡◌ {A = Objects × Option Addr} (object_born own o k n) (o', Some a)) where
-  abbrev place : BirthSpace
-  place = birth_space_of own o.spaces.is_open
+  abbrev space : BirthSpace
+  space = birth_space_of own o.spaces.is_open
 
   -- what is marked after a birth was marked before, or is what was born,
   pub marked_before_birth : (x : Addr) → is_marked_old o'.spaces x ≡ true → (is_marked_old o.spaces x ≡ true) ⊎ (x ≡ a)
   marked_before_birth x h =
       let g = granted own o k n o' a e in
-      elim (born_marked o.spaces spaces k n place x (subst (λ (z : Objects). is_marked_old z.spaces x ≡ true) (sym g.1) h)) [ inl was ↦ inl was | inr here ↦ inr (here ∙ g.2) ]
+      elim (born_marked o.spaces spaces k n space x (subst (λ (z : Objects). is_marked_old z.spaces x ≡ true) (sym g.1) h)) [ inl was ↦ inl was | inr here ↦ inr (here ∙ g.2) ]
 
   -- what is new was new before, or is what was born or its copy
   pub new_before_birth : (x : Addr) → is_new o'.spaces x ≡ true → (is_new o.spaces x ≡ true) ⊎ ((x ≡ a) ⊎ (other_of (cell_in o'.spaces.old a) ≡ Some x))
   new_before_birth x h =
       let g = granted own o k n o' a e in
-      elim (born_new o.spaces spaces k n place x (subst (λ (z : Objects). is_new z.spaces x ≡ true) (sym g.1) h)) [
+      elim (born_new o.spaces spaces k n space x (subst (λ (z : Objects). is_new z.spaces x ≡ true) (sym g.1) h)) [
         | inl was ↦ inl was
         | inr here ↦ elim here [
           | inl own' ↦ inr (inl (own' ∙ g.2))
           | inr other ↦
-              inr (inr (subst (λ (z : Objects). other_of (cell_in z.spaces.old a) ≡ Some x) g.1 (subst (λ (y : Addr). other_of (cell_in (born place o.spaces k n).old y) ≡ Some x) g.2 other)))
+              inr (inr (subst (λ (z : Objects). other_of (cell_in z.spaces.old a) ≡ Some x) g.1 (subst (λ (y : Addr). other_of (cell_in (give_birth space o.spaces k n).old y) ≡ Some x) g.2 other)))
         ]
       ]
 

@@ -26,12 +26,12 @@ use Rattle.interpreter.specs.object_memory.Spaces.{AreSpaces, Spaces, clear, fou
 use Rattle.interpreter.proofs.object_memory.TwoBlocks.{after_in, apart, no_literal, old_is_cell}
 use Rattle.interpreter.specs.instructions.barriers.Barriers.{with_marked}
 use Rattle.interpreter.specs.threads_monitors.Roots.{roots}
-use Rattle.interpreter.specs.threads_monitors.declared.threads.Standing.{Standing}
-use Rattle.interpreter.specs.threads_monitors.declared.threads.Standing.TheVariants.{Ended, Live}
+use Rattle.interpreter.specs.threads_monitors.declared.threads.ThreadStatus.{ThreadStatus}
+use Rattle.interpreter.specs.threads_monitors.declared.threads.ThreadStatus.TheVariants.{Ended, Live}
 use Rattle.interpreter.specs.threads_monitors.declared.threads.Thread.{Thread}
 use Rattle.reference_machine.specs.TypedStates.{IsTyped}
 use Rattle.collector.specs.phase_handshake.Handshakes.{Handshakes, all_answered, all_seen}
-use Rattle.collector.specs.Copying.{address_behind, copied_on, looked_on}
+use Rattle.collector.specs.Copying.{address_after_cell, copied_on, looked_on}
 use Rattle.collector.specs.Flips.{cleared_at, cleared_on, flipped_on}
 use Rattle.collector.specs.Marking.{is_closed, mark_step, marked_on, object_scanned, oldest_cell, slot_scanned, statics_scanned, with_all_marked, without_oldest, word_of}
 use Rattle.collector.specs.Phases.{is_live, is_marked_cell, is_marked_old, is_new}
@@ -45,10 +45,10 @@ use Rattle.collector.proofs.Marking.MarkedHeaps.{AreDarker-with_all_marked}
 use Rattle.collector.proofs.Copying.AllocateWork.{looked_sound}
 use Rattle.collector.proofs.Addresses.Tests.{mark_is, marked_cell, never, new_cell, new_is, none_is_new, permanent_not_old}
 use Rattle.simulation.specs.Agreement.{Agree}
-use Rattle.simulation.specs.Collecting.{cleared, collected, cycle_ended, flipped, marked, next_posted, round_posted, rounds, with_acknowledgement, work, worked}
-use Rattle.simulation.specs.MachineContents.{Content}
+use Rattle.simulation.specs.Collecting.{clear_object, collect, cycle_ended, flip_values, mark_object, next_posted, round_posted, rounds, with_acknowledgement, work, do_work}
+use Rattle.simulation.specs.MachineStates.{MachineState}
 use Rattle.simulation.specs.Sound.{IsSound}
-use Rattle.simulation.specs.StandsFor.{IsHeap, IsThread, IsValue, Names, StandsAlike, StandsBy, int32, int64, native, null_reference, reference}
+use Rattle.simulation.specs.Refines.{IsHeap, IsThread, IsValue, Names, StandsAlike, StandsBy, int32, int64, native, null_reference, reference}
 use Rattle.simulation.proofs.CollectorEvents.AcknowledgementCases.{after_acknowledgement, posts_after}
 use Rattle.simulation.proofs.ListLaws.AgreeingLists.{agree_at}
 use Rattle.simulation.proofs.CollectedHeap.RewrittenCells.{IsNamedWord, contents_named}
@@ -57,20 +57,20 @@ use Rattle.simulation.proofs.OwedWords.CycleNames.{AreCopiesOfMarked, IsCopyOfMa
 use Rattle.simulation.proofs.Representation.NormalNames.{IsNormal, other_cell}
 use Rattle.simulation.proofs.Memory.ReferenceSlots.{typed_is_linked}
 use Rattle.simulation.proofs.Representation.RootReferences.{roots_pass}
-use Rattle.simulation.proofs.CollectorEvents.RootMarks.{standing_values, thread_marked, thread_values}
+use Rattle.simulation.proofs.CollectorEvents.RootMarks.{status_values, thread_marked, thread_values}
 
 -- What is kept has a name; and while objects get their copies, each new one is the copy of a marked one.
-pub record HasNames (name : Names) (c : Content) : Type 0 where
+pub record HasNames (name : Names) (c : MachineState) : Type 0 where
   pub kept : (a : Addr) → is_kept c.posts.posted c.objects.spaces a ≡ true → IsNamed name a
   pub copies : AreCopiesOfMarked c.posts.posted c.objects.spaces
 
 -- normal names that what is live keeps
-pub record Renames (name : Names) (c : Content) (names : Names) : Type 0 where
+pub record Renames (name : Names) (c : MachineState) (names : Names) : Type 0 where
   pub live : (a : ℕ) (n : ObjectName) → is_live c.posts.posted c.objects.spaces (record { number = a }) ≡ true → name a ≡ Some n → names a ≡ Some n
   pub normal : IsNormal c.posts.posted c.objects.spaces names
 
 -- what is kept keeps its name
-pub renamed : (name : Names) (c : Content) (names : Names) → Renames name c names → HasNames name c → HasNames names c
+pub renamed : (name : Names) (c : MachineState) (names : Names) → Renames name c names → HasNames name c → HasNames names c
 renamed name c names renames has = record {
   kept = λ a kept. let n = has.kept a kept in (n.0, renames.live a.number n.0 (kept_is_live c.posts.posted c.objects.spaces a kept) n.1);
   copies = has.copies;
@@ -217,21 +217,21 @@ module _ (tree : Tree) (posted : Phase) (has_round : Bool) (words : ℕ) (p : Pr
 
 -- ---- each phase
 
-module _ (c : Content) (s : State) (legal : IsLegal c.tree) (typed : IsTyped c.tree s) (name names : Names) (stands : StandsBy name c s) where
+module _ (c : MachineState) (s : State) (legal : IsLegal c.tree) (typed : IsTyped c.tree s) (name names : Names) (stands : StandsBy name c s) where
   -- what is kept after a transition has a name, under names that are normal then
-  abbrev Then : Content × Report → Type 0
+  abbrev Then : MachineState × Report → Type 0
   Then x = Renames name x.0 names → HasNames names x.0
 
-  either_then : (b : Bool) (x y : Content × Report) → (b ≡ true → Then x) → (b ≡ false → Then y) → Then (if◌then◌else◌ {A = Content × Report} b x y)
+  either_then : (b : Bool) (x y : MachineState × Report) → (b ≡ true → Then x) → (b ≡ false → Then y) → Then (if◌then◌else◌ {A = MachineState × Report} b x y)
   either_then true x y f g = f refl
   either_then false x y f g = g refl
 
   -- it is so where it had a name
-  by_old : (x : Content × Report) → ((a : Addr) → is_kept x.0.posts.posted x.0.objects.spaces a ≡ true → IsNamed name a) → AreCopiesOfMarked x.0.posts.posted x.0.objects.spaces → Then x
+  by_old : (x : MachineState × Report) → ((a : Addr) → is_kept x.0.posts.posted x.0.objects.spaces a ≡ true → IsNamed name a) → AreCopiesOfMarked x.0.posts.posted x.0.objects.spaces → Then x
   by_old x kept copies renames = renamed name x.0 names renames (record { kept = kept; copies = copies })
 
   -- a step was done, or none was left
-  worked_then : (x : Phase) (step : Progress × Objects × Bool) → Then (record (posting x c) { progress = step.0; objects = step.1 }, Worked) → Then (next_posted (posting x c)) → Then (worked (posting x c) step)
+  worked_then : (x : Phase) (step : Progress × Objects × Bool) → Then (record (posting x c) { progress = step.0; objects = step.1 }, Worked) → Then (next_posted (posting x c)) → Then (do_work (posting x c) step)
   worked_then x (p, o, true) works posts = works
   worked_then x (p, o, false) works posts = posts
 
@@ -261,12 +261,12 @@ module _ (c : Content) (s : State) (legal : IsLegal c.tree) (typed : IsTyped c.t
         (λ waits. by_old (posting Mark c, Waiting) has.kept (λ copying. never copying))
         (λ answered. by_old (round_posted (posting Mark c), Worked) has.kept (λ copying. never copying)))
 
-    by_mark : (x : Progress × Objects × Bool) → ((a : Addr) → is_marked_old x.1.spaces a ≡ true → IsNamed name a) → Then (marked (posting Mark c) x)
+    by_mark : (x : Progress × Objects × Bool) → ((a : Addr) → is_marked_old x.1.spaces a ≡ true → IsNamed name a) → Then (mark_object (posting Mark c) x)
     by_mark (p, o, true) kept = dark_then p o kept
     by_mark (p, o, false) kept = rounds_then
 
     marks_then : Then (work Mark (posting Mark c))
-    marks_then = either_then c.progress.scanned_statics (marked (posting Mark c) (marked_on c.tree c.progress c.objects))
+    marks_then = either_then c.progress.scanned_statics (mark_object (posting Mark c) (marked_on c.tree c.progress c.objects))
         (record (posting Mark c) { progress = (statics_scanned c.progress c.objects c.statics).0; objects = (statics_scanned c.progress c.objects c.statics).1 }, Worked)
         (λ scanned. by_mark (marked_on c.tree c.progress c.objects)
         (step_named c.tree legal s typed name c.objects spaces stands.memory.heap has.kept c.progress c.objects.spaces.grey (sound.heap.marks refl).listed (oldest_cell c.objects c.objects.spaces.grey) refl))
@@ -294,7 +294,7 @@ module _ (c : Content) (s : State) (legal : IsLegal c.tree) (typed : IsTyped c.t
               (let x = has.copies refl y (new_is c.objects.spaces y d.0 was) in
               back_copy c.tree Allocate c.posts.has_round c.limits.max_words looked.0 looked.1.spaces after y d.0 d.1 x.old
               (copy_back c.tree Allocate c.posts.has_round c.limits.max_words c.progress c.objects.spaces sound.heap y d.0 was (λ e. absurd cc) x))
-          | inr h ↦ back_copy c.tree Allocate c.posts.has_round c.limits.max_words looked.0 looked.1.spaces after y d.0 d.1 (address_behind c.objects.spaces.old c.progress.place) (ap (λ (z : Cell). z.other) h.5)
+          | inr h ↦ back_copy c.tree Allocate c.posts.has_round c.limits.max_words looked.0 looked.1.spaces after y d.0 d.1 (address_after_cell c.objects.spaces.old c.progress.cursor) (ap (λ (z : Cell). z.other) h.5)
         ]
 
     looks_then : Then (work Allocate (posting Allocate c))
@@ -335,7 +335,7 @@ module _ (c : Content) (s : State) (legal : IsLegal c.tree) (typed : IsTyped c.t
 
   -- ---- the flips
 
-  flips_then : (x : Progress × List Value × Bool) → HasNames name (posting HeapFlip c) → Then (flipped (posting HeapFlip c) x)
+  flips_then : (x : Progress × List Value × Bool) → HasNames name (posting HeapFlip c) → Then (flip_values (posting HeapFlip c) x)
   flips_then (p, statics, true) has = by_old (record (posting HeapFlip c) { progress = p; statics = statics }, Worked) has.kept (λ copying. never copying)
   flips_then (p, statics, false) has = by_old (next_posted (posting HeapFlip c)) has.kept (λ copying. never copying)
 
@@ -347,7 +347,7 @@ module _ (c : Content) (s : State) (legal : IsLegal c.tree) (typed : IsTyped c.t
   cleared_new (Some at) a h = by_cell (cell_in c.objects.spaces.new (record { number = at })) h
     where
       by_cell : (o : Option Cell) →
-          is_new (option_map_or {U = Progress × Objects × Bool} (λ (d : Cell). (record c.progress { place = at - c.objects.spaces.new.start + size d }, record c.objects { spaces = clear c.objects.spaces (record { number = at }) }, true)) o (c.progress, c.objects, false)).1.spaces a ≡ true →
+          is_new (option_map_or {U = Progress × Objects × Bool} (λ (d : Cell). (record c.progress { cursor = at - c.objects.spaces.new.start + size d }, record c.objects { spaces = clear c.objects.spaces (record { number = at }) }, true)) o (c.progress, c.objects, false)).1.spaces a ≡ true →
           is_new c.objects.spaces a ≡ true
       by_cell None k = k
       by_cell (Some d) k =
@@ -355,12 +355,12 @@ module _ (c : Content) (s : State) (legal : IsLegal c.tree) (typed : IsTyped c.t
           let was = after_in (store_copies false None) (λ z. refl) c.objects.spaces.new (record { number = at }) a e.0 e.1 in
           new_is c.objects.spaces a was.0 was.1
 
-  by_clear : (x : Progress × Objects × Bool) → ((a : Addr) → is_new x.1.spaces a ≡ true → IsNamed name a) → Then (cleared (posting Reclaim c) x)
+  by_clear : (x : Progress × Objects × Bool) → ((a : Addr) → is_new x.1.spaces a ≡ true → IsNamed name a) → Then (clear_object (posting Reclaim c) x)
   by_clear (p, o, true) kept = by_old (record (posting Reclaim c) { progress = p; objects = o }, Worked) kept (λ copying. never copying)
   by_clear (p, o, false) kept = by_old (cycle_ended (posting Reclaim c), CycleDone) (λ a h. never h) (λ copying. never copying)
 
   clears_then : HasNames name (posting Reclaim c) → Then (work Reclaim (posting Reclaim c))
-  clears_then has = by_clear (cleared_on c.progress c.objects) (λ a h. has.kept a (cleared_new (found_in is_noted c.objects.spaces.new (c.objects.spaces.new.start + c.progress.place)) a h))
+  clears_then has = by_clear (cleared_on c.progress c.objects) (λ a h. has.kept a (cleared_new (found_in is_noted c.objects.spaces.new (c.objects.spaces.new.start + c.progress.cursor)) a h))
 
   -- ---- all
 
@@ -375,22 +375,22 @@ module _ (c : Content) (s : State) (legal : IsLegal c.tree) (typed : IsTyped c.t
   work_then Reclaim sound has = clears_then has
 
   -- after an event of the collector what is kept has a name
-  pub collected_has : IsSound c → HasNames name c → Renames name (collected c).0 names → HasNames names (collected c).0
+  pub collected_has : IsSound c → HasNames name c → Renames name (collect c).0 names → HasNames names (collect c).0
   collected_has sound has =
       either_then (all_seen c.posts) (work c.posts.posted c) (c, Waiting) (λ seen. work_then c.posts.posted sound has) (λ late. by_old (c, Waiting) has.kept has.copies)
 
 -- ---- acknowledgements
 
-module _ (c : Content) (s : State) (name : Names) (stands : StandsBy name c s) (spaces : AreSpaces c.objects.spaces) (has : HasNames name c) (t : ℕ) where
+module _ (c : MachineState) (s : State) (name : Names) (stands : StandsBy name c s) (spaces : AreSpaces c.objects.spaces) (has : HasNames name c) (t : ℕ) where
   -- a thread refers to null, or to what has a name
-  standing_is : (x : Standing) (gs : List StateFrame) (e : Option End) → StandsAlike c.tree c.limits name x gs e → AllByRecursion (ValuePasses (is_null_or_named name)) (standing_values x)
-  standing_is (Live m) gs None h = listed_are name (roots m) (roots_pass name (is_null_or_named name) refl (is_named name) c.tree m gs h.frames)
-  standing_is (Ended x) gs e h = tt
-  standing_is (Live m) gs (Some e) h = elim h [ ]
+  status_is : (x : ThreadStatus) (gs : List StateFrame) (e : Option End) → StandsAlike c.tree c.limits name x gs e → AllByRecursion (ValuePasses (is_null_or_named name)) (status_values x)
+  status_is (Live m) gs None h = listed_are name (roots m) (roots_pass name (is_null_or_named name) refl (is_named name) c.tree m gs h.frames)
+  status_is (Ended x) gs e h = tt
+  status_is (Live m) gs (Some e) h = elim h [ ]
 
   thread_is : (x : Option Thread) → slice_get c.threads t ≡ x → AllByRecursion (ValuePasses (is_null_or_named name)) (thread_values x)
   thread_is None is = tt
-  thread_is (Some x) is = let u = agree_at (IsThread c.tree c.limits name) c.threads s.threads stands.threads t x is in standing_is x.standing u.0.frames u.0.ended u.2.standing
+  thread_is (Some x) is = let u = agree_at (IsThread c.tree c.limits name) c.threads s.threads stands.threads t x is in status_is x.thread_status u.0.frames u.0.ended u.2.thread_status
 
   abbrev vs : List Value
   vs = thread_values (slice_get c.threads t)
@@ -422,6 +422,6 @@ module _ (c : Content) (s : State) (name : Names) (stands : StandsBy name c s) (
     nothing = has;
     marks = λ seat here opened seen marking. subst (λ (o : Objects). HasNames name (record c { posts = posts_after c t seat; objects = o })) (sym (thread_marked c.objects (slice_get c.threads t))) (marked_has (posts_after c t seat) refl);
     answers = λ seat here opened seen other. record { kept = has.kept; copies = has.copies };
-    goes_on = λ seat here opened late later. record { kept = has.kept; copies = has.copies };
+    continues = λ seat here opened late later. record { kept = has.kept; copies = has.copies };
     flips = λ seat here opened late flip. record { kept = has.kept; copies = has.copies };
   })

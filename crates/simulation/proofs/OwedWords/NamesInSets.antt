@@ -17,14 +17,14 @@ use Rattle.interpreter.specs.object_memory.declared.values.Value.{Value}
 use Rattle.interpreter.specs.object_memory.Cells.{literal}
 use Rattle.interpreter.specs.object_memory.Objects.{Objects}
 use Rattle.interpreter.specs.threads_monitors.Frames.{Frame}
-use Rattle.interpreter.specs.threads_monitors.declared.threads.Standing.{Standing}
-use Rattle.interpreter.specs.threads_monitors.declared.threads.Standing.TheVariants.{Ended, Live}
+use Rattle.interpreter.specs.threads_monitors.declared.threads.ThreadStatus.{ThreadStatus}
+use Rattle.interpreter.specs.threads_monitors.declared.threads.ThreadStatus.TheVariants.{Ended, Live}
 use Rattle.interpreter.specs.threads_monitors.declared.threads.Thread.{Thread}
 use Rattle.reference_machine.proofs.ReachableObjects.States.{AreFramesWithin, HoldsWithin, IsClosed, IsFrameWithin}
 use Rattle.reference_machine.proofs.ReachableObjects.Values.{AreWithin, IsWithin, values_of}
 use Rattle.simulation.specs.Agreement.{Agree}
-use Rattle.simulation.specs.MachineContents.{Content}
-use Rattle.simulation.specs.StandsFor.{IsBornAt, IsFrame, IsHeap, IsObject, IsOfContents, IsThread, IsValue, IsWord, Names, StandsAlike, StandsBy, int32, int64, native, null_reference, reference}
+use Rattle.simulation.specs.MachineStates.{MachineState}
+use Rattle.simulation.specs.Refines.{IsBornAt, IsFrame, IsHeap, IsObject, IsOfContents, IsThread, IsValue, IsWord, Names, StandsAlike, StandsBy, int32, int64, native, null_reference, reference}
 
 -- lists whose elements stand in a relation stand in another one that follows for those of the second list
 agree_within : {A B : Type 0} (P : B → Type 0) (R S : A → B → Type 0) → ((x : A) (y : B) → P y → R x y → S x y) → (xs : List A) (ys : List B) → AllByRecursion P ys → Agree R xs ys → Agree S xs ys
@@ -68,10 +68,10 @@ module _ (is_inside : ℕ → Bool) where
   pub is_cut_inside : (name : Names) (a : ℕ) (n : ObjectName) → name_inside n ≡ Some n → name a ≡ Some n → cut_inside name a ≡ Some n
   is_cut_inside name a n inside is = ap (option_and_then name_inside) is ∙ inside
 
-  module _ (Inside : ℕ → Type 0) (told : (n : ℕ) → Inside n → is_inside n ≡ true) where
+  module _ (Inside : ℕ → Type 0) (decoded : (n : ℕ) → Inside n → is_inside n ≡ true) where
     -- a value that refers to the set alone refers to a name of it
     reference_inside : (n : ObjectName) → IsWithin Inside (Reference n) → name_inside n ≡ Some n
-    reference_inside (Born n) h = ap (λ t. if t then Some (Born n) else None) (told n h)
+    reference_inside (Born n) h = ap (λ t. if t then Some (Born n) else None) (decoded n h)
     reference_inside (Literal characters) h = refl
 
     module _ (name : Names) where
@@ -122,30 +122,30 @@ module _ (is_inside : ℕ → Bool) where
       frame_cut : (tree : Tree) (f : Frame) (g : StateFrame) → IsFrameWithin Inside g → IsFrame tree name f g → IsFrame tree (cut_inside name) f g
       frame_cut tree f g within h = record {
         method = h.method;
-        place = h.place;
+        pc = h.pc;
         arguments = values_cut f.arguments g.arguments within.arguments h.arguments;
         locals = values_cut f.locals g.locals within.locals h.locals;
         stack = values_cut f.stack g.stack within.stack h.stack;
         constructed = object_cut f.constructed g.constructed within.constructed h.constructed;
       }
 
-      standing_cut : (tree : Tree) (limits : Limits) (standing : Standing) (gs : List StateFrame) (e : Option End) → (e ≡ None → AreFramesWithin Inside gs) → StandsAlike tree limits name standing gs e → StandsAlike tree limits (cut_inside name) standing gs e
-      standing_cut tree limits (Live m) gs None within h = record {
+      status_cut : (tree : Tree) (limits : Limits) (thread_status : ThreadStatus) (gs : List StateFrame) (e : Option End) → (e ≡ None → AreFramesWithin Inside gs) → StandsAlike tree limits name thread_status gs e → StandsAlike tree limits (cut_inside name) thread_status gs e
+      status_cut tree limits (Live m) gs None within h = record {
         frames = agree_within (IsFrameWithin Inside) (IsFrame tree name) (IsFrame tree (cut_inside name)) (frame_cut tree) (m.running ∷ m.below) gs (within refl) h.frames;
         depth = h.depth;
         few = h.few;
         room = h.room;
       }
-      standing_cut tree limits (Ended x) gs (Some e) within h = h
-      standing_cut tree limits (Live m) gs (Some e) within h = h
-      standing_cut tree limits (Ended x) gs None within h = h
+      status_cut tree limits (Ended x) gs (Some e) within h = h
+      status_cut tree limits (Live m) gs (Some e) within h = h
+      status_cut tree limits (Ended x) gs None within h = h
 
-      -- threads, each at its place
+      -- threads, index by index
       threads_cut : (tree : Tree) (limits : Limits) (ts : List Thread) (us : List StateThread) → ((t : ℕ) (u : StateThread) → slice_get us t ≡ Some u → u.ended ≡ None → AreFramesWithin Inside u.frames) →
           Agree (IsThread tree limits name) ts us → Agree (IsThread tree limits (cut_inside name)) ts us
       threads_cut tree limits [] [] within h = h
       threads_cut tree limits (t ∷ ts) (u ∷ us) within h = (
-        record { standing = standing_cut tree limits t.standing u.frames u.ended (within 0 u refl) h.0.standing; steps_left = h.0.steps_left },
+        record { thread_status = status_cut tree limits t.thread_status u.frames u.ended (within 0 u refl) h.0.thread_status; steps_left = h.0.steps_left },
         threads_cut tree limits ts us (λ n x is. within (suc n) x is) h.1,
       )
       threads_cut tree limits [] (u ∷ us) within h = elim h [ ]
@@ -181,7 +181,7 @@ module _ (is_inside : ℕ → Bool) where
         }
 
     -- a machine represents its state under the names of the set
-    pub stands_inside : (name : Names) (c : Content) (s : State) → IsClosed Inside s → ((n : ℕ) → is_inside n ≡ true → Inside n) → StandsBy name c s → StandsBy (cut_inside name) c s
+    pub stands_inside : (name : Names) (c : MachineState) (s : State) → IsClosed Inside s → ((n : ℕ) → is_inside n ≡ true → Inside n) → StandsBy name c s → StandsBy (cut_inside name) c s
     stands_inside name c s closed inside h = record {
       memory = record {
         heap = heap_cut name c.tree c.objects s closed.holds inside h.memory.heap;

@@ -14,7 +14,7 @@ use Rattle.interpreter.specs.object_memory.Spaces.{AreSpaces, other_of}
 use Rattle.interpreter.proofs.object_memory.TwoBlocks.{new_is_cell, no_literal, not_old}
 use Rattle.collector.specs.Phases.{is_new}
 use Rattle.collector.proofs.Addresses.Tests.{new_is}
-use Rattle.simulation.specs.StandsFor.{IsHeap, Names}
+use Rattle.simulation.specs.Refines.{IsHeap, Names}
 use Rattle.simulation.proofs.OwedWords.CycleNames.{IsNamed}
 use Rattle.simulation.proofs.OwedWords.SumsOverNames.{is_listed, numbered_words}
 use Rattle.simulation.proofs.Memory.CellSizes.{cell_size}

@@ -21,19 +21,19 @@ use Rattle.interpreter.specs.reference_machine.States.{State}
 use Rattle.interpreter.proofs.reference_machine.Runs.JoinedRuns.{same_state}
 use Rattle.interpreter.proofs.cil_model.SameLaws.{never}
 use Rattle.collector.specs.Phases.{is_of_cycle}
-use Rattle.simulation.specs.MachineContents.{Content}
+use Rattle.simulation.specs.MachineStates.{MachineState}
 use Rattle.simulation.specs.Owed.{OwesAfter}
 use Rattle.simulation.specs.Runs.{IsNext, IsRunOf}
-use Rattle.simulation.specs.StandsFor.{Represents}
-use Rattle.simulation.specs.Turns.{IsTurn}
+use Rattle.simulation.specs.Refines.{Represents}
+use Rattle.simulation.specs.Transitions.{IsTransition}
 use Rattle.interpreter.specs.reference_machine.TypedStates.{IsTyped}
 use Rattle.simulation.proofs.CollectorEvents.Reports.{IsCollected, ends, waits, works}
 use Rattle.simulation.proofs.Instructions.Correspondence.{InstructionsAreAlike}
 use Rattle.simulation.proofs.OwedWords.SumsOverNames.{distinct_sum, is_listed}
 use Rattle.simulation.proofs.OwedWords.ReachableObjects.{words_owed}
 use Rattle.simulation.proofs.CycleBounds.OpenCycles.{IsBefore, before_goes, gc_is, last_split, open_then, opened_is, then_open}
-use Rattle.simulation.proofs.Representation.InitialContents.{opening_represents}
-use Rattle.simulation.proofs.Runs.EventByEvent.{Comes, IsAt, goes_on, walk}
+use Rattle.simulation.proofs.Representation.InitialContents.{initial_represents}
+use Rattle.simulation.proofs.Runs.EventByEvent.{Comes, IsAt, continues, walk}
 
 -- ---- the newest cycle of events
 
@@ -76,8 +76,8 @@ module _ (xs earlier later : Events) (split : BeginsNewestCycle xs earlier later
       by_front between x rest last.0 last.1 last.2 (front_same later (between ++ last.0) e last.1 whole) some shut
 
   -- so the newest cycle continues
-  cycle_goes_on : BeginsNewestCycle (xs ++ e ∷ []) earlier (later ++ e ∷ [])
-  cycle_goes_on = record {
+  cycle_continues : BeginsNewestCycle (xs ++ e ∷ []) earlier (later ++ e ∷ [])
+  cycle_continues = record {
     whole = ap (λ l. l ++ e ∷ []) split.whole ∙ append_assoc earlier later (e ∷ []);
     none_was_open = split.none_was_open;
     begins = begins_still later e split.begins;
@@ -95,13 +95,13 @@ cycle_begins xs e r shut opened = record {
   whole = refl;
   none_was_open = shut;
   begins = begins_by (ends_cycle e r) (is_working e r) (ap (then_open (ends_cycle e r) (is_working e r)) (sym shut) ∙ (sym (open_then xs e r) ∙ opened));
-  newest = λ between rest is some closed. none_behind between rest is some;
+  newest = λ between rest is some closed. none_after between rest is some;
 }
   where
-    none_behind : (between rest : Events) → (e, r) ∷ [] ≡ between ++ rest → 0 < length between → begins_cycle rest ≡ false
-    none_behind [] rest is some = absurd (omega (arith, some))
-    none_behind (x ∷ xs) [] is some = refl
-    none_behind (x ∷ xs) (y ∷ ys) is some = let short = ap length is in let long = length-append (x ∷ xs) (y ∷ ys) in absurd (omega (arith, short, long))
+    none_after : (between rest : Events) → (e, r) ∷ [] ≡ between ++ rest → 0 < length between → begins_cycle rest ≡ false
+    none_after [] rest is some = absurd (omega (arith, some))
+    none_after (x ∷ xs) [] is some = refl
+    none_after (x ∷ xs) (y ∷ ys) is some = let short = ap length is in let long = length-append (x ∷ xs) (y ∷ ys) in absurd (omega (arith, short, long))
 
 -- no cycle is open, or there is the newest one
 abbrev Known : Events → Type 0
@@ -114,15 +114,15 @@ known_then xs e r known = by_test (is_cycle_open (xs ++ (e, r) ∷ [])) refl (is
     by_test false now u was k = inl now
     by_test true now false was k = inr (xs, (e, r) ∷ [], cycle_begins xs e r was now)
     by_test true now true was (inl shut) = never (sym shut ∙ was)
-    by_test true now true was (inr (earlier, later, split)) = inr (earlier, later ++ (e, r) ∷ [], cycle_goes_on xs earlier later split was (e, r))
+    by_test true now true was (inr (earlier, later, split)) = inr (earlier, later ++ (e, r) ∷ [], cycle_continues xs earlier later split was (e, r))
 
-known_behind : (xs ys : Events) → Known xs → Known (xs ++ ys)
-known_behind xs [] known = subst Known (sym (append-nil xs)) known
-known_behind xs ((e, r) ∷ ys) known = subst Known (append_assoc xs ((e, r) ∷ []) ys) (known_behind (xs ++ (e, r) ∷ []) ys (known_then xs e r known))
+known_after : (xs ys : Events) → Known xs → Known (xs ++ ys)
+known_after xs [] known = subst Known (sym (append-nil xs)) known
+known_after xs ((e, r) ∷ ys) known = subst Known (append_assoc xs ((e, r) ∷ []) ys) (known_after (xs ++ (e, r) ∷ []) ys (known_then xs e r known))
 
 -- where a cycle is open there is the newest one
 newest_of : (xs : Events) → is_cycle_open xs ≡ true → (earlier : Events) × (later : Events) × BeginsNewestCycle xs earlier later
-newest_of xs opened = by_known (known_behind [] xs (inl refl))
+newest_of xs opened = by_known (known_after [] xs (inl refl))
   where
     by_known : Known xs → (earlier : Events) × (later : Events) × BeginsNewestCycle xs earlier later
     by_known (inl shut) = never (sym shut ∙ opened)
@@ -181,7 +181,7 @@ owed_once tree limits events reports words words' o o' =
 -- ---- runs
 
 -- only where a phase of a cycle is posted does a cycle end
-was_open : (c : Content) (x : Content × Report) → IsCollected c x → x.1 ≡ CycleDone → is_of_cycle c.posts.posted ≡ true
+was_open : (c : MachineState) (x : MachineState × Report) → IsCollected c x → x.1 ≡ CycleDone → is_of_cycle c.posts.posted ≡ true
 was_open c _ waits e = absurd cc
 was_open c _ (works d of) e = absurd cc
 was_open c _ (ends d last idle spaces) e = ap is_of_cycle last
@@ -192,24 +192,24 @@ module _ (each : InstructionsAreAlike) (tree : Tree) (accepted : IsAccepted tree
 
   first_represents : Represents h.machine h.first
   first_represents =
-      let opened = opening_represents tree limits accepted in_range in
-      let content : opened.0 ≡ h.machine = same_Some opened.0 h.machine (sym opened.2 ∙ h.opened) in
+      let opened = initial_represents tree limits accepted in_range in
+      let machine_state : opened.0 ≡ h.machine = same_Some opened.0 h.machine (sym opened.2 ∙ h.opened) in
       let state : opened.1 ≡ h.first = same_Some opened.1 h.first (sym opened.3 ∙ h.begins) in
-      subst (λ (x : Content). Represents x h.first) content (subst (λ (x : State). Represents opened.0 x) state opened.4)
+      subst (λ (x : MachineState). Represents x h.first) machine_state (subst (λ (x : State). Represents opened.0 x) state opened.4)
 
   at_first : (xs ys : Events) → all ≡ xs ++ ys → IsAt tree limits all s h.last [] (xs ++ ys) h.machine h.first
   at_first xs ys split =
       let opened = opened_is tree limits h.machine h.opened in
       subst (λ l. IsAt tree limits all s h.last [] l h.machine h.first) split (record { of_tree = opened.tree_is; of_limits = opened.limits_are; split = refl; runs = h.comes; refuses = h.refuses })
 
-  abbrev goes : (done rest : Events) (e : Event) (r : Report) (d next : Content) (u after : State) → all ≡ done ++ (e, r) ∷ rest → IsBefore done d u → IsTurn d e (next, r) → IsNext d.tree d.limits u e r after → IsBefore (done ++ (e, r) ∷ []) next after
-  goes = λ done rest e r d next u after split k turn is. before_goes each done e r d next u after k turn is
+  abbrev goes : (done rest : Events) (e : Event) (r : Report) (d next : MachineState) (u after : State) → all ≡ done ++ (e, r) ∷ rest → IsBefore done d u → IsTransition d e (next, r) → IsNext d.tree d.limits u e r after → IsBefore (done ++ (e, r) ∷ []) next after
+  goes = λ done rest e r d next u after split k transition is. before_goes each done e r d next u after k transition is
 
   -- what the run reaches after the first of its events
   come : (xs ys : Events) → all ≡ xs ++ ys → Comes tree limits all s h.last IsBefore goes xs ys [] h.first
   come xs ys split = walk tree limits all s h.last IsBefore goes xs ys [] h.machine h.first (at_first xs ys split) (record { represents = first_represents; posted = ap is_of_cycle (opened_is tree limits h.machine h.opened).idle })
 
-  -- there are words that the newest cycle owes
+  -- there are words that the newest cycle must keep
   pub cycle_owes : (earlier later : Events) → BeginsNewestCycle all earlier later → (words : ℕ) × OwesAfter tree limits events reports words
   cycle_owes earlier later split =
       let begun = come earlier later split.whole in
@@ -222,7 +222,7 @@ module _ (each : InstructionsAreAlike) (tree : Tree) (accepted : IsAccepted tree
   pub end_owes : (most : Events) → all ≡ most ++ (Gc, CycleDone) ∷ [] → (words : ℕ) × OwesAfter tree limits events reports words
   end_owes most over =
       let begun = come most ((Gc, CycleDone) ∷ []) over in
-      let on = goes_on tree limits all s h.last ([] ++ most) [] begun.content begun.state Gc CycleDone begun.there in
-      let opened : is_cycle_open most ≡ true = sym begun.holds.posted ∙ was_open begun.content (on.next, CycleDone) (gc_is begun.content (on.next, CycleDone) on.turn) refl in
+      let on = continues tree limits all s h.last ([] ++ most) [] begun.machine_state begun.state Gc CycleDone begun.there in
+      let opened : is_cycle_open most ≡ true = sym begun.holds.posted ∙ was_open begun.machine_state (on.next, CycleDone) (gc_is begun.machine_state (on.next, CycleDone) on.transition) refl in
       let newest = newest_of most opened in
-      cycle_owes newest.0 (newest.1 ++ (Gc, CycleDone) ∷ []) (subst (λ l. BeginsNewestCycle l newest.0 (newest.1 ++ (Gc, CycleDone) ∷ [])) (sym over) (cycle_goes_on most newest.0 newest.1 newest.2 opened (Gc, CycleDone)))
+      cycle_owes newest.0 (newest.1 ++ (Gc, CycleDone) ∷ []) (subst (λ l. BeginsNewestCycle l newest.0 (newest.1 ++ (Gc, CycleDone) ∷ [])) (sym over) (cycle_continues most newest.0 newest.1 newest.2 opened (Gc, CycleDone)))

@@ -12,10 +12,10 @@ use Rattle.interpreter.proofs.cil_model.SameLaws.{never}
 use Rattle.interpreter.proofs.reference_machine.ReachableObjects.Runs.{step_within}
 use Rattle.interpreter.proofs.reference_machine.ReachableObjects.States.{IsClosed}
 use Rattle.interpreter.specs.object_memory.declared.addresses.Addr.{Addr}
-use Rattle.simulation.specs.MachineContents.{Content}
-use Rattle.simulation.specs.Collecting.{collected, with_acknowledgement}
-use Rattle.simulation.specs.StandsFor.{Names, Represents, StandsBy}
-use Rattle.simulation.specs.Turns.{IsTurn}
+use Rattle.simulation.specs.MachineStates.{MachineState}
+use Rattle.simulation.specs.Collecting.{collect, with_acknowledgement}
+use Rattle.simulation.specs.Refines.{Names, Represents, StandsBy}
+use Rattle.simulation.specs.Transitions.{IsTransition}
 use Rattle.simulation.proofs.CollectorEvents.AcknowledgementCases.{after_acknowledgement}
 use Rattle.simulation.proofs.CollectorEvents.AcknowledgementNames.{acknowledgement_represents, acknowledgement_stands}
 use Rattle.simulation.proofs.CollectorEvents.UnchangedState.{collected_represents}
@@ -31,28 +31,28 @@ use Rattle.simulation.proofs.Threads.StepResults.{KeepsOwnRoom}
 use Rattle.simulation.proofs.Threads.Steps.{step_names}
 
 -- no acknowledgement posts a phase
-pub acknowledged_posted : (c : Content) (t : ℕ) → (with_acknowledgement c t).0.posts.posted ≡ c.posts.posted
-acknowledged_posted c t = after_acknowledgement c t (λ (x : Content). x.posts.posted ≡ c.posts.posted) (record {
+pub acknowledged_posted : (c : MachineState) (t : ℕ) → (with_acknowledgement c t).0.posts.posted ≡ c.posts.posted
+acknowledged_posted c t = after_acknowledgement c t (λ (x : MachineState). x.posts.posted ≡ c.posts.posted) (record {
   nothing = refl;
   marks = λ seat here opened seen marking. refl;
   answers = λ seat here opened seen other. refl;
-  goes_on = λ seat here opened late later. refl;
+  continues = λ seat here opened late later. refl;
   flips = λ seat here opened late flip. refl;
 })
 
 -- ---- names of what is owed
 
-module _ (Inside : ℕ → Type 0) (is_inside : ℕ → Bool) (told : (n : ℕ) → Inside n → is_inside n ≡ true) (inside : (n : ℕ) → is_inside n ≡ true → Inside n) where
+module _ (Inside : ℕ → Type 0) (is_inside : ℕ → Bool) (decoded : (n : ℕ) → Inside n → is_inside n ≡ true) (inside : (n : ℕ) → is_inside n ≡ true → Inside n) where
   -- The machine represents the state, in which the set has all that its objects and the roots refer to; under normal names, each of them of an object of
   -- the set, what a cycle keeps has a name.
-  pub record IsOwedBy (c : Content) (s : State) : Type 0 where
+  pub record IsOwedBy (c : MachineState) (s : State) : Type 0 where
     pub represents : Represents c s
     pub closed_set : IsClosed Inside s
     pub known : (a : ℕ) (n : ObjectName) → (normally c s represents).name a ≡ Some n → name_inside is_inside n ≡ Some n
     pub has : HasNames (normally c s represents).name c
 
   -- the same under other names, of which these are the normal ones
-  module _ (c : Content) (s : State) (r : Represents c s) (set : IsClosed Inside s) (name : Names) (by : StandsBy name c s) (known : (a : ℕ) (n : ObjectName) → name a ≡ Some n → name_inside is_inside n ≡ Some n) where
+  module _ (c : MachineState) (s : State) (r : Represents c s) (set : IsClosed Inside s) (name : Names) (by : StandsBy name c s) (known : (a : ℕ) (n : ObjectName) → name a ≡ Some n → name_inside is_inside n ≡ Some n) where
     abbrev renamed_representation : Represents c s
     renamed_representation = record r { stands = record { name = name; by = by } }
 
@@ -71,9 +71,9 @@ module _ (Inside : ℕ → Type 0) (is_inside : ℕ → Bool) (told : (n : ℕ) 
     }
 
   -- where a machine begins that has no cycle open
-  pub begins_owed : (c : Content) (s : State) → Represents c s → IsClosed Inside s → c.posts.posted ≡ Idle → IsOwedBy c s
+  pub begins_owed : (c : MachineState) (s : State) → Represents c s → IsClosed Inside s → c.posts.posted ≡ Idle → IsOwedBy c s
   begins_owed c s r set idle =
-      owed_by c s r set (cut_inside is_inside r.stands.name) (stands_inside is_inside Inside told r.stands.name c s set inside r.stands.by) (λ a n is. inside_is is_inside r.stands.name a n is)
+      owed_by c s r set (cut_inside is_inside r.stands.name) (stands_inside is_inside Inside decoded r.stands.name c s set inside r.stands.by) (λ a n is. inside_is is_inside r.stands.name a n is)
       (record {
         kept = λ a h. never (ap (λ x. is_kept x c.objects.spaces a) (sym idle) ∙ h);
         copies = λ copying. never (ap is_copying (sym idle) ∙ copying);
@@ -81,7 +81,7 @@ module _ (Inside : ℕ → Type 0) (is_inside : ℕ → Bool) (told : (n : ℕ) 
 
   -- ---- acknowledgements and events of the collector
 
-  pub acknowledged_owed : (c : Content) (s : State) (t : ℕ) → IsOwedBy c s → IsOwedBy (with_acknowledgement c t).0 s
+  pub acknowledged_owed : (c : MachineState) (s : State) (t : ℕ) → IsOwedBy c s → IsOwedBy (with_acknowledgement c t).0 s
   acknowledged_owed c s t h =
       let own = normally c s h.represents in
       let r' = acknowledgement_represents c t s h.represents in
@@ -91,21 +91,21 @@ module _ (Inside : ℕ → Type 0) (is_inside : ℕ → Bool) (told : (n : ℕ) 
       (renamed own.name (with_acknowledgement c t).0 (normally (with_acknowledgement c t).0 s (record r' { stands = record { name = own.name; by = by } })).name
       (renames (with_acknowledgement c t).0 s r' h.closed_set own.name by h.known) has)
 
-  pub collected_owed : (c : Content) (s : State) → IsOwedBy c s → IsOwedBy (collected c).0 s
+  pub collected_owed : (c : MachineState) (s : State) → IsOwedBy c s → IsOwedBy (collect c).0 s
   collected_owed c s h =
       let own = normally c s h.represents in
       let r' = collected_represents c s h.represents own.name own.normal own.by in
       let by = collected_stands own.name c s h.represents.sound own.normal own.by in
-      owed_by (collected c).0 s r' h.closed_set own.name by h.known
-      (collected_has c s h.represents.accepted.legal h.represents.typed own.name (normally (collected c).0 s (record r' { stands = record { name = own.name; by = by } })).name own.by h.represents.sound h.has
-      (renames (collected c).0 s r' h.closed_set own.name by h.known))
+      owed_by (collect c).0 s r' h.closed_set own.name by h.known
+      (collected_has c s h.represents.accepted.legal h.represents.typed own.name (normally (collect c).0 s (record r' { stands = record { name = own.name; by = by } })).name own.by h.represents.sound h.has
+      (renames (collect c).0 s r' h.closed_set own.name by h.known))
 
   -- ---- steps
 
-  module _ (each : InstructionsAreAlike) (c : Content) (s : State) (t : ℕ) (next : Content) (r : Report) (h : IsOwedBy c s) (turn : IsTurn c (Step t) (next, r)) where
+  module _ (each : InstructionsAreAlike) (c : MachineState) (s : State) (t : ℕ) (next : MachineState) (r : Report) (h : IsOwedBy c s) (transition : IsTransition c (Step t) (next, r)) where
     -- what the reference machine reaches by the same step
     abbrev follows : (u : State) × (step c.tree c.limits s t (is_refusal r) ≡ Answers r u) × (r' : Represents next u) × KeepsOwnRoom c s t next.objects u × KeepsOwnNames c s h.represents next.objects r'.stands.name
-    follows = step_names each c s h.represents t (next, r) turn
+    follows = step_names each c s h.represents t (next, r) transition
 
     abbrev after : State
     after = follows.0
@@ -121,7 +121,7 @@ module _ (Inside : ℕ → Type 0) (is_inside : ℕ → Bool) (told : (n : ℕ) 
     set_then = step_within Inside c.tree c.limits s after t (is_refusal r) r h.closed_set follows.1
 
     by_then : StandsBy cut next after
-    by_then = stands_inside is_inside Inside told all next after set_then inside follows.2.stands.by
+    by_then = stands_inside is_inside Inside decoded all next after set_then inside follows.2.stands.by
 
     known_then : (a : ℕ) (n : ObjectName) → cut a ≡ Some n → name_inside is_inside n ≡ Some n
     known_then a n is = inside_is is_inside all a n is
@@ -129,7 +129,7 @@ module _ (Inside : ℕ → Type 0) (is_inside : ℕ → Bool) (told : (n : ℕ) 
     new_known : (n : ObjectName) → IsKnown (normally c s h.represents).name (length s.objects) n → name_inside is_inside n ≡ Some n
     new_known n (inl was) = h.known was.0 n was.1
     new_known n (inr (k, same, more)) =
-        let new : name_inside is_inside (Born k) ≡ Some (Born k) = ap (λ t. if t then Some (Born k) else None) (told k (h.closed_set.unborn k more)) in
+        let new : name_inside is_inside (Born k) ≡ Some (Born k) = ap (λ t. if t then Some (Born k) else None) (decoded k (h.closed_set.unborn k more)) in
         subst (λ (x : ObjectName). name_inside is_inside x ≡ Some x) same new
 
     kept_then : (a : Addr) → is_kept c.posts.posted next.objects.spaces a ≡ true → IsNamed cut a
@@ -139,7 +139,7 @@ module _ (Inside : ℕ → Type 0) (is_inside : ℕ → Bool) (told : (n : ℕ) 
     ]
 
     same : next.posts.posted ≡ c.posts.posted
-    same = step_posted c t (next, r) turn
+    same = step_posted c t (next, r) transition
 
     has_then : HasNames cut next
     has_then = record {

@@ -62,19 +62,19 @@ module _ (names : List ℕ) where
   first_is (v ∷ vs) n e = by_value v refl e (λ h. (let later = first_is vs n h in (Contains-append_right (v ∷ []) vs (Reference (Born n)) later.0, later.1)))
     where
       by_test : (k : ℕ) → Reference (Born k) ≡ v → (t : Bool) → is_listed names k ≡ t → (if t then first_new names vs else Some k) ≡ Some n → (first_new names vs ≡ Some n → Contains (v ∷ vs) (Reference (Born n)) × (is_listed names n ≡ false)) → Contains (v ∷ vs) (Reference (Born n)) × (is_listed names n ≡ false)
-      by_test k is true listed h behind = behind h
-      by_test k is false listed h behind =
+      by_test k is true listed h following = following h
+      by_test k is false listed h following =
           let same : k ≡ n = same_Some k n h in
           let here : v ≡ Reference (Born n) = sym is ∙ ap (λ x. Reference (Born x)) same in
           (Contains-append_left (v ∷ []) vs (Reference (Born n)) (0, lit< tt, here), subst (λ x. is_listed names x ≡ false) same listed)
 
       by_value : (u : Value) → u ≡ v → choose names u (first_new names vs) ≡ Some n → (first_new names vs ≡ Some n → Contains (v ∷ vs) (Reference (Born n)) × (is_listed names n ≡ false)) → Contains (v ∷ vs) (Reference (Born n)) × (is_listed names n ≡ false)
-      by_value (Reference (Born k)) is h behind = by_test k is (is_listed names k) refl h behind
-      by_value (Reference (Literal characters)) is h behind = behind h
-      by_value Null is h behind = behind h
-      by_value (Int32 z) is h behind = behind h
-      by_value (Int64 z) is h behind = behind h
-      by_value (Native z) is h behind = behind h
+      by_value (Reference (Born k)) is h following = by_test k is (is_listed names k) refl h following
+      by_value (Reference (Literal characters)) is h following = following h
+      by_value Null is h following = following h
+      by_value (Int32 z) is h following = following h
+      by_value (Int64 z) is h following = following h
+      by_value (Native z) is h following = following h
 
 -- a number that is on no list is apart from each on it
 apart_from : (n : ℕ) (names : List ℕ) → is_listed names n ≡ false → AllByRecursion (λ y. (n == y) ≡ false) names

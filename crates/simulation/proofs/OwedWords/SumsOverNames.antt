@@ -74,7 +74,7 @@ distinct_sum f (n ∷ ns) names distinct each =
 -- ---- cells with numbers
 
 -- each cell's number is on the list and has its words, and no two cells have one
-pub record AreNumbered (f number : ℕ → ℕ) (names : List ℕ) (at : ℕ) (cs : List Cell) : Type 0 where
+pub record HaveIds (f number : ℕ → ℕ) (names : List ℕ) (at : ℕ) (cs : List Cell) : Type 0 where
   pub own : (a : ℕ) (c : Cell) → cell_from at cs a ≡ Some c → (f (number a) ≡ size c) × (is_listed names (number a) ≡ true)
   pub one : (a b : ℕ) (c d : Cell) → cell_from at cs a ≡ Some c → cell_from at cs b ≡ Some d → number a ≡ number b → a ≡ b
 
@@ -86,11 +86,11 @@ module _ (f number : ℕ → ℕ) where
   -- any other
   later_lies : (at : ℕ) (c : Cell) (cs : List Cell) (a : ℕ) (d : Cell) → cell_from (at + size c) cs a ≡ Some d → ((a == at) ≡ false) × (cell_from at (c ∷ cs) a ≡ Some d)
   later_lies at c cs a d is =
-      let behind : at + size c ≤ a = (range_in (record { start = at + size c; cells = cs; words = 0 }) (record { number = a }) d is).0 in
-      let test : (a == at) ≡ false = grind (arith, nat_tests, behind) in
+      let following : at + size c ≤ a = (range_in (record { start = at + size c; cells = cs; words = 0 }) (record { number = a }) d is).0 in
+      let test : (a == at) ≡ false = grind (arith, nat_tests, following) in
       (test, ap (λ b. if b then Some c else cell_from (at + size c) cs a) test ∙ is)
 
-  pub numbered_words : (names : List ℕ) (at : ℕ) (cs : List Cell) → AreNumbered f number names at cs → used_words cs ≤ sum_by f names
+  pub numbered_words : (names : List ℕ) (at : ℕ) (cs : List Cell) → HaveIds f number names at cs → used_words cs ≤ sum_by f names
   numbered_words names at [] h = omega arith
   numbered_words names at (c ∷ cs) h =
       let own = h.own at c (first_lies at c cs) in

@@ -24,7 +24,7 @@ use Rattle.collector.proofs.ThreadReferences.AfterStores.{marked_first, monitor_
 use Rattle.collector.proofs.Births.BirthSoundness.{near_of_close}
 use Rattle.collector.proofs.Addresses.TagChanges.{AreAlike}
 use Rattle.collector.proofs.Addresses.Tests.{old_cell, permanent_not_old}
-use Rattle.simulation.specs.StandsFor.{IsOfContents, IsValue, int32, int64, native, null_reference, reference, Names}
+use Rattle.simulation.specs.Refines.{IsOfContents, IsValue, int32, int64, native, null_reference, reference, Names}
 use Rattle.simulation.proofs.CollectedHeap.CollectedMemory.{collected}
 use Rattle.simulation.proofs.CollectedHeap.NewObjects.{births_copied, births_only, collected_births}
 use Rattle.simulation.proofs.CollectedHeap.VisibleNames.{FitsCollected, first_hold, means}
@@ -90,9 +90,9 @@ module _ (tree : Tree) (legal : IsLegal tree) (words : ℕ) (h : Handshakes) (p 
           copies = λ are. copies_alike h.posted (marked_first seat.phase o v).spaces (stored_value seat.phase o a slot v).spaces alike (marked.copies are);
         }
 
-    -- an object in the place of another leaves the same number
-    pub as_many : (n : ℕ) (object : HeapObject) → begun ≤ length (with_object s (Born n) object).objects
-    as_many n object = subst (λ k. begun ≤ k) (sym (length-set s.objects n object)) fit.more
+    -- an object in place of another leaves the same number
+    pub same_count : (n : ℕ) (object : HeapObject) → begun ≤ length (with_object s (Born n) object).objects
+    same_count n object = subst (λ k. begun ≤ k) (sym (length-set s.objects n object)) fit.more
 
     -- ---- births
 
@@ -157,19 +157,19 @@ module _ (tree : Tree) (legal : IsLegal tree) (words : ℕ) (h : Handshakes) (p 
         slots = λ name o ss s fit typed a n is cell lies slot v u inside sort stands object linked after. record {
           fits = base.slots name o ss s fit.fits typed a n is cell lies slot v u inside sort stands object linked after;
           names = stored_names name o ss s fit a slot v u stands;
-          more = as_many name o ss s fit n object;
+          more = same_count name o ss s fit n object;
         };
         word_storable = λ name o ss s fit a n is cell lies slot inside. base.word_storable name o ss s fit.fits a n is cell lies slot inside;
         hidden = λ name o ss s fit typed a n is cell lies slot w inside none object linked after. record {
           fits = base.hidden name o ss s fit.fits typed a n is cell lies slot w inside none object linked after;
           names = alike_names name o ss s fit (stored_int seat.phase o a slot w) (word_alike seat.phase o a slot w);
-          more = as_many name o ss s fit n object;
+          more = same_count name o ss s fit n object;
         };
         monitor_storable = λ name o ss s fit a n is. base.monitor_storable name o ss s fit.fits a n is;
         monitors = λ name o ss s fit typed a n is cell lies monitor object linked after. record {
           fits = base.monitors name o ss s fit.fits typed a n is cell lies monitor object linked after;
           names = alike_names name o ss s fit (stored_monitor seat.phase o a monitor) (monitor_alike seat.phase o a monitor);
-          more = as_many name o ss s fit n object;
+          more = same_count name o ss s fit n object;
         };
         literals = λ name o ss s fit a characters is monitor u stands. record {
           fits = base.literals name o ss s fit.fits a characters is monitor u stands;

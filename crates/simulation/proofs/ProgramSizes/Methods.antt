@@ -83,9 +83,9 @@ module _ (tree : Tree) (legal : IsLegal tree) where
       small_instructions = subst (λ o. IsTrue (list_all is_small_instruction (map (λ (l : Line). l.instruction) (option_map_or (λ (x : Code). x.lines) o [])))) coded (both_second _ _ small_method)
 
       -- the code makes arrays of types with few brackets alone
-      pub arrays_shallow : (place : ℕ) (line : Line) → slice_get code.lines place ≡ Some line → (t : DeclaredType) → line.instruction ≡ NewArray t → t.brackets < MOST_BRACKETS
-      arrays_shallow place line there t makes =
-          let small : IsTrue (is_small_instruction line.instruction) = item_passes is_small_instruction (map (λ (l : Line). l.instruction) code.lines) place line.instruction small_instructions (slice_get-map (λ (l : Line). l.instruction) code.lines place ∙ ap (option_map (λ (l : Line). l.instruction)) there) in
+      pub arrays_shallow : (index : ℕ) (line : Line) → slice_get code.lines index ≡ Some line → (t : DeclaredType) → line.instruction ≡ NewArray t → t.brackets < MOST_BRACKETS
+      arrays_shallow index line there t makes =
+          let small : IsTrue (is_small_instruction line.instruction) = item_passes is_small_instruction (map (λ (l : Line). l.instruction) code.lines) index line.instruction small_instructions (slice_get-map (λ (l : Line). l.instruction) code.lines index ∙ ap (option_map (λ (l : Line). l.instruction)) there) in
           leb-true _ _ (subst (λ i. IsTrue (is_small_instruction i)) makes small)
 
   -- each method of the source has small code

@@ -15,10 +15,10 @@ use Rattle.interpreter.proofs.cil_model.Lists.{none_is_some}
 use Rattle.interpreter.proofs.cil_model.Legal.{entry_alone}
 use Rattle.interpreter.specs.reference_machine.Values.{ObjectName}
 use Rattle.interpreter.specs.reference_machine.States.{Frame as StateFrame, Free as IsFree, State}
-use Rattle.interpreter.specs.reference_machine.Runs.{opening, opening_at}
-use Rattle.interpreter.proofs.reference_machine.TypedStates.InitialStates.{opens, opening_typed}
+use Rattle.interpreter.specs.reference_machine.Runs.{initial_state, initial_state_at}
+use Rattle.interpreter.proofs.reference_machine.TypedStates.InitialStates.{opens, initial_typed}
 use Rattle.interpreter.proofs.reference_machine.Programs.SourceMethods.{kept_from, source_is_declared}
-use Rattle.simulation.proofs.MonitorCounts.InitialStates.{opening_counted}
+use Rattle.simulation.proofs.MonitorCounts.InitialStates.{initial_counted}
 use Rattle.interpreter.specs.loaded_program.AllMethods.{all_methods}
 use Rattle.interpreter.specs.loaded_program.MethodNumbers.{number_of}
 use Rattle.interpreter.proofs.loaded_program.NumberLaws.{declared_is_numbered}
@@ -32,11 +32,11 @@ use Rattle.collector.specs.phase_handshake.Handshakes.{first_handshakes}
 use Rattle.collector.specs.phase_handshake.declared.posts.Seat.{Seat}
 use Rattle.interpreter.specs.threads_monitors.Frames.{Frames}
 use Rattle.interpreter.specs.threads_monitors.Roots.{roots}
-use Rattle.interpreter.specs.threads_monitors.declared.threads.Standing.TheVariants.{Live}
-use Rattle.simulation.specs.MachineContents.{Content}
+use Rattle.interpreter.specs.threads_monitors.declared.threads.ThreadStatus.TheVariants.{Live}
+use Rattle.simulation.specs.MachineStates.{MachineState}
 use Rattle.simulation.specs.Sound.{AreSeated, IsSound}
-use Rattle.simulation.specs.StandsFor.{IsHeap, IsThread, StandsAlike, StandsBy, Represents}
-use Rattle.simulation.specs.Turns.{content_at, opening_content, thread_at}
+use Rattle.simulation.specs.Refines.{IsHeap, IsThread, StandsAlike, StandsBy, Represents}
+use Rattle.simulation.specs.Transitions.{machine_state_at, initial_machine_state, thread_at}
 use Rattle.simulation.proofs.ProgramSizes.LimitRanges.{budget_is_some, depth_is_some, most_words_are_few, words_are_few, words_are_within}
 use Rattle.simulation.proofs.Memory.InitialValues.{fields_stand}
 use Rattle.simulation.proofs.ListLaws.AgreeingLists.{agree_at}
@@ -54,7 +54,7 @@ use Rattle.simulation.proofs.Representation.LiteralNames.{same_for_each, free_fi
 
 module _ (tree : Tree) (limits : Limits) (accepted : IsAccepted tree) (in_range : IsTrue (are_in_range limits)) where
   -- no object is there but the literals
-  first_heap : (entry : ClassName × Method) (code : Code) → IsHeap tree (literal_names tree) (no_objects limits.words (length (literals_of tree))) (opening_at tree limits entry code)
+  first_heap : (entry : ClassName × Method) (code : Code) → IsHeap tree (literal_names tree) (no_objects limits.words (length (literals_of tree))) (initial_state_at tree limits entry code)
   first_heap entry code = record {
     null_unnamed = refl;
     small = literals_small tree accepted.legal;
@@ -97,7 +97,7 @@ module _ (tree : Tree) (limits : Limits) (accepted : IsAccepted tree) (in_range 
       (λ a c lies. none_is_some c lies)
 
   -- the thread is at the beginning of the entry point
-  first_stands : (entry : ClassName × Method) (code : Code) → code_of entry.1.kind ≡ Some code → (n : ℕ) → slice_get (all_methods tree) n ≡ Some entry → StandsBy (literal_names tree) (content_at tree limits entry n) (opening_at tree limits entry code)
+  first_stands : (entry : ClassName × Method) (code : Code) → code_of entry.1.kind ≡ Some code → (n : ℕ) → slice_get (all_methods tree) n ≡ Some entry → StandsBy (literal_names tree) (machine_state_at tree limits entry n) (initial_state_at tree limits entry code)
   first_stands entry code has_code n stands = record {
     memory = record { heap = first_heap entry code; static_values = fields_stand (literal_names tree) (static_fields tree); printed_is = refl };
     threads = (beginning_stands (literal_names tree) tree limits (depth_is_some limits in_range) entry code has_code n stands [] [] tt, tt);
@@ -110,18 +110,18 @@ module _ (tree : Tree) (limits : Limits) (accepted : IsAccepted tree) (in_range 
       permanent_passes hold Idle m (record { number = a }) (or_second (a == 0) (is_some (literal_number (record { number = a }))) (ap is_some x.numbered))
 
   -- the first machine is sound
-  opening_sound : (entry : ClassName × Method) (code : Code) (n : ℕ) → StandsBy (literal_names tree) (content_at tree limits entry n) (opening_at tree limits entry code) → IsSound (content_at tree limits entry n)
-  opening_sound entry code n by = record {
+  initial_sound : (entry : ClassName × Method) (code : Code) (n : ℕ) → StandsBy (literal_names tree) (machine_state_at tree limits entry n) (initial_state_at tree limits entry code) → IsSound (machine_state_at tree limits entry n)
+  initial_sound entry code n by = record {
     seated = fit;
     heap = first_sound;
     rounds = λ e. absurd cc;
     on_time = λ t seat is late. absurd (late (ap (λ (x : Seat). x.phase) (first_alone t seat is)));
     threads = λ t left fs seat at is a listed.
-        let found = agree_at (IsThread tree limits (literal_names tree)) (content_at tree limits entry n).threads (opening_at tree limits entry code).threads by.threads t (record { standing = Live fs; steps_left = left }) at in
-        by_end fs seat a listed found.0.frames found.0.ended found.2.standing;
+        let found = agree_at (IsThread tree limits (literal_names tree)) (machine_state_at tree limits entry n).threads (initial_state_at tree limits entry code).threads by.threads t (record { thread_status = Live fs; steps_left = left }) at in
+        by_end fs seat a listed found.0.frames found.0.ended found.2.thread_status;
     statics = λ number v is.
         statics_pass (literal_names tree) (static_may_hold Idle m no_progress number) (permanent_passes (static_hold_of Idle no_progress number) Idle m null refl) (literal_passes (static_hold_of Idle no_progress number) m)
-        (content_at tree limits entry n).statics (opening_at tree limits entry code).statics by.memory.static_values number v is;
+        (machine_state_at tree limits entry n).statics (initial_state_at tree limits entry code).statics by.memory.static_values number v is;
   }
     where
       fit : AreSeated first_handshakes (thread_at limits entry [] n ∷ [])
@@ -137,7 +137,7 @@ module _ (tree : Tree) (limits : Limits) (accepted : IsAccepted tree) (in_range 
       by_end fs seat a listed gs (Some e) h = elim h [ ]
 
   abbrev pub IsOpened : Type 0
-  IsOpened = (c : Content) × (s : State) × (opening_content tree limits ≡ Some c) × (opening tree limits ≡ Some s) × Represents c s
+  IsOpened = (c : MachineState) × (s : State) × (initial_machine_state tree limits ≡ Some c) × (initial_state tree limits ≡ Some s) × Represents c s
 
   module _ (entry : ClassName × Method) (alone : entry_points tree ≡ entry ∷ []) where
     entry_declared : (k : ℕ) × (slice_get (methods_declared tree entry.0) k ≡ Some entry.1)
@@ -147,28 +147,28 @@ module _ (tree : Tree) (limits : Limits) (accepted : IsAccepted tree) (in_range 
 
     opened_with : (code : Option Code) → code_of entry.1.kind ≡ code → IsOpened
     opened_with None is =
-        let none : opening tree limits ≡ None = ap (λ es. option_and_then (λ (e : ClassName × Method). option_map (opening_at tree limits e) (code_of e.1.kind)) (slice_get es 0)) alone ∙ ap (option_map (opening_at tree limits entry)) is in
+        let none : initial_state tree limits ≡ None = ap (λ es. option_and_then (λ (e : ClassName × Method). option_map (initial_state_at tree limits e) (code_of e.1.kind)) (slice_get es 0)) alone ∙ ap (option_map (initial_state_at tree limits entry)) is in
         none_is_some (opens tree limits accepted).0 (sym none ∙ (opens tree limits accepted).1)
     opened_with (Some code) is =
-        let opened : opening tree limits ≡ Some (opening_at tree limits entry code) =
-        ap (λ es. option_and_then (λ (e : ClassName × Method). option_map (opening_at tree limits e) (code_of e.1.kind)) (slice_get es 0)) alone ∙ ap (option_map (opening_at tree limits entry)) is in
+        let opened : initial_state tree limits ≡ Some (initial_state_at tree limits entry code) =
+        ap (λ es. option_and_then (λ (e : ClassName × Method). option_map (initial_state_at tree limits e) (code_of e.1.kind)) (slice_get es 0)) alone ∙ ap (option_map (initial_state_at tree limits entry)) is in
         let numbered : (n : ℕ) × (number_of tree entry ≡ Some n) × (slice_get (all_methods tree) n ≡ Some entry) = declared_is_numbered tree accepted.legal entry_declared.0 entry entry_declared.1 in (
-          content_at tree limits entry numbered.0,
-          opening_at tree limits entry code,
-          ap (λ es. option_and_then (λ (e : ClassName × Method). option_map (content_at tree limits e) (number_of tree e)) (slice_get es 0)) alone ∙ ap (option_map (content_at tree limits entry)) numbered.1,
+          machine_state_at tree limits entry numbered.0,
+          initial_state_at tree limits entry code,
+          ap (λ es. option_and_then (λ (e : ClassName × Method). option_map (machine_state_at tree limits e) (number_of tree e)) (slice_get es 0)) alone ∙ ap (option_map (machine_state_at tree limits entry)) numbered.1,
           opened,
           record {
             accepted = accepted;
             limits = in_range;
-            typed = opening_typed tree limits accepted (opening_at tree limits entry code) opened;
-            counted = opening_counted tree limits (budget_is_some limits in_range) (opening_at tree limits entry code) opened;
-            sound = opening_sound entry code numbered.0 (first_stands entry code is numbered.0 numbered.2);
+            typed = initial_typed tree limits accepted (initial_state_at tree limits entry code) opened;
+            counted = initial_counted tree limits (budget_is_some limits in_range) (initial_state_at tree limits entry code) opened;
+            sound = initial_sound entry code numbered.0 (first_stands entry code is numbered.0 numbered.2);
             stands = record { name = literal_names tree; by = first_stands entry code is numbered.0 numbered.2 };
           },
         )
 
 -- an accepted program has an initial machine state, which represents its initial state
-pub opening_represents : (tree : Tree) (limits : Limits) → IsAccepted tree → IsTrue (are_in_range limits) →
-    (c : Content) × (s : State) × (opening_content tree limits ≡ Some c) × (opening tree limits ≡ Some s) × Represents c s
-opening_represents tree limits accepted in_range =
+pub initial_represents : (tree : Tree) (limits : Limits) → IsAccepted tree → IsTrue (are_in_range limits) →
+    (c : MachineState) × (s : State) × (initial_machine_state tree limits ≡ Some c) × (initial_state tree limits ≡ Some s) × Represents c s
+initial_represents tree limits accepted in_range =
     let entry = entry_alone tree accepted.legal in opened_with tree limits accepted in_range entry.0 entry.1 (code_of entry.0.1.kind) refl

@@ -17,11 +17,11 @@ use Rattle.interpreter.proofs.reference_machine.Programs.SourceMethods.{kept_fro
 use Rattle.simulation.proofs.ProgramSizes.Methods.{literals_few}
 use Rattle.interpreter.specs.object_memory.declared.addresses.TheConstants.{ADDRESSES, FIRST_LITERAL}
 use Rattle.interpreter.specs.object_memory.Cells.{literal, literal_number}
-use Rattle.simulation.specs.StandsFor.{Names}
+use Rattle.simulation.specs.Refines.{Names}
 
 -- ---- lists in which nothing stands twice
 
--- what stands at two places stands at one
+-- two indices of one item are equal
 abbrev AreApart : {X : Type 0} → List X → Type 0
 AreApart {X} xs = (m n : ℕ) (x : X) → slice_get xs m ≡ Some x → slice_get xs n ≡ Some x → m ≡ n
 
@@ -35,20 +35,20 @@ kept_apart test [] apart m n x h k = none_is_some x h
 kept_apart {X} test (y ∷ ys) apart m n x h k = by_test (test y) (kept_apart test ys (rest_apart y ys apart)) m n h k
   where
     -- none after the first is the first
-    behind : (j : ℕ) → slice_get (filter test ys) j ≡ Some y → {A : Type 0} → A
-    behind j e {A} = let found = kept_from test ys j y e in let same : zero ≡ suc found.0 = apart zero (suc found.0) y refl found.1 in absurd (omega (arith, same))
+    following : (j : ℕ) → slice_get (filter test ys) j ≡ Some y → {A : Type 0} → A
+    following j e {A} = let found = kept_from test ys j y e in let same : zero ≡ suc found.0 = apart zero (suc found.0) y refl found.1 in absurd (omega (arith, same))
 
     by_test : (b : Bool) → AreApart (filter test ys) → (m n : ℕ) → slice_get (if b then y ∷ filter test ys else filter test ys) m ≡ Some x → slice_get (if b then y ∷ filter test ys else filter test ys) n ≡ Some x → m ≡ n
     by_test false later m n h k = later m n x h k
     by_test true later zero zero h k = refl
-    by_test true later zero (suc n) h k = behind n (k ∙ sym h)
-    by_test true later (suc m) zero h k = behind m (h ∙ sym k)
+    by_test true later zero (suc n) h k = following n (k ∙ sym h)
+    by_test true later (suc m) zero h k = following m (h ∙ sym k)
     by_test true later (suc m) (suc n) h k = ap suc (later m n x h k)
 
 -- each text once
 once_apart : (xs : List (List ℕ)) → AreApart (each_once same_text xs)
 once_apart [] m n x h k = none_is_some x h
-once_apart (y ∷ ys) m n x h k = by_places (kept_apart (λ z. not (same_text y z)) (each_once same_text ys) (once_apart ys)) m n h k
+once_apart (y ∷ ys) m n x h k = by_indices (kept_apart (λ z. not (same_text y z)) (each_once same_text ys) (once_apart ys)) m n h k
   where
     others : List (List ℕ)
     others = filter (λ z. not (same_text y z)) (each_once same_text ys)
@@ -58,11 +58,11 @@ once_apart (y ∷ ys) m n x h k = by_places (kept_apart (λ z. not (same_text y 
         let found = kept_from (λ z. not (same_text y z)) (each_once same_text ys) j y e in
         never (sym (is_not (same_text y y) found.2) ∙ same_text_itself y)
 
-    by_places : AreApart others → (m n : ℕ) → slice_get (y ∷ others) m ≡ Some x → slice_get (y ∷ others) n ≡ Some x → m ≡ n
-    by_places later zero zero h k = refl
-    by_places later zero (suc n) h k = not_first n (k ∙ sym h)
-    by_places later (suc m) zero h k = not_first m (h ∙ sym k)
-    by_places later (suc m) (suc n) h k = ap suc (later m n x h k)
+    by_indices : AreApart others → (m n : ℕ) → slice_get (y ∷ others) m ≡ Some x → slice_get (y ∷ others) n ≡ Some x → m ≡ n
+    by_indices later zero zero h k = refl
+    by_indices later zero (suc n) h k = not_first n (k ∙ sym h)
+    by_indices later (suc m) zero h k = not_first m (h ∙ sym k)
+    by_indices later (suc m) (suc n) h k = ap suc (later m n x h k)
 
 -- one of a thing for each item
 pub same_for_each : {X Y : Type 0} (xs : List X) (n : ℕ) (x : X) (y : Y) → slice_get xs n ≡ Some x → slice_get (replicate (length xs) y) n ≡ Some y
@@ -138,5 +138,5 @@ module _ (tree : Tree) where
       let y : IsNamedLiteral b n = named_literal b n k in
       let both : Literal x.characters ≡ Literal y.characters = sym x.name ∙ y.name in
       let same : x.characters ≡ y.characters = cc in
-      let place : x.number ≡ y.number = once_apart (filter_map literal_of (instructions_of_tree tree)) x.number y.number x.characters x.is (y.is ∙ ap Some (sym same)) in
-      literal_is a x.number x.numbered ∙ ap (λ z. FIRST_LITERAL + z) place ∙ sym (literal_is b y.number y.numbered)
+      let index : x.number ≡ y.number = once_apart (filter_map literal_of (instructions_of_tree tree)) x.number y.number x.characters x.is (y.is ∙ ap Some (sym same)) in
+      literal_is a x.number x.numbered ∙ ap (λ z. FIRST_LITERAL + z) index ∙ sym (literal_is b y.number y.numbered)

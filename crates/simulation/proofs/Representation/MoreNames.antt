@@ -12,11 +12,11 @@ use Rattle.interpreter.specs.object_memory.declared.kinds.Kind.TheVariants.{Inst
 use Rattle.interpreter.specs.object_memory.declared.values.Value.{Value}
 use Rattle.interpreter.specs.object_memory.Cells.{Cell}
 use Rattle.interpreter.specs.threads_monitors.Frames.{Frame, Frames}
-use Rattle.interpreter.specs.threads_monitors.declared.threads.Standing.{Standing}
-use Rattle.interpreter.specs.threads_monitors.declared.threads.Standing.TheVariants.{Live, Ended}
+use Rattle.interpreter.specs.threads_monitors.declared.threads.ThreadStatus.{ThreadStatus}
+use Rattle.interpreter.specs.threads_monitors.declared.threads.ThreadStatus.TheVariants.{Live, Ended}
 use Rattle.interpreter.specs.threads_monitors.declared.threads.Thread.{Thread}
 use Rattle.simulation.specs.Agreement.{Agree}
-use Rattle.simulation.specs.StandsFor.{Names, Extends, IsValue, int32, int64, native, null_reference, reference, IsWord, IsOfContents, IsCell, IsObject, IsFrame, AreFrames, StandsAlike, IsThread}
+use Rattle.simulation.specs.Refines.{Names, Extends, IsValue, int32, int64, native, null_reference, reference, IsWord, IsOfContents, IsCell, IsObject, IsFrame, AreFrames, StandsAlike, IsThread}
 use Rattle.simulation.proofs.ListLaws.AgreeingLists.{agree_weaken}
 
 module _ (name names : Names) (extends : Extends name names) where
@@ -61,7 +61,7 @@ module _ (name names : Names) (extends : Extends name names) where
     pub frame_extends : (f : Frame) (g : StateFrame) → IsFrame tree name f g → IsFrame tree names f g
     frame_extends f g h = record {
       method = h.method;
-      place = h.place;
+      pc = h.pc;
       arguments = values_extend f.arguments g.arguments h.arguments;
       locals = values_extend f.locals g.locals h.locals;
       stack = values_extend f.stack g.stack h.stack;
@@ -74,11 +74,11 @@ module _ (name names : Names) (extends : Extends name names) where
     pub frames_extend : (limits : Limits) (m : Frames) (gs : List StateFrame) → AreFrames tree limits name m gs → AreFrames tree limits names m gs
     frames_extend limits m gs h = record { frames = frame_list_extends (m.running ∷ m.below) gs h.frames; depth = h.depth; few = h.few; room = h.room }
 
-    pub standing_extends : (limits : Limits) (standing : Standing) (gs : List StateFrame) (e : Option End) → StandsAlike tree limits name standing gs e → StandsAlike tree limits names standing gs e
-    standing_extends limits (Live m) gs None h = frames_extend limits m gs h
-    standing_extends limits (Ended e) gs (Some e') h = h
-    standing_extends limits (Live m) gs (Some e') h = h
-    standing_extends limits (Ended e) gs None h = h
+    pub status_extends : (limits : Limits) (thread_status : ThreadStatus) (gs : List StateFrame) (e : Option End) → StandsAlike tree limits name thread_status gs e → StandsAlike tree limits names thread_status gs e
+    status_extends limits (Live m) gs None h = frames_extend limits m gs h
+    status_extends limits (Ended e) gs (Some e') h = h
+    status_extends limits (Live m) gs (Some e') h = h
+    status_extends limits (Ended e) gs None h = h
 
     pub thread_extends : (limits : Limits) (t : Thread) (u : StateThread) → IsThread tree limits name t u → IsThread tree limits names t u
-    thread_extends limits t u h = record { standing = standing_extends limits t.standing u.frames u.ended h.standing; steps_left = h.steps_left }
+    thread_extends limits t u h = record { thread_status = status_extends limits t.thread_status u.frames u.ended h.thread_status; steps_left = h.steps_left }

@@ -11,8 +11,8 @@ use Rattle.interpreter.specs.reference_machine.Effects.{new_frame}
 use Rattle.interpreter.specs.loaded_program.AllMethods.{all_methods}
 use Rattle.interpreter.specs.object_memory.declared.values.Value.{Value}
 use Rattle.simulation.specs.Agreement.{Agree}
-use Rattle.simulation.specs.StandsFor.{Names, IsValue, IsThread}
-use Rattle.simulation.specs.Turns.{thread_at}
+use Rattle.simulation.specs.Refines.{Names, IsValue, IsThread}
+use Rattle.simulation.specs.Transitions.{thread_at}
 use Rattle.simulation.proofs.Memory.InitialValues.{locals_stand}
 
 module _ (name : Names) where
@@ -20,8 +20,8 @@ module _ (name : Names) where
       (arguments : List Value) (arguments' : List StateValue) → Agree (IsValue name) arguments arguments' →
       IsThread tree limits name (thread_at limits found arguments n) (record { frames = new_frame found.0 found.1 code arguments' None ∷ []; steps_left = limits.budget; ended = None })
   beginning_stands tree limits deep found code has_code n stands arguments arguments' h = record {
-    standing = record {
-      frames = (record { method = stands; place = refl; arguments = h; locals = locals_stand name found.1 code has_code; stack = tt; constructed = tt }, tt);
+    thread_status = record {
+      frames = (record { method = stands; pc = refl; arguments = h; locals = locals_stand name found.1 code has_code; stack = tt; constructed = tt }, tt);
       depth = refl;
       few = deep;
       room = refl;

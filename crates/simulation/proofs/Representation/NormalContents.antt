@@ -11,8 +11,8 @@ use Rattle.interpreter.specs.object_memory.declared.values.Value.{Value}
 use Rattle.interpreter.specs.threads_monitors.Frames.{Frames}
 use Rattle.interpreter.specs.threads_monitors.Roots.{roots}
 use Rattle.interpreter.specs.threads_monitors.Threads.{is_live}
-use Rattle.interpreter.specs.threads_monitors.declared.threads.Standing.{Standing}
-use Rattle.interpreter.specs.threads_monitors.declared.threads.Standing.TheVariants.{Live}
+use Rattle.interpreter.specs.threads_monitors.declared.threads.ThreadStatus.{ThreadStatus}
+use Rattle.interpreter.specs.threads_monitors.declared.threads.ThreadStatus.TheVariants.{Live}
 use Rattle.interpreter.specs.threads_monitors.declared.threads.Thread.{Thread}
 use Rattle.interpreter.proofs.cil_model.SameLaws.{never}
 use Rattle.reference_machine.specs.TypedStates.{IsTyped}
@@ -23,34 +23,34 @@ use Rattle.collector.specs.Holding.{may_hold, static_may_hold}
 use Rattle.collector.specs.phase_handshake.Handshakes.{seat_of}
 use Rattle.collector.specs.phase_handshake.declared.posts.Seat.{Seat}
 use Rattle.collector.proofs.Addresses.Tests.{may_hold_live, static_may_hold_live, value_weakens}
-use Rattle.simulation.specs.MachineContents.{Content}
+use Rattle.simulation.specs.MachineStates.{MachineState}
 use Rattle.simulation.specs.Sound.{AreSeated, IsSound}
-use Rattle.simulation.specs.StandsFor.{Names, IsThread, IsValue, StandsBy}
-use Rattle.simulation.proofs.Representation.RenamedThreads.{agree_by_place, standing_kept, value_kept}
+use Rattle.simulation.specs.Refines.{Names, IsThread, IsValue, StandsBy}
+use Rattle.simulation.proofs.Representation.RenamedThreads.{agree_by_index, status_kept, value_kept}
 use Rattle.simulation.proofs.Representation.NormalNames.{IsNormal, filled, filled_from, filled_heap, filled_is_normal, is_filled}
 use Rattle.simulation.proofs.Representation.FrameReferences.{Each, FramePasses, roots_passed}
 
 -- what is true of a sound machine whatever phase is the last one: of seats, of the heap, and of what threads and static fields hold
-pub record IsHeldSoundly (c : Content) : Type 0 where
+pub record IsHeldSoundly (c : MachineState) : Type 0 where
   pub seated : AreSeated c.posts c.threads
   pub heap : IsSoundHeap c.tree c.posts.posted c.posts.has_round c.limits.max_words c.progress c.objects.spaces
-  pub threads : (t left : ℕ) (fs : Frames) (seat : Seat) → slice_get c.threads t ≡ Some (record { standing = Live fs; steps_left = left }) → seat_of c.posts t ≡ Some seat →
+  pub threads : (t left : ℕ) (fs : Frames) (seat : Seat) → slice_get c.threads t ≡ Some (record { thread_status = Live fs; steps_left = left }) → seat_of c.posts t ≡ Some seat →
       (a : Addr) → IsListed (roots fs) a → may_hold c.posts c.objects.spaces seat a ≡ true
   pub statics : (number : ℕ) (v : Value) → slice_get c.statics number ≡ Some v → ValuePasses (static_may_hold c.posts.posted c.objects.spaces c.progress number) v
 
 -- that is so of each sound machine
-pub sound_is_held : (c : Content) → IsSound c → IsHeldSoundly c
+pub sound_is_held : (c : MachineState) → IsSound c → IsHeldSoundly c
 sound_is_held c sound = record { seated = sound.seated; heap = sound.heap; threads = sound.threads; statics = sound.statics }
 
 -- under normal names
-pub record StandsNormally (c : Content) (s : State) : Type 0 where
+pub record StandsNormally (c : MachineState) (s : State) : Type 0 where
   pub name : Names
   pub normal : IsNormal c.posts.posted c.objects.spaces name
   pub by : StandsBy name c s
 
-module _ (c : Content) (held : IsHeldSoundly c) where
+module _ (c : MachineState) (held : IsHeldSoundly c) where
   -- a live thread has a seat
-  pub has_seat : (t left : ℕ) (fs : Frames) → slice_get c.threads t ≡ Some (record { standing = Live fs; steps_left = left }) → (seat : Seat) × (seat_of c.posts t ≡ Some seat)
+  pub has_seat : (t left : ℕ) (fs : Frames) → slice_get c.threads t ≡ Some (record { thread_status = Live fs; steps_left = left }) → (seat : Seat) × (seat_of c.posts t ≡ Some seat)
   has_seat t left fs there = by_seat (seat_of c.posts t) refl
     where
       live : is_some (seat_of c.posts t) ≡ true
@@ -61,7 +61,7 @@ module _ (c : Content) (held : IsHeldSoundly c) where
       by_seat (Some seat) is = (seat, is)
 
   -- each reference of a live thread is live,
-  pub thread_is_live : (t left : ℕ) (fs : Frames) → slice_get c.threads t ≡ Some (record { standing = Live fs; steps_left = left }) → (a : Addr) → IsListed (roots fs) a → is_live_address c.posts.posted c.objects.spaces a ≡ true
+  pub thread_is_live : (t left : ℕ) (fs : Frames) → slice_get c.threads t ≡ Some (record { thread_status = Live fs; steps_left = left }) → (a : Addr) → IsListed (roots fs) a → is_live_address c.posts.posted c.objects.spaces a ≡ true
   thread_is_live t left fs there a listed =
       let seat = has_seat t left fs there in
       may_hold_live c.posts c.objects.spaces seat.0 a (held.threads t left fs seat.0 there seat.1 a listed)
@@ -81,13 +81,13 @@ module _ (c : Content) (held : IsHeldSoundly c) where
 
     thread_stands : (t : ℕ) (x : Thread) (u : StateThread) → slice_get c.threads t ≡ Some x → IsThread c.tree c.limits name x u → IsThread c.tree c.limits names x u
     thread_stands t x u there h = record {
-      standing = standing_kept (is_live_address c.posts.posted c.objects.spaces) name names kept c.tree c.limits x.standing u.frames u.ended pass h.standing;
+      thread_status = status_kept (is_live_address c.posts.posted c.objects.spaces) name names kept c.tree c.limits x.thread_status u.frames u.ended pass h.thread_status;
       steps_left = h.steps_left;
     }
       where
-        pass : (m : Frames) → x.standing ≡ Live m → Each (FramePasses (is_live_address c.posts.posted c.objects.spaces)) (m.running ∷ m.below)
+        pass : (m : Frames) → x.thread_status ≡ Live m → Each (FramePasses (is_live_address c.posts.posted c.objects.spaces)) (m.running ∷ m.below)
         pass m is =
-            let here : slice_get c.threads t ≡ Some (record { standing = Live m; steps_left = x.steps_left }) = there ∙ ap (λ (y : Standing). Some (record { standing = y; steps_left = x.steps_left })) is in
+            let here : slice_get c.threads t ≡ Some (record { thread_status = Live m; steps_left = x.steps_left }) = there ∙ ap (λ (y : ThreadStatus). Some (record { thread_status = y; steps_left = x.steps_left })) is in
             roots_passed (is_live_address c.posts.posted c.objects.spaces) m (thread_is_live t x.steps_left m here)
 
     -- what stands under some names stands under normal ones
@@ -98,11 +98,11 @@ module _ (c : Content) (held : IsHeldSoundly c) where
       by = record {
         memory = record {
           heap = filled_heap c.tree c.posts.posted c.posts.has_round c.limits.max_words c.progress c.objects held.heap name s stands.memory.heap legal typed;
-          static_values = agree_by_place (λ v (f : FieldKey × StateValue). IsValue name v f.1) (λ v (f : FieldKey × StateValue). IsValue names v f.1) c.statics s.statics
+          static_values = agree_by_index (λ v (f : FieldKey × StateValue). IsValue name v f.1) (λ v (f : FieldKey × StateValue). IsValue names v f.1) c.statics s.statics
               (λ n v f there. value_kept (is_live_address c.posts.posted c.objects.spaces) name names kept v f.1 (static_is_live n v there)) stands.memory.static_values;
           printed_is = stands.memory.printed_is;
         };
-        threads = agree_by_place (IsThread c.tree c.limits name) (IsThread c.tree c.limits names) c.threads s.threads thread_stands stands.threads;
+        threads = agree_by_index (IsThread c.tree c.limits name) (IsThread c.tree c.limits names) c.threads s.threads thread_stands stands.threads;
       };
     }
 

@@ -18,8 +18,8 @@ use Rattle.interpreter.specs.object_memory.Cells.{Cell, cell_in, literal, null}
 use Rattle.interpreter.specs.object_memory.Objects.{Objects, object_cell}
 use Rattle.interpreter.specs.object_memory.Spaces.{Spaces, first_of, forward, forward_word, other_of}
 use Rattle.interpreter.specs.object_memory.Values.{value_word}
-use Rattle.interpreter.specs.instructions.barriers.Barriers.{forwarded}
-use Rattle.interpreter.proofs.object_memory.TwoBlocks.{apart, forward_bare, forward_copy, forward_else, forward_null, new_is_cell, no_literal, old_is_cell, told_apart}
+use Rattle.interpreter.specs.instructions.barriers.Barriers.{forward_value}
+use Rattle.interpreter.proofs.object_memory.TwoBlocks.{apart, forward_bare, forward_copy, forward_else, forward_null, new_is_cell, no_literal, old_is_cell, are_distinct}
 use Rattle.interpreter.proofs.cil_model.Lists.{none_is_some}
 use Rattle.interpreter.proofs.cil_model.SameLaws.{never}
 use Rattle.reference_machine.specs.TypedStates.{IsTyped}
@@ -30,7 +30,7 @@ use Rattle.collector.specs.declared.progress.Progress.{Progress}
 use Rattle.collector.proofs.Addresses.Tests.{live_is_late, live_is_read, live_loads, new_is, new_is_live}
 use Rattle.collector.proofs.Copying.VisibleCopies.{ShowSame, has_words, old_shows}
 use Rattle.collector.proofs.ThreadReferences.LiveValues.{reference_again}
-use Rattle.simulation.specs.StandsFor.{Names, AreTwins, HasOneName, IsValue, int32, int64, native, null_reference, reference, IsWord, IsCell, IsBornAt, IsHeap, IsLiteralAt, IsMonitor, IsOfContents}
+use Rattle.simulation.specs.Refines.{Names, AreTwins, HasOneName, IsValue, int32, int64, native, null_reference, reference, IsWord, IsCell, IsBornAt, IsHeap, IsLiteralAt, IsMonitor, IsOfContents}
 use Rattle.simulation.proofs.CollectedHeap.TwoCopies.{late_of, words_are_live}
 use Rattle.simulation.proofs.Memory.TypedWords.{kind_of_state}
 use Rattle.simulation.proofs.Memory.ReferenceSlots.{is_reference_kind}
@@ -409,7 +409,7 @@ module _ (tree : Tree) (posted : Phase) (has_round : Bool) (words : ℕ) (p : Pr
             by_name (own named) = heap.small a n named
             by_name (copied b there live named) =
                 let to = other_cell (cell_in m.new (record { number = a })) b there in
-                let low = (told_apart m sound.blocks.spaces (record { number = a }) to.0 (new_is_cell m sound.blocks.spaces (record { number = a }) to.0 to.1)).1 in
+                let low = (are_distinct m sound.blocks.spaces (record { number = a }) to.0 (new_is_cell m sound.blocks.spaces (record { number = a }) to.0 to.1)).1 in
                 omega (arith, low)
 
         null_then : (x : Option ObjectName) → names 0 ≡ x → names 0 ≡ None
@@ -420,7 +420,7 @@ module _ (tree : Tree) (posted : Phase) (has_round : Bool) (words : ℕ) (p : Pr
             by_name (own named) = none_is_some n (sym heap.null_unnamed ∙ named)
             by_name (copied b there live named) =
                 let to = other_cell (cell_in m.new null) b there in
-                let positive = (told_apart m sound.blocks.spaces null to.0 (new_is_cell m sound.blocks.spaces null to.0 to.1)).0 in
+                let positive = (are_distinct m sound.blocks.spaces null to.0 (new_is_cell m sound.blocks.spaces null to.0 to.1)).0 in
                 absurd (omega (arith, positive))
 
         -- the heap under these names
@@ -456,7 +456,7 @@ module _ (tree : Tree) (posted : Phase) (has_round : Bool) (words : ℕ) (p : Pr
       by_cell (Some c) lies = by_other c lies c.other refl
 
   -- so does a value
-  pub normal_value : (v : Value) (u : StateValue) → IsValue name v u → IsValue name (forwarded o v) u
+  pub normal_value : (v : Value) (u : StateValue) → IsValue name v u → IsValue name (forward_value o v) u
   normal_value v u (int32 z fits) = int32 z fits
   normal_value v u (int64 z fits) = int64 z fits
   normal_value v u (native z fits) = native z fits

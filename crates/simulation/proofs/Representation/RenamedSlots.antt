@@ -16,7 +16,7 @@ use Rattle.interpreter.specs.object_memory.declared.values.Value.{Value}
 use Rattle.reference_machine.specs.TypedStates.{AllHaveType, HasType, HaveFieldTypes, IsTypedContents}
 use Rattle.collector.specs.References.{holds_reference}
 use Rattle.simulation.specs.Agreement.{Agree}
-use Rattle.simulation.specs.StandsFor.{Names, IsValue, int32, int64, native, null_reference, reference, IsWord, IsInstanceCell, IsOfContents, hidden_words, thread_word}
+use Rattle.simulation.specs.Refines.{Names, IsValue, int32, int64, native, null_reference, reference, IsWord, IsInstanceCell, IsOfContents, hidden_words, thread_word}
 use Rattle.simulation.proofs.ListLaws.AgreeingLists.{agree_get, agree_length}
 use Rattle.simulation.proofs.Memory.TypedWords.{kind_fits, kind_of_state}
 use Rattle.simulation.proofs.Memory.ReferenceSlots.{element_says, hidden_says, is_reference_kind, slot_says}
@@ -25,19 +25,19 @@ use Rattle.interpreter.proofs.cil_model.SameLaws.{never}
 
 -- ---- lists
 
--- lists of one length agree where they do at each place
-pub agree_of_places : {A B : Type 0} (R : A → B → Type 0) (xs : List A) (ys : List B) → length xs ≡ length ys → ((n : ℕ) (y : B) → slice_get ys n ≡ Some y → (x : A) × (slice_get xs n ≡ Some x) × R x y) → Agree R xs ys
-agree_of_places R [] [] same h = tt
-agree_of_places R (x ∷ xs) (y ∷ ys) same h =
+-- lists of one length agree where they do at each index
+pub agree_of_indices : {A B : Type 0} (R : A → B → Type 0) (xs : List A) (ys : List B) → length xs ≡ length ys → ((n : ℕ) (y : B) → slice_get ys n ≡ Some y → (x : A) × (slice_get xs n ≡ Some x) × R x y) → Agree R xs ys
+agree_of_indices R [] [] same h = tt
+agree_of_indices R (x ∷ xs) (y ∷ ys) same h =
     let first = h 0 y refl in
-    (subst (λ z. R z y) (sym (same_Some x first.0 first.1)) first.2, agree_of_places R xs ys (omega (arith, same)) (λ n z is. h (suc n) z is))
-agree_of_places R [] (y ∷ ys) same h = absurd (omega (arith, same))
-agree_of_places R (x ∷ xs) [] same h = absurd (omega (arith, same))
+    (subst (λ z. R z y) (sym (same_Some x first.0 first.1)) first.2, agree_of_indices R xs ys (omega (arith, same)) (λ n z is. h (suc n) z is))
+agree_of_indices R [] (y ∷ ys) same h = absurd (omega (arith, same))
+agree_of_indices R (x ∷ xs) [] same h = absurd (omega (arith, same))
 
--- a place after the first of two lists
-get_behind : {X : Type 0} (xs ys : List X) (n : ℕ) → slice_get (xs ++ ys) (length xs + n) ≡ slice_get ys n
-get_behind [] ys n = let place : 0 + n ≡ n = omega arith in ap (slice_get ys) place
-get_behind (x ∷ xs) ys n = let place : length (x ∷ xs) + n ≡ suc (length xs + n) = omega arith in ap (slice_get (x ∷ (xs ++ ys))) place ∙ get_behind xs ys n
+-- an item after the first of two lists
+get_after : {X : Type 0} (xs ys : List X) (n : ℕ) → slice_get (xs ++ ys) (length xs + n) ≡ slice_get ys n
+get_after [] ys n = let index : 0 + n ≡ n = omega arith in ap (slice_get ys) index
+get_after (x ∷ xs) ys n = let index : length (x ∷ xs) + n ≡ suc (length xs + n) = omega arith in ap (slice_get (x ∷ (xs ++ ys))) index ∙ get_after xs ys n
 
 -- a list that begins as one of two parts, with the number of elements of both
 split_alike : (xs ys zs : List ℕ) → length zs ≡ length (xs ++ ys) → ((n w : ℕ) → slice_get xs n ≡ Some w → slice_get zs n ≡ Some w) → (rest : List ℕ) × (zs ≡ xs ++ rest) × (length rest ≡ length ys)
@@ -83,7 +83,7 @@ module _ (tree : Tree) (legal : IsLegal tree) (s : State) (name names : Names) w
 
   array_shown : (e : ArrayElement) (slots shown : List ℕ) → ShowAlike tree name names (Array e) slots shown → (t : DeclaredType) (elements : List StateValue) → AllHaveType tree s t elements →
       IsOfContents tree name (Array e) slots (IsArray t elements) None → Agree (IsWord names) shown elements
-  array_shown e slots shown alike t elements typed h = agree_of_places (IsWord names) shown elements (alike.count ∙ agree_length (IsWord name) slots elements h.1) at
+  array_shown e slots shown alike t elements typed h = agree_of_indices (IsWord names) shown elements (alike.count ∙ agree_length (IsWord name) slots elements h.1) at
     where
       at : (n : ℕ) (u : StateValue) → slice_get elements n ≡ Some u → (w : ℕ) × (slice_get shown n ≡ Some w) × IsWord names w u
       at n u is =
@@ -123,17 +123,17 @@ module _ (tree : Tree) (legal : IsLegal tree) (s : State) (name names : Names) w
     field_shown : HaveFieldTypes tree s fields (instance_fields tree c) → (n : ℕ) (f : FieldKey × StateValue) → slice_get fields n ≡ Some f → (w : ℕ) × (slice_get parts.0 n ≡ Some w) × IsWord names w f.1
     field_shown typed n f is =
         let word = agree_get (λ w (x : FieldKey × StateValue). IsWord name w x.1) h.words fields h.values n f is in
-        let there = ap (λ l. slice_get l (length hidden + n)) h.slots_are ∙ get_behind hidden h.words n ∙ word.1 in
+        let there = ap (λ l. slice_get l (length hidden + n)) h.slots_are ∙ get_after hidden h.words n ∙ word.1 in
         let says = ap (λ k. holds_reference tree (Instance class) (k + n)) hidden_count ∙ slot_says tree legal s c class h.class_is fields typed n f is in
         let found = slot_shown (Instance class) slots shown alike (length hidden + n) word.0 f.1 says there word.2 in
-        (found.0, sym (get_behind hidden parts.0 n) ∙ sym (ap (λ l. slice_get l (length hidden + n)) parts.1) ∙ found.1, found.2)
+        (found.0, sym (get_after hidden parts.0 n) ∙ sym (ap (λ l. slice_get l (length hidden + n)) parts.1) ∙ found.1, found.2)
 
     instance_shown : HaveFieldTypes tree s fields (instance_fields tree c) → IsInstanceCell tree names class shown c fields thread
     instance_shown typed = record {
       class_is = h.class_is;
       words = parts.0;
       slots_are = parts.1;
-      values = agree_of_places (λ w (x : FieldKey × StateValue). IsWord names w x.1) parts.0 fields (parts.2 ∙ agree_length (λ w (x : FieldKey × StateValue). IsWord name w x.1) h.words fields h.values) (field_shown typed);
+      values = agree_of_indices (λ w (x : FieldKey × StateValue). IsWord names w x.1) parts.0 fields (parts.2 ∙ agree_length (λ w (x : FieldKey × StateValue). IsWord name w x.1) h.words fields h.values) (field_shown typed);
     }
 
   -- ---- both

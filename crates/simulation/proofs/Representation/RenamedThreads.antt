@@ -9,19 +9,19 @@ use Rattle.interpreter.specs.reference_machine.States.{Frame as StateFrame}
 use Rattle.interpreter.specs.object_memory.declared.addresses.Addr.{Addr}
 use Rattle.interpreter.specs.object_memory.declared.values.Value.{Value}
 use Rattle.interpreter.specs.threads_monitors.Frames.{Frame, Frames}
-use Rattle.interpreter.specs.threads_monitors.declared.threads.Standing.{Standing}
-use Rattle.interpreter.specs.threads_monitors.declared.threads.Standing.TheVariants.{Live, Ended}
+use Rattle.interpreter.specs.threads_monitors.declared.threads.ThreadStatus.{ThreadStatus}
+use Rattle.interpreter.specs.threads_monitors.declared.threads.ThreadStatus.TheVariants.{Live, Ended}
 use Rattle.collector.specs.References.{Test, ValuePasses}
 use Rattle.simulation.specs.Agreement.{Agree}
-use Rattle.simulation.specs.StandsFor.{Names, IsValue, int32, int64, native, null_reference, reference, IsObject, IsFrame, StandsAlike}
+use Rattle.simulation.specs.Refines.{Names, IsValue, int32, int64, native, null_reference, reference, IsObject, IsFrame, StandsAlike}
 use Rattle.simulation.proofs.Representation.FrameReferences.{Each, FramePasses, Passes}
 
--- in another relation, where it follows of what lies at each place
-pub agree_by_place : {A B : Type 0} (R S : A → B → Type 0) (xs : List A) (ys : List B) → ((n : ℕ) (x : A) (y : B) → slice_get xs n ≡ Some x → R x y → S x y) → Agree R xs ys → Agree S xs ys
-agree_by_place R S [] [] f h = h
-agree_by_place R S (x ∷ xs) (y ∷ ys) f h = (f 0 x y refl h.0, agree_by_place R S xs ys (λ n z w is. f (suc n) z w is) h.1)
-agree_by_place R S [] (y ∷ ys) f h = elim h [ ]
-agree_by_place R S (x ∷ xs) [] f h = elim h [ ]
+-- in another relation, where it follows from the items at each index
+pub agree_by_index : {A B : Type 0} (R S : A → B → Type 0) (xs : List A) (ys : List B) → ((n : ℕ) (x : A) (y : B) → slice_get xs n ≡ Some x → R x y → S x y) → Agree R xs ys → Agree S xs ys
+agree_by_index R S [] [] f h = h
+agree_by_index R S (x ∷ xs) (y ∷ ys) f h = (f 0 x y refl h.0, agree_by_index R S xs ys (λ n z w is. f (suc n) z w is) h.1)
+agree_by_index R S [] (y ∷ ys) f h = elim h [ ]
+agree_by_index R S (x ∷ xs) [] f h = elim h [ ]
 
 -- and where it follows of what is true of each
 agree_each : {A B : Type 0} (P : A → Type 0) (R S : A → B → Type 0) → ((x : A) (y : B) → P x → R x y → S x y) → (xs : List A) (ys : List B) → Each P xs → Agree R xs ys → Agree S xs ys
@@ -52,7 +52,7 @@ module _ (test : Test) (name names : Names) (kept : (a : ℕ) (n : ObjectName) �
     frame_kept : (f : Frame) (g : StateFrame) → FramePasses test f → IsFrame tree name f g → IsFrame tree names f g
     frame_kept f g passes h = record {
       method = h.method;
-      place = h.place;
+      pc = h.pc;
       arguments = values_kept f.arguments g.arguments passes.arguments h.arguments;
       locals = values_kept f.locals g.locals passes.locals h.locals;
       stack = values_kept f.stack g.stack passes.stack h.stack;
@@ -60,14 +60,14 @@ module _ (test : Test) (name names : Names) (kept : (a : ℕ) (n : ObjectName) �
     }
 
     -- a live thread whose frames pass
-    pub standing_kept : (limits : Limits) (standing : Standing) (gs : List StateFrame) (e : Option End) → ((m : Frames) → standing ≡ Live m → Each (FramePasses test) (m.running ∷ m.below)) →
-        StandsAlike tree limits name standing gs e → StandsAlike tree limits names standing gs e
-    standing_kept limits (Live m) gs None pass h = record {
+    pub status_kept : (limits : Limits) (thread_status : ThreadStatus) (gs : List StateFrame) (e : Option End) → ((m : Frames) → thread_status ≡ Live m → Each (FramePasses test) (m.running ∷ m.below)) →
+        StandsAlike tree limits name thread_status gs e → StandsAlike tree limits names thread_status gs e
+    status_kept limits (Live m) gs None pass h = record {
       frames = agree_each (FramePasses test) (IsFrame tree name) (IsFrame tree names) frame_kept (m.running ∷ m.below) gs (pass m refl) h.frames;
       depth = h.depth;
       few = h.few;
       room = h.room;
     }
-    standing_kept limits (Ended e) gs (Some f) pass h = h
-    standing_kept limits (Live m) gs (Some e) pass h = h
-    standing_kept limits (Ended e) gs None pass h = h
+    status_kept limits (Ended e) gs (Some f) pass h = h
+    status_kept limits (Live m) gs (Some e) pass h = h
+    status_kept limits (Ended e) gs None pass h = h

@@ -1,4 +1,5 @@
--- References in frames that represent frames pass each test that named addresses pass; and frames whose references pass a test stand under the names of what passes.
+-- References in frames that represent frames pass each test that named addresses pass; and frames whose references pass a test stand under the names
+-- of what passes.
 use Rattle.std.proofs.Common.{◌≡◌, ◌⊎◌, ℕ, List, [], ◌∷◌, ◌++◌, reverse, Option, Some, None, slice_get, true, refl, inl, inr, sym, ap, subst}
 use Rattle.std.specs.Prelude.{filter_map, flat_map, option_to_list}
 use Rattle.std.proofs.lemmas.List.{reverse-append}
@@ -15,7 +16,7 @@ use Rattle.collector.specs.Soundness.{IsListed}
 use Rattle.interpreter.specs.threads_monitors.Frames.{Frame, Frames}
 use Rattle.interpreter.specs.threads_monitors.Roots.{frame_roots, frames_upward, reference_in, roots, values_of}
 use Rattle.simulation.specs.Agreement.{Agree}
-use Rattle.simulation.specs.StandsFor.{AreFrames, Names, IsValue, int32, int64, native, null_reference, reference, IsObject, IsFrame}
+use Rattle.simulation.specs.Refines.{AreFrames, Names, IsValue, int32, int64, native, null_reference, reference, IsObject, IsFrame}
 use Rattle.simulation.proofs.ListLaws.AgreeingLists.{agree_at}
 
 -- ---- lists
@@ -161,13 +162,13 @@ frames_listed (g ∷ fs) f a (inr among) listed = listed_second (frame_roots g) 
 -- and so are those of values
 values_listed : (vs : List Value) (a : Addr) → IsAmong vs (Ref a) → IsListed (filter_map reference_in vs) a
 values_listed [] a h = h
-values_listed (v ∷ vs) a (inr h) = behind v (values_listed vs a h)
+values_listed (v ∷ vs) a (inr h) = following v (values_listed vs a h)
   where
-    behind : (v : Value) → IsListed (filter_map reference_in vs) a → IsListed (filter_map reference_in (v ∷ vs)) a
-    behind (Int32 n) h = h
-    behind (Int64 n) h = h
-    behind (Native n) h = h
-    behind (Ref b) h = inr h
+    following : (v : Value) → IsListed (filter_map reference_in vs) a → IsListed (filter_map reference_in (v ∷ vs)) a
+    following (Int32 n) h = h
+    following (Int64 n) h = h
+    following (Native n) h = h
+    following (Ref b) h = inr h
 values_listed (v ∷ vs) a (inl same) = subst (λ x. IsListed (filter_map reference_in (x ∷ vs)) a) (sym same) (inl refl)
 
 module _ (test : Test) (name names : Names) (cut : (a : ℕ) (n : ObjectName) → name a ≡ Some n → test (record { number = a }) ≡ true → names a ≡ Some n) where
@@ -195,7 +196,7 @@ module _ (test : Test) (name names : Names) (cut : (a : ℕ) (n : ObjectName) �
     frame_cut : (f : Frame) (g : StateFrame) → IsFrame tree name f g → ((a : Addr) → IsListed (frame_roots f) a → test a ≡ true) → IsFrame tree names f g
     frame_cut f g h pass = record {
       method = h.method;
-      place = h.place;
+      pc = h.pc;
       arguments = values_cut f.arguments g.arguments h.arguments (λ a k. of_value a (among_first f.arguments (f.locals ++ reverse f.stack) (Ref a) k));
       locals = values_cut f.locals g.locals h.locals (λ a k. of_value a (among_second f.arguments (f.locals ++ reverse f.stack) (Ref a) (among_first f.locals (reverse f.stack) (Ref a) k)));
       stack = values_cut f.stack g.stack h.stack (λ a k. of_value a (among_second f.arguments (f.locals ++ reverse f.stack) (Ref a) (among_second f.locals (reverse f.stack) (Ref a) (among_reverse f.stack (Ref a) k))));

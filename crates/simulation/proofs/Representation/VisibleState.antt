@@ -15,23 +15,23 @@ use Rattle.interpreter.specs.cil_model.declared.reports.End.{End}
 use Rattle.interpreter.specs.cil_model.declared.reports.Report.{Report}
 use Rattle.interpreter.specs.cil_model.Bodies.{code_of, entry_points}
 use Rattle.interpreter.specs.reference_machine.States.{Frame as StateFrame, State, Thread as StateThread, is_live as is_live_in, is_live_thread}
-use Rattle.interpreter.specs.reference_machine.Runs.{opening, opening_at, run, thread_part}
+use Rattle.interpreter.specs.reference_machine.Runs.{initial_state, initial_state_at, run, thread_part}
 use Rattle.interpreter.specs.threads_monitors.Threads.{end_in, end_of, is_live, is_live_at}
-use Rattle.interpreter.specs.threads_monitors.declared.threads.Standing.{Standing}
-use Rattle.interpreter.specs.threads_monitors.declared.threads.Standing.TheVariants.{Live, Ended}
+use Rattle.interpreter.specs.threads_monitors.declared.threads.ThreadStatus.{ThreadStatus}
+use Rattle.interpreter.specs.threads_monitors.declared.threads.ThreadStatus.TheVariants.{Live, Ended}
 use Rattle.interpreter.specs.threads_monitors.declared.threads.Thread.{Thread}
 use Rattle.simulation.specs.Agreement.{Agree}
 use Rattle.simulation.specs.Budgets.{AreWithinBudget, HasEnded, KeepsBudgets, steps_left_of}
-use Rattle.simulation.specs.MachineContents.{Content}
+use Rattle.simulation.specs.MachineStates.{MachineState}
 use Rattle.simulation.specs.Runs.{FollowsReference, RunsAlike, StandsAfter}
-use Rattle.simulation.specs.Turns.{opening_content}
-use Rattle.simulation.specs.StandsFor.{IsThread, Names, Represents, StandsAlike}
+use Rattle.simulation.specs.Transitions.{initial_machine_state}
+use Rattle.simulation.specs.Refines.{IsThread, Names, Represents, StandsAlike}
 use Rattle.simulation.proofs.ListLaws.AgreeingLists.{agree_at}
 use Rattle.interpreter.proofs.cil_model.Lists.{none_is_some}
 
--- ---- how threads stand, and what was printed
+-- ---- the states of threads, and what was printed
 
-same_end : (tree : Tree) (limits : Limits) (name : Names) (standing : Standing) (frames : List StateFrame) (ended : Option End) → StandsAlike tree limits name standing frames ended → end_in standing ≡ ended
+same_end : (tree : Tree) (limits : Limits) (name : Names) (thread_status : ThreadStatus) (frames : List StateFrame) (ended : Option End) → StandsAlike tree limits name thread_status frames ended → end_in thread_status ≡ ended
 same_end tree limits name (Live m) frames None h = refl
 same_end tree limits name (Ended e) frames (Some e') h = ap Some h
 same_end tree limits name (Live m) frames (Some e) h = absurd h
@@ -39,7 +39,7 @@ same_end tree limits name (Ended e) frames None h = absurd h
 
 ends_agree : (tree : Tree) (limits : Limits) (name : Names) (ts : List Thread) (us : List StateThread) → Agree (IsThread tree limits name) ts us → map end_of ts ≡ map (λ (u : StateThread). u.ended) us
 ends_agree tree limits name [] [] h = refl
-ends_agree tree limits name (t ∷ ts) (u ∷ us) h = ap (λ e. e ∷ map end_of ts) (same_end tree limits name t.standing u.frames u.ended h.0.standing) ∙ ap (λ es. u.ended ∷ es) (ends_agree tree limits name ts us h.1)
+ends_agree tree limits name (t ∷ ts) (u ∷ us) h = ap (λ e. e ∷ map end_of ts) (same_end tree limits name t.thread_status u.frames u.ended h.0.thread_status) ∙ ap (λ es. u.ended ∷ es) (ends_agree tree limits name ts us h.1)
 ends_agree tree limits name [] (u ∷ us) h = absurd h
 ends_agree tree limits name (t ∷ ts) [] h = absurd h
 
@@ -73,7 +73,7 @@ count_from n (x ∷ ts) (u ∷ us) e =
 count_from n [] (u ∷ us) e = none_first (ended u) (map ended us) e
 count_from n (x ∷ ts) [] e = none_first (end_of x) (map end_of ts) (sym e)
 
-module _ (c : Content) (s : State) (r : Represents c s) where
+module _ (c : MachineState) (s : State) (r : Represents c s) where
   -- the threads stand alike
   pub ends_stand : map end_of c.threads ≡ map (λ (u : StateThread). u.ended) s.threads
   ends_stand = ends_agree c.tree c.limits r.stands.name c.threads s.threads r.stands.by.threads
@@ -93,18 +93,18 @@ module _ (c : Content) (s : State) (r : Represents c s) where
 -- ---- budgets
 
 -- before a run, each thread of the state has its whole budget
-opened_budget : (tree : Tree) (limits : Limits) (s : State) → opening tree limits ≡ Some s → (t : ℕ) (u : StateThread) → slice_get s.threads t ≡ Some u → u.steps_left ≡ limits.budget
+opened_budget : (tree : Tree) (limits : Limits) (s : State) → initial_state tree limits ≡ Some s → (t : ℕ) (u : StateThread) → slice_get s.threads t ≡ Some u → u.steps_left ≡ limits.budget
 opened_budget tree limits s opens t u there = option_and_then_some _ (slice_get (entry_points tree) 0) s opens (λ entry is h. by_code entry (code_of entry.1.kind) h)
   where
-    opened : (entry : ClassName × Method) (code : Code) (n : ℕ) → slice_get (opening_at tree limits entry code).threads n ≡ Some u → u.steps_left ≡ limits.budget
+    opened : (entry : ClassName × Method) (code : Code) (n : ℕ) → slice_get (initial_state_at tree limits entry code).threads n ≡ Some u → u.steps_left ≡ limits.budget
     opened entry code zero is = sym (ap (λ (x : StateThread). x.steps_left) (same_Some _ u is))
     opened entry code (suc n) is = none_is_some u is
 
-    by_code : (entry : ClassName × Method) (o : Option Code) → option_map (opening_at tree limits entry) o ≡ Some s → u.steps_left ≡ limits.budget
+    by_code : (entry : ClassName × Method) (o : Option Code) → option_map (initial_state_at tree limits entry) o ≡ Some s → u.steps_left ≡ limits.budget
     by_code entry None e = none_is_some s e
-    by_code entry (Some code) e = opened entry code t (ap (λ (x : State). slice_get x.threads t) (same_Some (opening_at tree limits entry code) s e) ∙ there)
+    by_code entry (Some code) e = opened entry code t (ap (λ (x : State). slice_get x.threads t) (same_Some (initial_state_at tree limits entry code) s e) ∙ there)
 
-module _ (tree : Tree) (limits : Limits) (c : Content) (s : State) (opens : opening tree limits ≡ Some s) (r : Represents c s) (same : c.limits ≡ limits) where
+module _ (tree : Tree) (limits : Limits) (c : MachineState) (s : State) (opens : initial_state tree limits ≡ Some s) (r : Represents c s) (same : c.limits ≡ limits) where
   -- so it is on the machine
   whole_budget : (t : ℕ) → steps_left_of c t ≡ limits.budget
   whole_budget t = by_thread (slice_get c.threads t) refl
@@ -115,7 +115,7 @@ module _ (tree : Tree) (limits : Limits) (c : Content) (s : State) (opens : open
           let at = agree_at (IsThread c.tree c.limits r.stands.name) c.threads s.threads r.stands.by.threads t thread is in
           at.2.steps_left ∙ opened_budget tree limits s opens t at.0 at.1
 
-module _ (limits : Limits) (c d : Content) (s : State) (events : List (Event × Report)) (r : Represents d s) (same : d.limits ≡ limits) (some : 0 < limits.budget)
+module _ (limits : Limits) (c d : MachineState) (s : State) (events : List (Event × Report)) (r : Represents d s) (same : d.limits ≡ limits) (some : 0 < limits.budget)
     (whole : (t : ℕ) → steps_left_of c t ≡ limits.budget) (kept : KeepsBudgets c d events) where
   -- a thread without steps left has ended
   spent : (t : ℕ) → steps_left_of d t ≡ 0 → HasEnded s t
@@ -133,13 +133,13 @@ module _ (limits : Limits) (c d : Content) (s : State) (events : List (Event × 
           absurd (omega (arith, budget, none, some))
       by_thread (Some thread) is =
           let at = agree_at (IsThread d.tree d.limits r.stands.name) d.threads s.threads r.stands.by.threads t thread is in
-          (at.0, at.1, ended_at thread is at.0 at.1 (same_end d.tree d.limits r.stands.name thread.standing at.0.frames at.0.ended at.2.standing))
+          (at.0, at.1, ended_at thread is at.0 at.1 (same_end d.tree d.limits r.stands.name thread.thread_status at.0.frames at.0.ended at.2.thread_status))
 
   within_budget : AreWithinBudget limits events s
   within_budget = record { within = λ t. omega (arith, kept.counted t, whole t); ended = λ t all. spent t (omega (arith, kept.counted t, whole t, all)) }
 
 -- a machine that represented the initial state, after a run
-pub stands_after : (tree : Tree) (limits : Limits) (c d : Content) (events : List Event) (reports : List Report) (first : State) → opening tree limits ≡ Some first → opening_content tree limits ≡ Some c → Represents c first → c.tree ≡ tree → c.limits ≡ limits → d.limits ≡ c.limits → 0 < limits.budget
+pub stands_after : (tree : Tree) (limits : Limits) (c d : MachineState) (events : List Event) (reports : List Report) (first : State) → initial_state tree limits ≡ Some first → initial_machine_state tree limits ≡ Some c → Represents c first → c.tree ≡ tree → c.limits ≡ limits → d.limits ≡ c.limits → 0 < limits.budget
     → length reports ≡ length events → FollowsReference c d (zip events reports) → StandsAfter tree limits events reports d
 stands_after tree limits c d events reports first opens opened r same_tree same_limits kept_limits some each follows =
     let alike : RunsAlike c d (zip events reports) first = follows first r in

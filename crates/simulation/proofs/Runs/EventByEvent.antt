@@ -9,9 +9,9 @@ use Rattle.interpreter.specs.reference_machine.Runs.{RunsTo, followed_by, is_ref
 use Rattle.interpreter.specs.reference_machine.States.{State}
 use Rattle.interpreter.specs.reference_machine.Steps.{Answers, step}
 use Rattle.interpreter.proofs.reference_machine.Runs.JoinedRuns.{first_of}
-use Rattle.simulation.specs.MachineContents.{Content}
+use Rattle.simulation.specs.MachineStates.{MachineState}
 use Rattle.simulation.specs.Runs.{IsNext, RefusesBeyondRoom}
-use Rattle.simulation.specs.Turns.{IsTurn}
+use Rattle.simulation.specs.Transitions.{IsTransition}
 use Rattle.simulation.proofs.Threads.StepEffects.{same_program}
 
 same_head : (a b : Report) (as' bs : List Report) → a ∷ as' ≡ b ∷ bs → a ≡ b
@@ -20,9 +20,9 @@ same_head a b as' bs e = cc
 same_tail : (a b : Report) (as' bs : List Report) → a ∷ as' ≡ b ∷ bs → as' ≡ bs
 same_tail a b as' bs e = cc
 
-module _ (tree : Tree) (limits : Limits) (all : List (Event × Report)) (now : State) (last : Content) where
+module _ (tree : Tree) (limits : Limits) (all : List (Event × Report)) (now : State) (last : MachineState) where
   -- a run is at a machine state and a state of the reference machine: these events are done, and these are left
-  pub record IsAt (done rest : List (Event × Report)) (c : Content) (s : State) : Type 0 where
+  pub record IsAt (done rest : List (Event × Report)) (c : MachineState) (s : State) : Type 0 where
     pub of_tree : c.tree ≡ tree
     pub of_limits : c.limits ≡ limits
     pub split : all ≡ done ++ rest
@@ -30,23 +30,23 @@ module _ (tree : Tree) (limits : Limits) (all : List (Event × Report)) (now : S
     pub refuses : RefusesBeyondRoom c s rest last
 
   -- where it is after the next event
-  pub record GoesOn (done rest : List (Event × Report)) (c : Content) (s : State) (e : Event) (r : Report) : Type 0 where
-    pub next : Content
+  pub record Continues (done rest : List (Event × Report)) (c : MachineState) (s : State) (e : Event) (r : Report) : Type 0 where
+    pub next : MachineState
     pub after : State
-    pub turn : IsTurn c e (next, r)
+    pub transition : IsTransition c e (next, r)
     pub is_next : IsNext c.tree c.limits s e r after
     pub answers : IsNext tree limits s e r after
     pub there : IsAt (done ++ (e, r) ∷ []) rest next after
 
-  module _ (done rest : List (Event × Report)) (c : Content) (s : State) (e : Event) (r : Report) (at : IsAt done ((e, r) ∷ rest) c s) where
+  module _ (done rest : List (Event × Report)) (c : MachineState) (s : State) (e : Event) (r : Report) (at : IsAt done ((e, r) ∷ rest) c s) where
     -- the same event of the same program
-    at_next : (next : Content) (after : State) → IsTurn c e (next, r) → run tree limits after (thread_part rest) ≡ RunsTo (step_reports rest) now → RefusesBeyondRoom next after rest last → IsAt (done ++ (e, r) ∷ []) rest next after
-    at_next next after turn runs refuses =
-        let same = same_program c (next, r) e turn in
+    at_next : (next : MachineState) (after : State) → IsTransition c e (next, r) → run tree limits after (thread_part rest) ≡ RunsTo (step_reports rest) now → RefusesBeyondRoom next after rest last → IsAt (done ++ (e, r) ∷ []) rest next after
+    at_next next after transition runs refuses =
+        let same = same_program c (next, r) e transition in
         record { of_tree = same.0 ∙ at.of_tree; of_limits = same.1 ∙ at.of_limits; split = at.split ∙ sym (append_assoc done ((e, r) ∷ []) rest); runs = runs; refuses = refuses }
 
-  pub goes_on : (done rest : List (Event × Report)) (c : Content) (s : State) (e : Event) (r : Report) → IsAt done ((e, r) ∷ rest) c s → GoesOn done rest c s e r
-  goes_on done rest c s (Step n) r at =
+  pub continues : (done rest : List (Event × Report)) (c : MachineState) (s : State) (e : Event) (r : Report) → IsAt done ((e, r) ∷ rest) c s → Continues done rest c s e r
+  continues done rest c s (Step n) r at =
       let x = first_of tree limits s (n, is_refusal r) (thread_part rest) (r ∷ step_reports rest) now at.runs in
       let reports : r ≡ x.report = same_head r x.report (step_reports rest) x.later x.are in
       let later : step_reports rest ≡ x.later = same_tail r x.report (step_reports rest) x.later x.are in
@@ -55,60 +55,60 @@ module _ (tree : Tree) (limits : Limits) (all : List (Event × Report)) (now : S
       record {
         next = at.refuses.0;
         after = x.after;
-        turn = at.refuses.1;
+        transition = at.refuses.1;
         is_next = here;
         answers = answers;
         there = at_next done rest c s (Step n) r at at.refuses.0 x.after at.refuses.1 (x.runs ∙ ap (λ l. RunsTo l now) (sym later)) (at.refuses.3 x.after here);
       }
-  goes_on done rest c s (Ack n) r at = record {
+  continues done rest c s (Ack n) r at = record {
     next = at.refuses.0;
     after = s;
-    turn = at.refuses.1;
+    transition = at.refuses.1;
     is_next = refl;
     answers = refl;
     there = at_next done rest c s (Ack n) r at at.refuses.0 s at.refuses.1 at.runs (at.refuses.3 s refl);
   }
-  goes_on done rest c s Gc r at = record {
+  continues done rest c s Gc r at = record {
     next = at.refuses.0;
     after = s;
-    turn = at.refuses.1;
+    transition = at.refuses.1;
     is_next = refl;
     answers = refl;
     there = at_next done rest c s Gc r at at.refuses.0 s at.refuses.1 at.runs (at.refuses.3 s refl);
   }
 
   -- the run of the reference machine after an event
-  runs_behind : (xs : List (Event × Report)) (e : Event) (r : Report) (s after t : State) → IsNext tree limits s e r after → run tree limits after (thread_part xs) ≡ RunsTo (step_reports xs) t →
+  runs_following : (xs : List (Event × Report)) (e : Event) (r : Report) (s after t : State) → IsNext tree limits s e r after → run tree limits after (thread_part xs) ≡ RunsTo (step_reports xs) t →
       run tree limits s (thread_part ((e, r) ∷ xs)) ≡ RunsTo (step_reports ((e, r) ∷ xs)) t
-  runs_behind xs (Step n) r s after t is runs = ap (λ o. followed_by o (λ (u : State). run tree limits u (thread_part xs))) is ∙ ap (preceded_by r) runs
-  runs_behind xs (Ack n) r s after t is runs = subst (λ (u : State). run tree limits u (thread_part xs) ≡ RunsTo (step_reports xs) t) is runs
-  runs_behind xs Gc r s after t is runs = subst (λ (u : State). run tree limits u (thread_part xs) ≡ RunsTo (step_reports xs) t) is runs
+  runs_following xs (Step n) r s after t is runs = ap (λ o. followed_by o (λ (u : State). run tree limits u (thread_part xs))) is ∙ ap (preceded_by r) runs
+  runs_following xs (Ack n) r s after t is runs = subst (λ (u : State). run tree limits u (thread_part xs) ≡ RunsTo (step_reports xs) t) is runs
+  runs_following xs Gc r s after t is runs = subst (λ (u : State). run tree limits u (thread_part xs) ≡ RunsTo (step_reports xs) t) is runs
 
   -- what holds from event to event holds where the run ends
-  module _ (Holds : List (Event × Report) → Content → State → Type 0)
-      (goes : (done rest : List (Event × Report)) (e : Event) (r : Report) (c next : Content) (s after : State) → all ≡ done ++ (e, r) ∷ rest → Holds done c s → IsTurn c e (next, r) → IsNext c.tree c.limits s e r after → Holds (done ++ (e, r) ∷ []) next after) where
+  module _ (Holds : List (Event × Report) → MachineState → State → Type 0)
+      (goes : (done rest : List (Event × Report)) (e : Event) (r : Report) (c next : MachineState) (s after : State) → all ≡ done ++ (e, r) ∷ rest → Holds done c s → IsTransition c e (next, r) → IsNext c.tree c.limits s e r after → Holds (done ++ (e, r) ∷ []) next after) where
     pub record Comes (xs ys done : List (Event × Report)) (s : State) : Type 0 where
-      pub content : Content
+      pub machine_state : MachineState
       pub state : State
-      pub there : IsAt (done ++ xs) ys content state
-      pub holds : Holds (done ++ xs) content state
+      pub there : IsAt (done ++ xs) ys machine_state state
+      pub holds : Holds (done ++ xs) machine_state state
       pub ran : run tree limits s (thread_part xs) ≡ RunsTo (step_reports xs) state
 
-    pub walk : (xs ys done : List (Event × Report)) (c : Content) (s : State) → IsAt done (xs ++ ys) c s → Holds done c s → Comes xs ys done s
+    pub walk : (xs ys done : List (Event × Report)) (c : MachineState) (s : State) → IsAt done (xs ++ ys) c s → Holds done c s → Comes xs ys done s
     walk [] ys done c s at h = record {
-      content = c;
+      machine_state = c;
       state = s;
       there = subst (λ l. IsAt l ys c s) (sym (append-nil done)) at;
       holds = subst (λ l. Holds l c s) (sym (append-nil done)) h;
       ran = refl;
     }
     walk ((e, r) ∷ xs) ys done c s at h =
-        let on = goes_on done (xs ++ ys) c s e r at in
-        let later = walk xs ys (done ++ (e, r) ∷ []) on.next on.after on.there (goes done (xs ++ ys) e r c on.next s on.after at.split h on.turn on.is_next) in
+        let on = continues done (xs ++ ys) c s e r at in
+        let later = walk xs ys (done ++ (e, r) ∷ []) on.next on.after on.there (goes done (xs ++ ys) e r c on.next s on.after at.split h on.transition on.is_next) in
         record {
-          content = later.content;
+          machine_state = later.machine_state;
           state = later.state;
-          there = subst (λ l. IsAt l ys later.content later.state) (append_assoc done ((e, r) ∷ []) xs) later.there;
-          holds = subst (λ l. Holds l later.content later.state) (append_assoc done ((e, r) ∷ []) xs) later.holds;
-          ran = runs_behind xs e r s on.after later.state on.answers later.ran;
+          there = subst (λ l. IsAt l ys later.machine_state later.state) (append_assoc done ((e, r) ∷ []) xs) later.there;
+          holds = subst (λ l. Holds l later.machine_state later.state) (append_assoc done ((e, r) ∷ []) xs) later.holds;
+          ran = runs_following xs e r s on.after later.state on.answers later.ran;
         }

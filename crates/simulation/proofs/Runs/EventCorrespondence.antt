@@ -9,7 +9,7 @@ use Rattle.interpreter.specs.cil_model.Typings.{IsAccepted}
 use Rattle.interpreter.specs.reference_machine.States.{Frame as StateFrame, State}
 use Rattle.interpreter.specs.reference_machine.Effects.{Setting}
 use Rattle.interpreter.specs.reference_machine.Steps.{Answers, execute, step}
-use Rattle.interpreter.specs.reference_machine.Runs.{is_refusal, opening}
+use Rattle.interpreter.specs.reference_machine.Runs.{is_refusal, initial_state}
 use Rattle.interpreter.specs.cil_model.declared.events.Event.TheVariants.{Step, Ack, Gc}
 use Rattle.interpreter.specs.cil_model.declared.reports.Report.{Report}
 use Rattle.interpreter.specs.resolved_code.Resolved.{IsOperation, no_operation, load_int32, load_int64, load_null, load_string, load_argument, store_argument, load_local, store_local, duplicate, pop, binary, unary, shift, compare, convert_int32, convert_int64, branch, branch_true, branch_false, branch_compare, switch, load_field, store_field, load_static_field, store_static_field, new_array, load_length, load_element_int32, load_element_int64, load_element_reference, store_element_int32, store_element_int64, store_element_reference, cast_class, is_instance, call, call_virtual, new_object, return}
@@ -17,11 +17,11 @@ use Rattle.interpreter.specs.resolved_code.declared.operations.Operation.{Operat
 use Rattle.interpreter.specs.object_memory.declared.values.Value.{Value}
 use Rattle.interpreter.specs.object_memory.Objects.{Objects}
 use Rattle.interpreter.specs.threads_monitors.Frames.{Frames}
-use Rattle.interpreter.specs.threads_monitors.declared.threads.Standing.TheVariants.{Live}
-use Rattle.interpreter.specs.Instructions.{IsDone, operation_turn, Answer}
-use Rattle.simulation.specs.MachineContents.{Content, mutator_of}
-use Rattle.simulation.specs.StandsFor.{Names, Represents}
-use Rattle.simulation.specs.Turns.{IsTurn, opening_content}
+use Rattle.interpreter.specs.threads_monitors.declared.threads.ThreadStatus.TheVariants.{Live}
+use Rattle.interpreter.specs.Instructions.{IsDone, operation_transition, Answer}
+use Rattle.simulation.specs.MachineStates.{MachineState, mutator_of}
+use Rattle.simulation.specs.Refines.{Names, Represents}
+use Rattle.simulation.specs.Transitions.{IsTransition, initial_machine_state}
 use Rattle.simulation.proofs.Memory.MemoryModels.{MemoryModel, mutator_in}
 use Rattle.simulation.proofs.Instructions.Correspondence.{IsSetting, DoesAlike, InstructionsAreAlike}
 use Rattle.simulation.proofs.CollectorEvents.AcknowledgementNames.{acknowledgement_represents}
@@ -40,7 +40,7 @@ use Rattle.simulation.proofs.Instructions.Calls.Returns.{return_alike}
 use Rattle.simulation.proofs.Instructions.Calls.VirtualCalls.{call_virtual_alike}
 use Rattle.simulation.proofs.Instructions.NewObjects.{new_object_alike}
 use Rattle.simulation.specs.Ready.{IsReady, IsAnswerable}
-use Rattle.simulation.proofs.Representation.InitialContents.{opening_represents}
+use Rattle.simulation.proofs.Representation.InitialContents.{initial_represents}
 use Rattle.simulation.proofs.Threads.Steps.{thread_ready, answerable, step_follows}
 use Rattle.simulation.specs.Rooms.{ExceedsRoom}
 use Rattle.simulation.proofs.Threads.RefusedSteps.{refused_beyond_room}
@@ -48,7 +48,7 @@ use Rattle.simulation.proofs.Threads.RefusedSteps.{refused_beyond_room}
 module _ (here : Setting) (model : MemoryModel here.tree) (name : Names) (m : Frames) (o : Objects) (statics : List Value) (printed : List ℕ) (s : State) (f : StateFrame) (below : List StateFrame) where
   -- by what runs for the instruction
   by_operation : (i : Instruction) (operation : Operation) → IsOperation here.tree (lines_of f.method) i operation → IsSetting here model name m o statics printed s f below i operation →
-      DoesAlike here model name m o statics printed s f below (operation_turn here.tree (mutator_in here model) operation m o statics printed) (execute here s f below i)
+      DoesAlike here model name m o statics printed s f below (operation_transition here.tree (mutator_in here model) operation m o statics printed) (execute here s f below i)
   by_operation _ _ no_operation at = no_operation_alike here model name m o statics printed s f below at
   by_operation _ _ (load_int32 z) at = load_int32_alike here model name m o statics printed s f below z at
   by_operation _ _ (load_int64 z) at = load_int64_alike here model name m o statics printed s f below z at
@@ -66,11 +66,11 @@ module _ (here : Setting) (model : MemoryModel here.tree) (name : Names) (m : Fr
   by_operation _ _ (compare op) at = compare_alike here model name m o statics printed s f below op at
   by_operation _ _ convert_int32 at = convert_int32_alike here model name m o statics printed s f below at
   by_operation _ _ convert_int64 at = convert_int64_alike here model name m o statics printed s f below at
-  by_operation _ _ (branch label place is) at = branch_alike here model name m o statics printed s f below label place is at
-  by_operation _ _ (branch_true label place is) at = branch_true_alike here model name m o statics printed s f below label place is at
-  by_operation _ _ (branch_false label place is) at = branch_false_alike here model name m o statics printed s f below label place is at
-  by_operation _ _ (branch_compare op label place is) at = branch_compare_alike here model name m o statics printed s f below op label place is at
-  by_operation _ _ (switch labels places are) at = switch_alike here model name m o statics printed s f below labels places are at
+  by_operation _ _ (branch label index is) at = branch_alike here model name m o statics printed s f below label index is at
+  by_operation _ _ (branch_true label index is) at = branch_true_alike here model name m o statics printed s f below label index is at
+  by_operation _ _ (branch_false label index is) at = branch_false_alike here model name m o statics printed s f below label index is at
+  by_operation _ _ (branch_compare op label index is) at = branch_compare_alike here model name m o statics printed s f below op label index is at
+  by_operation _ _ (switch labels indices are) at = switch_alike here model name m o statics printed s f below labels indices are at
   by_operation _ _ (load_field r owner field named finds) at = load_field_alike here model name m o statics printed s f below r owner field named finds at
   by_operation _ _ (store_field r owner field named finds) at = store_field_alike here model name m o statics printed s f below r owner field named finds at
   by_operation _ _ (load_static_field r field finds) at = load_static_field_alike here model name m o statics printed s f below r field finds at
@@ -97,35 +97,35 @@ each_alike here model name m o statics printed s f below i operation at = by_ope
 -- ---- the initial state
 
 -- an accepted program has an initial machine state, which represents its initial state
-pub opening_is_represented : (tree : Tree) (limits : Limits) → IsAccepted tree → IsTrue (are_in_range limits) →
-    (c : Content) × (s : State) × (opening_content tree limits ≡ Some c) × (opening tree limits ≡ Some s) × Represents c s
-opening_is_represented = opening_represents
+pub initial_is_represented : (tree : Tree) (limits : Limits) → IsAccepted tree → IsTrue (are_in_range limits) →
+    (c : MachineState) × (s : State) × (initial_machine_state tree limits ≡ Some c) × (initial_state tree limits ≡ Some s) × Represents c s
+initial_is_represented = initial_represents
 
 -- ---- steps
 
 -- what a machine does on a step, the reference machine does
-pub step_is_followed : (c : Content) (s : State) → Represents c s → (t : ℕ) (after : Content × Report) → IsTurn c (Step t) after →
+pub step_is_followed : (c : MachineState) (s : State) → Represents c s → (t : ℕ) (after : MachineState × Report) → IsTransition c (Step t) after →
     (s' : State) × (step c.tree c.limits s t (is_refusal after.1) ≡ Answers after.1 s') × Represents after.0 s'
-step_is_followed c s r t after turn = let follows = step_follows each_alike c s r t after turn in (follows.0, follows.1, follows.2)
+step_is_followed c s r t after transition = let follows = step_follows each_alike c s r t after transition in (follows.0, follows.1, follows.2)
 
 -- it is refused memory exactly where its object exceeds the room for births of its thread
-pub step_is_refused : (c : Content) (s : State) → Represents c s → (t : ℕ) (after : Content × Report) → IsTurn c (Step t) after → IsTrue (is_refusal after.1) ↔ ExceedsRoom c s t
-step_is_refused c s r t after turn = refused_beyond_room each_alike c s r t after turn
+pub step_is_refused : (c : MachineState) (s : State) → Represents c s → (t : ℕ) (after : MachineState × Report) → IsTransition c (Step t) after → IsTrue (is_refusal after.1) ↔ ExceedsRoom c s t
+step_is_refused c s r t after transition = refused_beyond_room each_alike c s r t after transition
 
 -- what is no step keeps the state
-pub acknowledgement_keeps : (c : Content) (s : State) → Represents c s → (t : ℕ) (after : Content × Report) → IsTurn c (Ack t) after → Represents after.0 s
-acknowledgement_keeps c s r t after turn =
-    subst (λ (x : Content × Report). Represents x.0 s) (sym turn) (acknowledgement_represents c t s r)
+pub acknowledgement_keeps : (c : MachineState) (s : State) → Represents c s → (t : ℕ) (after : MachineState × Report) → IsTransition c (Ack t) after → Represents after.0 s
+acknowledgement_keeps c s r t after transition =
+    subst (λ (x : MachineState × Report). Represents x.0 s) (sym transition) (acknowledgement_represents c t s r)
 
-pub collection_keeps : (c : Content) (s : State) → Represents c s → (after : Content × Report) → IsTurn c Gc after → Represents after.0 s
-collection_keeps c s r after turn =
-    let normal = normally c s r in subst (λ (x : Content × Report). Represents x.0 s) (sym turn) (collected_represents c s r normal.name normal.normal normal.by)
+pub collection_keeps : (c : MachineState) (s : State) → Represents c s → (after : MachineState × Report) → IsTransition c Gc after → Represents after.0 s
+collection_keeps c s r after transition =
+    let normal = normally c s r in subst (λ (x : MachineState × Report). Represents x.0 s) (sym transition) (collected_represents c s r normal.name normal.normal normal.by)
 
 -- a live thread's instruction has a result
-pub thread_is_ready : (c : Content) (s : State) → Represents c s → (t left : ℕ) (m : Frames) → slice_get c.threads t ≡ Some (record { standing = Live m; steps_left = left }) → IsReady c t m
+pub thread_is_ready : (c : MachineState) (s : State) → Represents c s → (t left : ℕ) (m : Frames) → slice_get c.threads t ≡ Some (record { thread_status = Live m; steps_left = left }) → IsReady c t m
 thread_is_ready c s r t left m there = thread_ready each_alike c s r t left m there
 
 -- and so has what it asks of other threads
-pub asked_is_answerable : (c : Content) (s : State) → Represents c s → (t left : ℕ) (m : Frames) → slice_get c.threads t ≡ Some (record { standing = Live m; steps_left = left }) →
+pub asked_is_answerable : (c : MachineState) (s : State) → Represents c s → (t left : ℕ) (m : Frames) → slice_get c.threads t ≡ Some (record { thread_status = Live m; steps_left = left }) →
     (a : Answer) → IsDone c.tree (mutator_of c t) m c.objects c.statics c.printed a → IsAnswerable c t left a a.outcome
 asked_is_answerable c s r t left m there a done = answerable each_alike c s r t left m there a done

@@ -20,10 +20,10 @@ use Rattle.interpreter.specs.reference_machine.Steps.{Answers, step}
 use Rattle.interpreter.proofs.reference_machine.Runs.JoinedRuns.{first_of, same_state}
 use Rattle.interpreter.proofs.cil_model.Lists.{none_is_some}
 use Rattle.interpreter.specs.loaded_program.MethodNumbers.{number_of}
-use Rattle.simulation.specs.MachineContents.{Content}
+use Rattle.simulation.specs.MachineStates.{MachineState}
 use Rattle.simulation.specs.Runs.{IsNext, IsRunOf, RefusesBeyondRoom}
-use Rattle.simulation.specs.Turns.{IsTurn, content_at, opening_content}
-use Rattle.simulation.proofs.Runs.UniqueTurns.{one_turn}
+use Rattle.simulation.specs.Transitions.{IsTransition, machine_state_at, initial_machine_state}
+use Rattle.simulation.proofs.Runs.UniqueTransitions.{one_transition}
 use Rattle.simulation.proofs.Threads.StepEffects.{same_program}
 
 no_more : {X : Type 0} (xs : List X) → length xs ≡ 0 → xs ≡ []
@@ -41,29 +41,29 @@ same_tail a b as' bs e = cc
 
 module _ (tree : Tree) (limits : Limits) (one : (lines : List Line) (i : Instruction) (o p : Operation) → IsOperation tree lines i o → IsOperation tree lines i p → o ≡ p) where
   -- a machine state of this program within these limits
-  abbrev IsOf : Content → Type 0
+  abbrev IsOf : MachineState → Type 0
   IsOf c = (c.tree ≡ tree) × (c.limits ≡ limits)
 
-  of_next : (c : Content) (e : Event) (x : Content × Report) → IsOf c → IsTurn c e x → IsOf x.0
-  of_next c e x of turn = let kept = same_program c x e turn in (kept.0 ∙ of.0, kept.1 ∙ of.1)
+  of_next : (c : MachineState) (e : Event) (x : MachineState × Report) → IsOf c → IsTransition c e x → IsOf x.0
+  of_next c e x of transition = let kept = same_program c x e transition in (kept.0 ∙ of.0, kept.1 ∙ of.1)
 
-  turns_alike : (c : Content) (e : Event) (x y : Content × Report) → IsOf c → IsTurn c e x → IsTurn c e y → x ≡ y
-  turns_alike c e x y of =
-      one_turn c (subst (λ (t : Tree). (lines : List Line) (i : Instruction) (o p : Operation) → IsOperation t lines i o → IsOperation t lines i p → o ≡ p) (sym of.0) one) e x y
+  transitions_alike : (c : MachineState) (e : Event) (x y : MachineState × Report) → IsOf c → IsTransition c e x → IsTransition c e y → x ≡ y
+  transitions_alike c e x y of =
+      one_transition c (subst (λ (t : Tree). (lines : List Line) (i : Instruction) (o p : Operation) → IsOperation t lines i o → IsOperation t lines i p → o ≡ p) (sym of.0) one) e x y
 
   -- what a run from a machine state and a state of the reference machine reaches
-  record ComesTo (c : Content) (s : State) (events : List (Event × Report)) (t : State) : Type 0 where
+  record ResultsIn (c : MachineState) (s : State) (events : List (Event × Report)) (t : State) : Type 0 where
     pub runs : run tree limits s (thread_part events) ≡ RunsTo (step_reports events) t
-    pub last : Content
+    pub last : MachineState
     pub refuses : RefusesBeyondRoom c s events last
 
   -- the state after an event of a run, and the run from there
-  record Follows (c next : Content) (s : State) (e : Event) (r : Report) (events : List (Event × Report)) (t : State) : Type 0 where
+  record Follows (c next : MachineState) (s : State) (e : Event) (r : Report) (events : List (Event × Report)) (t : State) : Type 0 where
     pub after : State
     pub is_next : IsNext tree limits s e r after
-    pub later : ComesTo next after events t
+    pub later : ResultsIn next after events t
 
-  follows : (c : Content) (s : State) (e : Event) (r : Report) (events : List (Event × Report)) (t : State) → IsOf c → (h : ComesTo c s ((e, r) ∷ events) t) → Follows c h.refuses.0 s e r events t
+  follows : (c : MachineState) (s : State) (e : Event) (r : Report) (events : List (Event × Report)) (t : State) → IsOf c → (h : ResultsIn c s ((e, r) ∷ events) t) → Follows c h.refuses.0 s e r events t
   follows c s (Step n) r events t of h =
       let x = first_of tree limits s (n, is_refusal r) (thread_part events) (r ∷ step_reports events) t h.runs in
       let reports : r ≡ x.report = same_head r x.report (step_reports events) x.later x.are in
@@ -83,33 +83,33 @@ module _ (tree : Tree) (limits : Limits) (one : (lines : List Line) (i : Instruc
   next_once s (Ack n) r r' t u same h k = h ∙ sym k
   next_once s Gc r r' t u same h k = h ∙ sym k
 
-  one_from : (events : List Event) (reports reports' : List Report) → length reports ≡ length events → length reports' ≡ length events → (c : Content) (s t t' : State) → IsOf c
-      → ComesTo c s (zip events reports) t → ComesTo c s (zip events reports') t' → (reports ≡ reports') × (t ≡ t')
+  one_from : (events : List Event) (reports reports' : List Report) → length reports ≡ length events → length reports' ≡ length events → (c : MachineState) (s t t' : State) → IsOf c
+      → ResultsIn c s (zip events reports) t → ResultsIn c s (zip events reports') t' → (reports ≡ reports') × (t ≡ t')
   one_from [] rs rs' each each' c s t t' of h h' = (no_more rs each ∙ sym (no_more rs' each'), sym (same_state [] [] s t h.runs) ∙ same_state [] [] s t' h'.runs)
   one_from (e ∷ es) [] rs' each each' c s t t' of h h' = absurd (omega (arith, each))
   one_from (e ∷ es) (r ∷ rs) [] each each' c s t t' of h h' = absurd (omega (arith, each'))
   one_from (e ∷ es) (r ∷ rs) (r' ∷ rs') each each' c s t t' of h h' =
       let x = follows c s e r (zip es rs) t of h in
       let y = follows c s e r' (zip es rs') t' of h' in
-      let turns : (h.refuses.0, r) ≡ (h'.refuses.0, r') = turns_alike c e (h.refuses.0, r) (h'.refuses.0, r') of h.refuses.1 h'.refuses.1 in
-      let contents : h.refuses.0 ≡ h'.refuses.0 = ap (λ (z : Content × Report). z.0) turns in
-      let reports : r ≡ r' = ap (λ (z : Content × Report). z.1) turns in
+      let transitions : (h.refuses.0, r) ≡ (h'.refuses.0, r') = transitions_alike c e (h.refuses.0, r) (h'.refuses.0, r') of h.refuses.1 h'.refuses.1 in
+      let contents : h.refuses.0 ≡ h'.refuses.0 = ap (λ (z : MachineState × Report). z.0) transitions in
+      let reports : r ≡ r' = ap (λ (z : MachineState × Report). z.1) transitions in
       let states : x.after ≡ y.after = next_once s e r r' x.after y.after reports x.is_next y.is_next in
-      let other : ComesTo h.refuses.0 x.after (zip es rs') t' =
-      subst (λ (d : Content). ComesTo d x.after (zip es rs') t') (sym contents) (subst (λ (u : State). ComesTo h'.refuses.0 u (zip es rs') t') (sym states) y.later) in
+      let other : ResultsIn h.refuses.0 x.after (zip es rs') t' =
+      subst (λ (d : MachineState). ResultsIn d x.after (zip es rs') t') (sym contents) (subst (λ (u : State). ResultsIn h'.refuses.0 u (zip es rs') t') (sym states) y.later) in
       let more = one_from es rs rs' (one_less r rs e es each) (one_less r' rs' e es each') h.refuses.0 x.after t t' (of_next c e (h.refuses.0, r) of h.refuses.1) x.later other in
       (ap (λ q. q ∷ rs) reports ∙ ap (λ l. r' ∷ l) more.0, more.1)
 
-  of_opened : (c : Content) → opening_content tree limits ≡ Some c → IsOf c
+  of_opened : (c : MachineState) → initial_machine_state tree limits ≡ Some c → IsOf c
   of_opened c e = by_entry (slice_get (entry_points tree) 0) e
     where
-      by_number : (entry : ClassName × Method) (n : Option ℕ) → option_map (content_at tree limits entry) n ≡ Some c → IsOf c
+      by_number : (entry : ClassName × Method) (n : Option ℕ) → option_map (machine_state_at tree limits entry) n ≡ Some c → IsOf c
       by_number entry None h = none_is_some c h
       by_number entry (Some n) h =
-          let same = same_Some (content_at tree limits entry n) c h in
-          (sym (ap (λ (x : Content). x.tree) same), sym (ap (λ (x : Content). x.limits) same))
+          let same = same_Some (machine_state_at tree limits entry n) c h in
+          (sym (ap (λ (x : MachineState). x.tree) same), sym (ap (λ (x : MachineState). x.limits) same))
 
-      by_entry : (entry : Option (ClassName × Method)) → option_and_then (λ (x : ClassName × Method). option_map (content_at tree limits x) (number_of tree x)) entry ≡ Some c → IsOf c
+      by_entry : (entry : Option (ClassName × Method)) → option_and_then (λ (x : ClassName × Method). option_map (machine_state_at tree limits x) (number_of tree x)) entry ≡ Some c → IsOf c
       by_entry None h = none_is_some c h
       by_entry (Some entry) h = by_number entry (number_of tree entry) h
 
@@ -118,7 +118,7 @@ module _ (tree : Tree) (limits : Limits) (one : (lines : List Line) (i : Instruc
   runs_are_one events reports reports' s s' h h' =
       let states : h'.first ≡ h.first = same_Some h'.first h.first (sym h'.begins ∙ h.begins) in
       let contents : h'.machine ≡ h.machine = same_Some h'.machine h.machine (sym h'.opened ∙ h.opened) in
-      let first : ComesTo h.machine h.first (zip events reports) s = record { runs = h.comes; last = h.last; refuses = h.refuses } in
-      let other : ComesTo h.machine h.first (zip events reports') s' =
-      subst (λ (d : Content). ComesTo d h.first (zip events reports') s') contents (subst (λ (u : State). ComesTo h'.machine u (zip events reports') s') states (record { runs = h'.comes; last = h'.last; refuses = h'.refuses })) in
+      let first : ResultsIn h.machine h.first (zip events reports) s = record { runs = h.comes; last = h.last; refuses = h.refuses } in
+      let other : ResultsIn h.machine h.first (zip events reports') s' =
+      subst (λ (d : MachineState). ResultsIn d h.first (zip events reports') s') contents (subst (λ (u : State). ResultsIn h'.machine u (zip events reports') s') states (record { runs = h'.comes; last = h'.last; refuses = h'.refuses })) in
       one_from events reports reports' h.each h'.each h.machine h.first s s' (of_opened h.machine h.opened) first other

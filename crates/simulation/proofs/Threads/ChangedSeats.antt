@@ -8,9 +8,9 @@ use Rattle.collector.specs.phase_handshake.Handshakes.{Handshakes, seat_of}
 use Rattle.collector.specs.phase_handshake.declared.posts.Seat.{Seat}
 use Rattle.collector.proofs.phase_handshake.Closeness.{seat_there}
 
--- ---- places of lists
+-- ---- indices of lists
 
--- two places are one, or they differ
+-- two indices are one, or they differ
 pub same_or_other : (n t : ℕ) → (n ≡ t) ⊎ (n ≡ t → ⊥)
 same_or_other n t = by_test (n == t) refl
   where
@@ -18,7 +18,7 @@ same_or_other n t = by_test (n == t) refl
     by_test true e = inl (eqb-true n t e)
     by_test false e = inr (λ k. never (sym e ∙ eq-eqb n t k))
 
--- a change leaves every other place
+-- a change leaves every other item
 pub set_other : {X : Type 0} (xs : List X) (t n : ℕ) (x : X) → (n ≡ t → ⊥) → slice_get (slice_set xs t x) n ≡ slice_get xs n
 set_other [] t n x other = refl
 set_other (y ∷ ys) zero zero x other = absurd (other refl)
@@ -42,8 +42,8 @@ module _ (h : Handshakes) (t : ℕ) (next : Seat) where
 
   -- so each seat is the new one or as it was
   pub seat_cases : (s : Seat) → seat_of h t ≡ Some s → (n : ℕ) (x : Seat) → seat_of after n ≡ Some x → ((n ≡ t) × (x ≡ next)) ⊎ ((n ≡ t → ⊥) × (seat_of h n ≡ Some x))
-  seat_cases s here n x is = by_place (same_or_other n t)
+  seat_cases s here n x is = by_index (same_or_other n t)
     where
-      by_place : (n ≡ t) ⊎ (n ≡ t → ⊥) → ((n ≡ t) × (x ≡ next)) ⊎ ((n ≡ t → ⊥) × (seat_of h n ≡ Some x))
-      by_place (inl same) = inl (same, same_Some x next (sym is ∙ ap (seat_of after) same ∙ own_seat s here))
-      by_place (inr other) = inr (other, sym (other_seat n other) ∙ is)
+      by_index : (n ≡ t) ⊎ (n ≡ t → ⊥) → ((n ≡ t) × (x ≡ next)) ⊎ ((n ≡ t → ⊥) × (seat_of h n ≡ Some x))
+      by_index (inl same) = inl (same, same_Some x next (sym is ∙ ap (seat_of after) same ∙ own_seat s here))
+      by_index (inr other) = inr (other, sym (other_seat n other) ∙ is)

@@ -12,15 +12,15 @@ use Rattle.interpreter.specs.object_memory.declared.addresses.Addr.{Addr}
 use Rattle.interpreter.specs.threads_monitors.Frames.{Frames}
 use Rattle.interpreter.specs.threads_monitors.Threads.{end_in, is_live as is_live_machine, is_live_at, thread_on, wait_for, join_effect}
 use Rattle.interpreter.specs.threads_monitors.declared.effects.Effect.{Effect}
-use Rattle.interpreter.specs.threads_monitors.declared.effects.Effect.TheVariants.{GoesOn, Blocks, Raises}
-use Rattle.interpreter.specs.threads_monitors.declared.threads.Standing.{Standing}
-use Rattle.interpreter.specs.threads_monitors.declared.threads.Standing.TheVariants.{Live, Ended}
+use Rattle.interpreter.specs.threads_monitors.declared.effects.Effect.TheVariants.{Continues, Blocks, Raises}
+use Rattle.interpreter.specs.threads_monitors.declared.threads.ThreadStatus.{ThreadStatus}
+use Rattle.interpreter.specs.threads_monitors.declared.threads.ThreadStatus.TheVariants.{Live, Ended}
 use Rattle.interpreter.specs.threads_monitors.declared.threads.Thread.{Thread}
 use Rattle.interpreter.specs.declared.outcomes.Outcome.TheVariants.{Comes, Joins}
 use Rattle.interpreter.specs.Instructions.{HasSmallConstant, IsAt, answer_of}
-use Rattle.simulation.specs.MachineContents.{Content}
-use Rattle.simulation.specs.StandsFor.{IsThread, StandsAlike, Represents}
-use Rattle.simulation.specs.Turns.{after_request, counted}
+use Rattle.simulation.specs.MachineStates.{MachineState}
+use Rattle.simulation.specs.Refines.{IsThread, StandsAlike, Represents}
+use Rattle.simulation.specs.Transitions.{after_request, count_step}
 use Rattle.simulation.proofs.ListLaws.AgreeingLists.{agree_get, agree_beyond}
 use Rattle.simulation.proofs.Instructions.FrameProgress.{next_alike}
 use Rattle.simulation.proofs.Instructions.Correspondence.{GoesAlike, ComesAlike, is_refused_effect}
@@ -31,12 +31,12 @@ use Rattle.simulation.proofs.Threads.LiveThreads.{own_model, own_names}
 
 -- ---- which threads live
 
-module _ (c : Content) (s : State) (r : Represents c s) where
-  standing_lives : (standing : Standing) (fs : List StateFrame) (e : Option End) → StandsAlike c.tree c.limits r.stands.name standing fs e → is_none (end_in standing) ≡ is_none e
-  standing_lives (Live m) fs None h = refl
-  standing_lives (Ended e) fs (Some e') h = refl
-  standing_lives (Live m) fs (Some e') h = elim h [ ]
-  standing_lives (Ended e) fs None h = elim h [ ]
+module _ (c : MachineState) (s : State) (r : Represents c s) where
+  status_lives : (thread_status : ThreadStatus) (fs : List StateFrame) (e : Option End) → StandsAlike c.tree c.limits r.stands.name thread_status fs e → is_none (end_in thread_status) ≡ is_none e
+  status_lives (Live m) fs None h = refl
+  status_lives (Ended e) fs (Some e') h = refl
+  status_lives (Live m) fs (Some e') h = elim h [ ]
+  status_lives (Ended e) fs None h = elim h [ ]
 
   -- the same on both
   pub lives_alike : (k : ℕ) → is_live_at c.threads k ≡ is_live s k
@@ -46,11 +46,11 @@ module _ (c : Content) (s : State) (r : Represents c s) where
       by_thread None is = ap (λ x. option_map_or is_live_machine x false) (agree_beyond (IsThread c.tree c.limits r.stands.name) c.threads s.threads r.stands.by.threads k is)
       by_thread (Some u) is =
           let found : (x : Thread) × (slice_get c.threads k ≡ Some x) × IsThread c.tree c.limits r.stands.name x u = agree_get (IsThread c.tree c.limits r.stands.name) c.threads s.threads r.stands.by.threads k u is in
-          ap (λ x. option_map_or is_live_machine x false) found.1 ∙ standing_lives found.0.standing u.frames u.ended found.2.standing
+          ap (λ x. option_map_or is_live_machine x false) found.1 ∙ status_lives found.0.thread_status u.frames u.ended found.2.thread_status
 
 -- ---- Join
 
-module _ (c : Content) (s : State) (r : Represents c s) (t left : ℕ) (m : Frames) (there : slice_get c.threads t ≡ Some (record { standing = Live m; steps_left = left }))
+module _ (c : MachineState) (s : State) (r : Represents c s) (t left : ℕ) (m : Frames) (there : slice_get c.threads t ≡ Some (record { thread_status = Live m; steps_left = left }))
     (operation : Operation) (at : IsAt c.tree m operation) (constant : HasSmallConstant operation) where
   -- the outcome of waiting
   abbrev IsJoined : Effect → Type 0
@@ -60,11 +60,11 @@ module _ (c : Content) (s : State) (r : Represents c s) (t left : ℕ) (m : Fram
       (Comes j) (answer_of (after_request j m) c.objects c.statics c.printed (Comes j)) (done c s r t left m there false)
 
   module _ (operand : StateValue) (rest : List StateValue) (stack : (running c s r t left m there).stack ≡ operand ∷ rest) where
-    joined_by : (live : Bool) → done c s r t left m there false ≡ (if live then StateBlocks else onward (running c s r t left m there) (below c s r t left m there) s rest) → IsJoined (if live then Blocks else GoesOn)
+    joined_by : (live : Bool) → done c s r t left m there false ≡ (if live then StateBlocks else onward (running c s r t left m there) (below c s r t left m there) s rest) → IsJoined (if live then Blocks else Continues)
     joined_by true e = (refl, (e, refl, (refl, refl, refl)))
     joined_by false e = (
       refl,
-      subst (λ x. GoesAlike (here c s r t left m there) (own_model c s r t left m there) (own_names c s r t left m there) m c.objects c.statics c.printed s (running c s r t left m there) (below c s r t left m there) (answer_of (after_request GoesOn m) c.objects c.statics c.printed (Comes GoesOn)) x) (sym e)
+      subst (λ x. GoesAlike (here c s r t left m there) (own_model c s r t left m there) (own_names c s r t left m there) m c.objects c.statics c.printed s (running c s r t left m there) (below c s r t left m there) (answer_of (after_request Continues m) c.objects c.statics c.printed (Comes Continues)) x) (sym e)
           (next_alike (here c s r t left m there) (own_model c s r t left m there) (own_names c s r t left m there) m c.objects c.statics c.printed s (running c s r t left m there) (below c s r t left m there) (instruction c s r t left m there) operation
           (setting c s r t left m there operation at constant) (drop 1 m.running.stack) rest (rest_agrees c s r t left m there operand rest stack)),
     )
@@ -73,7 +73,7 @@ module _ (c : Content) (s : State) (r : Represents c s) (t left : ℕ) (m : Fram
     joined_with : (k : Option ℕ) → done c s r t left m there false ≡ option_map_or (λ n. if is_live s n then StateBlocks else onward (running c s r t left m there) (below c s r t left m there) s rest) k (StateRaises ThreadState) →
         IsJoined (wait_for c.threads k)
     joined_with None e = (refl, (e, (refl, refl, refl)))
-    joined_with (Some n) e = subst (λ b. IsJoined (if b then Blocks else GoesOn)) (sym (lives_alike c s r n)) (joined_by (is_live s n) e)
+    joined_with (Some n) e = subst (λ b. IsJoined (if b then Blocks else Continues)) (sym (lives_alike c s r n)) (joined_by (is_live s n) e)
 
   join_alike : (object : Addr) → (operand : StateValue) (rest : List StateValue) → (running c s r t left m there).stack ≡ operand ∷ rest →
       IsAskedOf c s r t left m there (done c s r t left m there false) (λ n. join (here c s r t left m there) s (running c s r t left m there) (below c s r t left m there) rest) object →
@@ -85,11 +85,11 @@ module _ (c : Content) (s : State) (r : Represents c s) (t left : ℕ) (m : Fram
 
   -- a step that asks to join
   pub joins : (threads : List Thread) → threads ≡ c.threads → (object : Addr) → Asks c s r t left m there Join object (answer_of m c.objects c.statics c.printed (Joins object)) →
-      Follows c s r t (counted (record c { threads = threads }) t left (join_effect threads c.objects object) (after_request (join_effect threads c.objects object) m))
+      Follows c s r t (count_step (record c { threads = threads }) t left (join_effect threads c.objects object) (after_request (join_effect threads c.objects object) m))
   joins threads same object asks =
       let joined : IsJoined (join_effect c.threads c.objects object) =
       join_alike object asks.operand asks.rest asks.stack
       (asked_of c s r t left m there Join (λ rest n. join (here c s r t left m there) s (running c s r t left m there) (below c s r t left m there) rest) (λ v rest. refl) object (answer_of m c.objects c.statics c.printed (Joins object)) asks) in
-      subst (λ ts. Follows c s r t (counted (record c { threads = ts }) t left (join_effect ts c.objects object) (after_request (join_effect ts c.objects object) m))) (sym same)
+      subst (λ ts. Follows c s r t (count_step (record c { threads = ts }) t left (join_effect ts c.objects object) (after_request (join_effect ts c.objects object) m))) (sym same)
       (comes c s r t left m there c.threads (λ x. refl) false (join_effect c.threads c.objects object) joined.0
       (answer_of (after_request (join_effect c.threads c.objects object) m) c.objects c.statics c.printed (Comes (join_effect c.threads c.objects object))) joined.1)

@@ -14,9 +14,9 @@ use Rattle.collector.specs.Phases.{is_live}
 use Rattle.collector.specs.Soundness.{IsListed}
 use Rattle.interpreter.specs.threads_monitors.Frames.{Frames}
 use Rattle.interpreter.specs.threads_monitors.Roots.{roots}
-use Rattle.interpreter.specs.threads_monitors.declared.threads.Standing.TheVariants.{Live}
-use Rattle.simulation.specs.MachineContents.{Content, mutator_of}
-use Rattle.simulation.specs.StandsFor.{AreFrames, Extends, Names, Represents}
+use Rattle.interpreter.specs.threads_monitors.declared.threads.ThreadStatus.TheVariants.{Live}
+use Rattle.simulation.specs.MachineStates.{MachineState, mutator_of}
+use Rattle.simulation.specs.Refines.{AreFrames, Extends, Names, Represents}
 use Rattle.simulation.proofs.CollectedHeap.CollectedMemory.{frames_cut}
 use Rattle.simulation.proofs.CollectedHeap.VisibleNames.{FitsCollected, begins, cut_is, cut_names, first_hold}
 use Rattle.simulation.proofs.Representation.MoreNames.{frames_extend}
@@ -26,7 +26,7 @@ use Rattle.simulation.proofs.OwedWords.ThreadNames.{IsKnown, named}
 use Rattle.simulation.proofs.Representation.NormalContents.{StandsNormally, has_seat, normal_from, normal_keeps, normal_names, sound_is_held}
 use Rattle.simulation.proofs.CollectedHeap.MemoryWithRoom.{KeepsRoom, in_room, keeps_itself}
 
-module _ (c : Content) (s : State) (r : Represents c s) where
+module _ (c : MachineState) (s : State) (r : Represents c s) where
   -- the machine represents the state under normal names
   pub normally : StandsNormally c s
   normally = normal_names c (sound_is_held c r.sound) r.accepted.legal s r.typed r.stands.name r.stands.by
@@ -47,7 +47,7 @@ module _ (c : Content) (s : State) (r : Represents c s) where
     pub kept : (a : Addr) → is_kept c.posts.posted o.spaces a ≡ true → (is_kept c.posts.posted c.objects.spaces a ≡ true) ⊎ ((n : ObjectName) × (name a.number ≡ Some n) × IsKnown normally.name (length s.objects) n)
     pub copies : AreCopiesOfMarked c.posts.posted c.objects.spaces → AreCopiesOfMarked c.posts.posted o.spaces
 
-  module _ (t left : ℕ) (m : Frames) (there : slice_get c.threads t ≡ Some (record { standing = Live m; steps_left = left })) where
+  module _ (t left : ℕ) (m : Frames) (there : slice_get c.threads t ≡ Some (record { thread_status = Live m; steps_left = left })) where
     -- ---- the seat
 
     pub seat_there : (seat : Seat) × (seat_of c.posts t ≡ Some seat)

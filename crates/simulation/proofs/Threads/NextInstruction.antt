@@ -16,11 +16,11 @@ use Rattle.interpreter.specs.reference_machine.TypedStates.{AreTypedFrames}
 use Rattle.interpreter.specs.resolved_code.Resolved.{IsOperation}
 use Rattle.interpreter.specs.resolved_code.declared.operations.Operation.{Operation}
 use Rattle.interpreter.specs.threads_monitors.Frames.{Frames}
-use Rattle.interpreter.specs.threads_monitors.declared.threads.Standing.TheVariants.{Live}
-use Rattle.interpreter.specs.Instructions.{HasSmallConstant, IsAt, line_at, operation_turn}
-use Rattle.simulation.specs.MachineContents.{Content, mutator_of}
+use Rattle.interpreter.specs.threads_monitors.declared.threads.ThreadStatus.TheVariants.{Live}
+use Rattle.interpreter.specs.Instructions.{HasSmallConstant, IsAt, line_at, operation_transition}
+use Rattle.simulation.specs.MachineStates.{MachineState, mutator_of}
 use Rattle.simulation.specs.Ready.{IsReady}
-use Rattle.simulation.specs.StandsFor.{Names, IsFrame, AreFrames, IsThread, StandsAlike, Represents}
+use Rattle.simulation.specs.Refines.{Names, IsFrame, AreFrames, IsThread, StandsAlike, Represents}
 use Rattle.simulation.proofs.ListLaws.AgreeingLists.{agree_at}
 use Rattle.simulation.proofs.Instructions.Correspondence.{IsSetting, DoesAlike, InstructionsAreAlike}
 use Rattle.simulation.proofs.ProgramSizes.LimitRanges.{budget_is_small}
@@ -30,11 +30,11 @@ use Rattle.simulation.proofs.Threads.LiveThreads.{normally, own_frames, own_memo
 -- ---- a live thread
 
 -- a setting of a thread's step
-abbrev pub setting_of : Content → ℕ → Bool → Setting
+abbrev pub setting_of : MachineState → ℕ → Bool → Setting
 setting_of c t refused = record { tree = c.tree; limits = c.limits; thread = t; is_refused = refused }
 
 -- the thread of the reference machine lives, with frames that those of the machine represent, and the same number of steps left
-pub record IsAlive (c : Content) (s : State) (name : Names) (t left : ℕ) (m : Frames) : Type 0 where
+pub record IsAlive (c : MachineState) (s : State) (name : Names) (t left : ℕ) (m : Frames) : Type 0 where
   pub thread : StateThread
   pub there : slice_get s.threads t ≡ Some thread
   pub running : StateFrame
@@ -44,11 +44,11 @@ pub record IsAlive (c : Content) (s : State) (name : Names) (t left : ℕ) (m : 
   pub steps : left ≡ thread.steps_left
   pub frames : AreFrames c.tree c.limits name m (running ∷ below)
 
-module _ (c : Content) (s : State) (r : Represents c s) (t left : ℕ) (m : Frames) (there : slice_get c.threads t ≡ Some (record { standing = Live m; steps_left = left })) where
+module _ (c : MachineState) (s : State) (r : Represents c s) (t left : ℕ) (m : Frames) (there : slice_get c.threads t ≡ Some (record { thread_status = Live m; steps_left = left })) where
   pub is_alive : IsAlive c s (own_names c s r t left m there) t left m
   is_alive =
-      let found = agree_at (IsThread c.tree c.limits names) c.threads s.threads (normally c s r).by.threads t (record { standing = Live m; steps_left = left }) there in
-      by_thread found.0 found.1 found.2.steps_left found.0.frames found.0.ended refl refl found.2.standing
+      let found = agree_at (IsThread c.tree c.limits names) c.threads s.threads (normally c s r).by.threads t (record { thread_status = Live m; steps_left = left }) there in
+      by_thread found.0 found.1 found.2.steps_left found.0.frames found.0.ended refl refl found.2.thread_status
     where
       names : Names
       names = (normally c s r).name
@@ -88,10 +88,10 @@ module _ (c : Content) (s : State) (r : Represents c s) (t left : ℕ) (m : Fram
         same_method : at.found ≡ (f.owner, f.method)
         same_method = same_Some at.found (f.owner, f.method) (sym at.found_is ∙ own.method)
 
-        line_there : slice_get (lines_of f.method) f.place ≡ Some at.line
+        line_there : slice_get (lines_of f.method) f.pc ≡ Some at.line
         line_there =
-            subst (λ (x : ClassName × Method). slice_get (lines_of x.1) f.place ≡ Some at.line) same_method
-            (subst (λ p. slice_get (lines_of at.found.1) p ≡ Some at.line) own.place at.line_is)
+            subst (λ (x : ClassName × Method). slice_get (lines_of x.1) f.pc ≡ Some at.line) same_method
+            (subst (λ p. slice_get (lines_of at.found.1) p ≡ Some at.line) own.pc at.line_is)
 
         same_instruction : at.line.instruction ≡ is_running.0
         same_instruction = same_Some at.line.instruction is_running.0 (sym (ap (option_map (λ (l : Line). l.instruction)) line_there) ∙ is_running.1)
@@ -99,23 +99,23 @@ module _ (c : Content) (s : State) (r : Represents c s) (t left : ℕ) (m : Fram
 -- ---- each live thread is ready
 
 module _ (each : InstructionsAreAlike) where
-  pub does_alike : (c : Content) (s : State) (r : Represents c s) (t left : ℕ) (m : Frames) (there : slice_get c.threads t ≡ Some (record { standing = Live m; steps_left = left })) (refused : Bool) →
+  pub does_alike : (c : MachineState) (s : State) (r : Represents c s) (t left : ℕ) (m : Frames) (there : slice_get c.threads t ≡ Some (record { thread_status = Live m; steps_left = left })) (refused : Bool) →
       (operation : Operation) → IsAt c.tree m operation → HasSmallConstant operation →
       DoesAlike (setting_of c t refused) (own_model c s r t left m there) (own_names c s r t left m there) m c.objects c.statics c.printed s (is_alive c s r t left m there).running (is_alive c s r t left m there).below
-      (operation_turn c.tree (mutator_of c t) operation m c.objects c.statics c.printed)
+      (operation_transition c.tree (mutator_of c t) operation m c.objects c.statics c.printed)
       (execute (setting_of c t refused) s (is_alive c s r t left m there).running (is_alive c s r t left m there).below (is_running c s r t left m there refused).0)
   does_alike c s r t left m there refused operation at constant =
       subst
       (λ u. DoesAlike (setting_of c t refused) (own_model c s r t left m there) (own_names c s r t left m there) m c.objects c.statics c.printed s (is_alive c s r t left m there).running (is_alive c s r t left m there).below
-      (operation_turn c.tree u operation m c.objects c.statics c.printed)
+      (operation_transition c.tree u operation m c.objects c.statics c.printed)
       (execute (setting_of c t refused) s (is_alive c s r t left m there).running (is_alive c s r t left m there).below (is_running c s r t left m there refused).0))
       (ap (λ p. record { number = t; phase = p }) (own_phase_is c s r t left m there))
       (each (setting_of c t refused) (own_model c s r t left m there) (own_names c s r t left m there) m c.objects c.statics c.printed s (is_alive c s r t left m there).running (is_alive c s r t left m there).below
       (is_running c s r t left m there refused).0 operation (in_setting c s r t left m there refused operation at constant))
 
-  pub live_is_ready : (c : Content) (s : State) → Represents c s → (t left : ℕ) (m : Frames) → slice_get c.threads t ≡ Some (record { standing = Live m; steps_left = left }) → IsReady c t m
+  pub live_is_ready : (c : MachineState) (s : State) → Represents c s → (t left : ℕ) (m : Frames) → slice_get c.threads t ≡ Some (record { thread_status = Live m; steps_left = left }) → IsReady c t m
   live_is_ready c s r t left m there = record {
-    place = subst IsSome (sym line_is) line_there;
+    pc = subst IsSome (sym line_is) line_there;
     there = λ operation at constant. subst IsSome (sym (does_alike c s r t left m there false operation at constant).is) refl;
   }
     where
@@ -130,8 +130,8 @@ module _ (each : InstructionsAreAlike) where
       line_in None i e = none_is_some i e
       line_in (Some l) i e = refl
 
-      line_there : IsSome (slice_get (lines_of f.method) f.place)
-      line_there = line_in (slice_get (lines_of f.method) f.place) (is_running c s r t left m there false).0 (is_running c s r t left m there false).1
+      line_there : IsSome (slice_get (lines_of f.method) f.pc)
+      line_there = line_in (slice_get (lines_of f.method) f.pc) (is_running c s r t left m there false).0 (is_running c s r t left m there false).1
 
-      line_is : line_at c.tree m ≡ slice_get (lines_of f.method) f.place
-      line_is = ap (option_and_then (λ (x : ClassName × Method). slice_get (lines_of x.1) m.running.place)) own.method ∙ ap (slice_get (lines_of f.method)) own.place
+      line_is : line_at c.tree m ≡ slice_get (lines_of f.method) f.pc
+      line_is = ap (option_and_then (λ (x : ClassName × Method). slice_get (lines_of x.1) m.running.pc)) own.method ∙ ap (slice_get (lines_of f.method)) own.pc

@@ -3,21 +3,21 @@ use Rattle.std.proofs.Common.{◌≡◌, ◌≢◌, ◌⊎◌, length, if◌then
 use Rattle.interpreter.specs.cil_model.declared.events.Event.{Event}
 use Rattle.interpreter.specs.cil_model.declared.events.Event.TheVariants.{Step, Ack, Gc}
 use Rattle.interpreter.specs.cil_model.declared.reports.Report.{Report}
-use Rattle.collector.specs.phase_handshake.Handshakes.{Handshakes, joined}
-use Rattle.interpreter.specs.threads_monitors.Threads.{settled}
-use Rattle.interpreter.specs.threads_monitors.declared.threads.Standing.{Standing}
-use Rattle.interpreter.specs.threads_monitors.declared.threads.Standing.TheVariants.{Ended, Live}
+use Rattle.collector.specs.phase_handshake.Handshakes.{Handshakes, join_thread}
+use Rattle.interpreter.specs.threads_monitors.Threads.{charge}
+use Rattle.interpreter.specs.threads_monitors.declared.threads.ThreadStatus.{ThreadStatus}
+use Rattle.interpreter.specs.threads_monitors.declared.threads.ThreadStatus.TheVariants.{Ended, Live}
 use Rattle.interpreter.specs.threads_monitors.declared.threads.Thread.{Thread}
 use Rattle.interpreter.specs.Instructions.{Answer}
 use Rattle.interpreter.specs.declared.outcomes.Outcome.{Outcome}
 use Rattle.simulation.specs.Collecting.{flips_frames, thread_flipped, with_flipped}
-use Rattle.simulation.specs.MachineContents.{Content}
-use Rattle.simulation.specs.Turns.{IsStandingTurn, IsThreadTurn, IsTurn, finished, left_by, live_thread}
+use Rattle.simulation.specs.MachineStates.{MachineState}
+use Rattle.simulation.specs.Transitions.{IsStatusTransition, IsThreadTransition, IsTransition, finish_step, left_by, live_thread}
 use Rattle.simulation.proofs.CollectorEvents.UnchangedState.{collected_keeps}
 use Rattle.simulation.proofs.Threads.StepEffects.{HasBegun, finished_by}
 use Rattle.interpreter.proofs.cil_model.Lists.{get_before, none_is_some}
 
--- what is at one place stays where another one is set
+-- what is at one index stays where another one is set
 pub set_other : {X : Type 0} (xs : List X) (n m : ℕ) (y x : X) → n ≢ m → slice_get xs m ≡ Some x → slice_get (slice_set xs n y) m ≡ Some x
 set_other [] n m y x apart e = none_is_some x e
 set_other (z ∷ zs) zero zero y x apart e = absurd (apart refl)
@@ -25,20 +25,20 @@ set_other (z ∷ zs) zero (suc m) y x apart e = e
 set_other (z ∷ zs) (suc n) zero y x apart e = e
 set_other (z ∷ zs) (suc n) (suc m) y x apart e = set_other zs n m y x (λ same. apart (ap suc same)) e
 
-module _ (c : Content) (after : Content × Report) (t : ℕ) (x : Thread) (there : slice_get c.threads t ≡ Some x) where
-  abbrev Stays : Content × Report → Type 0
+module _ (c : MachineState) (after : MachineState × Report) (t : ℕ) (x : Thread) (there : slice_get c.threads t ≡ Some x) where
+  abbrev Stays : MachineState × Report → Type 0
   Stays y = slice_get y.0.threads t ≡ Some x
 
   -- a step of another thread
-  stepped : (n left : ℕ) (a : Answer) (o : Outcome) → n ≢ t → finished c n left a o ≡ Some after → Stays after
+  stepped : (n left : ℕ) (a : Answer) (o : Outcome) → n ≢ t → finish_step c n left a o ≡ Some after → Stays after
   stepped n left a o apart is =
       let way = finished_by c n left a after o is in
       let left_there : slice_get (left_by c n left a).threads t ≡ Some x = set_other c.threads n t (live_thread left a.frames) x apart there in
       let beside : slice_get way.threads t ≡ Some x = by_way way.threads way.posts left_there way.are in
-      subst Stays way.is (set_other way.threads n t (settled way.effect (live_thread left way.frames)).0 x apart beside)
+      subst Stays way.is (set_other way.threads n t (charge way.effect (live_thread left way.frames)).0 x apart beside)
     where
       by_way : (threads : List Thread) (posts : Handshakes) → slice_get (left_by c n left a).threads t ≡ Some x
-          → ((threads ≡ (left_by c n left a).threads) × (posts ≡ c.posts)) ⊎ (HasBegun c.limits.budget (left_by c n left a).threads threads × (posts ≡ joined c.posts (length (left_by c n left a).threads) n)) → slice_get threads t ≡ Some x
+          → ((threads ≡ (left_by c n left a).threads) × (posts ≡ c.posts)) ⊎ (HasBegun c.limits.budget (left_by c n left a).threads threads × (posts ≡ join_thread c.posts (length (left_by c n left a).threads) n)) → slice_get threads t ≡ Some x
       by_way threads posts e (inl (is, seats)) = ap (λ (l : List Thread). slice_get l t) is ∙ e
       by_way threads posts e (inr (more, seats)) = ap (λ (l : List Thread). slice_get l t) more.are ∙ get_before (left_by c n left a).threads (more.new ∷ []) t x e
 
@@ -47,15 +47,15 @@ module _ (c : Content) (after : Content × Report) (t : ℕ) (x : Thread) (there
   flipped n apart true None = there
   flipped n apart true (Some y) = set_other c.threads n t (thread_flipped c.objects y) x apart there
 
-  by_standing : (n left : ℕ) → n ≢ t → (standing : Standing) → IsStandingTurn c n left standing after → Stays after
-  by_standing n left apart (Live m) k = stepped n left k.0 k.0.outcome apart k.2
-  by_standing n left apart (Ended e) k = subst Stays (sym k) there
+  by_thread_status : (n left : ℕ) → n ≢ t → (thread_status : ThreadStatus) → IsStatusTransition c n left thread_status after → Stays after
+  by_thread_status n left apart (Live m) k = stepped n left k.0 k.0.outcome apart k.2
+  by_thread_status n left apart (Ended e) k = subst Stays (sym k) there
 
-  by_thread : (n : ℕ) → n ≢ t → (thread : Option Thread) → IsThreadTurn c n thread after → Stays after
+  by_thread : (n : ℕ) → n ≢ t → (thread : Option Thread) → IsThreadTransition c n thread after → Stays after
   by_thread n apart None k = subst Stays (sym k) there
-  by_thread n apart (Some thread) k = by_standing n thread.steps_left apart thread.standing k
+  by_thread n apart (Some thread) k = by_thread_status n thread.steps_left apart thread.thread_status k
 
-  pub thread_stays : (e : Event) → IsTurn c e after → e ≢ Step t → e ≢ Ack t → Stays after
+  pub thread_stays : (e : Event) → IsTransition c e after → e ≢ Step t → e ≢ Ack t → Stays after
   thread_stays (Step n) h step ack = by_thread n (λ same. step (ap Step same)) (slice_get c.threads n) h
   thread_stays (Ack n) h step ack = subst Stays (sym h) (flipped n (λ same. ack (ap Ack same)) (flips_frames c n) (slice_get c.threads n))
   thread_stays Gc h step ack = subst Stays (sym h) (ap (λ (l : List Thread). slice_get l t) (collected_keeps c).threads ∙ there)

@@ -14,20 +14,20 @@ use Rattle.interpreter.specs.reference_machine.Cycles.{room}
 use Rattle.interpreter.specs.reference_machine.Rooms.{cell_words, words_of_all}
 use Rattle.interpreter.specs.reference_machine.Runs.{is_refusal}
 use Rattle.interpreter.specs.reference_machine.States.{Contents, Frame as StateFrame, HeapObject, State, Free, with_birth}
-use Rattle.interpreter.specs.reference_machine.Steps.{Outcome, Answers, goes_on, settled, step}
+use Rattle.interpreter.specs.reference_machine.Steps.{Outcome, Answers, continues, charge, step}
 use Rattle.interpreter.proofs.reference_machine.Runs.InstructionEffects.{same_after}
 use Rattle.interpreter.proofs.reference_machine.Runs.OutOfMemory.{memory_is_refused}
 use Rattle.interpreter.specs.object_memory.Spaces.{room_for}
 use Rattle.collector.specs.phase_handshake.Handshakes.{own_phase}
 use Rattle.interpreter.specs.threads_monitors.Frames.{Frames}
-use Rattle.interpreter.specs.threads_monitors.declared.threads.Standing.{Standing}
-use Rattle.interpreter.specs.threads_monitors.declared.threads.Standing.TheVariants.{Live, Ended}
+use Rattle.interpreter.specs.threads_monitors.declared.threads.ThreadStatus.{ThreadStatus}
+use Rattle.interpreter.specs.threads_monitors.declared.threads.ThreadStatus.TheVariants.{Live, Ended}
 use Rattle.interpreter.specs.threads_monitors.declared.threads.Thread.{Thread}
 use Rattle.interpreter.specs.Instructions.{IsDone, Answer}
-use Rattle.simulation.specs.MachineContents.{Content, mutator_of}
+use Rattle.simulation.specs.MachineStates.{MachineState, mutator_of}
 use Rattle.simulation.specs.Rooms.{ExceedsRoom, spaces_of}
-use Rattle.simulation.specs.StandsFor.{Represents}
-use Rattle.simulation.specs.Turns.{IsStandingTurn, IsThreadTurn, IsTurn}
+use Rattle.simulation.specs.Refines.{Represents}
+use Rattle.simulation.specs.Transitions.{IsStatusTransition, IsThreadTransition, IsTransition}
 use Rattle.simulation.proofs.Instructions.Correspondence.{ExceedsRoom as ExceedsOwn, InstructionsAreAlike, is_refused_outcome}
 use Rattle.simulation.proofs.CollectedHeap.ReportedRoom.{room_seen}
 use Rattle.simulation.proofs.Threads.StepEffects.{finished_refusal}
@@ -58,11 +58,11 @@ record IsBorn (s : State) (contents : Contents) (outcome : Outcome) : Type 0 whe
   is : outcome ≡ Answers report after
   objects : after.objects ≡ (with_birth s contents).objects
 
-born_by : (s : State) (contents : Contents) (t left : ℕ) (frames : List StateFrame) → IsBorn s contents (goes_on Ran (with_birth s contents) t left frames)
+born_by : (s : State) (contents : Contents) (t left : ℕ) (frames : List StateFrame) → IsBorn s contents (continues Ran (with_birth s contents) t left frames)
 born_by s contents t zero frames = record { report = _; after = _; is = refl; objects = refl }
 born_by s contents t (suc left) frames = record { report = _; after = _; is = refl; objects = refl }
 
-module _ (each : InstructionsAreAlike) (c : Content) (s : State) (r : Represents c s) (t left : ℕ) (m : Frames) (there : slice_get c.threads t ≡ Some (record { standing = Live m; steps_left = left })) where
+module _ (each : InstructionsAreAlike) (c : MachineState) (s : State) (r : Represents c s) (t left : ℕ) (m : Frames) (there : slice_get c.threads t ≡ Some (record { thread_status = Live m; steps_left = left })) where
   abbrev Exceeds : StateEffect → Type 0
   Exceeds e = ExceedsOwn (setting_of c t false) (own_model c s r t left m there) (own_names c s r t left m there) m c.objects c.statics c.printed s (is_alive c s r t left m there).running (is_alive c s r t left m there).below e
 
@@ -85,12 +85,12 @@ module _ (each : InstructionsAreAlike) (c : Content) (s : State) (r : Represents
   step_exceeds : Exceeds (done c s r t left m there false) → ExceedsRoom c s t
   step_exceeds e =
       let frames = (is_alive c s r t left m there).thread.frames in
-      let born : IsBorn s e.contents (goes_on Ran (with_birth s e.contents) t (left - 1) (e.running ∷ e.waiting)) = born_by s e.contents t (left - 1) (e.running ∷ e.waiting) in
+      let born : IsBorn s e.contents (continues Ran (with_birth s e.contents) t (left - 1) (e.running ∷ e.waiting)) = born_by s e.contents t (left - 1) (e.running ∷ e.waiting) in
       record {
         report = born.report;
         after = born.after;
         object = record { contents = e.contents; monitor = Free; thread = None };
-        unrefused = step_is c s r t left m there false ∙ ap (settled s t (left - 1) frames) e.is ∙ born.is;
+        unrefused = step_is c s r t left m there false ∙ ap (charge s t (left - 1) frames) e.is ∙ born.is;
         is_born = born.objects;
         exceeds = beyond (cell_words c.tree e.contents) (room (spaces_of c.objects) (own_phase c.posts t)) (subst (λ n. n < cell_words c.tree e.contents) (sym room_is) e.exceeds);
       }
@@ -105,9 +105,9 @@ one_more tree objects object = sum_by_push (λ (x : HeapObject). cell_words tree
 was_there : (left_then left all_then all cell : ℕ) → left_then + all_then ≡ left + all → all_then ≡ all + cell → left < cell → ⊥
 was_there left_then left all_then all cell together more beyond_left = absurd (omega arith)
 
-module _ (each : InstructionsAreAlike) (c : Content) (s : State) (r : Represents c s) (t : ℕ) (after : Content × Report) (turn : IsTurn c (Step t) after) where
+module _ (each : InstructionsAreAlike) (c : MachineState) (s : State) (r : Represents c s) (t : ℕ) (after : MachineState × Report) (transition : IsTransition c (Step t) after) where
   exceeding_is_refused : ExceedsRoom c s t → IsTrue (is_refusal after.1)
-  exceeding_is_refused x = by_report (is_refusal after.1) refl (step_follows each c s r t after turn)
+  exceeding_is_refused x = by_report (is_refusal after.1) refl (step_follows each c s r t after transition)
     where
       by_report : (b : Bool) → is_refusal after.1 ≡ b → (s' : State) × (step c.tree c.limits s t (is_refusal after.1) ≡ Answers after.1 s') × Represents after.0 s' × KeepsOwnRoom c s t after.0.objects s' → IsTrue b
       by_report true is follows = refl
@@ -120,19 +120,19 @@ module _ (each : InstructionsAreAlike) (c : Content) (s : State) (r : Represents
           follows.3.together words (subst (λ n. n < cell_words c.tree x.object.contents) (room_seen c r.sound t) more))
 
   refused_exceeds : IsTrue (is_refusal after.1) → ExceedsRoom c s t
-  refused_exceeds refused = by_thread (slice_get c.threads t) refl turn
+  refused_exceeds refused = by_thread (slice_get c.threads t) refl transition
     where
       absent : after ≡ (c, Absent) → ExceedsRoom c s t
-      absent e = never (sym (ap (λ (x : Content × Report). is_refusal x.1) e) ∙ refused)
+      absent e = never (sym (ap (λ (x : MachineState × Report). is_refusal x.1) e) ∙ refused)
 
-      by_standing : (left : ℕ) (standing : Standing) → slice_get c.threads t ≡ Some (record { standing = standing; steps_left = left }) → IsStandingTurn c t left standing after → ExceedsRoom c s t
-      by_standing left (Live m) there (a, d, is) =
+      by_thread_status : (left : ℕ) (thread_status : ThreadStatus) → slice_get c.threads t ≡ Some (record { thread_status = thread_status; steps_left = left }) → IsStatusTransition c t left thread_status after → ExceedsRoom c s t
+      by_thread_status left (Live m) there (a, d, is) =
           step_exceeds each c s r t left m there (instruction_exceeds each c s r t left m there a d (sym (finished_refusal c t left a after a.outcome is) ∙ refused))
-      by_standing left (Ended e) there is = absent is
+      by_thread_status left (Ended e) there is = absent is
 
-      by_thread : (x : Option Thread) → slice_get c.threads t ≡ x → IsThreadTurn c t x after → ExceedsRoom c s t
+      by_thread : (x : Option Thread) → slice_get c.threads t ≡ x → IsThreadTransition c t x after → ExceedsRoom c s t
       by_thread None is h = absent h
-      by_thread (Some x) is h = by_standing x.steps_left x.standing is h
+      by_thread (Some x) is h = by_thread_status x.steps_left x.thread_status is h
 
   pub refused_beyond_room : IsTrue (is_refusal after.1) ↔ ExceedsRoom c s t
   refused_beyond_room = (refused_exceeds, exceeding_is_refused)

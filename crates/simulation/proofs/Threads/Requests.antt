@@ -16,16 +16,16 @@ use Rattle.interpreter.specs.object_memory.declared.addresses.Addr.{Addr}
 use Rattle.interpreter.specs.object_memory.declared.values.Value.TheVariants.{Ref}
 use Rattle.interpreter.specs.object_memory.Cells.{Cell, null}
 use Rattle.interpreter.specs.object_memory.Objects.{object_slots}
-use Rattle.interpreter.specs.threads_monitors.Frames.{Frames, with_place, with_stack}
-use Rattle.interpreter.specs.threads_monitors.declared.effects.Effect.TheVariants.{GoesOn}
-use Rattle.interpreter.specs.threads_monitors.declared.threads.Standing.TheVariants.{Live}
+use Rattle.interpreter.specs.threads_monitors.Frames.{Frames, with_pc, with_stack}
+use Rattle.interpreter.specs.threads_monitors.declared.effects.Effect.TheVariants.{Continues}
+use Rattle.interpreter.specs.threads_monitors.declared.threads.ThreadStatus.TheVariants.{Live}
 use Rattle.interpreter.specs.Instructions.{HasSmallConstant, IsAt, Answer}
 use Rattle.simulation.specs.Agreement.{Agree}
-use Rattle.simulation.specs.MachineContents.{Content}
-use Rattle.simulation.specs.StandsFor.{IsValue, IsFrame, AreFrames, Represents}
-use Rattle.simulation.specs.Turns.{after_request}
+use Rattle.simulation.specs.MachineStates.{MachineState}
+use Rattle.simulation.specs.Refines.{IsValue, IsFrame, AreFrames, Represents}
+use Rattle.simulation.specs.Transitions.{after_request}
 use Rattle.simulation.proofs.ListLaws.AgreeingLists.{agree_length, agree_drop}
-use Rattle.simulation.proofs.Instructions.FrameProgress.{moved_frames, place_is_small}
+use Rattle.simulation.proofs.Instructions.FrameProgress.{moved_frames, index_is_small}
 use Rattle.simulation.proofs.Instructions.Correspondence.{IsSetting, AsksFor}
 use Rattle.simulation.specs.Ready.{HasRequest}
 use Rattle.simulation.proofs.Threads.NextInstruction.{setting_of, is_alive, is_running, in_setting}
@@ -34,7 +34,7 @@ use Rattle.simulation.proofs.Memory.ThreadObjects.{reference_is, IsThreadObject,
 use Rattle.simulation.proofs.Memory.NamedAddresses.{named_is_not_null}
 use Rattle.simulation.proofs.Threads.LiveThreads.{own_model, own_names, own_reads}
 
-module _ (c : Content) (s : State) (r : Represents c s) (t left : ℕ) (m : Frames) (there : slice_get c.threads t ≡ Some (record { standing = Live m; steps_left = left })) where
+module _ (c : MachineState) (s : State) (r : Represents c s) (t left : ℕ) (m : Frames) (there : slice_get c.threads t ≡ Some (record { thread_status = Live m; steps_left = left })) where
   abbrev pub here : Setting
   here = setting_of c t false
 
@@ -90,11 +90,11 @@ module _ (c : Content) (s : State) (r : Represents c s) (t left : ℕ) (m : Fram
 
   -- the operand is there, and its slot
   pub has_operand : (action : Action) (go : ObjectName → HeapObject → StateEffect) (object : Addr) (a : Answer) → (asks : Asks action object a) → IsAskedOf (done c s r t left m there false) go object →
-      nat_lt m.running.place MOST_INSTRUCTIONS ≡ true → HasRequest a.objects a.frames object
+      nat_lt m.running.pc MOST_INSTRUCTIONS ≡ true → HasRequest a.objects a.frames object
   has_operand action go object a asks asked small = record {
     slot = λ apart. subst (λ o. 0 < length (object_slots o object)) (sym asks.memory.0) (by_object asked apart);
     operand = subst (λ (x : Frames). 0 < length x.running.stack) (sym asks.frames) stack_is_there;
-    behind = subst (λ (x : Frames). x.running.place < MOST_INSTRUCTIONS) (sym asks.frames) (grind (arith, nat_tests));
+    following = subst (λ (x : Frames). x.running.pc < MOST_INSTRUCTIONS) (sym asks.frames) (grind (arith, nat_tests));
   }
     where
       stack_is_there : 0 < length m.running.stack
@@ -111,12 +111,12 @@ module _ (c : Content) (s : State) (r : Represents c s) (t left : ℕ) (m : Fram
     abbrev pub setting : IsSetting here (own_model c s r t left m there) (own_names c s r t left m there) m c.objects c.statics c.printed s running below instruction operation
     setting = in_setting c s r t left m there false operation at constant
 
-    pub place_below : nat_lt m.running.place MOST_INSTRUCTIONS ≡ true
-    place_below = place_is_small here (own_model c s r t left m there) (own_names c s r t left m there) m c.objects c.statics c.printed s running below instruction operation setting
+    pub index_below : nat_lt m.running.pc MOST_INSTRUCTIONS ≡ true
+    index_below = index_is_small here (own_model c s r t left m there) (own_names c s r t left m there) m c.objects c.statics c.printed s running below instruction operation setting
 
     -- the frames once what was asked for is done
-    pub popped_frames : (operand : StateValue) (rest : List StateValue) → running.stack ≡ operand ∷ rest → AreFrames c.tree c.limits (own_names c s r t left m there) (after_request GoesOn m) (after running rest ∷ below)
+    pub popped_frames : (operand : StateValue) (rest : List StateValue) → running.stack ≡ operand ∷ rest → AreFrames c.tree c.limits (own_names c s r t left m there) (after_request Continues m) (after running rest ∷ below)
     popped_frames operand rest stack =
-        subst (λ p. AreFrames c.tree c.limits (own_names c s r t left m there) (with_place (with_stack m (drop 1 m.running.stack)) (p + 1)) (after running rest ∷ below)) (sym own.place)
+        subst (λ p. AreFrames c.tree c.limits (own_names c s r t left m there) (with_pc (with_stack m (drop 1 m.running.stack)) (p + 1)) (after running rest ∷ below)) (sym own.pc)
         (moved_frames here (own_model c s r t left m there) (own_names c s r t left m there) m c.objects c.statics c.printed s running below instruction operation setting (own_names c s r t left m there) (λ a n is. is)
-        m.running.arguments m.running.locals (drop 1 m.running.stack) running.arguments running.locals rest (running.place + 1) own.arguments own.locals (rest_agrees operand rest stack))
+        m.running.arguments m.running.locals (drop 1 m.running.stack) running.arguments running.locals rest (running.pc + 1) own.arguments own.locals (rest_agrees operand rest stack))

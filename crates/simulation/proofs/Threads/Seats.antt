@@ -7,25 +7,25 @@ use Rattle.std.proofs.lemmas.Option.{same_Some, slice_get-get_or}
 use Rattle.interpreter.specs.cil_model.declared.limits.TheConstants.{MOST_THREADS}
 use Rattle.interpreter.proofs.cil_model.Lists.{last_is_there, none_is_some, set_is_there, set_or_was}
 use Rattle.interpreter.proofs.cil_model.SameLaws.{never}
-use Rattle.collector.specs.phase_handshake.Handshakes.{Handshakes, first_handshakes, first_seat, joined, left as without_seat, seat_of}
+use Rattle.collector.specs.phase_handshake.Handshakes.{Handshakes, first_handshakes, first_seat, join_thread, leave_handshakes as without_seat, seat_of}
 use Rattle.collector.proofs.phase_handshake.Closeness.{joined_close, left_close, seat_there}
 use Rattle.collector.specs.phase_handshake.declared.posts.Seat.{Seat}
 use Rattle.interpreter.specs.cil_model.declared.reports.End.{End}
 use Rattle.interpreter.specs.threads_monitors.Frames.{Frames}
-use Rattle.interpreter.specs.threads_monitors.Threads.{end_after, is_live, is_live_at, report_of, settled, standing_after}
+use Rattle.interpreter.specs.threads_monitors.Threads.{end_after, is_live, is_live_at, report_of, charge, status_after}
 use Rattle.interpreter.specs.threads_monitors.declared.effects.Effect.{Effect}
-use Rattle.interpreter.specs.threads_monitors.declared.effects.Effect.TheVariants.{GoesOn, Returns, Blocks, Raises}
-use Rattle.interpreter.specs.threads_monitors.declared.threads.Standing.TheVariants.{Live, Ended}
+use Rattle.interpreter.specs.threads_monitors.declared.effects.Effect.TheVariants.{Continues, Returns, Blocks, Raises}
+use Rattle.interpreter.specs.threads_monitors.declared.threads.ThreadStatus.TheVariants.{Live, Ended}
 use Rattle.interpreter.specs.threads_monitors.declared.threads.Thread.{Thread}
 use Rattle.interpreter.specs.cil_model.declared.reports.Report.{Report}
 use Rattle.interpreter.specs.cil_model.declared.reports.Report.TheVariants.{Ended as HasEnded}
 use Rattle.simulation.specs.Sound.{AreSeated}
 use Rattle.simulation.proofs.Threads.ChangedSeats.{same_or_other, set_other}
-use Rattle.simulation.specs.Turns.{live_thread, seats_after}
+use Rattle.simulation.specs.Transitions.{live_thread, seats_after}
 
--- ---- places of lists
+-- ---- indices of lists
 
--- one more at the end leaves every other place
+-- one item more at the end leaves every other item
 pub append_other : {X : Type 0} (xs : List X) (n : ℕ) (x : X) → (n ≡ length xs → ⊥) → slice_get (xs ++ x ∷ []) n ≡ slice_get xs n
 append_other [] zero x other = absurd (other refl)
 append_other [] (suc n) x other = refl
@@ -59,21 +59,21 @@ live_get xs ys n e = ap (λ o. option_map_or is_live o false) e
 
 -- ---- seats
 
--- places without seats
-empty_places : (m n : ℕ) → option_and_then (λ (x : Option Seat). x) (slice_get (replicate m None) n) ≡ None
-empty_places zero n = refl
-empty_places (suc m) zero = refl
-empty_places (suc m) (suc n) = empty_places m n
+-- indices without seats
+empty_indices : (m n : ℕ) → option_and_then (λ (x : Option Seat). x) (slice_get (replicate m None) n) ≡ None
+empty_indices zero n = refl
+empty_indices (suc m) zero = refl
+empty_indices (suc m) (suc n) = empty_indices m n
 
 -- ---- another seat
 
--- a place without a seat
+-- an index without a seat
 emptied : (seats : List (Option Seat)) (t : ℕ) → option_and_then (λ (x : Option Seat). x) (slice_get (slice_set seats t None) t) ≡ None
 emptied [] t = refl
 emptied (x ∷ xs) zero = refl
 emptied (x ∷ xs) (suc t) = emptied xs t
 
--- another place is as it was
+-- the seat at another index is as it was
 pub other_seat : (h : Handshakes) (t n : ℕ) (o : Option Seat) → (n ≡ t → ⊥) → seat_of (record h { seats = slice_set h.seats t o }) n ≡ seat_of h n
 other_seat h t n o other = ap (option_and_then (λ (x : Option Seat). x)) (set_other h.seats t n o other)
 
@@ -94,7 +94,7 @@ counted_posts h t report = refl
 module _ (h : Handshakes) (threads : List Thread) (fit : AreSeated h threads) where
   -- ---- a thread that continues, and one that ends
 
-  -- a live thread in the place of another
+  -- a live thread in place of another
   pub live_fits : (t : ℕ) (x : Thread) → is_live x ≡ true → is_live_at threads t ≡ true → AreSeated h (slice_set threads t x)
   live_fits t x lives there = record { close = fit.close; live = λ n. live_set threads t n x lives there ∙ fit.live n }
 
@@ -108,36 +108,36 @@ module _ (h : Handshakes) (threads : List Thread) (fit : AreSeated h threads) wh
       lives n (inr other) = live_get (slice_set threads t x) threads n (set_other threads t n x other) ∙ fit.live n ∙ ap is_some (sym (other_seat h t n None other))
 
   -- once the step of a live thread is counted
-  pub counted_fits : (t : ℕ) (effect : Effect) (m : Frames) (left : ℕ) → is_live_at threads t ≡ true →
-      AreSeated (seats_after h t (settled effect (live_thread left m)).1) (slice_set threads t (settled effect (live_thread left m)).0)
-  counted_fits t effect m left there = by_end (end_after effect (left - 1))
+  pub counted_fits : (t : ℕ) (effect : Effect) (m : Frames) (leave_handshakes : ℕ) → is_live_at threads t ≡ true →
+      AreSeated (seats_after h t (charge effect (live_thread leave_handshakes m)).1) (slice_set threads t (charge effect (live_thread leave_handshakes m)).0)
+  counted_fits t effect m leave_handshakes there = by_end (end_after effect (leave_handshakes - 1))
     where
       by_effect : (e : Effect) (x : Thread) → is_live x ≡ true → AreSeated (seats_after h t (report_of e)) (slice_set threads t x)
-      by_effect GoesOn x lives = live_fits t x lives there
+      by_effect Continues x lives = live_fits t x lives there
       by_effect Returns x lives = live_fits t x lives there
       by_effect Blocks x lives = live_fits t x lives there
       by_effect (Raises f) x lives = live_fits t x lives there
 
-      by_end : (o : Option End) → AreSeated (seats_after h t (standing_after o m (left - 1) effect).1) (slice_set threads t (standing_after o m (left - 1) effect).0)
-      by_end None = by_effect effect (record { standing = Live m; steps_left = left - 1 }) refl
-      by_end (Some e) = ended_fits t (record { standing = Ended e; steps_left = left - 1 }) refl
+      by_end : (o : Option End) → AreSeated (seats_after h t (status_after o m (leave_handshakes - 1) effect).1) (slice_set threads t (status_after o m (leave_handshakes - 1) effect).0)
+      by_end None = by_effect effect (record { thread_status = Live m; steps_left = leave_handshakes - 1 }) refl
+      by_end (Some e) = ended_fits t (record { thread_status = Ended e; steps_left = leave_handshakes - 1 }) refl
 
   -- ---- a thread that begins
 
   -- it has its starter's seat
-  pub begun_fits : (t : ℕ) (new : Thread) → is_live new ≡ true → length threads < MOST_THREADS → is_live_at threads t ≡ true → AreSeated (joined h (length threads) t) (threads ++ new ∷ [])
+  pub begun_fits : (t : ℕ) (new : Thread) → is_live new ≡ true → length threads < MOST_THREADS → is_live_at threads t ≡ true → AreSeated (join_thread h (length threads) t) (threads ++ new ∷ [])
   begun_fits t new lives room there = record { close = joined_close h fit.close (length threads) t; live = λ n. live n (same_or_other n (length threads)) }
     where
       inside : length threads < length h.seats
-      inside = let places = fit.close.places in omega (arith, room, places)
+      inside = let indices = fit.close.indices in omega (arith, room, indices)
 
       here : slice_get (slice_set h.seats (length threads) (seat_of h t)) (length threads) ≡ Some (seat_of h t)
       here = set_is_there h.seats (length threads) (seat_of h t) (get_or h.seats (length threads) None) (slice_get-get_or h.seats (length threads) None inside)
 
-      live : (n : ℕ) → (n ≡ length threads) ⊎ (n ≡ length threads → ⊥) → is_live_at (threads ++ new ∷ []) n ≡ is_some (seat_of (joined h (length threads) t) n)
+      live : (n : ℕ) → (n ≡ length threads) ⊎ (n ≡ length threads → ⊥) → is_live_at (threads ++ new ∷ []) n ≡ is_some (seat_of (join_thread h (length threads) t) n)
       live n (inl same) =
           ap (is_live_at (threads ++ new ∷ [])) same ∙ ap (λ o. option_map_or is_live o false) (last_is_there threads new) ∙ lives ∙ sym there ∙ fit.live t ∙
-          ap (λ o. is_some (option_and_then (λ (x : Option Seat). x) o)) (sym here) ∙ ap (λ k. is_some (seat_of (joined h (length threads) t) k)) (sym same)
+          ap (λ o. is_some (option_and_then (λ (x : Option Seat). x) o)) (sym here) ∙ ap (λ k. is_some (seat_of (join_thread h (length threads) t) k)) (sym same)
       live n (inr other) = live_get (threads ++ new ∷ []) threads n (append_other threads n new other) ∙ fit.live n ∙ ap is_some (sym (other_seat h (length threads) n (seat_of h t) other))
 
 -- ---- the beginning
@@ -145,12 +145,12 @@ module _ (h : Handshakes) (threads : List Thread) (fit : AreSeated h threads) wh
 -- the first thread alone has a seat
 pub first_alone : (n : ℕ) (s : Seat) → seat_of first_handshakes n ≡ Some s → s ≡ first_seat
 first_alone zero s is = sym (same_Some first_seat s is)
-first_alone (suc n) s is = none_is_some s (sym (empty_places (MOST_THREADS - 1) n) ∙ is)
+first_alone (suc n) s is = none_is_some s (sym (empty_indices (MOST_THREADS - 1) n) ∙ is)
 
 pub first_fits : (first : Thread) → is_live first ≡ true → AreSeated first_handshakes (first ∷ [])
 first_fits first lives = record {
   close = record {
-    places = ap suc (length-replicate {A = Option Seat} (MOST_THREADS - 1) None) ∙ refl;
+    indices = ap suc (length-replicate {A = Option Seat} (MOST_THREADS - 1) None) ∙ refl;
     phases = λ t s is. inl (ap (λ (x : Seat). x.phase) (first_alone t s is));
     answers = λ t s is answered. never (sym (ap (λ (x : Seat). x.answered) (first_alone t s is)) ∙ answered);
   };
@@ -159,4 +159,4 @@ first_fits first lives = record {
   where
     live : (n : ℕ) → is_live_at (first ∷ []) n ≡ is_some (seat_of first_handshakes n)
     live zero = lives
-    live (suc n) = ap is_some (sym (empty_places (MOST_THREADS - 1) n))
+    live (suc n) = ap is_some (sym (empty_indices (MOST_THREADS - 1) n))

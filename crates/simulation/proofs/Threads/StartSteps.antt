@@ -10,7 +10,7 @@ use Rattle.interpreter.specs.reference_machine.Values.{Born, Value as StateValue
 use Rattle.interpreter.specs.reference_machine.States.{HeapObject, State, Thread as StateThread, with_object}
 use Rattle.interpreter.specs.reference_machine.Effects.{Raises as StateRaises, new_frame, after}
 use Rattle.interpreter.specs.reference_machine.BuiltIn.{Start, start}
-use Rattle.collector.specs.phase_handshake.Handshakes.{joined}
+use Rattle.collector.specs.phase_handshake.Handshakes.{join_thread}
 use Rattle.interpreter.specs.resolved_code.declared.operations.Operation.{Operation}
 use Rattle.interpreter.specs.object_memory.declared.addresses.Addr.{Addr}
 use Rattle.interpreter.specs.object_memory.declared.kinds.Kind.TheVariants.{Instance}
@@ -21,14 +21,14 @@ use Rattle.interpreter.specs.instructions.barriers.Barriers.{is_word_storable, s
 use Rattle.interpreter.specs.threads_monitors.Frames.{Frames, new_frame as new_machine_frame}
 use Rattle.interpreter.specs.threads_monitors.Threads.{start_fault, with_start}
 use Rattle.interpreter.specs.threads_monitors.declared.effects.Effect.{Effect}
-use Rattle.interpreter.specs.threads_monitors.declared.effects.Effect.TheVariants.{GoesOn, Raises}
-use Rattle.interpreter.specs.threads_monitors.declared.threads.Standing.TheVariants.{Live}
+use Rattle.interpreter.specs.threads_monitors.declared.effects.Effect.TheVariants.{Continues, Raises}
+use Rattle.interpreter.specs.threads_monitors.declared.threads.ThreadStatus.TheVariants.{Live}
 use Rattle.interpreter.specs.threads_monitors.declared.threads.Thread.{Thread}
 use Rattle.interpreter.specs.Instructions.{HasSmallConstant, IsAt, Answer, answer_of}
 use Rattle.interpreter.specs.declared.outcomes.Outcome.TheVariants.{Comes, Starts}
-use Rattle.simulation.specs.MachineContents.{Content, mutator_of, frame_room}
-use Rattle.simulation.specs.StandsFor.{Names, reference, thread_word, IsCell, IsOfContents, IsThread, StandsBy, Represents}
-use Rattle.simulation.specs.Turns.{after_request, counted, started, thread_at, thread_for, seated}
+use Rattle.simulation.specs.MachineStates.{MachineState, mutator_of, frame_room}
+use Rattle.simulation.specs.Refines.{Names, reference, thread_word, IsCell, IsOfContents, IsThread, StandsBy, Represents}
+use Rattle.simulation.specs.Transitions.{after_request, count_step, start_thread, thread_at, thread_for, seat_thread}
 use Rattle.simulation.proofs.ListLaws.AgreeingLists.{agree_append, agree_length, agree_weaken}
 use Rattle.simulation.proofs.Instructions.Correspondence.{is_refused_fault}
 use Rattle.simulation.proofs.ProgramSizes.LimitRanges.{depth_is_some}
@@ -49,15 +49,15 @@ use Rattle.collector.specs.Soundness.{IsListed}
 use Rattle.interpreter.specs.loaded_program.Prepared.{local_kinds}
 use Rattle.interpreter.specs.threads_monitors.Roots.{roots}
 
-module _ (c : Content) (s : State) (r : Represents c s) (t left : ℕ) (m : Frames) (there : slice_get c.threads t ≡ Some (record { standing = Live m; steps_left = left })) where
+module _ (c : MachineState) (s : State) (r : Represents c s) (t left : ℕ) (m : Frames) (there : slice_get c.threads t ≡ Some (record { thread_status = Live m; steps_left = left })) where
   -- what is asked of the one operand
   pub start_asked : (object : Addr) (a : Answer) → (asks : Asks c s r t left m there Start object a) →
       IsAskedOf c s r t left m there (done c s r t left m there false) (λ n. start (here c s r t left m there) s (running c s r t left m there) (below c s r t left m there) n asks.rest) object
   start_asked object a asks = asked_of c s r t left m there Start (λ rest n. start (here c s r t left m there) s (running c s r t left m there) (below c s r t left m there) n rest) (λ v rest. refl) object a asks
 
   -- the threads and objects once a step is counted
-  abbrev pub counted_with : List Thread → List Thread × Objects × Effect → Content × Report
-  counted_with threads y = counted (record c { threads = y.0; posts = seated y.2 c.posts (length threads) t; objects = y.1 }) t left y.2 (after_request y.2 m)
+  abbrev pub counted_with : List Thread → List Thread × Objects × Effect → MachineState × Report
+  counted_with threads y = count_step (record c { threads = y.0; posts = seat_thread y.2 c.posts (length threads) t; objects = y.1 }) t left y.2 (after_request y.2 m)
 
   -- a step that ends by a fault
   fault_follows : (fault : Fault) → false ≡ is_refused_fault fault → done c s r t left m there false ≡ StateRaises fault → Follows c s r t (counted_with c.threads (c.threads, c.objects, Raises fault))
@@ -68,21 +68,21 @@ module _ (c : Content) (s : State) (r : Represents c s) (t left : ℕ) (m : Fram
     abbrev marked : HeapObject
     marked = record x.object { thread = Some (length s.threads) }
 
-    abbrev told_word : ℕ
-    told_word = length c.threads + 1
+    abbrev decoded_word : ℕ
+    decoded_word = length c.threads + 1
 
-    told_is : told_word ≡ suc (length s.threads)
-    told_is = let same : length c.threads ≡ length s.threads = agree_length (IsThread c.tree c.limits r.stands.name) c.threads s.threads r.stands.by.threads in omega (arith, same)
+    decoded_is : decoded_word ≡ suc (length s.threads)
+    decoded_is = let same : length c.threads ≡ length s.threads = agree_length (IsThread c.tree c.limits r.stands.name) c.threads s.threads r.stands.by.threads in omega (arith, same)
 
-    marked_cell : IsCell c.tree (own_names c s r t left m there) (store_slot 0 told_word x.cell) marked
+    marked_cell : IsCell c.tree (own_names c s r t left m there) (store_slot 0 decoded_word x.cell) marked
     marked_cell = record {
       contents =
-          subst (λ k. IsOfContents c.tree (own_names c s r t left m there) k (slice_set x.cell.slots 0 told_word) x.object.contents (Some (length s.threads))) (sym x.kind)
-          (subst (λ y. IsOfContents c.tree (own_names c s r t left m there) (Instance x.class) (slice_set x.cell.slots 0 told_word) y (Some (length s.threads))) (sym x.contents)
+          subst (λ k. IsOfContents c.tree (own_names c s r t left m there) k (slice_set x.cell.slots 0 decoded_word) x.object.contents (Some (length s.threads))) (sym x.kind)
+          (subst (λ y. IsOfContents c.tree (own_names c s r t left m there) (Instance x.class) (slice_set x.cell.slots 0 decoded_word) y (Some (length s.threads))) (sym x.contents)
           (record {
             class_is = x.class_is;
             words = x.words;
-            slots_are = ap (λ l. slice_set l 0 told_word) x.slots ∙ ap (λ w. w ∷ x.words) told_is ∙ sym (ap (λ b. (if b then thread_word (Some (length s.threads)) ∷ [] else []) ++ x.words) x.is_thread);
+            slots_are = ap (λ l. slice_set l 0 decoded_word) x.slots ∙ ap (λ w. w ∷ x.words) decoded_is ∙ sym (ap (λ b. (if b then thread_word (Some (length s.threads)) ∷ [] else []) ++ x.words) x.is_thread);
             values = x.values;
           }));
       monitor = x.monitor;
@@ -96,21 +96,21 @@ module _ (c : Content) (s : State) (r : Represents c s) (t left : ℕ) (m : Fram
 
     linked : IsLinked c.tree x.cell.kind x.object.contents
     linked =
-        typed_is_linked c.tree r.accepted.legal s (own_names c s r t left m there) x.cell.kind (slice_set x.cell.slots 0 told_word) x.object.contents (Some (length s.threads)) (r.typed.objects number x.object x.is) marked_cell.contents
+        typed_is_linked c.tree r.accepted.legal s (own_names c s r t left m there) x.cell.kind (slice_set x.cell.slots 0 decoded_word) x.object.contents (Some (length s.threads)) (r.typed.objects number x.object x.is) marked_cell.contents
 
     -- the objects with the word
-    abbrev told : Objects
-    told = stored_int (mutator_of c t).phase c.objects object 0 told_word
+    abbrev decoded : Objects
+    decoded = stored_int (mutator_of c t).phase c.objects object 0 decoded_word
 
     -- they are a memory of the thread
-    marked_fits : (own_model c s r t left m there).Fits (own_names c s r t left m there) told c.statics (with_object s (Born number) marked)
+    marked_fits : (own_model c s r t left m there).Fits (own_names c s r t left m there) decoded c.statics (with_object s (Born number) marked)
     marked_fits =
-        subst (λ p. (own_model c s r t left m there).Fits (own_names c s r t left m there) (stored_int p c.objects object 0 told_word) c.statics (with_object s (Born number) marked)) (own_phase_is c s r t left m there)
-        ((own_model c s r t left m there).hidden (own_names c s r t left m there) c.objects c.statics s (own_memory c s r t left m there).fits r.typed object number named x.cell x.lies 0 told_word slot_there no_reference marked linked marked_cell)
+        subst (λ p. (own_model c s r t left m there).Fits (own_names c s r t left m there) (stored_int p c.objects object 0 decoded_word) c.statics (with_object s (Born number) marked)) (own_phase_is c s r t left m there)
+        ((own_model c s r t left m there).hidden (own_names c s r t left m there) c.objects c.statics s (own_memory c s r t left m there).fits r.typed object number named x.cell x.lies 0 decoded_word slot_there no_reference marked linked marked_cell)
 
     -- the word can be stored
-    pub told_storable : is_word_storable (mutator_of c t).phase c.objects object 0 ≡ true
-    told_storable =
+    pub decoded_storable : is_word_storable (mutator_of c t).phase c.objects object 0 ≡ true
+    decoded_storable =
         subst (λ p. is_word_storable p c.objects object 0 ≡ true) (own_phase_is c s r t left m there)
         ((own_model c s r t left m there).word_storable (own_names c s r t left m there) c.objects c.statics s (own_memory c s r t left m there).fits object number named x.cell x.lies 0 slot_there)
 
@@ -126,72 +126,72 @@ module _ (c : Content) (s : State) (r : Represents c s) (t left : ℕ) (m : Fram
       abbrev begun_state : State
       begun_state = state_with c s r t left m there rest object number x b.found b.code
 
-      begun_memory : IsModelled c.tree (own_model c s r t left m there) (own_names c s r t left m there) told c.statics c.printed begun_state
+      begun_memory : IsModelled c.tree (own_model c s r t left m there) (own_names c s r t left m there) decoded c.statics c.printed begun_state
       begun_memory = record {
-        fits = (own_model c s r t left m there).beside (own_names c s r t left m there) told c.statics (with_object s (Born number) marked) begun_state marked_fits (record { objects = refl; monitors = refl; statics = refl });
+        fits = (own_model c s r t left m there).beside (own_names c s r t left m there) decoded c.statics (with_object s (Born number) marked) begun_state marked_fits (record { objects = refl; monitors = refl; statics = refl });
         printed_is = (own_memory c s r t left m there).printed_is;
       }
 
-      begun_fits : FitsOwn c s r t left m there (own_names c s r t left m there) told c.statics begun_state
-      begun_fits = fits_of c s r t left m there (own_names c s r t left m there) told c.statics c.printed begun_state begun_memory
+      begun_fits : FitsOwn c s r t left m there (own_names c s r t left m there) decoded c.statics begun_state
+      begun_fits = fits_of c s r t left m there (own_names c s r t left m there) decoded c.statics c.printed begun_state begun_memory
 
-      begun_names : KeepsOwnNames c s r told begun_fits.whole
+      begun_names : KeepsOwnNames c s r decoded begun_fits.whole
       unfolding begun_fits
-      begun_names = names_of c s r t left m there (own_names c s r t left m there) told c.statics c.printed begun_state begun_memory
+      begun_names = names_of c s r t left m there (own_names c s r t left m there) decoded c.statics c.printed begun_state begun_memory
 
       -- it stands under all names that have the object's
       starting : (names : Names) → names object.number ≡ Some (Born number) → IsThread c.tree c.limits names beginning state_beginning
       starting names is = beginning_stands names c.tree c.limits (depth_is_some c.limits r.limits) b.found b.code b.has_code b.first b.stands (Ref object ∷ []) (Reference (Born number) ∷ []) (reference object (Born number) is, tt)
 
       -- it holds what its starter may
-      beginning_passes : FramesPass (own_passes c s r t left m there told) beginning.standing
+      beginning_passes : FramesPass (own_passes c s r t left m there decoded) beginning.thread_status
       beginning_passes fs e a listed =
           let same : (record { running = new_machine_frame b.first (Ref object ∷ []) (local_kinds b.found.1) None; below = []; depth = c.limits.depth; room = frame_room }) ≡ fs = cc in
-          frames_pass c s r t left m there (own_names c s r t left m there) told c.statics begun_state begun_fits
-          (record { running = new_machine_frame b.first (Ref object ∷ []) (local_kinds b.found.1) None; below = []; depth = c.limits.depth; room = frame_room }) state_beginning.frames (starting (own_names c s r t left m there) named).standing a
+          frames_pass c s r t left m there (own_names c s r t left m there) decoded c.statics begun_state begun_fits
+          (record { running = new_machine_frame b.first (Ref object ∷ []) (local_kinds b.found.1) None; below = []; depth = c.limits.depth; room = frame_room }) state_beginning.frames (starting (own_names c s r t left m there) named).thread_status a
           (subst (λ (y : Frames). IsListed (roots y) a) (sym same) listed)
 
-      begun_stands : StandsBy begun_fits.whole (record c { threads = c.threads ++ beginning ∷ []; objects = told }) begun_state
+      begun_stands : StandsBy begun_fits.whole (record c { threads = c.threads ++ beginning ∷ []; objects = decoded }) begun_state
       begun_stands = record {
         memory = record { heap = begun_fits.heap; static_values = begun_fits.stands; printed_is = begun_memory.printed_is };
         threads = agree_append (IsThread c.tree c.limits begun_fits.whole) c.threads s.threads
             (agree_weaken (IsThread c.tree c.limits (normally c s r).name) (IsThread c.tree c.limits begun_fits.whole) (thread_extends (normally c s r).name begun_fits.whole begun_fits.extends c.tree c.limits) c.threads s.threads (normally c s r).by.threads)
             (beginning ∷ []) (state_beginning ∷ [])
-            (starting begun_fits.whole (own_extends c.tree c.limits.max_words c.posts c.progress (seat c s r t left m there) c.objects (normally c s r).name (own_names c s r t left m there) told c.statics begun_state begun_fits object.number (Born number) named), tt);
+            (starting begun_fits.whole (own_extends c.tree c.limits.max_words c.posts c.progress (seat c s r t left m there) c.objects (normally c s r).name (own_names c s r t left m there) decoded c.statics begun_state begun_fits object.number (Born number) named), tt);
       }
 
-      begun_follows : (operation : Operation) → IsAt c.tree m operation → HasSmallConstant operation → (operand : StateValue) → (running c s r t left m there).stack ≡ operand ∷ rest → Follows c s r t (counted_with c.threads (c.threads ++ beginning ∷ [], told, GoesOn))
+      begun_follows : (operation : Operation) → IsAt c.tree m operation → HasSmallConstant operation → (operand : StateValue) → (running c s r t left m there).stack ≡ operand ∷ rest → Follows c s r t (counted_with c.threads (c.threads ++ beginning ∷ [], decoded, Continues))
       begun_follows operation at constant operand stack =
           let popped = popped_frames c s r t left m there operation at constant operand rest stack in
-          finish c s r t left m there (own_names c s r t left m there) (c.threads ++ beginning ∷ []) (c.threads ++ beginning ∷ []) (joined c.posts (length c.threads) t) told c.statics c.printed begun_state (λ y. refl) begun_fits
-          (room_of c s r t left m there (own_names c s r t left m there) told c.statics c.printed begun_state begun_memory) begun_names begun_stands
-          (beside_more c s r t left m there (own_names c s r t left m there) told c.statics begun_state begun_fits beginning beginning_passes) false GoesOn refl (after_request GoesOn m) (
+          finish c s r t left m there (own_names c s r t left m there) (c.threads ++ beginning ∷ []) (c.threads ++ beginning ∷ []) (join_thread c.posts (length c.threads) t) decoded c.statics c.printed begun_state (λ y. refl) begun_fits
+          (room_of c s r t left m there (own_names c s r t left m there) decoded c.statics c.printed begun_state begun_memory) begun_names begun_stands
+          (beside_more c s r t left m there (own_names c s r t left m there) decoded c.statics begun_state begun_fits beginning beginning_passes) false Continues refl (after_request Continues m) (
             after (running c s r t left m there) rest,
             below c s r t left m there,
             b.does,
-            frames_whole c s r t left m there (own_names c s r t left m there) told c.statics begun_state begun_fits (after_request GoesOn m) (after (running c s r t left m there) rest ∷ below c s r t left m there) popped,
+            frames_whole c s r t left m there (own_names c s r t left m there) decoded c.statics begun_state begun_fits (after_request Continues m) (after (running c s r t left m there) rest ∷ below c s r t left m there) popped,
           )
-          (going_pass c s r t left m there (own_names c s r t left m there) told c.statics begun_state begun_fits (after_request GoesOn m) (after (running c s r t left m there) rest ∷ below c s r t left m there) popped)
+          (going_pass c s r t left m there (own_names c s r t left m there) decoded c.statics begun_state begun_fits (after_request Continues m) (after (running c s r t left m there) rest ∷ below c s r t left m there) popped)
 
   -- ---- Start
 
   module _ (operation : Operation) (at : IsAt c.tree m operation) (constant : HasSmallConstant operation) where
-    start_follows : (object : Addr) → (asks : Asks c s r t left m there Start object (answer_of m c.objects c.statics c.printed (Starts object))) → (after' : Content × Report) →
-        option_map (counted_with c.threads) (started (mutator_of c t).phase c.tree c.limits c.threads c.objects object) ≡ Some after' → Follows c s r t after'
+    start_follows : (object : Addr) → (asks : Asks c s r t left m there Start object (answer_of m c.objects c.statics c.printed (Starts object))) → (after' : MachineState × Report) →
+        option_map (counted_with c.threads) (start_thread (mutator_of c t).phase c.tree c.limits c.threads c.objects object) ≡ Some after' → Follows c s r t after'
     start_follows object asks after' h = by_object (start_asked object (answer_of m c.objects c.statics c.printed (Starts object)) asks)
       where
-        leads : (y : List Thread × Objects × Effect) → started (mutator_of c t).phase c.tree c.limits c.threads c.objects object ≡ Some y → Follows c s r t (counted_with c.threads y) → Follows c s r t after'
+        leads : (y : List Thread × Objects × Effect) → start_thread (mutator_of c t).phase c.tree c.limits c.threads c.objects object ≡ Some y → Follows c s r t (counted_with c.threads y) → Follows c s r t after'
         leads y is f = subst (Follows c s r t) (same_Some (counted_with c.threads y) after' (sym (ap (option_map (counted_with c.threads)) is) ∙ h)) f
 
-        fault_starts : (fault : Fault) → start_fault c.threads c.objects object ≡ Some fault → started (mutator_of c t).phase c.tree c.limits c.threads c.objects object ≡ Some (c.threads, c.objects, Raises fault)
+        fault_starts : (fault : Fault) → start_fault c.threads c.objects object ≡ Some fault → start_thread (mutator_of c t).phase c.tree c.limits c.threads c.objects object ≡ Some (c.threads, c.objects, Raises fault)
         fault_starts fault is = ap (λ o. option_map_or (λ y. Some (c.threads, c.objects, Raises y)) o (option_map (with_start (mutator_of c t).phase c.threads c.objects object) (thread_for c.tree c.limits c.objects object))) is
 
         thread_starts : (thread : Thread) → start_fault c.threads c.objects object ≡ None → thread_for c.tree c.limits c.objects object ≡ Some thread →
-            started (mutator_of c t).phase c.tree c.limits c.threads c.objects object ≡ Some (c.threads ++ thread ∷ [], stored_int (mutator_of c t).phase c.objects object 0 (length c.threads + 1), GoesOn)
+            start_thread (mutator_of c t).phase c.tree c.limits c.threads c.objects object ≡ Some (c.threads ++ thread ∷ [], stored_int (mutator_of c t).phase c.objects object 0 (length c.threads + 1), Continues)
         thread_starts thread is found =
             ap (λ o. option_map_or (λ y. Some (c.threads, c.objects, Raises y)) o (option_map (with_start (mutator_of c t).phase c.threads c.objects object) (thread_for c.tree c.limits c.objects object))) is ∙
             ap (option_map (with_start (mutator_of c t).phase c.threads c.objects object)) found ∙
-            ap (λ o. Some (option_map_or (λ f. (c.threads, c.objects, Raises f)) o (c.threads ++ thread ∷ [], stored_int (mutator_of c t).phase c.objects object 0 (length c.threads + 1), GoesOn))) is
+            ap (λ o. Some (option_map_or (λ f. (c.threads, c.objects, Raises f)) o (c.threads ++ thread ∷ [], stored_int (mutator_of c t).phase c.objects object 0 (length c.threads + 1), Continues))) is
 
         by_object : IsAskedOf c s r t left m there (done c s r t left m there false) (λ n. start (here c s r t left m there) s (running c s r t left m there) (below c s r t left m there) n asks.rest) object → Follows c s r t after'
         by_object (inl (is, e)) = leads (c.threads, c.objects, Raises NullReference) (fault_starts NullReference (ap (start_fault c.threads c.objects) is)) (fault_follows NullReference refl e)
@@ -200,14 +200,14 @@ module _ (c : Content) (s : State) (r : Represents c s) (t left : ℕ) (m : Fram
             by_start : IsStarted c s r t left m there asks.rest object number x → Follows c s r t after'
             by_start (faulted fault refuses is e') = leads (c.threads, c.objects, Raises fault) (fault_starts fault is) (fault_follows fault refuses e')
             by_start (begun is b) =
-                leads (c.threads ++ thread_at c.limits b.found (Ref object ∷ []) b.first ∷ [], stored_int (mutator_of c t).phase c.objects object 0 (length c.threads + 1), GoesOn)
+                leads (c.threads ++ thread_at c.limits b.found (Ref object ∷ []) b.first ∷ [], stored_int (mutator_of c t).phase c.objects object 0 (length c.threads + 1), Continues)
                 (thread_starts (thread_at c.limits b.found (Ref object ∷ []) b.first) is b.thread)
                 (begun_follows asks.rest object number x named b operation at constant asks.operand asks.stack)
 
     -- a step that asks for a start
-    pub starts : (threads : List Thread) → threads ≡ c.threads → (object : Addr) → Asks c s r t left m there Start object (answer_of m c.objects c.statics c.printed (Starts object)) → (after' : Content × Report) →
-        option_map (counted_with threads) (started (mutator_of c t).phase c.tree c.limits threads c.objects object) ≡ Some after' → Follows c s r t after'
-    starts threads same object asks after' h = start_follows object asks after' (subst (λ ts. option_map (counted_with ts) (started (mutator_of c t).phase c.tree c.limits ts c.objects object) ≡ Some after') same h)
+    pub starts : (threads : List Thread) → threads ≡ c.threads → (object : Addr) → Asks c s r t left m there Start object (answer_of m c.objects c.statics c.printed (Starts object)) → (after' : MachineState × Report) →
+        option_map (counted_with threads) (start_thread (mutator_of c t).phase c.tree c.limits threads c.objects object) ≡ Some after' → Follows c s r t after'
+    starts threads same object asks after' h = start_follows object asks after' (subst (λ ts. option_map (counted_with ts) (start_thread (mutator_of c t).phase c.tree c.limits ts c.objects object) ≡ Some after') same h)
 
   -- ---- that it can be answered
 
@@ -215,7 +215,7 @@ module _ (c : Content) (s : State) (r : Represents c s) (t left : ℕ) (m : Fram
   pub start_storable : (object : Addr) → Asks c s r t left m there Start object (answer_of m c.objects c.statics c.printed (Starts object)) → object ≢ null → is_word_storable (mutator_of c t).phase c.objects object 0 ≡ true
   start_storable object asks apart = elim (start_asked object (answer_of m c.objects c.statics c.printed (Starts object)) asks) [
     | inl none ↦ absurd (apart none.0)
-    | inr found ↦ told_storable asks.rest object found.0 found.1 found.4
+    | inr found ↦ decoded_storable asks.rest object found.0 found.1 found.4
   ]
 
   -- where there is no fault a thread begins

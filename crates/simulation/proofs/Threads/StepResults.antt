@@ -10,7 +10,7 @@ use Rattle.interpreter.specs.cil_model.declared.reports.Report.{Report}
 use Rattle.interpreter.specs.cil_model.declared.reports.Report.TheVariants.{Blocked, Ended as HasEnded, Absent}
 use Rattle.interpreter.specs.reference_machine.States.{Frame as StateFrame, Thread as StateThread, State}
 use Rattle.interpreter.specs.reference_machine.Effects.{Effect as StateEffect, Goes, Blocks as StateBlocks, Raises as StateRaises, given}
-use Rattle.interpreter.specs.reference_machine.Steps.{Outcome, Answers, execute, effect_of, with_thread_at, ended_as, goes_on, settled as state_settled, step_of, step}
+use Rattle.interpreter.specs.reference_machine.Steps.{Outcome, Answers, execute, effect_of, with_thread_at, ended_as, continues, charge as state_step_charged, step_of, step}
 use Rattle.interpreter.specs.reference_machine.Runs.{is_refusal}
 use Rattle.interpreter.specs.reference_machine.TypedStates.{IsTyped}
 use Rattle.interpreter.proofs.reference_machine.TypedSteps.StepsAndRuns.{step_typed}
@@ -19,16 +19,16 @@ use Rattle.simulation.proofs.MonitorCounts.Steps.{step_counted}
 use Rattle.interpreter.specs.object_memory.declared.values.Value.{Value}
 use Rattle.interpreter.specs.object_memory.Objects.{Objects}
 use Rattle.interpreter.specs.threads_monitors.Frames.{Frames}
-use Rattle.interpreter.specs.threads_monitors.Threads.{end_after, report_of, settled, standing_after}
+use Rattle.interpreter.specs.threads_monitors.Threads.{end_after, report_of, charge, status_after}
 use Rattle.interpreter.specs.threads_monitors.declared.effects.Effect.{Effect}
-use Rattle.interpreter.specs.threads_monitors.declared.effects.Effect.TheVariants.{GoesOn, Returns, Blocks, Raises}
-use Rattle.interpreter.specs.threads_monitors.declared.threads.Standing.TheVariants.{Live, Ended}
+use Rattle.interpreter.specs.threads_monitors.declared.effects.Effect.TheVariants.{Continues, Returns, Blocks, Raises}
+use Rattle.interpreter.specs.threads_monitors.declared.threads.ThreadStatus.TheVariants.{Live, Ended}
 use Rattle.interpreter.specs.threads_monitors.declared.threads.Thread.{Thread}
 use Rattle.simulation.specs.Agreement.{Agree}
-use Rattle.simulation.specs.MachineContents.{Content, mutator_of}
-use Rattle.simulation.specs.StandsFor.{Names, AreFrames, IsThread, StandsBy, Represents}
+use Rattle.simulation.specs.MachineStates.{MachineState, mutator_of}
+use Rattle.simulation.specs.Refines.{Names, AreFrames, IsThread, StandsBy, Represents}
 use Rattle.collector.specs.phase_handshake.Handshakes.{Handshakes}
-use Rattle.simulation.specs.Turns.{counted, live_thread, seats_after}
+use Rattle.simulation.specs.Transitions.{count_step, live_thread, seats_after}
 use Rattle.simulation.proofs.ListLaws.AgreeingLists.{agree_set, agree_weaken}
 use Rattle.simulation.proofs.Representation.MoreNames.{frames_extend, thread_extends}
 use Rattle.simulation.proofs.Memory.NamedAddresses.{memory_beside}
@@ -54,8 +54,8 @@ some_left n = grind (arith, nat_tests)
 
 -- ---- the thread after its step
 
-module _ (names : Names) (c : Content) (s : State) (by : StandsBy names c s) (t : ℕ) where
-  -- a thread in the place of another
+module _ (names : Names) (c : MachineState) (s : State) (by : StandsBy names c s) (t : ℕ) where
+  -- a thread in place of another
   thread_stands : (x : Thread) (u : StateThread) → IsThread c.tree c.limits names x u → StandsBy names (record c { threads = slice_set c.threads t x }) (with_thread_at s t u)
   thread_stands x u h = record {
     memory = memory_beside c.tree names c.objects s (with_thread_at s t u) refl refl refl refl c.statics c.printed by.memory;
@@ -63,34 +63,34 @@ module _ (names : Names) (c : Content) (s : State) (by : StandsBy names c s) (t 
   }
 
   -- both return the same report, and what is held then represents the state, of the same objects
-  abbrev Settles : Outcome → Thread × Report → Type 0
-  Settles outcome x = (s' : State) × (outcome ≡ Answers x.1 s') × StandsBy names (record c { threads = slice_set c.threads t x.0 }) s' × (s'.objects ≡ s.objects)
+  abbrev ChargesStep : Outcome → Thread × Report → Type 0
+  ChargesStep outcome x = (s' : State) × (outcome ≡ Answers x.1 s') × StandsBy names (record c { threads = slice_set c.threads t x.0 }) s' × (s'.objects ≡ s.objects)
 
-  ends : (left : ℕ) (e : End) → Settles (ended_as s t left e) (record { standing = Ended e; steps_left = left }, HasEnded e)
-  ends left e = (_, refl, thread_stands (record { standing = Ended e; steps_left = left }) (record { frames = []; steps_left = left; ended = Some e }) (record { standing = refl; steps_left = refl }), refl)
+  ends : (left : ℕ) (e : End) → ChargesStep (ended_as s t left e) (record { thread_status = Ended e; steps_left = left }, HasEnded e)
+  ends left e = (_, refl, thread_stands (record { thread_status = Ended e; steps_left = left }) (record { frames = []; steps_left = left; ended = Some e }) (record { thread_status = refl; steps_left = refl }), refl)
 
-  goes : (m : Frames) (fs : List StateFrame) → AreFrames c.tree c.limits names m fs → (effect : Effect) (left : ℕ) → Settles (goes_on (report_of effect) s t left fs) (standing_after (if left == 0 then Some Budget else None) m left effect)
+  goes : (m : Frames) (fs : List StateFrame) → AreFrames c.tree c.limits names m fs → (effect : Effect) (left : ℕ) → ChargesStep (continues (report_of effect) s t left fs) (status_after (if left == 0 then Some Budget else None) m left effect)
   goes m fs h effect zero = ends 0 Budget
   goes m fs h effect (suc left) =
-      subst (λ b. Settles (goes_on (report_of effect) s t (suc left) fs) (standing_after (if b then Some Budget else None) m (suc left) effect)) (sym (some_left left))
-      (_, refl, thread_stands (record { standing = Live m; steps_left = suc left }) (record { frames = fs; steps_left = suc left; ended = None }) (record { standing = h; steps_left = refl }), refl)
+      subst (λ b. ChargesStep (continues (report_of effect) s t (suc left) fs) (status_after (if b then Some Budget else None) m (suc left) effect)) (sym (some_left left))
+      (_, refl, thread_stands (record { thread_status = Live m; steps_left = suc left }) (record { frames = fs; steps_left = suc left; ended = None }) (record { thread_status = h; steps_left = refl }), refl)
 
   -- an effect that comes from the state before, where the thread had these frames, and the same of the reference machine
   abbrev pub IsEffect : State → List StateFrame → Effect → Frames → StateEffect → Type 0
-  IsEffect before fs GoesOn m e = (g : StateFrame) × (gs : List StateFrame) × (e ≡ Goes (g ∷ gs) s) × AreFrames c.tree c.limits names m (g ∷ gs)
+  IsEffect before fs Continues m e = (g : StateFrame) × (gs : List StateFrame) × (e ≡ Goes (g ∷ gs) s) × AreFrames c.tree c.limits names m (g ∷ gs)
   IsEffect before fs Returns m e = e ≡ Goes [] s
   IsEffect before fs Blocks m e = (e ≡ StateBlocks) × (s ≡ before) × AreFrames c.tree c.limits names m fs
   IsEffect before fs (Raises x) m e = (e ≡ StateRaises x) × (s ≡ before)
 
-  settles : (before : State) (fs : List StateFrame) (effect : Effect) (m : Frames) (e : StateEffect) → IsEffect before fs effect m e → (left : ℕ) → Settles (state_settled before t left fs e) (standing_after (end_after effect left) m left effect)
-  settles before fs GoesOn m e (g, gs, is, h) left = subst (λ x. Settles (state_settled before t left fs x) (standing_after (end_after GoesOn left) m left GoesOn)) (sym is) (goes m (g ∷ gs) h GoesOn left)
-  settles before fs Returns m e is left = subst (λ x. Settles (state_settled before t left fs x) (standing_after (end_after Returns left) m left Returns)) (sym is) (ends left Done)
-  settles before fs Blocks m e (is, same, h) left =
-      subst (λ x. Settles (state_settled before t left fs x) (standing_after (end_after Blocks left) m left Blocks)) (sym is)
-      (subst (λ x. Settles (goes_on Blocked x t left fs) (standing_after (end_after Blocks left) m left Blocks)) same (goes m fs h Blocks left))
-  settles before fs (Raises x) m e (is, same) left =
-      subst (λ y. Settles (state_settled before t left fs y) (standing_after (end_after (Raises x) left) m left (Raises x))) (sym is)
-      (subst (λ y. Settles (ended_as y t left (ByFault x)) (standing_after (end_after (Raises x) left) m left (Raises x))) same (ends left (ByFault x)))
+  charges_step : (before : State) (fs : List StateFrame) (effect : Effect) (m : Frames) (e : StateEffect) → IsEffect before fs effect m e → (left : ℕ) → ChargesStep (state_step_charged before t left fs e) (status_after (end_after effect left) m left effect)
+  charges_step before fs Continues m e (g, gs, is, h) left = subst (λ x. ChargesStep (state_step_charged before t left fs x) (status_after (end_after Continues left) m left Continues)) (sym is) (goes m (g ∷ gs) h Continues left)
+  charges_step before fs Returns m e is left = subst (λ x. ChargesStep (state_step_charged before t left fs x) (status_after (end_after Returns left) m left Returns)) (sym is) (ends left Done)
+  charges_step before fs Blocks m e (is, same, h) left =
+      subst (λ x. ChargesStep (state_step_charged before t left fs x) (status_after (end_after Blocks left) m left Blocks)) (sym is)
+      (subst (λ x. ChargesStep (continues Blocked x t left fs) (status_after (end_after Blocks left) m left Blocks)) same (goes m fs h Blocks left))
+  charges_step before fs (Raises x) m e (is, same) left =
+      subst (λ y. ChargesStep (state_step_charged before t left fs y) (status_after (end_after (Raises x) left) m left (Raises x))) (sym is)
+      (subst (λ y. ChargesStep (ended_as y t left (ByFault x)) (status_after (end_after (Raises x) left) m left (Raises x))) same (ends left (ByFault x)))
 
 -- ---- whether memory was refused
 
@@ -109,12 +109,12 @@ refusal_of_fault Faults.ArgumentNull = refl
 refusal_of_fault Faults.SynchronizationLock = refl
 refusal_of_fault Faults.ThreadState = refl
 
-pub refusal_of : (effect : Effect) (m : Frames) (left : ℕ) → is_refusal (standing_after (end_after effect left) m left effect).1 ≡ is_refused_effect effect
-refusal_of GoesOn m zero = refl
-refusal_of GoesOn m (suc left) = ap (λ b. is_refusal (standing_after (if b then Some Budget else None) m (suc left) GoesOn).1) (some_left left)
+pub refusal_of : (effect : Effect) (m : Frames) (left : ℕ) → is_refusal (status_after (end_after effect left) m left effect).1 ≡ is_refused_effect effect
+refusal_of Continues m zero = refl
+refusal_of Continues m (suc left) = ap (λ b. is_refusal (status_after (if b then Some Budget else None) m (suc left) Continues).1) (some_left left)
 refusal_of Returns m left = refl
 refusal_of Blocks m zero = refl
-refusal_of Blocks m (suc left) = ap (λ b. is_refusal (standing_after (if b then Some Budget else None) m (suc left) Blocks).1) (some_left left)
+refusal_of Blocks m (suc left) = ap (λ b. is_refusal (status_after (if b then Some Budget else None) m (suc left) Blocks).1) (some_left left)
 refusal_of (Raises x) m left = refusal_of_fault x
 
 -- ---- a live thread's step
@@ -123,16 +123,16 @@ same_state : (o : Outcome) (x y : Report) (s s' : State) → o ≡ Answers x s �
 same_state o x y s s' h k = cc
 
 -- the room for births of a thread and the words of all objects are together the same number as before its step
-abbrev pub KeepsOwnRoom : Content → State → ℕ → Objects → State → Type 0
+abbrev pub KeepsOwnRoom : MachineState → State → ℕ → Objects → State → Type 0
 KeepsOwnRoom c s t o s' = KeepsRoom c.tree (mutator_of c t).phase c.objects o s.objects s'.objects
 
 -- the outcome of the step of a thread on both machines, where posts and seats fit the threads after it
-abbrev pub Follows : (c : Content) (s : State) → Represents c s → ℕ → Content × Report → Type 0
+abbrev pub Follows : (c : MachineState) (s : State) → Represents c s → ℕ → MachineState × Report → Type 0
 Follows c s r t after = AreSeated after.0.posts after.0.threads →
     (s' : State) × (step c.tree c.limits s t (is_refusal after.1) ≡ Answers after.1 s') × (r' : Represents after.0 s') × KeepsOwnRoom c s t after.0.objects s' × KeepsOwnNames c s r after.0.objects r'.stands.name
 
 -- a machine state that represents the state after a step
-pub followed : (c : Content) (s : State) (r : Represents c s) (t : ℕ) (threads : List Thread) (h : Handshakes) (o : Objects) (statics : List Value) (printed : List ℕ) (report : Report) (s' : State) →
+pub followed : (c : MachineState) (s : State) (r : Represents c s) (t : ℕ) (threads : List Thread) (h : Handshakes) (o : Objects) (statics : List Value) (printed : List ℕ) (report : Report) (s' : State) →
     step c.tree c.limits s t (is_refusal report) ≡ Answers report s' → (name : Names) → StandsBy name (record c { threads = threads; objects = o; statics = statics; printed = printed }) s' →
     (AreSeated h threads → IsSound (record c { threads = threads; posts = h; objects = o; statics = statics; printed = printed })) → KeepsOwnRoom c s t o s' → KeepsOwnNames c s r o name →
     Follows c s r t (record c { threads = threads; posts = h; objects = o; statics = statics; printed = printed }, report)
@@ -155,7 +155,7 @@ followed c s r t threads h o statics printed report s' is name stands sound room
 -- ---- frames of a thread that is live after its step
 
 -- they are those that its instruction left,
-still_live : (o : Option End) (m fs : Frames) (n : ℕ) (effect : Effect) → (standing_after o m n effect).0.standing ≡ Live fs → m ≡ fs
+still_live : (o : Option End) (m fs : Frames) (n : ℕ) (effect : Effect) → (status_after o m n effect).0.thread_status ≡ Live fs → m ≡ fs
 still_live None m fs n effect e = cc
 still_live (Some x) m fs n effect e = absurd cc
 
@@ -163,13 +163,13 @@ still_live (Some x) m fs n effect e = absurd cc
 ended_none : {A : Type 0} (e : End) (fs : Frames) → Ended e ≡ Live fs → A
 ended_none e fs h = absurd cc
 
-module _ (c : Content) (s : State) (r : Represents c s) (t left : ℕ) (m : Frames) (there : slice_get c.threads t ≡ Some (record { standing = Live m; steps_left = left })) where
+module _ (c : MachineState) (s : State) (r : Represents c s) (t left : ℕ) (m : Frames) (there : slice_get c.threads t ≡ Some (record { thread_status = Live m; steps_left = left })) where
   -- what the instruction of the thread does on the reference machine
   abbrev pub done : Bool → StateEffect
   done refused = execute (setting_of c t refused) s (is_alive c s r t left m there).running (is_alive c s r t left m there).below (is_running c s r t left m there refused).0
 
   -- and so its step
-  pub step_is : (refused : Bool) → step c.tree c.limits s t refused ≡ state_settled s t (left - 1) (is_alive c s r t left m there).thread.frames (done refused)
+  pub step_is : (refused : Bool) → step c.tree c.limits s t refused ≡ state_step_charged s t (left - 1) (is_alive c s r t left m there).thread.frames (done refused)
   step_is refused =
       let u : StateThread = (is_alive c s r t left m there).thread in
       let f : StateFrame = (is_alive c s r t left m there).running in
@@ -177,9 +177,9 @@ module _ (c : Content) (s : State) (r : Represents c s) (t left : ℕ) (m : Fram
       let does : effect_of (setting_of c t refused) s u.frames ≡ done refused =
       ap (effect_of (setting_of c t refused) s) (is_alive c s r t left m there).frames_are ∙ ap (λ i. given i (execute (setting_of c t refused) s f below)) (is_running c s r t left m there refused).1 in
       ap (λ x. option_map_or (step_of (setting_of c t refused) s) x (Answers Absent s)) (is_alive c s r t left m there).there ∙
-      ap (λ e. if is_none e then state_settled s t (u.steps_left - 1) u.frames (effect_of (setting_of c t refused) s u.frames) else Answers Absent s) (is_alive c s r t left m there).lives ∙
-      ap (λ e. state_settled s t (u.steps_left - 1) u.frames e) does ∙
-      ap (λ n. state_settled s t (n - 1) u.frames (done refused)) (sym (is_alive c s r t left m there).steps)
+      ap (λ e. if is_none e then state_step_charged s t (u.steps_left - 1) u.frames (effect_of (setting_of c t refused) s u.frames) else Answers Absent s) (is_alive c s r t left m there).lives ∙
+      ap (λ e. state_step_charged s t (u.steps_left - 1) u.frames e) does ∙
+      ap (λ n. state_step_charged s t (n - 1) u.frames (done refused)) (sym (is_alive c s r t left m there).steps)
 
   -- ---- what an instruction left
 
@@ -201,10 +201,10 @@ module _ (c : Content) (s : State) (r : Represents c s) (t left : ℕ) (m : Fram
     pub frames_pass : (a : Addr) → IsListed (roots m') a → own_passes c s r t left m there o a
     frames_pass = frames_are_held c.tree c.limits.max_words c.posts c.progress (seat c s r t left m there) c.objects (normally c s r).name names o statics s' fits c.limits m' gs h
 
-    pub going_pass : FramesPass (own_passes c s r t left m there o) (settled GoesOn (live_thread left m')).0.standing
-    going_pass fs e a listed = frames_pass a (subst (λ x. IsListed (roots x) a) (sym (still_live (end_after GoesOn (left - 1)) m' fs (left - 1) GoesOn e)) listed)
+    pub going_pass : FramesPass (own_passes c s r t left m there o) (charge Continues (live_thread left m')).0.thread_status
+    going_pass fs e a listed = frames_pass a (subst (λ x. IsListed (roots x) a) (sym (still_live (end_after Continues (left - 1)) m' fs (left - 1) Continues e)) listed)
 
-    pub blocked_pass : FramesPass (own_passes c s r t left m there o) (settled Blocks (live_thread left m')).0.standing
+    pub blocked_pass : FramesPass (own_passes c s r t left m there o) (charge Blocks (live_thread left m')).0.thread_status
     blocked_pass fs e a listed = frames_pass a (subst (λ x. IsListed (roots x) a) (sym (still_live (end_after Blocks (left - 1)) m' fs (left - 1) Blocks e)) listed)
 
   -- a thread whose step is charged as its instruction's effect says
@@ -212,18 +212,18 @@ module _ (c : Content) (s : State) (r : Represents c s) (t left : ℕ) (m : Fram
       (fits : FitsOwn c s r t left m there names o statics s') → KeepsOwnRoom c s t o s' → KeepsOwnNames c s r o fits.whole → (by : StandsBy fits.whole (record c { threads = base; objects = o; statics = statics; printed = printed }) s') →
       AreBeside c s r t left m there base h o → (refused : Bool) (effect : Effect) → refused ≡ is_refused_effect effect → (m' : Frames) →
       IsEffect fits.whole (record c { threads = base; objects = o; statics = statics; printed = printed }) s' by t s (is_alive c s r t left m there).thread.frames effect m' (done refused) →
-      FramesPass (own_passes c s r t left m there o) (settled effect (live_thread left m')).0.standing →
-      Follows c s r t (counted (record c { threads = threads; posts = h; objects = o; statics = statics; printed = printed }) t left effect m')
+      FramesPass (own_passes c s r t left m there o) (charge effect (live_thread left m')).0.thread_status →
+      Follows c s r t (count_step (record c { threads = threads; posts = h; objects = o; statics = statics; printed = printed }) t left effect m')
   finish names threads base h o statics printed s' same fits room kept by beside refused effect refuses m' is pass =
-      let settled = settles fits.whole (record c { threads = base; objects = o; statics = statics; printed = printed }) s' by t s (is_alive c s r t left m there).thread.frames effect m' (done refused) is (left - 1) in
-      let x : Thread × Report = standing_after (end_after effect (left - 1)) m' (left - 1) effect in
-      followed c s r t (slice_set threads t x.0) (seats_after h t x.1) o statics printed x.1 settled.0
-      (ap (step c.tree c.limits s t) (refusal_of effect m' (left - 1) ∙ sym refuses) ∙ step_is refused ∙ settled.1)
+      let charge = charges_step fits.whole (record c { threads = base; objects = o; statics = statics; printed = printed }) s' by t s (is_alive c s r t left m there).thread.frames effect m' (done refused) is (left - 1) in
+      let x : Thread × Report = status_after (end_after effect (left - 1)) m' (left - 1) effect in
+      followed c s r t (slice_set threads t x.0) (seats_after h t x.1) o statics printed x.1 charge.0
+      (ap (step c.tree c.limits s t) (refusal_of effect m' (left - 1) ∙ sym refuses) ∙ step_is refused ∙ charge.1)
       fits.whole
-      (subst (λ ts. StandsBy fits.whole (record c { threads = ts; objects = o; statics = statics; printed = printed }) settled.0) (sym (same x.0)) settled.2)
+      (subst (λ ts. StandsBy fits.whole (record c { threads = ts; objects = o; statics = statics; printed = printed }) charge.0) (sym (same x.0)) charge.2)
       (λ fit. subst (λ ts. IsSound (record c { threads = ts; posts = seats_after h t x.1; objects = o; statics = statics; printed = printed })) (sym (same x.0))
       (after_sound c s r t left m there names o statics s' fits printed base h beside effect m' pass (subst (AreSeated (seats_after h t x.1)) (same x.0) fit)))
-      (subst (KeepsRoom c.tree (mutator_of c t).phase c.objects o s.objects) (sym settled.3) room)
+      (subst (KeepsRoom c.tree (mutator_of c t).phase c.objects o s.objects) (sym charge.3) room)
       kept
 
   module _ (a : Answer) (as_it_was : LeavesMemory (setting_of c t false) (own_model c s r t left m there) (own_names c s r t left m there) m c.objects c.statics c.printed s (is_alive c s r t left m there).running (is_alive c s r t left m there).below a) where
@@ -245,7 +245,7 @@ module _ (c : Content) (s : State) (r : Represents c s) (t left : ℕ) (m : Fram
     left_follows : (threads : List Thread) → ((x : Thread) → slice_set threads t x ≡ slice_set c.threads t x) → (refused : Bool) (effect : Effect) → refused ≡ is_refused_effect effect →
         IsEffect fits_left.whole (record c { objects = a.objects; statics = a.statics; printed = a.printed }) s (by_fits (own_names c s r t left m there) a.objects a.statics a.printed s fits_left memory_left.printed_is refl) t s
         (is_alive c s r t left m there).thread.frames effect a.frames (done refused) →
-        FramesPass (own_passes c s r t left m there a.objects) (settled effect (live_thread left a.frames)).0.standing → Follows c s r t (counted (record c { threads = threads; objects = a.objects; statics = a.statics; printed = a.printed }) t left effect a.frames)
+        FramesPass (own_passes c s r t left m there a.objects) (charge effect (live_thread left a.frames)).0.thread_status → Follows c s r t (count_step (record c { threads = threads; objects = a.objects; statics = a.statics; printed = a.printed }) t left effect a.frames)
     left_follows threads same refused effect refuses is pass =
         finish (own_names c s r t left m there) threads c.threads c.posts a.objects a.statics a.printed s same fits_left
         (room_of c s r t left m there (own_names c s r t left m there) a.objects a.statics a.printed s memory_left)
@@ -256,14 +256,14 @@ module _ (c : Content) (s : State) (r : Represents c s) (t left : ℕ) (m : Fram
   -- an instruction that asks nothing of other threads
   pub comes : (threads : List Thread) → ((x : Thread) → slice_set threads t x ≡ slice_set c.threads t x) → (refused : Bool) (effect : Effect) → refused ≡ is_refused_effect effect → (a : Answer) →
       ComesAlike (setting_of c t refused) (own_model c s r t left m there) (own_names c s r t left m there) m c.objects c.statics c.printed s (is_alive c s r t left m there).running (is_alive c s r t left m there).below (Comes effect) a (done refused) →
-      Follows c s r t (counted (record c { threads = threads; objects = a.objects; statics = a.statics; printed = a.printed }) t left effect a.frames)
-  comes threads same refused GoesOn refuses a h =
+      Follows c s r t (count_step (record c { threads = threads; objects = a.objects; statics = a.statics; printed = a.printed }) t left effect a.frames)
+  comes threads same refused Continues refuses a h =
       let fits = fits_of c s r t left m there h.names a.objects a.statics a.printed h.state h.memory in
       finish h.names threads c.threads c.posts a.objects a.statics a.printed h.state same fits
       (room_of c s r t left m there h.names a.objects a.statics a.printed h.state h.memory)
       (names_of c s r t left m there h.names a.objects a.statics a.printed h.state h.memory)
       (by_fits h.names a.objects a.statics a.printed h.state fits h.memory.printed_is h.others)
-      (beside_same c s r t left m there h.names a.objects a.statics h.state fits) refused GoesOn refuses a.frames
+      (beside_same c s r t left m there h.names a.objects a.statics h.state fits) refused Continues refuses a.frames
       (h.running, h.waiting, h.is, frames_whole h.names a.objects a.statics h.state fits a.frames (h.running ∷ h.waiting) h.frames)
       (going_pass h.names a.objects a.statics h.state fits a.frames (h.running ∷ h.waiting) h.frames)
   comes threads same refused Returns refuses a (is, as_it_was) = left_follows a as_it_was threads same refused Returns refuses is (λ fs e. ended_none Done fs e)

@@ -8,26 +8,26 @@ use Rattle.interpreter.specs.cil_model.declared.reports.End.{End}
 use Rattle.interpreter.specs.cil_model.declared.reports.Report.{Report}
 use Rattle.interpreter.specs.cil_model.declared.reports.Report.TheVariants.{Absent}
 use Rattle.interpreter.specs.reference_machine.States.{Frame as StateFrame, Thread as StateThread, State}
-use Rattle.interpreter.specs.reference_machine.Steps.{Answers, effect_of, settled, step, step_of}
+use Rattle.interpreter.specs.reference_machine.Steps.{Answers, effect_of, charge, step, step_of}
 use Rattle.interpreter.specs.reference_machine.Runs.{is_refusal}
 use Rattle.interpreter.specs.object_memory.declared.addresses.Addr.{Addr}
 use Rattle.interpreter.specs.threads_monitors.Frames.{Frames}
-use Rattle.interpreter.specs.threads_monitors.declared.threads.Standing.{Standing}
-use Rattle.interpreter.specs.threads_monitors.declared.threads.Standing.TheVariants.{Live, Ended}
+use Rattle.interpreter.specs.threads_monitors.declared.threads.ThreadStatus.{ThreadStatus}
+use Rattle.interpreter.specs.threads_monitors.declared.threads.ThreadStatus.TheVariants.{Live, Ended}
 use Rattle.interpreter.specs.threads_monitors.declared.threads.Thread.{Thread}
 use Rattle.interpreter.specs.Instructions.{IsDone, Answer, answer_of}
 use Rattle.interpreter.specs.declared.outcomes.Outcome.{Outcome}
 use Rattle.interpreter.specs.declared.outcomes.Outcome.TheVariants.{Comes, Starts, Joins}
 use Rattle.interpreter.specs.reference_machine.BuiltIn.{Action, Start, Join, start, join}
-use Rattle.simulation.specs.MachineContents.{Content, mutator_of}
-use Rattle.simulation.specs.StandsFor.{IsThread, StandsAlike, Represents}
-use Rattle.simulation.specs.Turns.{IsStandingTurn, IsThreadTurn, IsTurn, finished}
+use Rattle.simulation.specs.MachineStates.{MachineState, mutator_of}
+use Rattle.simulation.specs.Refines.{IsThread, StandsAlike, Represents}
+use Rattle.simulation.specs.Transitions.{IsStatusTransition, IsThreadTransition, IsTransition, finish_step}
 use Rattle.simulation.proofs.ListLaws.AgreeingLists.{agree_at, agree_get}
 use Rattle.simulation.proofs.Instructions.Correspondence.{InstructionsAreAlike, ComesAlike, is_refused_effect, is_refused_outcome}
 use Rattle.simulation.specs.Ready.{IsReady, IsAnswerable}
 use Rattle.simulation.proofs.Threads.NextInstruction.{setting_of, is_alive, does_alike, live_is_ready}
 use Rattle.simulation.proofs.Threads.StepResults.{Follows, KeepsOwnRoom, done, comes}
-use Rattle.simulation.proofs.Threads.Requests.{here, running, below, Asks, asked_of, has_operand, place_below}
+use Rattle.simulation.proofs.Threads.Requests.{here, running, below, Asks, asked_of, has_operand, index_below}
 use Rattle.simulation.proofs.Threads.Joins.{joins}
 use Rattle.simulation.proofs.Threads.StartSteps.{start_asked, starts, start_has_thread, start_storable}
 use Rattle.simulation.proofs.Threads.StepEffects.{step_keeps_fitting}
@@ -37,7 +37,7 @@ use Rattle.simulation.proofs.CollectedHeap.MemoryWithRoom.{keeps_itself}
 
 -- ---- an instruction that asks something of other threads
 
-module _ (c : Content) (s : State) (r : Represents c s) (t left : ℕ) (m : Frames) (there : slice_get c.threads t ≡ Some (record { standing = Live m; steps_left = left })) where
+module _ (c : MachineState) (s : State) (r : Represents c s) (t left : ℕ) (m : Frames) (there : slice_get c.threads t ≡ Some (record { thread_status = Live m; steps_left = left })) where
   -- an instruction that asks leaves all as it was
   abbrev asking : Outcome → Answer
   asking out = (answer_of m c.objects c.statics c.printed out)
@@ -50,12 +50,12 @@ module _ (c : Content) (s : State) (r : Represents c s) (t left : ℕ) (m : Fram
       ap (λ x. answer_of x a.objects a.statics a.printed a.outcome) h.frames ∙ ap (λ x. answer_of m x a.statics a.printed a.outcome) h.memory.0 ∙ ap (λ x. answer_of m c.objects x a.printed a.outcome) h.memory.1 ∙ ap (λ x. answer_of m c.objects c.statics x a.outcome) h.memory.2
 
   -- its thread stands where it stood
-  threads_stay : slice_set c.threads t (record { standing = Live m; steps_left = left }) ≡ c.threads
-  threads_stay = set_itself c.threads t (record { standing = Live m; steps_left = left }) there
+  threads_stay : slice_set c.threads t (record { thread_status = Live m; steps_left = left }) ≡ c.threads
+  threads_stay = set_itself c.threads t (record { thread_status = Live m; steps_left = left }) there
 
 -- ---- threads that don't live
 
-absent : (c : Content) (s : State) (r : Represents c s) (t : ℕ) → step c.tree c.limits s t false ≡ Answers Absent s → Follows c s r t (c, Absent)
+absent : (c : MachineState) (s : State) (r : Represents c s) (t : ℕ) → step c.tree c.limits s t false ≡ Answers Absent s → Follows c s r t (c, Absent)
 absent c s r t is = λ fit. (
   s,
   is,
@@ -64,7 +64,7 @@ absent c s r t is = λ fit. (
   record { extends = λ a n named. named; kept = λ a kept. inl kept; copies = λ are. are },
 )
 
-none_absent : (c : Content) (s : State) (r : Represents c s) (t : ℕ) → slice_get c.threads t ≡ None → Follows c s r t (c, Absent)
+none_absent : (c : MachineState) (s : State) (r : Represents c s) (t : ℕ) → slice_get c.threads t ≡ None → Follows c s r t (c, Absent)
 none_absent c s r t none = by_thread (slice_get s.threads t) refl
   where
     by_thread : (u : Option StateThread) → slice_get s.threads t ≡ u → Follows c s r t (c, Absent)
@@ -73,22 +73,22 @@ none_absent c s r t none = by_thread (slice_get s.threads t) refl
         let found : (x : Thread) × (slice_get c.threads t ≡ Some x) × IsThread c.tree c.limits r.stands.name x u = agree_get (IsThread c.tree c.limits r.stands.name) c.threads s.threads r.stands.by.threads t u is in
         none_is_some found.0 (sym none ∙ found.1)
 
-ended_absent : (c : Content) (s : State) (r : Represents c s) (t left : ℕ) (e : End) → slice_get c.threads t ≡ Some (record { standing = Ended e; steps_left = left }) → Follows c s r t (c, Absent)
+ended_absent : (c : MachineState) (s : State) (r : Represents c s) (t left : ℕ) (e : End) → slice_get c.threads t ≡ Some (record { thread_status = Ended e; steps_left = left }) → Follows c s r t (c, Absent)
 ended_absent c s r t left e there =
-    let found : (u : StateThread) × (slice_get s.threads t ≡ Some u) × IsThread c.tree c.limits r.stands.name (record { standing = Ended e; steps_left = left }) u =
-    agree_at (IsThread c.tree c.limits r.stands.name) c.threads s.threads r.stands.by.threads t (record { standing = Ended e; steps_left = left }) there in
-    by_end found.0 found.1 found.0.frames found.0.ended refl found.2.standing
+    let found : (u : StateThread) × (slice_get s.threads t ≡ Some u) × IsThread c.tree c.limits r.stands.name (record { thread_status = Ended e; steps_left = left }) u =
+    agree_at (IsThread c.tree c.limits r.stands.name) c.threads s.threads r.stands.by.threads t (record { thread_status = Ended e; steps_left = left }) there in
+    by_end found.0 found.1 found.0.frames found.0.ended refl found.2.thread_status
   where
     by_end : (u : StateThread) → slice_get s.threads t ≡ Some u → (fs : List StateFrame) (e' : Option End) → u.ended ≡ e' → StandsAlike c.tree c.limits r.stands.name (Ended e) fs e' → Follows c s r t (c, Absent)
     by_end u at fs None ended h = elim h [ ]
     by_end u at fs (Some e') ended h =
         absent c s r t (
         ap (λ x. option_map_or (step_of (setting_of c t false) s) x (Answers Absent s)) at ∙
-        ap (λ x. if is_none x then settled s t (u.steps_left - 1) u.frames (effect_of (setting_of c t false) s u.frames) else Answers Absent s) ended)
+        ap (λ x. if is_none x then charge s t (u.steps_left - 1) u.frames (effect_of (setting_of c t false) s u.frames) else Answers Absent s) ended)
 
 -- ---- the outcome of a done instruction
 
-module _ (each : InstructionsAreAlike) (c : Content) (s : State) (r : Represents c s) (t left : ℕ) (m : Frames) (there : slice_get c.threads t ≡ Some (record { standing = Live m; steps_left = left })) where
+module _ (each : InstructionsAreAlike) (c : MachineState) (s : State) (r : Represents c s) (t left : ℕ) (m : Frames) (there : slice_get c.threads t ≡ Some (record { thread_status = Live m; steps_left = left })) where
   -- the same on the reference machine, where memory is refused to both
   comes_alike : (a : Answer) → IsDone c.tree (mutator_of c t) m c.objects c.statics c.printed a →
       ComesAlike (setting_of c t (is_refused_outcome a.outcome)) (own_model c s r t left m there) (own_names c s r t left m there) m c.objects c.statics c.printed s (is_alive c s r t left m there).running (is_alive c s r t left m there).below a.outcome a
@@ -101,55 +101,55 @@ module _ (each : InstructionsAreAlike) (c : Content) (s : State) (r : Represents
       ComesAlike (setting_of c t refused) (own_model c s r t left m there) (own_names c s r t left m there) m c.objects c.statics c.printed s (is_alive c s r t left m there).running (is_alive c s r t left m there).below y.outcome y (done c s r t left m there refused))
       same x.alike refl
 
-  module _ (after : Content × Report) where
+  module _ (after : MachineState × Report) where
     -- a live thread's step
-    live_follows : (a : Answer) → IsDone c.tree (mutator_of c t) m c.objects c.statics c.printed a → finished c t left a a.outcome ≡ Some after → Follows c s r t after
+    live_follows : (a : Answer) → IsDone c.tree (mutator_of c t) m c.objects c.statics c.printed a → finish_step c t left a a.outcome ≡ Some after → Follows c s r t after
     live_follows a d is = by_outcome a.outcome (comes_alike a d) is
       where
         by_outcome : (out : Outcome) →
             ComesAlike (setting_of c t (is_refused_outcome out)) (own_model c s r t left m there) (own_names c s r t left m there) m c.objects c.statics c.printed s (is_alive c s r t left m there).running (is_alive c s r t left m there).below out a
             (done c s r t left m there (is_refused_outcome out)) →
-            finished c t left a out ≡ Some after → Follows c s r t after
+            finish_step c t left a out ≡ Some after → Follows c s r t after
         by_outcome (Comes e) h is' =
             subst (Follows c s r t) (same_Some _ after is')
-            (comes c s r t left m there (slice_set c.threads t (record { standing = Live a.frames; steps_left = left })) (λ x. set-set c.threads t (record { standing = Live a.frames; steps_left = left }) x)
+            (comes c s r t left m there (slice_set c.threads t (record { thread_status = Live a.frames; steps_left = left })) (λ x. set-set c.threads t (record { thread_status = Live a.frames; steps_left = left }) x)
             (is_refused_effect e) e refl a h)
         by_outcome (Starts object) h is' =
-            starts c s r t left m there d.operation d.at d.constant (slice_set c.threads t (record { standing = Live m; steps_left = left })) (threads_stay c s r t left m there) object
+            starts c s r t left m there d.operation d.at d.constant (slice_set c.threads t (record { thread_status = Live m; steps_left = left })) (threads_stay c s r t left m there) object
             (asks_itself c s r t left m there Start object a (Starts object) h) after
-            (subst (λ y. finished c t left y (Starts object) ≡ Some after) (asking_is c s r t left m there Start object a h) is')
+            (subst (λ y. finish_step c t left y (Starts object) ≡ Some after) (asking_is c s r t left m there Start object a h) is')
         by_outcome (Joins object) h is' =
             subst (Follows c s r t)
-            (same_Some _ after (subst (λ y. finished c t left y (Joins object) ≡ Some after) (asking_is c s r t left m there Join object a h) is'))
-            (joins c s r t left m there d.operation d.at d.constant (slice_set c.threads t (record { standing = Live m; steps_left = left })) (threads_stay c s r t left m there) object
+            (same_Some _ after (subst (λ y. finish_step c t left y (Joins object) ≡ Some after) (asking_is c s r t left m there Join object a h) is'))
+            (joins c s r t left m there d.operation d.at d.constant (slice_set c.threads t (record { thread_status = Live m; steps_left = left })) (threads_stay c s r t left m there) object
             (asks_itself c s r t left m there Join object a (Joins object) h))
 
 -- ---- all
 
 module _ (each : InstructionsAreAlike) where
   -- a live thread is ready
-  pub thread_ready : (c : Content) (s : State) → Represents c s → (t left : ℕ) (m : Frames) → slice_get c.threads t ≡ Some (record { standing = Live m; steps_left = left }) → IsReady c t m
+  pub thread_ready : (c : MachineState) (s : State) → Represents c s → (t left : ℕ) (m : Frames) → slice_get c.threads t ≡ Some (record { thread_status = Live m; steps_left = left }) → IsReady c t m
   thread_ready c s r t left m there = live_is_ready each c s r t left m there
 
   -- a step has the same outcome on both, and keeps the room and the words of all objects together, and names
-  pub step_names : (c : Content) (s : State) (r : Represents c s) (t : ℕ) (after : Content × Report) → IsTurn c (Step t) after →
+  pub step_names : (c : MachineState) (s : State) (r : Represents c s) (t : ℕ) (after : MachineState × Report) → IsTransition c (Step t) after →
       (s' : State) × (step c.tree c.limits s t (is_refusal after.1) ≡ Answers after.1 s') × (r' : Represents after.0 s') × KeepsOwnRoom c s t after.0.objects s' × KeepsOwnNames c s r after.0.objects r'.stands.name
-  step_names c s r t after turn = by_thread (slice_get c.threads t) refl turn (step_keeps_fitting c after t turn r.sound.seated)
+  step_names c s r t after transition = by_thread (slice_get c.threads t) refl transition (step_keeps_fitting c after t transition r.sound.seated)
     where
-      by_standing : (left : ℕ) (standing : Standing) → slice_get c.threads t ≡ Some (record { standing = standing; steps_left = left }) → IsStandingTurn c t left standing after → Follows c s r t after
-      by_standing left (Live m) there (a, d, is) = live_follows each c s r t left m there after a d is
-      by_standing left (Ended e) there is = subst (Follows c s r t) (sym is) (ended_absent c s r t left e there)
+      by_thread_status : (left : ℕ) (thread_status : ThreadStatus) → slice_get c.threads t ≡ Some (record { thread_status = thread_status; steps_left = left }) → IsStatusTransition c t left thread_status after → Follows c s r t after
+      by_thread_status left (Live m) there (a, d, is) = live_follows each c s r t left m there after a d is
+      by_thread_status left (Ended e) there is = subst (Follows c s r t) (sym is) (ended_absent c s r t left e there)
 
-      by_thread : (x : Option Thread) → slice_get c.threads t ≡ x → IsThreadTurn c t x after → Follows c s r t after
+      by_thread : (x : Option Thread) → slice_get c.threads t ≡ x → IsThreadTransition c t x after → Follows c s r t after
       by_thread None is h = subst (Follows c s r t) (sym h) (none_absent c s r t is)
-      by_thread (Some x) is h = by_standing x.steps_left x.standing is h
+      by_thread (Some x) is h = by_thread_status x.steps_left x.thread_status is h
 
-  pub step_follows : (c : Content) (s : State) → Represents c s → (t : ℕ) (after : Content × Report) → IsTurn c (Step t) after →
+  pub step_follows : (c : MachineState) (s : State) → Represents c s → (t : ℕ) (after : MachineState × Report) → IsTransition c (Step t) after →
       (s' : State) × (step c.tree c.limits s t (is_refusal after.1) ≡ Answers after.1 s') × Represents after.0 s' × KeepsOwnRoom c s t after.0.objects s'
-  step_follows c s r t after turn = let f = step_names c s r t after turn in (f.0, f.1, f.2, f.3)
+  step_follows c s r t after transition = let f = step_names c s r t after transition in (f.0, f.1, f.2, f.3)
 
   -- what an instruction asks of other threads can be answered
-  pub answerable : (c : Content) (s : State) → Represents c s → (t left : ℕ) (m : Frames) → slice_get c.threads t ≡ Some (record { standing = Live m; steps_left = left }) →
+  pub answerable : (c : MachineState) (s : State) → Represents c s → (t left : ℕ) (m : Frames) → slice_get c.threads t ≡ Some (record { thread_status = Live m; steps_left = left }) →
       (a : Answer) → IsDone c.tree (mutator_of c t) m c.objects c.statics c.printed a → IsAnswerable c t left a a.outcome
   answerable c s r t left m there a d = by_outcome a.outcome (comes_alike each c s r t left m there a d)
     where
@@ -161,9 +161,9 @@ module _ (each : InstructionsAreAlike) where
       by_outcome (Starts object) h =
           subst (λ y. IsAnswerable c t left y (Starts object)) (sym (asking_is c s r t left m there Start object a h)) (
             has_operand c s r t left m there Start (λ n. start (here c s r t left m there) s (running c s r t left m there) (below c s r t left m there) n own.rest) object (asking c s r t left m there (Starts object)) own (start_asked c s r t left m there object (asking c s r t left m there (Starts object)) own)
-                (place_below c s r t left m there d.operation d.at d.constant),
+                (index_below c s r t left m there d.operation d.at d.constant),
             start_storable c s r t left m there object own,
-            start_has_thread c s r t left m there (slice_set c.threads t (record { standing = Live m; steps_left = left })) (threads_stay c s r t left m there) object own,
+            start_has_thread c s r t left m there (slice_set c.threads t (record { thread_status = Live m; steps_left = left })) (threads_stay c s r t left m there) object own,
           )
         where
           own : Asks c s r t left m there Start object (asking c s r t left m there (Starts object))
@@ -172,7 +172,7 @@ module _ (each : InstructionsAreAlike) where
           subst (λ y. IsAnswerable c t left y (Joins object)) (sym (asking_is c s r t left m there Join object a h))
           (has_operand c s r t left m there Join (λ n. join (here c s r t left m there) s (running c s r t left m there) (below c s r t left m there) own.rest) object (asking c s r t left m there (Joins object)) own
           (asked_of c s r t left m there Join (λ rest n. join (here c s r t left m there) s (running c s r t left m there) (below c s r t left m there) rest) (λ v rest. refl) object (asking c s r t left m there (Joins object)) own)
-          (place_below c s r t left m there d.operation d.at d.constant))
+          (index_below c s r t left m there d.operation d.at d.constant))
         where
           own : Asks c s r t left m there Join object (asking c s r t left m there (Joins object))
           own = asks_itself c s r t left m there Join object a (Joins object) h

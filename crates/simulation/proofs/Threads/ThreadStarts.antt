@@ -25,11 +25,11 @@ use Rattle.interpreter.specs.object_memory.declared.addresses.Addr.{Addr}
 use Rattle.interpreter.specs.object_memory.declared.values.Value.TheVariants.{Ref}
 use Rattle.interpreter.specs.threads_monitors.Frames.{Frames}
 use Rattle.interpreter.specs.threads_monitors.Threads.{start_fault, thread_on}
-use Rattle.interpreter.specs.threads_monitors.declared.threads.Standing.TheVariants.{Live}
-use Rattle.interpreter.specs.Calls.{chosen, chosen_at, chosen_by}
-use Rattle.simulation.specs.MachineContents.{Content}
-use Rattle.simulation.specs.StandsFor.{IsThread, Represents}
-use Rattle.simulation.specs.Turns.{run_member, thread_at, thread_for}
+use Rattle.interpreter.specs.threads_monitors.declared.threads.ThreadStatus.TheVariants.{Live}
+use Rattle.interpreter.specs.Calls.{chosen_method, chosen_at, chosen_by}
+use Rattle.simulation.specs.MachineStates.{MachineState}
+use Rattle.simulation.specs.Refines.{IsThread, Represents}
+use Rattle.simulation.specs.Transitions.{run_member, thread_at, thread_for}
 use Rattle.simulation.proofs.ListLaws.AgreeingLists.{agree_length}
 use Rattle.simulation.proofs.Instructions.Correspondence.{is_refused_fault}
 use Rattle.simulation.proofs.Threads.StepResults.{done}
@@ -38,7 +38,7 @@ use Rattle.simulation.proofs.Threads.LiveThreads.{own_names}
 use Rattle.simulation.proofs.Threads.Requests.{here, running, below, done_typed}
 use Rattle.interpreter.proofs.cil_model.Lists.{last_is_there}
 
-module _ (c : Content) (s : State) (r : Represents c s) (t left : ℕ) (m : Frames) (there : slice_get c.threads t ≡ Some (record { standing = Live m; steps_left = left })) where
+module _ (c : MachineState) (s : State) (r : Represents c s) (t left : ℕ) (m : Frames) (there : slice_get c.threads t ≡ Some (record { thread_status = Live m; steps_left = left })) where
   module _ (rest : List StateValue) (object : Addr) (number : ℕ) (x : IsThreadObject c.tree (own_names c s r t left m there) c.objects s object number) where
     -- the state once a thread was started at the beginning of a method
     abbrev pub state_with : ClassName × Method → Code → State
@@ -64,7 +64,7 @@ module _ (c : Content) (s : State) (r : Represents c s) (t left : ℕ) (m : Fram
     chosen_is : (found : ClassName × Method) → target c.tree x.own thread_name run_method ≡ Some found → chosen_at c.tree c.objects object run_member ≡ Some found
     chosen_is found runs =
         let first : method_at c.tree (4, 1) ≡ Some (thread_name, run_method) = refl in
-        ap (option_and_then (chosen c.tree c.objects object)) first ∙
+        ap (option_and_then (chosen_method c.tree c.objects object)) first ∙
         ap (option_and_then (chosen_by c.tree (thread_name, run_method))) (class_at_is c.tree (own_names c s r t left m there) c.objects s object number x) ∙
         ap (option_and_then (λ d. target c.tree d thread_name run_method)) x.class_is ∙ runs
 

@@ -30,6 +30,6 @@ returns-clause-made c =
         same_program = c.in_ok-machine.ensures.program.0;
         same_limits = c.in_ok-machine.ensures.program.1;
         begins = c.in_ok-machine.ensures.begins;
-        represents = c.in_ok-machine.ensures.opening;
+        represents = c.in_ok-machine.ensures.initial_state;
       };
     }

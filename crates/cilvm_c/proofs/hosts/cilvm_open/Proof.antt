@@ -35,7 +35,7 @@ use Rattle.cilvm_c.specs.contracts.sessions.Session as row
 use Rattle.cilvm_c.specs.contracts.limits.HostLimits as limits_row
 use Rattle.cilvm_c.specs.declared.limits.HostLimits.{HostLimits}
 use Rattle.cilvm_c.specs.Handles.{is_held}
-use Rattle.cilvm_c.specs.Openings.{IsOpeningBy}
+use Rattle.cilvm_c.specs.InitialStates.{IsInitialBy}
 use Rattle.cilvm_c.specs.Sessions.{Held}
 use Rattle.cilvm_c.specs.contracts.hosts.cilvm_open as f
 use Rattle.cilvm_c.proofs.hosts.cilvm_open.Statement.{statement}
@@ -81,14 +81,14 @@ cilvm_open_spec 𝓤 𝓛 𝓜 𝓡 wired =
     calls_at ! (framed 𝓤 𝓛.H 𝓜 (tables 𝓤 𝓛.H 𝓜 𝓡 𝓡.env)) G (met 𝓤 𝓛 𝓜 𝓡 (code.calls-cilvm_c::hosts::open 𝓡.env wired)) z
     (and_then ! (get ! refl) (and_then ! (get ! refl) (and_then ! (get ! refl) (no_more !)))) (λ v.
     use1 𝓛 (later (some (λ (u : ℕ). ((‵ (flft (α ∷ []) full_share) ⊛ (‵ (flft κ0 q0) ⊛ (‵ (flft κ1 q1) ⊛ ‵ ftrue))) ⊛ ‵ (u32.own_val u (v ∷ []))) ⊛
-    some (λ (ws : Held × (Unit {0} × (Unit {0} × Unit {0}))). ‵ (lasts g.ended z.0.0 z.0.3 ws) ⊛ raw (fact 𝓤 (IsOpeningBy source.now limits.now u ws.0)))))) (id⊢ 𝓤 _) $
+    some (λ (ws : Held × (Unit {0} × (Unit {0} × Unit {0}))). ‵ (lasts g.ended z.0.0 z.0.3 ws) ⊛ raw (fact 𝓤 (IsInitialBy source.now limits.now u ws.0)))))) (id⊢ 𝓤 _) $
     await ! tt $ pick ! (λ u. split ! $ split ! $ split ! $ lft_end ! tt $ move ! (2 ∷ []) $
     peeks ! u32 (Is u32) (shows 𝓛 u32) u (v ∷ []) (λ is. lands_as ! refl refl ((uint_Lawful 𝓛 w32).typed u _ is).0 $
     -- [the result; α is over; the caller's tokens; the last values; the lender's part]
     move ! (3 ∷ []) $ pick ! (λ ws. split ! $ move ! (1 ∷ []) $ heard ! _ (λ is_so. fsplit ! $ fsplit ! $
     move ! (4 ∷ 6 ∷ 0 ∷ []) $ use3 𝓛 (later (‵ (part_at row.the_row full_share ws.0 b o))) (ref_back 𝓛 row.the_row (α ∷ []) δ ws.0 b o) $ await ! tt $
-    fpack ! (IsOpeningBy source.now limits.now u ws.0) (λ _. is_held row.the_row (block_ptr b o) ws.0) is_so $
-    fpack ! (Held) (λ w. fex (IsOpeningBy source.now limits.now u w) (λ _. is_held row.the_row (block_ptr b o) w)) ws.0 $
+    fpack ! (IsInitialBy source.now limits.now u ws.0) (λ _. is_held row.the_row (block_ptr b o) ws.0) is_so $
+    fpack ! (Held) (λ w. fex (IsInitialBy source.now limits.now u w) (λ _. is_held row.the_row (block_ptr b o) w)) ws.0 $
     returns ! (look_at ! 0 refl) $ free_all ! refl $ keep ! (3 ∷ 0 ∷ 4 ∷ []) $
     suffices ! _ (ends_at 𝓛 f.ended stayed c (y (block_ptr b o)) v u (tt, (tt, (tt, tt))) (tt, (tt, (tt, tt)))) $
     nothing ! $ nothing ! $ join ! $ nothing ! $ join ! $ nothing ! $ join ! $ move ! (3 ∷ []) $ group ! 3 $ done !))))))))))

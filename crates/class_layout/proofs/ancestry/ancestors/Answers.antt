@@ -2,7 +2,7 @@ use Rattle.std.proofs.Common.{◌≡◌, ◌++◌, ◌∷◌, [], map, get_or, a
 use Rattle.std.specs.Prelude.{flat_map}
 use Rattle.std.proofs.lemmas.List.{take_all}
 use Rattle.class_layout.specs.ByClass.{with_interfaces}
-use Rattle.class_layout.proofs.Places.{flat_takes}
+use Rattle.class_layout.proofs.Indices.{flat_takes}
 use Rattle.class_layout.proofs.ancestry.ancestors.Goals as goal
 
 pub loop-class-preserved : goal.loop-class-preserved

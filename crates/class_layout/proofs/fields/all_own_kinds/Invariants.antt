@@ -1,7 +1,7 @@
 use Rattle.std.proofs.Common.{◌≡◌, map, take}
 use Rattle.std.specs.List.{filter_map}
-use Rattle.class_layout.specs.NumberedKinds.{numbered_kind}
+use Rattle.class_layout.specs.ResolvedKinds.{resolved_kind}
 use Rattle.class_layout.proofs.fields.all_own_kinds.Given as goal
 
 abbrev pub invariant-loop-class : goal.invariant-loop-class
-invariant-loop-class l = map (λ row. row.items) l.rows.items ≡ map (λ r. filter_map numbered_kind r.fields) (take l.class-index l.classes)
+invariant-loop-class l = map (λ row. row.items) l.rows.items ≡ map (λ r. filter_map resolved_kind r.fields) (take l.class-index l.classes)

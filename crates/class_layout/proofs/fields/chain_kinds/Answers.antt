@@ -2,7 +2,7 @@ use Rattle.std.proofs.Common.{◌≡◌, ◌++◌, [], ℕ, List, map, take, len
 use Rattle.std.specs.List.{flat_map}
 use Rattle.std.proofs.Math.Seq.{take-length}
 use Rattle.class_layout.specs.Kinds.{hidden_kinds}
-use Rattle.class_layout.proofs.Places.{flat_takes_after}
+use Rattle.class_layout.proofs.Indices.{flat_takes_after}
 use Rattle.class_layout.proofs.fields.chain_kinds.Goals as goal
 
 pub loop-class-preserved : goal.loop-class-preserved

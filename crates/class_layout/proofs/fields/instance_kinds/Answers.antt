@@ -2,8 +2,8 @@ use Rattle.std.proofs.Common.{◌≡◌, ◌<◌, ◌+◌, ◌++◌, ◌∷◌, 
 use Rattle.std.specs.Prelude.{filter_map}
 use Rattle.std.proofs.lemmas.List.{take_all}
 use Rattle.std.proofs.lemmas.Option.{slice_get-get_or, get_or_from_slice_get}
-use Rattle.class_layout.specs.NumberedKinds.{numbered_kind}
-use Rattle.class_layout.proofs.Places.{filter_skips, filter_takes}
+use Rattle.class_layout.specs.ResolvedKinds.{resolved_kind}
+use Rattle.class_layout.proofs.Indices.{filter_skips, filter_takes}
 use Rattle.class_layout.proofs.fields.instance_kinds.Goals as goal
 
 read : {X : Type 0} (xs : List X) (i : ℕ) (d : X) → i < length xs → get_or xs i d ≡ get_or xs i (get_or xs i d)
@@ -17,11 +17,11 @@ takes h xs i d ys zs y l before some after = filter_takes h xs i (get_or xs i d)
 
 pub loop-field-preserved-in_default : goal.loop-field-preserved-in_default
 loop-field-preserved-in_default c =
-    skips numbered_kind c.args.fields.now c.loop-field.field-index _ c.loop-field.kinds.items (omega arith) c.loop-field.invariant (sym c.instance_kind.ensures ∙ c.in_default.is)
+    skips resolved_kind c.args.fields.now c.loop-field.field-index _ c.loop-field.kinds.items (omega arith) c.loop-field.invariant (sym c.instance_kind.ensures ∙ c.in_default.is)
 
 pub loop-field-preserved : goal.loop-field-preserved
 loop-field-preserved c =
-    takes numbered_kind c.args.fields.now c.loop-field.field-index _ c.loop-field.kinds.items c.push.new.self.items c.in-Some.kind (omega arith) c.loop-field.invariant (sym c.instance_kind.ensures ∙ c.in-Some.is) c.in_ok-push.ensures.items
+    takes resolved_kind c.args.fields.now c.loop-field.field-index _ c.loop-field.kinds.items c.push.new.self.items c.in-Some.kind (omega arith) c.loop-field.invariant (sym c.instance_kind.ensures ∙ c.in-Some.is) c.in_ok-push.ensures.items
 
 pub returns : goal.returns
-returns c = c.loop-field.invariant ∙ ap (filter_map numbered_kind) (take_all c.loop-field.field-index c.args.fields.now c.loop-field-test.false)
+returns c = c.loop-field.invariant ∙ ap (filter_map resolved_kind) (take_all c.loop-field.field-index c.args.fields.now c.loop-field-test.false)

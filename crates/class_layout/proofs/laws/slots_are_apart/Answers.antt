@@ -1,8 +1,8 @@
 use Rattle.class_layout.proofs.ApartLaws.{placed_in, slots_apart, type_at_slot, reference_at_slot}
 use Rattle.class_layout.proofs.laws.slots_are_apart.Goals as goal
 
-pub returns-clause-places : goal.returns-clause-places
-returns-clause-places c = placed_in
+pub returns-clause-indices : goal.returns-clause-indices
+returns-clause-indices c = placed_in
 
 pub returns-clause-apart : goal.returns-clause-apart
 returns-clause-apart c = slots_apart

@@ -2,7 +2,7 @@ use Rattle.std.proofs.Common.{map, ap, ◌∙◌}
 use Rattle.std.proofs.Math.Seq.{take_all}
 use Rattle.resolved_code.specs.declared.classes.ResolvedClass.{ResolvedClass}
 use Rattle.class_layout.specs.Roles.{role_in}
-use Rattle.class_layout.proofs.Places.{push_takes}
+use Rattle.class_layout.proofs.Indices.{push_takes}
 use Rattle.class_layout.proofs.roles.roles.Goals as goal
 
 pub loop-class-init : goal.loop-class-init

@@ -8,7 +8,7 @@ use Rattle.name_tables.specs.Numbers.{declarations}
 use Rattle.resolved_code.specs.declared.classes.ResolvedClass.{ResolvedClass}
 use Rattle.resolved_code.specs.declared.classes.ResolvedField.{ResolvedField}
 use Rattle.resolved_code.proofs.ListLaws.RelatedLists.{alike_length}
-use Rattle.class_layout.specs.FieldSlots.{numbered_fields, statics_after, numbered_by_flag, first_slot, field_rows, class_names}
+use Rattle.class_layout.specs.FieldSlots.{fields_by_id, statics_after, static_by_id, first_slot, field_rows, class_names}
 use Rattle.class_layout.proofs.ResolvedLaws.{IsClass, numbered_alike, slot_alike}
 use Rattle.class_layout.proofs.CountLaws.{AreFieldsOf, drop_at, statics_of, counted_on, statics_fit, fields_of, statics_alike_at, slots_fit}
 use Rattle.class_layout.proofs.slots.all_fields.Goals as goal
@@ -62,9 +62,9 @@ loop-class-preserved c =
     let are : AreFieldsOf t i fields =
     fields_of t s.legal s.all.now c.requires.resolved i r fields (slice_get_read s.all.now (length s.all.now) i r refl (omega arith) c.index-all-class.is) (c.as_slice-fields.ensures ∙ sym (ap (λ (x : ResolvedClass). x.fields) c.index-all-class.is)) in
     let name : ClassName = are.entry.0 in
-    let slot : c.first_slot.result ≡ first_slot t name = c.first_slot.ensures.behind ∙ slot_alike t _ _ i are.entry c.requires.kinds c.requires.own are.there in
-    let row : c.in_ok-field_row.field-0.items ≡ numbered_fields next (first_slot t name) (fields_declared t name) =
-    c.in_ok-field_row.ensures ∙ ap (λ n. numbered_by_flag next n (map (λ (f : ResolvedField). f.is_static) fields)) slot ∙ ap (numbered_by_flag next (first_slot t name)) are.flags ∙ numbered_alike next (first_slot t name) (fields_declared t name) in
+    let slot : c.first_slot.result ≡ first_slot t name = c.first_slot.ensures.following ∙ slot_alike t _ _ i are.entry c.requires.kinds c.requires.own are.there in
+    let row : c.in_ok-field_row.field-0.items ≡ fields_by_id next (first_slot t name) (fields_declared t name) =
+    c.in_ok-field_row.ensures ∙ ap (λ n. static_by_id next n (map (λ (f : ResolvedField). f.is_static) fields)) slot ∙ ap (static_by_id next (first_slot t name)) are.flags ∙ numbered_alike next (first_slot t name) (fields_declared t name) in
     let after : c.statics_after-next.result ≡ statics_after next (fields_declared t name) = c.statics_after-next.ensures ∙ statics_alike_at t i fields are next in
     let before = map (λ row. row.items) c.loop-class.rows.items in
     let rest = drop (i + 1) names in
@@ -74,7 +74,7 @@ loop-class-preserved c =
           ap (λ rows. rows ++ field_rows t c.statics_after-next.result rest) (map-append (λ row. row.items) c.loop-class.rows.items (c.in_ok-field_row.field-0 ∷ [])) ∙
           append_assoc before (c.in_ok-field_row.field-0.items ∷ []) (field_rows t c.statics_after-next.result rest) ∙
           ap (λ ns. before ++ (ns ∷ field_rows t c.statics_after-next.result rest)) row ∙
-          ap (λ n. before ++ (numbered_fields next (first_slot t name) (fields_declared t name) ∷ field_rows t n rest)) after ∙
+          ap (λ n. before ++ (fields_by_id next (first_slot t name) (fields_declared t name) ∷ field_rows t n rest)) after ∙
           ap (λ cs. before ++ field_rows t next cs) (sym (drop_at names i name are.named)) ∙ c.loop-class.invariant.numbered;
       counted = ap (λ n. statics_of t n rest) after ∙ sym (counted_on t next i name are.named) ∙ c.loop-class.invariant.counted;
     }

@@ -6,7 +6,7 @@ use Rattle.resolved_code.specs.Resolved.{AllAlike, IsResolvedMethod}
 use Rattle.class_layout.specs.Targets.{target_row, targets_of}
 use Rattle.class_layout.proofs.targets.rows_of.Given as goal
 
-abbrev pub invariant-loop-place : goal.invariant-loop-place
-invariant-loop-place l =
+abbrev pub invariant-loop-index : goal.invariant-loop-index
+invariant-loop-index l =
     (e : ClassName × Declaration) → slice_get (declarations l.classes.program.now) l.class ≡ Some e → AllAlike (IsResolvedMethod l.classes.program.now) e.1.methods l.methods →
-    map targets_of l.rows.items ≡ map (target_row l.classes.program.now e.0) (take l.place e.1.methods)
+    map targets_of l.rows.items ≡ map (target_row l.classes.program.now e.0) (take l.index e.1.methods)

@@ -24,7 +24,7 @@ pub returns-then-progress-lt-MOST_FAILED_CHECKS : goal.returns-then-progress-lt-
 returns-then-progress-lt-MOST_FAILED_CHECKS c = λ tree laid cell at.
     let p = c.args.progress.now in
     let o = c.args.heap.now in
-    ap (λ n. (record p { place = n; attempt = c.load_word.new.attempt }, o)) (ap (λ (f : Found). f.place) c.requires.place)
+    ap (λ n. (record p { cursor = n; attempt = c.load_word.new.attempt }, o)) (ap (λ (f : Found). f.offset) c.requires.offset)
     ∙ begun_loads tree p o c.args.next.object cell c.args.copy c.load_word.new.attempt (c.load_word.ensures cell at) c.if-progress-lt-MOST_FAILED_CHECKS.true
 
 pub returns-else-progress-lt-MOST_FAILED_CHECKS : goal.returns-else-progress-lt-MOST_FAILED_CHECKS

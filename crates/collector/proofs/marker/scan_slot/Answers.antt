@@ -22,14 +22,14 @@ mark-requires-clause-there c =
     let r = c.requires.readable in
     let word = old_word o.spaces c.args.object r.cell c.args.slot c.slot-word.result r.at c.slot-word.ensures in
     let holds = old_reference r.tree o.spaces c.args.object r.cell c.kind.result c.args.slot _ r.at c.kind.ensures (c.holds_reference.ensures r.tree r.laid) ∙ c.if-holds_reference.true in
-    ap (is_value_there o) (c.held.ensures ∙ ap (λ w. Ref (reference_in w)) word) ∙ r.reference holds
+    ap (is_value_there o) (c.of_word.ensures ∙ ap (λ w. Ref (reference_in w)) word) ∙ r.reference holds
 
 pub returns-then-holds_reference : goal.returns-then-holds_reference
 returns-then-holds_reference c = λ tree laid cell at.
     let o = c.args.heap.now in
     let word = old_word o.spaces c.args.object cell c.args.slot c.slot-word.result at c.slot-word.ensures in
     let holds = old_reference tree o.spaces c.args.object cell c.kind.result c.args.slot _ at c.kind.ensures (c.holds_reference.ensures tree laid) ∙ c.if-holds_reference.true in
-    c.mark.ensures ∙ ap (with_marked o) (c.held.ensures ∙ ap (λ w. Ref (reference_in w)) word)
+    c.mark.ensures ∙ ap (with_marked o) (c.of_word.ensures ∙ ap (λ w. Ref (reference_in w)) word)
     ∙ ap (λ (b : Bool). if b then with_marked o (Ref (reference_in (word_of cell c.args.slot))) else o) (sym holds)
 
 pub returns-else-holds_reference : goal.returns-else-holds_reference

@@ -1,7 +1,7 @@
 use Rattle.std.proofs.Common.{◌∙◌, List, map, subst, sym}
 use Rattle.clap.specs.Words.{HasKind, Kinds, Text, app_of, fault_of}
 use Rattle.command_line.specs.CommandLine.{threads_app}
-use Rattle.command_line.proofs.LineLemmas.{answers_wanted, threads_app-exact, exact_at, fault_of-app, refuses, threads_in-found}
+use Rattle.command_line.proofs.LineLemmas.{answers_requested, threads_app-exact, exact_at, fault_of-app, refuses, threads_in-found}
 use Rattle.command_line.proofs.line.threads_order.Goals as goal
 
 pub returns-in-Ok-clause-answer : goal.returns-in-Ok-clause-answer
@@ -10,8 +10,8 @@ returns-in-Ok-clause-answer c =
     let app = c.in_ok-command.ensures.0 in
     let taken = c.in-Ok.ensures.kinds (exact_at (app_of c.in_ok-command.command) _ app threads_app-exact) in
     let found = threads_in-found (app_of c.in_ok-command.command) words c.in-Ok.matches app c.in-Ok.ensures.matches in
-    answers_wanted (fault_of threads_app words) _ _ c.wanted_threads_order.result found (sym (fault_of-app _ _ words app) ∙ taken) c.wanted_threads_order.ensures.value
-    c.wanted_threads_order.ensures.none
+    answers_requested (fault_of threads_app words) _ _ c.requested_threads_order.result found (sym (fault_of-app _ _ words app) ∙ taken) c.requested_threads_order.ensures.value
+    c.requested_threads_order.ensures.none
 
 pub returns-in-Err-clause-answer : goal.returns-in-Err-clause-answer
 returns-in-Err-clause-answer c =

@@ -1,6 +1,6 @@
 use Rattle.std.proofs.Common.{◌≡◌, ◌≤◌, ◌<◌, List, length, inl, inr, refl, subst, sym, ap, ◌∙◌}
 use Rattle.cil_model.specs.declared.events.Event.{Event}
-use Rattle.orders.specs.Orders.{event_count}
+use Rattle.commands.specs.Orders.{event_count}
 use Rattle.outputs.specs.Taken.{Fails, Takes}
 use Rattle.run_picture.specs.Pictures.{IsPicture, IsPictureInPart}
 use Rattle.run_picture.specs.declared.windows.TheConstants.{MOST_EVENTS}

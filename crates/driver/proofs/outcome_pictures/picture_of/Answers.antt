@@ -2,7 +2,7 @@ use Rattle.std.proofs.Common.{inl, subst, sym}
 use Rattle.source_runs.proofs.acceptance.SourceLemmas.{handed_on}
 use Rattle.cil_model.specs.declared.trees.Tree.{Tree}
 use Rattle.driver.specs.Explorations.{IsNotPictured}
-use Rattle.event_trace.specs.Places.{ArePlacesOf}
+use Rattle.event_trace.specs.MethodPositions.{ArePositionsOf}
 use Rattle.driver.proofs.outcome_pictures.picture_of.Goals as goal
 
 pub returns-in_err-machine : goal.returns-in_err-machine
@@ -11,7 +11,7 @@ returns-in_err-machine c =
     subst (IsNotPictured c.args.source.now c.args.limits) (sym same) (inl c.in_err-machine.ensures.refused))
 
 pub loop-index-init : goal.loop-index-init
-loop-index-init c = subst (λ (tree : Tree). ArePlacesOf tree c.in_ok-methods.methods) c.tree.ensures c.in_ok-methods.ensures
+loop-index-init c = subst (λ (tree : Tree). ArePositionsOf tree c.in_ok-methods.methods) c.tree.ensures c.in_ok-methods.ensures
 
 pub loop-index-preserved : goal.loop-index-preserved
-loop-index-preserved c = subst (λ (tree : Tree). ArePlacesOf tree c.in_ok-methods.methods) (sym c.add_event.ensures) c.loop-index.invariant
+loop-index-preserved c = subst (λ (tree : Tree). ArePositionsOf tree c.in_ok-methods.methods) (sym c.add_event.ensures) c.loop-index.invariant

@@ -1,6 +1,6 @@
-use Rattle.event_trace.specs.Places.{ArePlacesOf}
+use Rattle.event_trace.specs.MethodPositions.{ArePositionsOf}
 use Rattle.driver.proofs.outcome_pictures.picture_of.Given as goal
 
--- the places are those of the methods of the machine's program
+-- the positions are those of the methods of the machine's program
 abbrev pub invariant-loop-index : goal.invariant-loop-index
-invariant-loop-index l = ArePlacesOf l.machine.tree l.methods
+invariant-loop-index l = ArePositionsOf l.machine.tree l.methods

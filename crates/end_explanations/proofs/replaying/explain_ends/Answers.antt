@@ -1,6 +1,6 @@
 use Rattle.std.proofs.Common.{◌≡◌, ◌≤◌, ◌∙◌, ap, length, map, refl, subst, sym}
 use Rattle.std.proofs.lemmas.List.{take_all}
-use Rattle.event_trace.specs.Places.{ArePlacesOf}
+use Rattle.event_trace.specs.MethodPositions.{ArePositionsOf}
 use Rattle.std.specs.List.{zip}
 use Rattle.shared_machine.specs.Histories.{events_of, plain, reports_of}
 use Rattle.end_explanations.specs.Replays.{AreReplayed, beginning, pair_of}
@@ -13,7 +13,7 @@ loop-run-preserved c =
     let done = c.in_ok-replay_run.ensures in
     record {
       replayed = replayed_run c.in_ok-names.names.lines c.runs-runs.result.now c.loop-run.run-index _ c.args.machine.now beginning c.loop-run.machine c.loop-run.progress c.replay_run.new.machine c.replay_run.new.progress c.loop-run-test.true before.replayed done.replayed;
-      places = subst (λ tree. ArePlacesOf tree c.in_ok-names.names.methods) (sym done.same.0) before.places;
+      positions = subst (λ tree. ArePositionsOf tree c.in_ok-names.names.methods) (sym done.same.0) before.positions;
       classes = before.classes;
       limits = done.same.1 ∙ before.limits;
     }

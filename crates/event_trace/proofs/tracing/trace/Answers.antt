@@ -6,7 +6,7 @@ use Rattle.schedule_text.specs.Items.{events_of}
 use Rattle.schedule_text.proofs.SoFar.{so_far_whole}
 use Rattle.interleaving_core.proofs.Threads.RefusedMemory.{on_err}
 use Rattle.outputs.specs.Beginnings.{AppendsBeginning}
-use Rattle.event_trace.specs.Places.{ArePlacesOf}
+use Rattle.event_trace.specs.MethodPositions.{ArePositionsOf}
 use Rattle.event_trace.proofs.TraceLaws.{TracedSoFar, all_traced, end_cut, item_cut, nothing_traced, number_cut, number_item, number_none, number_time, same_so_far}
 use Rattle.event_trace.proofs.TraceLaws.{traced_item, traced_none, traced_time}
 use Rattle.event_trace.proofs.tracing.trace.Goals as goal
@@ -19,7 +19,7 @@ loop-time-init g c =
     record {
       traced = traced_none c.args.machine.now c.loop-item.machine items i c.loop-item.pending.items (g.W.Out.taken c.args.out.now).contents (g.W.Out.taken c.loop-item.out).contents Gc before.traced;
       number = number_none items i c.loop-item.number Gc before.number;
-      places = before.places;
+      positions = before.positions;
       kept = before.kept;
     }
 
@@ -33,7 +33,7 @@ loop-time-preserved g c =
       traced = traced_time c.args.machine.now c.loop-time.machine items i c.loop-time.pending.items (g.W.Out.taken c.args.out.now).contents (g.W.Out.taken c.loop-time.out).contents _ c.loop-time._time _ done.traced.0
           c.trace_event.new.machine c.trace_event.new.pending.items (g.W.Out.taken c.trace_event.new.out).contents (c.in_ok-number.ensures.next ∙ ap (λ n. n + 1) before.number) before.traced done.traced.1 done.traced.2;
       number = number_time items i c.loop-time.number _ c.loop-time._time c.in_ok-number.number c.in_ok-number.ensures.next before.number;
-      places = subst (λ (t : Tree). ArePlacesOf t c.in_ok-methods.methods) (sym done.same.0) before.places;
+      positions = subst (λ (t : Tree). ArePositionsOf t c.in_ok-methods.methods) (sym done.same.0) before.positions;
       kept = done.kept ∙ before.kept;
     }
 
@@ -46,7 +46,7 @@ loop-item-preserved g c =
       traced = traced_item c.args.machine.now c.loop-time.machine items i c.loop-time.pending.items (g.W.Out.taken c.args.out.now).contents (g.W.Out.taken c.loop-time.out).contents _ c.loop-time._time c.loop-item-test.true
           c.loop-time-test.false c.loop-time.auto._time-end before.traced;
       number = number_item items i c.loop-time.number _ c.loop-time._time c.loop-item-test.true c.loop-time-test.false c.loop-time.auto._time-end before.number;
-      places = before.places;
+      positions = before.positions;
       kept = before.kept;
     }
 

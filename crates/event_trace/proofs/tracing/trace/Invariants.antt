@@ -1,16 +1,16 @@
 use Rattle.std.proofs.Common.{◌≡◌, length, take}
 use Rattle.schedule_text.specs.Items.{events_of}
 use Rattle.schedule_text.proofs.SoFar.{so_far}
-use Rattle.event_trace.specs.Places.{ArePlacesOf}
+use Rattle.event_trace.specs.MethodPositions.{ArePositionsOf}
 use Rattle.event_trace.proofs.TraceLaws.{TracedSoFar}
 use Rattle.event_trace.proofs.tracing.trace.Given as goal
 
--- the events of the items so far are done, their lines are written but for what is pending, and the places are those of the program
+-- the events of the items so far are done, their lines are written but for what is pending, and the positions are those of the program
 abbrev pub invariant-loop-item : goal.invariant-loop-item
 invariant-loop-item g l = record {
   traced : TracedSoFar l.fn.machine (events_of (take l.item-index l.items)) l.machine l.pending.items (g.W.Out.taken l.fn.out).contents (g.W.Out.taken l.out).contents;
   number : l.number ≡ length (events_of (take l.item-index l.items));
-  places : ArePlacesOf l.machine.tree l.methods;
+  positions : ArePositionsOf l.machine.tree l.methods;
   kept : (g.W.Out.taken l.out).failures ≡ (g.W.Out.taken l.fn.out).failures;
 }
 
@@ -19,6 +19,6 @@ abbrev pub invariant-loop-time : goal.invariant-loop-time
 invariant-loop-time g l = record {
   traced : TracedSoFar l.fn.machine (so_far l.items l.item-index l.item.event l._time) l.machine l.pending.items (g.W.Out.taken l.fn.out).contents (g.W.Out.taken l.out).contents;
   number : l.number ≡ length (so_far l.items l.item-index l.item.event l._time);
-  places : ArePlacesOf l.machine.tree l.methods;
+  positions : ArePositionsOf l.machine.tree l.methods;
   kept : (g.W.Out.taken l.out).failures ≡ (g.W.Out.taken l.fn.out).failures;
 }

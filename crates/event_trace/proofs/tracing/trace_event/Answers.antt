@@ -6,9 +6,9 @@ use Rattle.event_trace.proofs.tracing.trace_event.Goals as goal
 
 pub returns-in_err-write_piece-in-Ok-clause-stopped : goal.returns-in_err-write_piece-in-Ok-clause-stopped
 returns-in_err-write_piece-in-Ok-clause-stopped g c =
-    let (report, turn, line) = c.in-Ok.ensures.traced in
+    let (report, transition, line) = c.in-Ok.ensures.traced in
     on_err c.from_residual.result
-    (inr (report, turn, subst (AppendsBeginning (g.W.Out.taken c.args.out.now).contents (g.W.Out.taken c.write_piece.new.out).contents) line c.in_err-write_piece-in-Ok.ensures.cut.0))
+    (inr (report, transition, subst (AppendsBeginning (g.W.Out.taken c.args.out.now).contents (g.W.Out.taken c.write_piece.new.out).contents) line c.in_err-write_piece-in-Ok.ensures.cut.0))
 
 pub returns-in_err-write_whole-in-Err-clause-stopped : goal.returns-in_err-write_whole-in-Err-clause-stopped
 returns-in_err-write_whole-in-Err-clause-stopped g c =

@@ -4,6 +4,6 @@ use Rattle.exploration.specs.Paths.{AreStepsChecked, ShowsOneOf, events_of, outc
 use Rattle.exploration.proofs.checking.check_paths.Given as goal
 
 -- the lists so far
-abbrev pub invariant-loop-place : goal.invariant-loop-place
-invariant-loop-place g l = (n : ℕ) → n < l.place → (events : List Event) → slice_get (map events_of l.fn.paths) n ≡ Some events
+abbrev pub invariant-loop-path_index : goal.invariant-loop-path_index
+invariant-loop-path_index g l = (n : ℕ) → n < l.path_index → (events : List Event) → slice_get (map events_of l.fn.paths) n ≡ Some events
     → AreStepsChecked g.M.First.first (map events_of l.fn.paths) events × ShowsOneOf g.M.First.first (map outcome_found l.fn.found) events

@@ -1,26 +1,26 @@
 use Rattle.std.proofs.Common.{◌≤◌, ℕ, refl, sym, ap, ◌∙◌, length, subst}
 use Rattle.std.proofs.lemmas.Option.{same_Some}
 use Rattle.interleaving_core.specs.simulation.cil_model.declared.limits.TheConstants.{MOST_THREADS}
-use Rattle.exploration.proofs.Covering.{alike_behind, behind_more}
+use Rattle.exploration.proofs.Covering.{alike_lagging, lagging_more}
 use Rattle.exploration.proofs.checking.check_step.Goals as goal
 
 pub returns : goal.returns
 returns g c = λ can is. record {
-  content = c.replay.new.self;
+  machine_state = c.replay.new.self;
   leads = c.in_ok-replay.ensures;
   few = subst (λ (n : ℕ). n ≤ MOST_THREADS) c.started-started.ensures.all c.started-started.ensures.few;
   live = sym c.is_live.ensures ∙ c.if-not-is_live.false;
   into = record {
     next = c.step.new.self;
     report = c.in_ok-report.report;
-    turn = c.in_ok-report.ensures;
+    transition = c.in_ok-report.ensures;
     lasts = (c.is_ordinary.ensures c.if-not-is_ordinary.false).0;
     granted = (c.is_ordinary.ensures c.if-not-is_ordinary.false).1;
     covered = record {
-      content = c.args.other.now;
+      machine_state = c.args.other.now;
       among = refl;
-      behind = behind_more c.step.new.self c.run_local.new.self c.args.other.now c.in_ok-run_local.ensures
-          (behind_more c.run_local.new.self c.run_local-2.new.self c.args.other.now c.in_ok-run_local-2.ensures (alike_behind c.run_local-2.new.self c.args.other.now (c.is_like-is_known.ensures c.if-not-is_known.false)));
+      lagging = lagging_more c.step.new.self c.run_local.new.self c.args.other.now c.in_ok-run_local.ensures
+          (lagging_more c.run_local.new.self c.run_local-2.new.self c.args.other.now c.in_ok-run_local-2.ensures (alike_lagging c.run_local-2.new.self c.args.other.now (c.is_like-is_known.ensures c.if-not-is_known.false)));
     };
   };
   made = λ yes. c.is_made.ensures (same_Some c.is_made.result can is ∙ yes);

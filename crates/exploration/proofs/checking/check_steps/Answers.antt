@@ -4,5 +4,5 @@ use Rattle.exploration.specs.Paths.{events_of}
 use Rattle.exploration.proofs.CheckedSteps.{none_noted}
 use Rattle.exploration.proofs.checking.check_steps.Goals as goal
 
-pub loop-place-init : goal.loop-place-init
-loop-place-init g c = none_noted g.M.First.first (map events_of c.args.paths.now) c.in_ok-entries.entries.items (c.args.count * MOST_THREADS) (c.in_ok-entries.ensures.items_if_clones_equal (search rules))
+pub loop-path_index-init : goal.loop-path_index-init
+loop-path_index-init g c = none_noted g.M.First.first (map events_of c.args.paths.now) c.in_ok-entries.entries.items (c.args.count * MOST_THREADS) (c.in_ok-entries.ensures.items_if_clones_equal (search rules))

@@ -1,7 +1,7 @@
 use Rattle.std.proofs.Common.{◌≡◌, true, false, sym, arith}
 use Rattle.std.proofs.lemmas.Result.{err_from_is_err_and}
 use Rattle.ilasm_reader.specs.Parsing.{starts_comma, after_comma}
-use Rattle.ilasm_tokens.proofs.Many.{turns, ends_loop, fails}
+use Rattle.ilasm_tokens.proofs.Many.{transitions, ends_loop, fails}
 use Rattle.ilasm_reader.proofs.Commas.{begins_commas, after_comma_consumes}
 use Rattle.ilasm_reader.proofs.lists.commas.Goals as goal
 
@@ -20,7 +20,7 @@ loop-alloc-smaller g c = omega (arith, after_comma_consumes g.P.Parse.parsed_at 
 pub loop-alloc-preserved : goal.loop-alloc-preserved
 loop-alloc-preserved g c =
     let s : starts_comma c.loop-alloc.tokens.now ≡ true = sym c.loop-alloc-test.ensures in
-    rw c.in_ok-push-2.ensures.items (turns starts_comma (after_comma g.P.Parse.parsed_at) _ c.loop-alloc.items.items c.loop-alloc.tokens.now c.in_ok-item.item c.after_comma.new.tokens.now (after_comma_consumes g.P.Parse.parsed_at g.met.P.Parse.consumes) c.loop-alloc.invariant s c.in_ok-item.ensures)
+    rw c.in_ok-push-2.ensures.items (transitions starts_comma (after_comma g.P.Parse.parsed_at) _ c.loop-alloc.items.items c.loop-alloc.tokens.now c.in_ok-item.item c.after_comma.new.tokens.now (after_comma_consumes g.P.Parse.parsed_at g.met.P.Parse.consumes) c.loop-alloc.invariant s c.in_ok-item.ensures)
 
 pub returns : goal.returns
 returns g c =

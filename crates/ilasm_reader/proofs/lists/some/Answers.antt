@@ -1,6 +1,6 @@
 use Rattle.std.proofs.Common.{◌≡◌, [], true, false, sym}
 use Rattle.std.proofs.lemmas.Result.{err_from_is_err_and}
-use Rattle.ilasm_tokens.proofs.Many.{begins, turns, ends_loop, fails}
+use Rattle.ilasm_tokens.proofs.Many.{begins, transitions, ends_loop, fails}
 use Rattle.ilasm_reader.proofs.lists.some.Goals as goal
 
 pub returns-in_err-first : goal.returns-in_err-first
@@ -10,7 +10,7 @@ returns-in_err-first g c =
 
 pub loop-alloc-init : goal.loop-alloc-init
 loop-alloc-init g c =
-    rw (c.in_ok-push.ensures.items, c.in_ok-items.ensures.items) (turns g.P.Starts.starts_at g.P.Parse.parsed_at _ [] c.args.tokens.now.now c.in_ok-first.first c.parse.new.tokens.now g.met.P.Parse.consumes (begins g.P.Starts.starts_at g.P.Parse.parsed_at c.args.tokens.now.now) c.requires c.in_ok-first.ensures)
+    rw (c.in_ok-push.ensures.items, c.in_ok-items.ensures.items) (transitions g.P.Starts.starts_at g.P.Parse.parsed_at _ [] c.args.tokens.now.now c.in_ok-first.first c.parse.new.tokens.now g.met.P.Parse.consumes (begins g.P.Starts.starts_at g.P.Parse.parsed_at c.args.tokens.now.now) c.requires c.in_ok-first.ensures)
 
 pub returns-in_err-item : goal.returns-in_err-item
 returns-in_err-item g c =
@@ -24,7 +24,7 @@ loop-alloc-smaller g c = g.met.P.Parse.consumes c.loop-alloc.tokens.now c.in_ok-
 pub loop-alloc-preserved : goal.loop-alloc-preserved
 loop-alloc-preserved g c =
     let s : g.P.Starts.starts_at c.loop-alloc.tokens.now ≡ true = sym c.loop-alloc-test.ensures in
-    rw c.in_ok-push-2.ensures.items (turns g.P.Starts.starts_at g.P.Parse.parsed_at _ c.loop-alloc.items.items c.loop-alloc.tokens.now c.in_ok-item.item c.parse-in-loop-alloc.new.tokens.now g.met.P.Parse.consumes c.loop-alloc.invariant s c.in_ok-item.ensures)
+    rw c.in_ok-push-2.ensures.items (transitions g.P.Starts.starts_at g.P.Parse.parsed_at _ c.loop-alloc.items.items c.loop-alloc.tokens.now c.in_ok-item.item c.parse-in-loop-alloc.new.tokens.now g.met.P.Parse.consumes c.loop-alloc.invariant s c.in_ok-item.ensures)
 
 pub returns : goal.returns
 returns g c =

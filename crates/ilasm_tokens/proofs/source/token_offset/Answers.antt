@@ -1,8 +1,8 @@
 use Rattle.std.proofs.Common.{◌≤◌, ◌∙◌, sym, ap, arith}
 use Rattle.std.proofs.lemmas.Result.{err_from_is_err_and}
-use Rattle.ilasm_tokens.specs.Lexing.{behind_tokens}
+use Rattle.ilasm_tokens.specs.Lexing.{after_tokens}
 use Rattle.ilasm_tokens.proofs.Reading.{gap_shorter, spaced_consumes}
-use Rattle.ilasm_tokens.proofs.Places.{one_more, at_place, gap_fails, token_fails}
+use Rattle.ilasm_tokens.proofs.GapStates.{one_more, at_gap, gap_fails, token_fails}
 use Rattle.ilasm_tokens.proofs.source.token_offset.Goals as goal
 
 pub returns-in_err-rest : goal.returns-in_err-rest
@@ -11,7 +11,7 @@ returns-in_err-rest c =
     rw (p.1, p.2) (gap_fails c.in_err-rest.field-0.0 c.args.number c.args.source.now c.in_err-rest.ensures)
 
 pub loop-init : goal.loop-init
-loop-init c = record { within = gap_shorter c.args.source.now c.in_ok-rest.rest.now c.in_ok-rest.ensures; so_far = ap (λ n. behind_tokens n c.in_ok-rest.rest.now) (omega arith) }
+loop-init c = record { within = gap_shorter c.args.source.now c.in_ok-rest.rest.now c.in_ok-rest.ensures; so_far = ap (λ n. after_tokens n c.in_ok-rest.rest.now) (omega arith) }
 
 pub returns-in_err-_token : goal.returns-in_err-_token
 returns-in_err-_token c =
@@ -30,4 +30,4 @@ loop-preserved c =
 pub returns : goal.returns
 returns c =
     let past : c.args.number ≤ c.loop.counter = omega (arith, c.loop-test.false) in
-    at_place c.args.source.now c.in_ok-rest.rest.now c.loop.rest.now c.args.number c.loop.counter c.in_ok-rest.ensures past c.loop.invariant.so_far
+    at_gap c.args.source.now c.in_ok-rest.rest.now c.loop.rest.now c.args.number c.loop.counter c.in_ok-rest.ensures past c.loop.invariant.so_far

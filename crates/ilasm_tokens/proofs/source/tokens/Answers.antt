@@ -1,7 +1,7 @@
 use Rattle.std.proofs.Common.{sym}
 use Rattle.std.proofs.lemmas.Result.{err_from_is_err_and}
 use Rattle.ilasm_tokens.specs.Lexing.{not_empty, spaced_lexeme_at}
-use Rattle.ilasm_tokens.proofs.Many.{begins, turns, ends_loop, fails}
+use Rattle.ilasm_tokens.proofs.Many.{begins, transitions, ends_loop, fails}
 use Rattle.ilasm_tokens.proofs.Reading.{spaced_consumes, is_left, none_left, tokens_end, tokens_fail}
 use Rattle.ilasm_tokens.proofs.source.tokens.Goals as goal
 
@@ -19,7 +19,7 @@ loop-rest-smaller c = spaced_consumes c.loop-rest.rest.now c.in_ok-token.token c
 
 pub loop-rest-preserved : goal.loop-rest-preserved
 loop-rest-preserved c =
-    rw c.in_ok-push.ensures.items (turns not_empty spaced_lexeme_at _ c.loop-rest.tokens.items c.loop-rest.rest.now c.in_ok-token.token c.in_ok-token.after.now spaced_consumes c.loop-rest.invariant (is_left c.loop-rest.rest.now (sym c.loop-rest-test.ensures)) c.in_ok-token.ensures)
+    rw c.in_ok-push.ensures.items (transitions not_empty spaced_lexeme_at _ c.loop-rest.tokens.items c.loop-rest.rest.now c.in_ok-token.token c.in_ok-token.after.now spaced_consumes c.loop-rest.invariant (is_left c.loop-rest.rest.now (sym c.loop-rest-test.ensures)) c.in_ok-token.ensures)
 
 pub returns : goal.returns
 returns c =

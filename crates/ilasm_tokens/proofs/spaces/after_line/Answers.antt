@@ -1,5 +1,5 @@
 use Rattle.std.proofs.Common.{◌∙◌, arith}
-use Rattle.ilasm_tokens.proofs.SpaceLaws.{behind_shorter, line_goes_on, line_ends, line_none_left}
+use Rattle.ilasm_tokens.proofs.SpaceLaws.{after_shorter, line_continues, line_ends, line_none_left}
 use Rattle.ilasm_tokens.proofs.spaces.after_line.Goals as goal
 
 pub returns-then-byte-eq10 : goal.returns-then-byte-eq10
@@ -7,20 +7,20 @@ returns-then-byte-eq10 c =
     let rest = c.loop-rest.rest.now in
     let some = c.in-len1-up.len_at_least in
     record {
-      within = omega (arith, behind_shorter rest some, c.loop-rest.invariant.within);
+      within = omega (arith, after_shorter rest some, c.loop-rest.invariant.within);
       value = c.loop-rest.invariant.value ∙ line_ends rest some c.if-byte-eq10.true;
     }
 
 pub loop-rest-smaller : goal.loop-rest-smaller
-loop-rest-smaller c = behind_shorter c.loop-rest.rest.now c.in-len1-up.len_at_least
+loop-rest-smaller c = after_shorter c.loop-rest.rest.now c.in-len1-up.len_at_least
 
 pub loop-rest-preserved : goal.loop-rest-preserved
 loop-rest-preserved c =
     let rest = c.loop-rest.rest.now in
     let some = c.in-len1-up.len_at_least in
     record {
-      within = omega (arith, behind_shorter rest some, c.loop-rest.invariant.within);
-      value = c.loop-rest.invariant.value ∙ line_goes_on rest some c.if-byte-eq10.false;
+      within = omega (arith, after_shorter rest some, c.loop-rest.invariant.within);
+      value = c.loop-rest.invariant.value ∙ line_continues rest some c.if-byte-eq10.false;
     }
 
 pub returns : goal.returns

@@ -1,5 +1,5 @@
 use Rattle.inheritance.specs.CutCycles.{HasBasesOf}
 use Rattle.inheritance.proofs.cut_cycles.cut_bases.Given as goal
 
-abbrev pub invariant-loop-place : goal.invariant-loop-place
-invariant-loop-place l = HasBasesOf l.bases l.cut.items
+abbrev pub invariant-loop-index : goal.invariant-loop-index
+invariant-loop-index l = HasBasesOf l.bases l.cut.items

@@ -1,6 +1,6 @@
 use Rattle.std.proofs.Common.{map, sym, ◌∙◌}
 use Rattle.std.proofs.lemmas.List.{length-map}
-use Rattle.inheritance.proofs.LedgerLaws.{entered_ends}
+use Rattle.inheritance.proofs.ScopedTableLaws.{entered_ends}
 use Rattle.inheritance.proofs.inheritance.search.Goals as goal
 
 pub returns : goal.returns
@@ -8,8 +8,8 @@ returns c =
     let f = c.args.forest.now in
     let r = c.loop-time.invariant in
     record {
-      width = sym (length-map c.loop-time.ledger.changes.items (λ v. v.items)) ∙ r.width;
+      width = sym (length-map c.loop-time.scoped_table.changes.items (λ v. v.items)) ∙ r.width;
       ordered = r.up_to.ordered;
-      ended = λ class entry e. entered_ends f (map (λ v. v.items) c.loop-time.ledger.changes.items) class entry (r.entered class entry e);
+      ended = λ class entry e. entered_ends f (map (λ v. v.items) c.loop-time.scoped_table.changes.items) class entry (r.entered class entry e);
       right = λ class entry e key h. let was = r.entered class entry e in was.right key f.most h was.short;
     }

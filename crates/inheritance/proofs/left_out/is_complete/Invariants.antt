@@ -3,4 +3,4 @@ use Rattle.inheritance.specs.Ledgers.{IsLeftOut, HasBaseLeftOut}
 use Rattle.inheritance.proofs.left_out.is_complete.Given as goal
 
 abbrev pub invariant-loop-class : goal.invariant-loop-class
-invariant-loop-class l = (n : ℕ) → n < l.class → IsLeftOut l.forest.bases.items l.ledger.entries.items n → HasBaseLeftOut l.forest.bases.items l.ledger.entries.items n
+invariant-loop-class l = (n : ℕ) → n < l.class → IsLeftOut l.forest.bases.items l.scoped_table.entries.items n → HasBaseLeftOut l.forest.bases.items l.scoped_table.entries.items n

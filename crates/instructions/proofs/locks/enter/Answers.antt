@@ -5,4 +5,4 @@ use Rattle.instructions.proofs.locks.enter.Goals as goal
 
 pub returns-in_default-enter : goal.returns-in_default-enter
 returns-in_default-enter c =
-    sym (enter_stays c.args.mutator c.args.frames.now c.args.heap.now c.in-Ref.object (c.enter.new.heap, c.enter.result) (c.operand.ensures ∙ ap Some c.in-Ref.is) c.in_default-enter.not-GoesOn c.requires c.enter.ensures)
+    sym (enter_stays c.args.mutator c.args.frames.now c.args.heap.now c.in-Ref.object (c.enter.new.heap, c.enter.result) (c.operand.ensures ∙ ap Some c.in-Ref.is) c.in_default-enter.not-Continues c.requires c.enter.ensures)

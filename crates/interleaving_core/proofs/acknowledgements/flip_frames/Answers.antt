@@ -1,7 +1,7 @@
 use Rattle.object_memory.specs.Spaces.{forward}
 use Rattle.std.proofs.Common.{slice_index_or}
 use Rattle.threads_monitors.specs.Roots.{roots}
-use Rattle.interleaving_core.proofs.CollectorTurns.FrameMarks.{listed_at}
+use Rattle.interleaving_core.proofs.CollectorTransitions.FrameMarks.{listed_at}
 use Rattle.interleaving_core.proofs.acknowledgements.flip_frames.Goals as goal
 
 pub replace_references-requires : goal.replace_references-requires

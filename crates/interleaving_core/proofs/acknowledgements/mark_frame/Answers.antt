@@ -11,7 +11,7 @@ use Rattle.simulation.specs.collector.Conditions.{AreThere}
 use Rattle.simulation.specs.collector.Marking.{with_all_marked}
 use Rattle.simulation.specs.collector.Soundness.{IsListed}
 use Rattle.simulation.specs.Collecting.{with_roots_marked}
-use Rattle.interleaving_core.proofs.CollectorTurns.FrameMarks.{cycle_kept, frame_marked, frame_of, listed_first, listed_second, object_is, there_kept, values_are, values_marked, values_there}
+use Rattle.interleaving_core.proofs.CollectorTransitions.FrameMarks.{cycle_kept, frame_marked, frame_of, listed_first, listed_second, object_is, there_kept, values_are, values_marked, values_there}
 use Rattle.interleaving_core.proofs.acknowledgements.mark_frame.Goals as goal
 
 pub mark_values-requires-clause-there : goal.mark_values-requires-clause-there

@@ -3,7 +3,7 @@ use Rattle.std.specs.Prelude.{is_some}
 use Rattle.cil_model.specs.Legality.{IsLegal}
 use Rattle.object_memory.specs.declared.values.Value.TheVariants.{Ref}
 use Rattle.simulation.specs.loaded_program.AllMethods.{all_methods}
-use Rattle.interleaving_core.proofs.InitialContents.InitialContent.{begun, target_of_run, thread_for_chosen}
+use Rattle.interleaving_core.proofs.InitialContents.InitialMachineState.{begun, target_of_run, thread_for_chosen}
 use Rattle.interleaving_core.proofs.beginnings.beginning_on.Goals as goal
 
 pub class_number-class-requires : goal.class_number-class-requires

@@ -3,7 +3,7 @@ use Rattle.std.specs.Prelude.{IsSome, slice_get}
 use Rattle.reference_machine.specs.BuiltIn.{action_of}
 use Rattle.loaded_program.specs.AllMethods.{all_methods}
 use Rattle.loaded_program.specs.Prepared.{action_named, IsTableMethod}
-use Rattle.instructions.specs.Calls.{new_object_turn}
+use Rattle.instructions.specs.Calls.{new_object_transition}
 use Rattle.interpreter.proofs.Running.{there_is, given_there, called_alike, made_plain, made_called}
 use Rattle.interpreter.proofs.calls.create.Goals as goal
 
@@ -31,7 +31,7 @@ new_object-requires c =
     let acts : action_of found.0.0 found.0.1 ≡ None = sym known.action ∙ ap (option_map action_named) c.in-None.is in
     let callee = called_alike c.args.program.now found.0 c.method-entry.result.now c.args.number c.as_slice.result.now known c.as_slice.ensures.value in
     let runs = made_called c.args.program.now c.args.mutator c.args.number found.0 found.1 c.args.frames.now c.args.heap.now [] c.args.class c.args.slots acts (c.method-entry.ensures.number found.0 found.1)
-    ∙ ap (λ x. new_object_turn c.args.mutator.phase c.args.class c.args.slots x c.args.frames.now c.args.heap.now) (sym callee) in
+    ∙ ap (λ x. new_object_transition c.args.mutator.phase c.args.class c.args.slots x c.args.frames.now c.args.heap.now) (sym callee) in
     subst IsSome runs c.requires
 
 pub returns-in-None : goal.returns-in-None
@@ -41,5 +41,5 @@ returns-in-None c =
     let acts : action_of found.0.0 found.0.1 ≡ None = sym known.action ∙ ap (option_map action_named) c.in-None.is in
     let callee = called_alike c.args.program.now found.0 c.method-entry.result.now c.args.number c.as_slice.result.now known c.as_slice.ensures.value in
     let runs = made_called c.args.program.now c.args.mutator c.args.number found.0 found.1 c.args.frames.now c.args.heap.now [] c.args.class c.args.slots acts (c.method-entry.ensures.number found.0 found.1)
-    ∙ ap (λ x. new_object_turn c.args.mutator.phase c.args.class c.args.slots x c.args.frames.now c.args.heap.now) (sym callee) in
+    ∙ ap (λ x. new_object_transition c.args.mutator.phase c.args.class c.args.slots x c.args.frames.now c.args.heap.now) (sym callee) in
     c.new_object.ensures ∙ sym runs

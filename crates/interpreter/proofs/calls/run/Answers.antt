@@ -3,8 +3,8 @@ use Rattle.std.specs.Prelude.{IsSome, IfOk, OnErr, slice_get}
 use Rattle.reference_machine.specs.BuiltIn.{action_of}
 use Rattle.loaded_program.specs.AllMethods.{all_methods}
 use Rattle.loaded_program.specs.Prepared.{action_named, IsTableMethod}
-use Rattle.instructions.specs.Calls.{call_turn}
-use Rattle.instructions.specs.ObjectTurns.{beside}
+use Rattle.instructions.specs.Calls.{call_transition}
+use Rattle.instructions.specs.ObjectTransitions.{beside}
 use Rattle.interpreter.specs.Calls.{beside_console, called_as, prints, call_answer}
 use Rattle.interpreter.proofs.Running.{there_is, given_there, called_alike, run_acts, run_calls, call_there}
 use Rattle.interpreter.proofs.calls.run.Goals as goal
@@ -27,8 +27,8 @@ call-requires c =
     let acts : action_of found.0.0 found.0.1 ≡ None = sym known.action ∙ ap (option_map action_named) c.in-None.is in
     let runs = run_calls c.args.program.now c.args.mutator c.args.number found.0 found.1 c.args.frames.now c.args.store.now.heap c.args.store.now.console.items acts (c.method-entry.ensures.number found.0 found.1) in
     let callee = called_alike c.args.program.now found.0 c.method-entry.result.now c.args.number c.as_slice.result.now known c.as_slice.ensures.value in
-    subst (λ x. IsSome (call_turn x c.args.frames.now)) (sym callee)
-    (call_there c.args.program.now c.args.mutator c.args.number found.0 found.1 c.args.frames.now c.args.store.now.heap c.args.store.now.console.items (call_turn (called_as found.0 c.args.number) c.args.frames.now) (subst IsSome runs c.requires))
+    subst (λ x. IsSome (call_transition x c.args.frames.now)) (sym callee)
+    (call_there c.args.program.now c.args.mutator c.args.number found.0 found.1 c.args.frames.now c.args.store.now.heap c.args.store.now.console.items (call_transition (called_as found.0 c.args.number) c.args.frames.now) (subst IsSome runs c.requires))
 
 pub returns-in-Some-clause-done : goal.returns-in-Some-clause-done
 returns-in-Some-clause-done c =
@@ -45,7 +45,7 @@ returns-in-None-clause-done c =
     let acts : action_of found.0.0 found.0.1 ≡ None = sym known.action ∙ ap (option_map action_named) c.in-None.is in
     let runs = run_calls c.args.program.now c.args.mutator c.args.number found.0 found.1 c.args.frames.now c.args.store.now.heap c.args.store.now.console.items acts (c.method-entry.ensures.number found.0 found.1) in
     let callee = called_alike c.args.program.now found.0 c.method-entry.result.now c.args.number c.as_slice.result.now known c.as_slice.ensures.value in
-    ap (λ t. beside_console c.args.store.now.console.items (beside c.args.store.now.heap t)) (c.call.ensures ∙ ap (λ x. call_turn x c.args.frames.now) callee) ∙ sym runs
+    ap (λ t. beside_console c.args.store.now.console.items (beside c.args.store.now.heap t)) (c.call.ensures ∙ ap (λ x. call_transition x c.args.frames.now) callee) ∙ sym runs
 
 pub returns-in-Some-clause-prints : goal.returns-in-Some-clause-prints
 returns-in-Some-clause-prints c =

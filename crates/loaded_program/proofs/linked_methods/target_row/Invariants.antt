@@ -9,5 +9,5 @@ use Rattle.loaded_program.proofs.linked_methods.target_row.Given as goal
 
 abbrev pub invariant-loop-class : goal.invariant-loop-class
 invariant-loop-class l =
-    (found : ClassName × Method) → method_at l.linker.program.now (l.method.class, l.method.place) ≡ Some found →
+    (found : ClassName × Method) → method_at l.linker.program.now (l.method.class, l.method.index) ≡ Some found →
     AllAlike (λ (e : ClassName × Declaration) number. IsTarget l.linker.program.now found e.0 number) (take l.class (declarations l.linker.program.now)) l.row.items

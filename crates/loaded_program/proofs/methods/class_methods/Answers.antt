@@ -11,19 +11,19 @@ use Rattle.resolved_code.proofs.ListLaws.RelatedLists.{AlikeTo, alike_to, alike_
 use Rattle.loaded_program.proofs.FlatLaws.{alike_more, owned_count, owned_at, numbered_at}
 use Rattle.loaded_program.proofs.methods.class_methods.Goals as goal
 
-pub loop-place-preserved : goal.loop-place-preserved
-loop-place-preserved c = λ tree e at same.
-    let p = c.loop-place.place in
-    let r = c.index-methods-place.result in
-    let read : slice_get c.args.methods.now p ≡ Some r = slice_get_read c.args.methods.now (length c.args.methods.now) p r refl (omega arith) c.index-methods-place.is in
+pub loop-index-preserved : goal.loop-index-preserved
+loop-index-preserved c = λ tree e at same.
+    let p = c.loop-index.index in
+    let r = c.index-methods-index.result in
+    let read : slice_get c.args.methods.now p ≡ Some r = slice_get_read c.args.methods.now (length c.args.methods.now) p r refl (omega arith) c.index-methods-index.is in
     let found : AlikeTo (IsResolvedMethod tree) e.1.methods p r = alike_to (IsResolvedMethod tree) e.1.methods c.args.methods.now p r same read in
     let entry : IsTableMethod tree (e.0, found.item) c.in_ok-new.field-0 = c.in_ok-new.ensures tree e.0 found.item (numbered_at tree c.args.class p e found.item at found.there) found.alike in
     let P : List TableMethod → Type 0 = λ ys. AllAlike (IsTableMethod tree) (take (p + 1) (owned_methods e)) ys in
-    subst P (sym c.in_ok-push.ensures.items) (alike_more (IsTableMethod tree) (owned_methods e) c.loop-place.entries.items p (e.0, found.item) c.in_ok-new.field-0 (c.loop-place.invariant tree e at same) (owned_at e p found.item found.there) entry)
+    subst P (sym c.in_ok-push.ensures.items) (alike_more (IsTableMethod tree) (owned_methods e) c.loop-index.entries.items p (e.0, found.item) c.in_ok-new.field-0 (c.loop-index.invariant tree e at same) (owned_at e p found.item found.there) entry)
 
 pub returns : goal.returns
 returns c = λ tree e at same.
-    let seen : c.loop-place.place ≡ length c.args.methods.now = omega arith in
-    let all : c.loop-place.place ≡ length (owned_methods e) = seen ∙ sym (owned_count e ∙ alike_length (IsResolvedMethod tree) e.1.methods c.args.methods.now same) in
-    let P : List (ClassName × Method) → Type 0 = λ xs. AllAlike (IsTableMethod tree) xs c.loop-place.entries.items in
-    subst P (ap (λ n. take n (owned_methods e)) all ∙ take-length (owned_methods e)) (c.loop-place.invariant tree e at same)
+    let seen : c.loop-index.index ≡ length c.args.methods.now = omega arith in
+    let all : c.loop-index.index ≡ length (owned_methods e) = seen ∙ sym (owned_count e ∙ alike_length (IsResolvedMethod tree) e.1.methods c.args.methods.now same) in
+    let P : List (ClassName × Method) → Type 0 = λ xs. AllAlike (IsTableMethod tree) xs c.loop-index.entries.items in
+    subst P (ap (λ n. take n (owned_methods e)) all ∙ take-length (owned_methods e)) (c.loop-index.invariant tree e at same)

@@ -8,6 +8,6 @@ use Rattle.loaded_program.specs.AllMethods.{owned_methods}
 use Rattle.loaded_program.specs.Prepared.{IsTableMethod}
 use Rattle.loaded_program.proofs.methods.class_methods.Given as goal
 
-abbrev pub invariant-loop-place : goal.invariant-loop-place
-invariant-loop-place l =
-    (tree : Tree) (e : ClassName × Declaration) → slice_get (declarations tree) l.class ≡ Some e → AllAlike (IsResolvedMethod tree) e.1.methods l.methods → AllAlike (IsTableMethod tree) (take l.place (owned_methods e)) l.entries.items
+abbrev pub invariant-loop-index : goal.invariant-loop-index
+invariant-loop-index l =
+    (tree : Tree) (e : ClassName × Declaration) → slice_get (declarations tree) l.class ≡ Some e → AllAlike (IsResolvedMethod tree) e.1.methods l.methods → AllAlike (IsTableMethod tree) (take l.index (owned_methods e)) l.entries.items

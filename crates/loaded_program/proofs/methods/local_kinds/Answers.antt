@@ -1,7 +1,7 @@
 use Rattle.std.proofs.Common.{◌++◌, ◌∷◌, [], map, take, sym, ap, ◌∙◌}
 use Rattle.std.proofs.Math.Seq.{take_all}
 use Rattle.std.proofs.lemmas.List.{take_more, map-append}
-use Rattle.loaded_program.specs.Numbered.{kind_of_numbered}
+use Rattle.loaded_program.specs.Numbered.{kind_of_resolved}
 use Rattle.loaded_program.proofs.methods.local_kinds.Goals as goal
 
 pub loop-numbered-init : goal.loop-numbered-init
@@ -10,11 +10,11 @@ loop-numbered-init c = c.in_ok-kinds.ensures.items
 pub loop-numbered-preserved : goal.loop-numbered-preserved
 loop-numbered-preserved c =
     let types = c.locals_of-types.result.now in
-    let place = c.loop-numbered.numbered-index in
-    let before = take place types in
-    c.in_ok-push.ensures.items ∙ ap (λ kinds. kinds ++ c.numbered_kind.result ∷ []) c.loop-numbered.invariant ∙ ap (λ kind. map kind_of_numbered before ++ kind ∷ []) c.numbered_kind.ensures.by_number ∙
-    sym (ap (map kind_of_numbered) (take_more types place _ c.loop-numbered-test.true) ∙ map-append kind_of_numbered before (_ ∷ []))
+    let index = c.loop-numbered.numbered-index in
+    let before = take index types in
+    c.in_ok-push.ensures.items ∙ ap (λ kinds. kinds ++ c.resolved_kind.result ∷ []) c.loop-numbered.invariant ∙ ap (λ kind. map kind_of_resolved before ++ kind ∷ []) c.resolved_kind.ensures.by_number ∙
+    sym (ap (map kind_of_resolved) (take_more types index _ c.loop-numbered-test.true) ∙ map-append kind_of_resolved before (_ ∷ []))
 
 pub returns : goal.returns
 returns c =
-    c.loop-numbered.invariant ∙ ap (map kind_of_numbered) (take_all c.loop-numbered.numbered-index c.locals_of-types.result.now c.loop-numbered-test.false ∙ c.locals_of-types.ensures)
+    c.loop-numbered.invariant ∙ ap (map kind_of_resolved) (take_all c.loop-numbered.numbered-index c.locals_of-types.result.now c.loop-numbered-test.false ∙ c.locals_of-types.ensures)

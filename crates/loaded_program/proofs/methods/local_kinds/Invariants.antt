@@ -1,6 +1,6 @@
 use Rattle.std.proofs.Common.{◌≡◌, map, take}
-use Rattle.loaded_program.specs.Numbered.{kind_of_numbered}
+use Rattle.loaded_program.specs.Numbered.{kind_of_resolved}
 use Rattle.loaded_program.proofs.methods.local_kinds.Given as goal
 
 abbrev pub invariant-loop-numbered : goal.invariant-loop-numbered
-invariant-loop-numbered l = l.kinds.items ≡ map kind_of_numbered (take l.numbered-index l.types)
+invariant-loop-numbered l = l.kinds.items ≡ map kind_of_resolved (take l.numbered-index l.types)

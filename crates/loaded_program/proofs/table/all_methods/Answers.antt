@@ -14,7 +14,7 @@ use Rattle.loaded_program.specs.declared.methods.TableMethod.{TableMethod}
 use Rattle.loaded_program.specs.AllMethods.{owned_methods}
 use Rattle.loaded_program.specs.Prepared.{IsTableMethod}
 use Rattle.resolved_code.proofs.ListLaws.RelatedLists.{AlikeTo, alike_to, alike_length}
-use Rattle.loaded_program.proofs.FlatLaws.{alike_behind, classes_more}
+use Rattle.loaded_program.proofs.FlatLaws.{alike_after, classes_more}
 use Rattle.loaded_program.proofs.table.all_methods.Goals as goal
 
 abbrev IsClass : Tree → ClassName × Declaration → ResolvedClass → Type 0
@@ -31,7 +31,7 @@ loop-class-preserved c = λ tree are.
     let members : Members c.as_slice.result.now = subst Members (ap (λ (x : ResolvedClass). x.methods) c.index-classes-class.is ∙ sym c.as_slice.ensures) found.alike.methods in
     let more : AllAlike (IsTableMethod tree) (owned_methods e) c.in_ok-entries.entries.items = c.in_ok-entries.ensures tree e found.there members in
     let seen : List (ClassName × Method) = flat_map owned_methods (take i (declarations tree)) in
-    let both : AllAlike (IsTableMethod tree) (seen ++ owned_methods e) (c.loop-class.methods.items ++ c.in_ok-entries.entries.items) = alike_behind (IsTableMethod tree) seen c.loop-class.methods.items (owned_methods e) c.in_ok-entries.entries.items (c.loop-class.invariant tree are) more in
+    let both : AllAlike (IsTableMethod tree) (seen ++ owned_methods e) (c.loop-class.methods.items ++ c.in_ok-entries.entries.items) = alike_after (IsTableMethod tree) seen c.loop-class.methods.items (owned_methods e) c.in_ok-entries.entries.items (c.loop-class.invariant tree are) more in
     let P : List (ClassName × Method) → Type 0 = λ xs. AllAlike (IsTableMethod tree) xs (c.loop-class.methods.items ++ c.in_ok-entries.entries.items) in
     let Q : List TableMethod → Type 0 = λ ys. AllAlike (IsTableMethod tree) (flat_map owned_methods (take (i + 1) (declarations tree))) ys in
     subst Q (sym c.in_ok-append.ensures.items) (subst P (sym (classes_more (declarations tree) i e found.there)) both)

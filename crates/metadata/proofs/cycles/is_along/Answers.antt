@@ -20,20 +20,20 @@ loop-left-preserved c =
     let bases = base_numbers c.args.names.now.classes.tree.now in
     let left = c.loop-left.left in
     let class = c.in-Some.class in
-    let p : ℕ → Bool = λ n. n == c.args.wanted in
+    let p : ℕ → Bool = λ n. n == c.args.required in
     ap (λ o. list_any p (line_within bases (left - 1) o)) c.base-next.ensures ∙
-    sym (any_next p bases left c.loop-left.next class c.in-Some.is (omega arith) ∙ ap (λ b. b || list_any p (line_within bases (left - 1) (base_in bases class))) (apart class c.args.wanted c.if-class-wanted.false)) ∙ c.loop-left.invariant
+    sym (any_next p bases left c.loop-left.next class c.in-Some.is (omega arith) ∙ ap (λ b. b || list_any p (line_within bases (left - 1) (base_in bases class))) (apart class c.args.required c.if-class-required.false)) ∙ c.loop-left.invariant
 
 pub returns-in_default : goal.returns-in_default
 returns-in_default c =
     let bases = base_numbers c.args.names.now.classes.tree.now in
-    let p : ℕ → Bool = λ n. n == c.args.wanted in
+    let p : ℕ → Bool = λ n. n == c.args.required in
     sym (ap (λ o. list_any p (line_within bases c.loop-left.left o)) c.in_default.is ∙ ap (list_any p) (line_of_none bases c.loop-left.left)) ∙ c.loop-left.invariant
 
-pub returns-then-class-wanted : goal.returns-then-class-wanted
-returns-then-class-wanted c =
+pub returns-then-class-required : goal.returns-then-class-required
+returns-then-class-required c =
     let bases = base_numbers c.args.names.now.classes.tree.now in
     let left = c.loop-left.left in
     let class = c.in-Some.class in
-    let p : ℕ → Bool = λ n. n == c.args.wanted in
-    sym (any_next p bases left c.loop-left.next class c.in-Some.is (omega arith) ∙ ap (λ b. b || list_any p (line_within bases (left - 1) (base_in bases class))) (eq-eqb class c.args.wanted c.if-class-wanted.true)) ∙ c.loop-left.invariant
+    let p : ℕ → Bool = λ n. n == c.args.required in
+    sym (any_next p bases left c.loop-left.next class c.in-Some.is (omega arith) ∙ ap (λ b. b || list_any p (line_within bases (left - 1) (base_in bases class))) (eq-eqb class c.args.required c.if-class-required.true)) ∙ c.loop-left.invariant

@@ -6,7 +6,7 @@ use Rattle.name_tables.specs.Methods.{line_of}
 use Rattle.metadata.proofs.cycles.is_along.Given as goal
 
 abbrev pub invariant-loop-left : goal.invariant-loop-left
-invariant-loop-left l = list_any (λ n. n == l.wanted) (line_within (base_numbers l.names.classes.tree.now) l.left l.next) ≡ list_any (λ n. n == l.wanted) (line_of l.names.classes.tree.now l.fn.first)
+invariant-loop-left l = list_any (λ n. n == l.required) (line_within (base_numbers l.names.classes.tree.now) l.left l.next) ≡ list_any (λ n. n == l.required) (line_of l.names.classes.tree.now l.fn.first)
 
 abbrev pub decreases-loop-left : goal.decreases-loop-left
 decreases-loop-left l = l.left

@@ -5,5 +5,5 @@ use Rattle.metadata.proofs.implemented.absent_from.Goals as goal
 pub returns-in-Some : goal.returns-in-Some
 returns-in-Some c =
     let t = c.args.methods.now.names.now.classes.tree.now in
-    let told = c.is_told.ensures c.if-is_told.true in
-    sym (ap (λ o. has_all t o c.args.interface) c.in-Some.is ∙ c.requires c.args.interface told.0 told.1 c.in-Some.number told.2)
+    let reported = c.is_reported.ensures c.if-is_reported.true in
+    sym (ap (λ o. has_all t o c.args.interface) c.in-Some.is ∙ c.requires c.args.interface reported.0 reported.1 c.in-Some.number reported.2)

@@ -5,7 +5,7 @@ use Rattle.name_tables.specs.Sameness.{identity_of}
 use Rattle.resolved_code.specs.Found.{is_virtual_found}
 use Rattle.metadata.proofs.implemented.absent_method.Given as goal
 
-abbrev pub invariant-loop-place : goal.invariant-loop-place
-invariant-loop-place l =
-    list_all (λ m. list_any (is_virtual_found l.methods.names.now.classes.tree.now (identity_of m)) (line_of l.methods.names.now.classes.tree.now l.class)) (map (λ m. m.now) (drop l.place l.wanted)) ≡
-    list_all (λ m. list_any (is_virtual_found l.methods.names.now.classes.tree.now (identity_of m)) (line_of l.methods.names.now.classes.tree.now l.class)) (map (λ m. m.now) l.wanted)
+abbrev pub invariant-loop-index : goal.invariant-loop-index
+invariant-loop-index l =
+    list_all (λ m. list_any (is_virtual_found l.methods.names.now.classes.tree.now (identity_of m)) (line_of l.methods.names.now.classes.tree.now l.class)) (map (λ m. m.now) (drop l.index l.required)) ≡
+    list_all (λ m. list_any (is_virtual_found l.methods.names.now.classes.tree.now (identity_of m)) (line_of l.methods.names.now.classes.tree.now l.class)) (map (λ m. m.now) l.required)

@@ -20,13 +20,13 @@ returns-in_default c =
     let none : chain_numbers t k ≡ [] = numbers_of_unknown t (longest_chain t) k (sym c.number.ensures ∙ c.in_default.is) in
     sym (sym (abstract_slot t k) ∙ ap (λ ns. list_any (class_leaves_open t ns) ns) none)
 
-pub returns-then-is_settled : goal.returns-then-is_settled
-returns-then-is_settled c =
+pub returns-then-is_decided : goal.returns-then-is_decided
+returns-then-is_decided c =
     let t = c.args.slots.now.methods.now.names.now.classes.tree.now in
     let k = class_of_key c.args.class in
     let ns = line_of t (Some c.in-Some.number) in
     let same : ns ≡ chain_numbers t k = line_of_class t k c.in-Some.number (sym c.number.ensures ∙ c.in-Some.is) in
-    sym (sym (abstract_slot t k) ∙ ap (λ (xs : List ℕ). list_any (class_leaves_open t xs) xs) (sym same) ∙ none_left_open t ns ns (c.is_settled.ensures c.if-is_settled.true))
+    sym (sym (abstract_slot t k) ∙ ap (λ (xs : List ℕ). list_any (class_leaves_open t xs) xs) (sym same) ∙ none_left_open t ns ns (c.is_decided.ensures c.if-is_decided.true))
 
 pub returns : goal.returns
 returns c =

@@ -1,7 +1,7 @@
 use Rattle.std.proofs.Common.{◌≡◌, drop}
 use Rattle.name_tables.specs.Keys.{method_of_key}
-use Rattle.resolved_code.specs.Found.{slot_numbered, open_numbered}
+use Rattle.resolved_code.specs.Found.{slot_by_id, open_by_id}
 use Rattle.metadata.proofs.kinds.is_open.Given as goal
 
-abbrev pub invariant-loop-place : goal.invariant-loop-place
-invariant-loop-place l = (l.slot ≡ slot_numbered l.names.classes.tree.now (method_of_key l.key) (drop l.place l.chain)) × (l.is_open ≡ open_numbered l.names.classes.tree.now (method_of_key l.key) l.wanted (drop l.place l.chain))
+abbrev pub invariant-loop-index : goal.invariant-loop-index
+invariant-loop-index l = (l.slot ≡ slot_by_id l.names.classes.tree.now (method_of_key l.key) (drop l.index l.chain)) × (l.is_open ≡ open_by_id l.names.classes.tree.now (method_of_key l.key) l.required (drop l.index l.chain))

@@ -3,5 +3,5 @@ use Rattle.std.specs.List.{list_any}
 use Rattle.resolved_code.specs.Found.{method_leaves_open}
 use Rattle.metadata.proofs.kinds.method_left_open.Given as goal
 
-abbrev pub invariant-loop-place : goal.invariant-loop-place
-invariant-loop-place l = list_any (method_leaves_open l.names.classes.tree.now l.chain l.introduced) (map (λ m. m.now) (drop l.place l.methods)) ≡ list_any (method_leaves_open l.names.classes.tree.now l.chain l.introduced) (map (λ m. m.now) l.methods)
+abbrev pub invariant-loop-index : goal.invariant-loop-index
+invariant-loop-index l = list_any (method_leaves_open l.names.classes.tree.now l.chain l.introduced) (map (λ m. m.now) (drop l.index l.methods)) ≡ list_any (method_leaves_open l.names.classes.tree.now l.chain l.introduced) (map (λ m. m.now) l.methods)

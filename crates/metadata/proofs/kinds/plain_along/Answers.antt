@@ -7,7 +7,7 @@ use Rattle.inheritance.proofs.LineLaws.{line_of_none}
 use Rattle.name_tables.specs.Keys.{method_of_key}
 use Rattle.name_tables.specs.Members.{base_numbers}
 use Rattle.name_tables.specs.Numbers.{method_found}
-use Rattle.resolved_code.specs.Found.{plain_numbered}
+use Rattle.resolved_code.specs.Found.{concrete_by_id}
 use Rattle.metadata.proofs.MethodLaws.{plain_next}
 use Rattle.metadata.proofs.kinds.plain_along.Goals as goal
 
@@ -17,7 +17,7 @@ returns-in-Some-method c =
     let k = method_of_key c.args.key in
     let bases = base_numbers t in
     let class = c.in-Some.class in
-    let rest = plain_numbered t k (line_within bases (c.loop-left.left - 1) (base_in bases class)) in
+    let rest = concrete_by_id t k (line_within bases (c.loop-left.left - 1) (base_in bases class)) in
     let found : method_found t k class ≡ Some c.in-Some-method.method.now = sym c.method.ensures ∙ ap (option_map (λ m. m.now)) c.in-Some-method.is in
     c.unless_virtual.ensures ∙ sym (ap (λ f. option_map_or (λ (m : Method). not (is_virtual m.kind)) f rest) found) ∙
     sym (plain_next t k bases c.loop-left.left c.loop-left.next class c.in-Some.is (omega arith)) ∙ c.loop-left.invariant
@@ -29,9 +29,9 @@ loop-left-preserved c =
     let bases = base_numbers t in
     let left = c.loop-left.left in
     let class = c.in-Some.class in
-    let rest = plain_numbered t k (line_within bases (left - 1) (base_in bases class)) in
+    let rest = concrete_by_id t k (line_within bases (left - 1) (base_in bases class)) in
     let none : method_found t k class ≡ None = sym c.method.ensures ∙ ap (option_map (λ m. m.now)) c.in_default-method.is in
-    ap (λ o. plain_numbered t k (line_within bases (left - 1) o)) c.base-next.ensures ∙ sym (ap (λ f. option_map_or (λ (m : Method). not (is_virtual m.kind)) f rest) none) ∙
+    ap (λ o. concrete_by_id t k (line_within bases (left - 1) o)) c.base-next.ensures ∙ sym (ap (λ f. option_map_or (λ (m : Method). not (is_virtual m.kind)) f rest) none) ∙
     sym (plain_next t k bases left c.loop-left.next class c.in-Some.is (omega arith)) ∙ c.loop-left.invariant
 
 pub returns-in_default : goal.returns-in_default
@@ -40,4 +40,4 @@ returns-in_default c =
     let k = method_of_key c.args.key in
     let bases = base_numbers t in
     let left = c.loop-left.left in
-    sym (ap (λ o. plain_numbered t k (line_within bases left o)) c.in_default.is ∙ ap (plain_numbered t k) (line_of_none bases left)) ∙ c.loop-left.invariant
+    sym (ap (λ o. concrete_by_id t k (line_within bases left o)) c.in_default.is ∙ ap (concrete_by_id t k) (line_of_none bases left)) ∙ c.loop-left.invariant

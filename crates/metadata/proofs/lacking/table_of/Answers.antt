@@ -2,7 +2,7 @@ use Rattle.std.proofs.Common.{◌≡◌, Bool, true, false, not, IfOk, Result, O
 use Rattle.std.proofs.lemmas.Option.{none-some}
 use Rattle.std.specs.List.{list_any, list_all}
 use Rattle.cil_model.specs.declared.trees.Method.{Method}
-use Rattle.name_tables.specs.Methods.{virtual_place, line_of, methods_at}
+use Rattle.name_tables.specs.Methods.{virtual_index, line_of, methods_at}
 use Rattle.name_tables.specs.Numbers.{nearest_number}
 use Rattle.name_tables.specs.Sameness.{identity_of}
 use Rattle.resolved_code.specs.Found.{is_virtual_found}
@@ -25,11 +25,11 @@ returns-then-not-are_many c = λ class e. absurd (none-some false (sym (ap (λ (
 pub returns : goal.returns
 returns c =
     let t = c.args.methods.now.names.now.classes.tree.now in
-    let wanted = methods_at t c.args.interface in
-    from_both c.lacks_some.result _ _ _ (λ table told ended class e.
+    let required = methods_at t c.args.interface in
+    from_both c.lacks_some.result _ _ _ (λ table reported ended class e.
     let line = line_of t (Some class) in
-    let found : Method → Bool = λ m. is_some (nearest_number (virtual_place t (identity_of m)) line) in
+    let found : Method → Bool = λ m. is_some (nearest_number (virtual_index t (identity_of m)) line) in
     let declared : Method → Bool = λ m. list_any (is_virtual_found t (identity_of m)) line in
-    let all : list_all found wanted ≡ true = not_false (list_all found wanted) (told class false e (ended class e)) in
-    sym (list_all_congr found declared (λ m. virtual_on_line t (identity_of m) line) wanted) ∙ all)
-    c.lacks_some.ensures.told c.lacks_some.ensures.ended
+    let all : list_all found required ≡ true = not_false (list_all found required) (reported class false e (ended class e)) in
+    sym (list_all_congr found declared (λ m. virtual_on_line t (identity_of m) line) required) ∙ all)
+    c.lacks_some.ensures.reported c.lacks_some.ensures.ended

@@ -5,15 +5,15 @@ use Rattle.metadata.specs.Open.{AreClear}
 use Rattle.metadata.proofs.MethodLaws.{no_set, none_no}
 use Rattle.metadata.proofs.open_slots.hiding_classes.Goals as goal
 
-pub loop-place-init : goal.loop-place-init
-loop-place-init c = λ class k e.
+pub loop-index-init : goal.loop-index-init
+loop-index-init c = λ class k e.
     let all : c.in_ok-may_hide.may_hide.items ≡ replicate (length c.bases-bases.result.now) true = c.in_ok-may_hide.ensures.items_if_clones_equal (search rules) in
     absurd (none_no (length c.bases-bases.result.now) class (sym (ap (λ xs. slice_get xs class) all) ∙ e))
 
 pub stays_clear-requires : goal.stays_clear-requires
-stays_clear-requires c = subst (λ (xs : List Bool). AreClear c.args.methods.now.names.now.classes.tree.now xs) (sym c.as_slice.ensures.value) c.loop-place.invariant
+stays_clear-requires c = subst (λ (xs : List Bool). AreClear c.args.methods.now.names.now.classes.tree.now xs) (sym c.as_slice.ensures.value) c.loop-index.invariant
 
-pub loop-place-preserved : goal.loop-place-preserved
-loop-place-preserved c = λ class k e.
+pub loop-index-preserved : goal.loop-index-preserved
+loop-index-preserved c = λ class k e.
     let t = c.args.methods.now.names.now.classes.tree.now in
-    no_set (λ n. hidden_open t k (line_of t (Some n)) ≡ false) c.loop-place.may_hide.items c.index-class.result.now (λ n h. c.loop-place.invariant n k h) (c.stays_clear.ensures c.if-not-stays_clear.false k) class e
+    no_set (λ n. hidden_open t k (line_of t (Some n)) ≡ false) c.loop-index.may_hide.items c.index-class.result.now (λ n h. c.loop-index.invariant n k h) (c.stays_clear.ensures c.if-not-stays_clear.false k) class e

@@ -2,7 +2,7 @@ use Rattle.std.proofs.Common.{sym, ap, ◌∙◌, is_some}
 use Rattle.cil_model.specs.Same.{same_text}
 use Rattle.name_tables.specs.declared.keys.TextKey.{TextKey}
 use Rattle.name_tables.specs.Keys.{text_of_key}
-use Rattle.name_tables.proofs.FirstPlaces.{is_some-position_from}
+use Rattle.name_tables.proofs.FirstIndices.{is_some-position_from}
 use Rattle.resolved_code.proofs.ListLaws.Repeats.{list_any-map}
 use Rattle.metadata.proofs.unknown.is_placed.Goals as goal
 

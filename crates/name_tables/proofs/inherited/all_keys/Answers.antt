@@ -6,7 +6,7 @@ use Rattle.name_tables.proofs.inherited.all_keys.Goals as goal
 pub returns : goal.returns
 returns g c =
     let all = at_end (flat_map (λ row. row.items)) c.args.rows.now c.loop-row.row-index c.loop-row-test.false c.loop-row.invariant in
-    if_ok c.new.result c.new.ensures (λ places made. made ∙ all)
+    if_ok c.new.result c.new.ensures (λ indices made. made ∙ all)
 
 pub loop-row-init : goal.loop-row-init
 loop-row-init g c = c.new-keys.ensures.items

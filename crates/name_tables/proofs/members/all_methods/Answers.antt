@@ -30,7 +30,7 @@ returns c =
       table = record {
         bases = bases ∙ c.requires;
         most = most ∙ c.longest_chain.ensures;
-        places = methods_by_numbers t table.keys known (map (λ r. r.items) table.inheritance.forest.declared.items) numbers;
+        indices = methods_by_numbers t table.keys known (map (λ r. r.items) table.inheritance.forest.declared.items) numbers;
       };
       known = known;
       numbers = numbers;

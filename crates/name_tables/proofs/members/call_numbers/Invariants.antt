@@ -3,5 +3,5 @@ use Rattle.name_tables.specs.Methods.{call_of}
 use Rattle.name_tables.specs.Sameness.{MethodIdentity, identity_of, called_of}
 use Rattle.name_tables.proofs.members.call_numbers.Given as goal
 
-abbrev pub invariant-loop-place : goal.invariant-loop-place
-invariant-loop-place l = (number : MethodIdentity → ℕ) → l.numbers ≡ map (λ m. number (identity_of m.now)) l.methods → l.keys.items ≡ map (λ m. call_of number (called_of m.now)) (take l.place l.methods)
+abbrev pub invariant-loop-index : goal.invariant-loop-index
+invariant-loop-index l = (number : MethodIdentity → ℕ) → l.numbers ≡ map (λ m. number (identity_of m.now)) l.methods → l.keys.items ≡ map (λ m. call_of number (called_of m.now)) (take l.index l.methods)

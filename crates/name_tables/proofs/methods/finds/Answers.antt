@@ -7,4 +7,4 @@ is_some-map f None = refl
 is_some-map f (Some x) = refl
 
 pub returns-in-Ok-clause-found : goal.returns-in-Ok-clause-found
-returns-in-Ok-clause-found c = c.is_some.ensures ∙ sym (is_some-map (λ (d : Declared). (d.class, d.place)) c.in-Ok.found) ∙ ap is_some c.in-Ok.ensures.found
+returns-in-Ok-clause-found c = c.is_some.ensures ∙ sym (is_some-map (λ (d : Declared). (d.class, d.index)) c.in-Ok.found) ∙ ap is_some c.in-Ok.ensures.found

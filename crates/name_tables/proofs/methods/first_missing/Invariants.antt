@@ -5,10 +5,10 @@ use Rattle.inheritance.specs.Ledgers.{nearest_from}
 use Rattle.name_tables.specs.Inherited.{number_in}
 use Rattle.name_tables.proofs.methods.first_missing.Given as goal
 
-abbrev pub invariant-loop-place : goal.invariant-loop-place
-invariant-loop-place l = record {
+abbrev pub invariant-loop-index : goal.invariant-loop-index
+invariant-loop-index l = record {
   rest :
-      list_all (λ n. is_some (nearest_from l.overridable.inheritance.forest (number_in (λ (a b : ℕ). a == b) l.overridable.keys n) l.overridable.inheritance.forest.most (Some l.class))) (drop l.place l.numbers) ≡
+      list_all (λ n. is_some (nearest_from l.overridable.inheritance.forest (number_in (λ (a b : ℕ). a == b) l.overridable.keys n) l.overridable.inheritance.forest.most (Some l.class))) (drop l.index l.numbers) ≡
       list_all (λ n. is_some (nearest_from l.overridable.inheritance.forest (number_in (λ (a b : ℕ). a == b) l.overridable.keys n) l.overridable.inheritance.forest.most (Some l.class))) l.numbers;
-  ended : 0 < l.place → Ends l.overridable.inheritance.forest.bases.items l.overridable.inheritance.forest.most l.class;
+  ended : 0 < l.index → Ends l.overridable.inheritance.forest.bases.items l.overridable.inheritance.forest.most l.class;
 }

@@ -9,31 +9,31 @@ use Rattle.name_tables.proofs.Lists.{at_end, map-filter-take_more, map_of_map, o
 use Rattle.name_tables.proofs.methods.virtual_numbers.Goals.{then-is_virtual_at+in_ok-push, else-is_virtual_at}
 use Rattle.name_tables.proofs.methods.virtual_numbers.Goals as goal
 
-pub loop-place-preserved : goal.loop-place-preserved
-loop-place-preserved c = λ number e.
+pub loop-index-preserved : goal.loop-index-preserved
+loop-index-preserved c = λ number e.
     let d = declaration_in c.args.table.now.class in
     let test = has_virtual d in
-    let place = c.loop-place.place in
-    let own = get_or c.args.numbers.now place 0 in
-    let numbered : get_or (map number (map identity_of d.methods)) place 0 ≡ own = ap (λ ns. get_or ns place 0) (map_of_map identity_of number d.methods ∙ sym e) in
-    let tested : option_map test (slice_get (map identity_of d.methods) place) ≡ Some c.is_virtual_at.result =
-    ap (option_map test) (slice_get-map identity_of d.methods place) ∙ option_map_of_map identity_of test (slice_get d.methods place) ∙ c.is_virtual_at.ensures in
-    let before = map number (filter test (take place (map identity_of d.methods))) in
-    let more : (b : Bool) → c.is_virtual_at.result ≡ b → map number (filter test (take (place + 1) (map identity_of d.methods))) ≡ before ++ cond b (own ∷ []) [] =
-    λ b h. map-filter-take_more number test (map identity_of d.methods) place b own 0 (tested ∙ ap Some h) numbered in
+    let index = c.loop-index.index in
+    let own = get_or c.args.numbers.now index 0 in
+    let numbered : get_or (map number (map identity_of d.methods)) index 0 ≡ own = ap (λ ns. get_or ns index 0) (map_of_map identity_of number d.methods ∙ sym e) in
+    let tested : option_map test (slice_get (map identity_of d.methods) index) ≡ Some c.is_virtual_at.result =
+    ap (option_map test) (slice_get-map identity_of d.methods index) ∙ option_map_of_map identity_of test (slice_get d.methods index) ∙ c.is_virtual_at.ensures in
+    let before = map number (filter test (take index (map identity_of d.methods))) in
+    let more : (b : Bool) → c.is_virtual_at.result ≡ b → map number (filter test (take (index + 1) (map identity_of d.methods))) ≡ before ++ cond b (own ∷ []) [] =
+    λ b h. map-filter-take_more number test (map identity_of d.methods) index b own 0 (tested ∙ ap Some h) numbered in
     elim c.if-is_virtual_at.branch [
-      | then-is_virtual_at+in_ok-push w ↦ ap (λ v. v.items) w.chosen-is ∙ w.in_ok-push.ensures.items ∙ ap (λ ns. ns ++ own ∷ []) (c.loop-place.invariant number e) ∙ sym (more true w.if-is_virtual_at.true)
-      | else-is_virtual_at w ↦ ap (λ v. v.items) w.chosen-is ∙ c.loop-place.invariant number e ∙ sym (append-nil before) ∙ sym (more false w.if-is_virtual_at.false)
+      | then-is_virtual_at+in_ok-push w ↦ ap (λ v. v.items) w.chosen-is ∙ w.in_ok-push.ensures.items ∙ ap (λ ns. ns ++ own ∷ []) (c.loop-index.invariant number e) ∙ sym (more true w.if-is_virtual_at.true)
+      | else-is_virtual_at w ↦ ap (λ v. v.items) w.chosen-is ∙ c.loop-index.invariant number e ∙ sym (append-nil before) ∙ sym (more false w.if-is_virtual_at.false)
     ]
 
-pub loop-place-init : goal.loop-place-init
-loop-place-init c = λ number e. c.new-chosen.ensures.items
+pub loop-index-init : goal.loop-index-init
+loop-index-init c = λ number e. c.new-chosen.ensures.items
 
 pub is_virtual_at-requires : goal.is_virtual_at-requires
-is_virtual_at-requires c = omega (arith, c.loop-place-test.true, c.requires)
+is_virtual_at-requires c = omega (arith, c.loop-index-test.true, c.requires)
 
 pub returns : goal.returns
 returns c = λ number e.
     let d = declaration_in c.args.table.now.class in
-    let counted : length (map identity_of d.methods) ≤ c.loop-place.place = omega (arith, c.loop-place-test.false, c.requires, length-map d.methods identity_of) in
-    at_end (λ ms. map number (filter (has_virtual d) ms)) (map identity_of d.methods) c.loop-place.place counted (c.loop-place.invariant number e)
+    let counted : length (map identity_of d.methods) ≤ c.loop-index.index = omega (arith, c.loop-index-test.false, c.requires, length-map d.methods identity_of) in
+    at_end (λ ms. map number (filter (has_virtual d) ms)) (map identity_of d.methods) c.loop-index.index counted (c.loop-index.invariant number e)

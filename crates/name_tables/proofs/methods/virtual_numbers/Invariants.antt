@@ -5,6 +5,6 @@ use Rattle.name_tables.specs.Methods.{has_virtual}
 use Rattle.name_tables.specs.Sameness.{MethodIdentity, identity_of}
 use Rattle.name_tables.proofs.methods.virtual_numbers.Given as goal
 
-abbrev pub invariant-loop-place : goal.invariant-loop-place
-invariant-loop-place l = (number : MethodIdentity → ℕ) → l.numbers ≡ map (λ m. number (identity_of m)) (declaration_in l.table.class).methods →
-    l.chosen.items ≡ map number (filter (has_virtual (declaration_in l.table.class)) (take l.place (map identity_of (declaration_in l.table.class).methods)))
+abbrev pub invariant-loop-index : goal.invariant-loop-index
+invariant-loop-index l = (number : MethodIdentity → ℕ) → l.numbers ≡ map (λ m. number (identity_of m)) (declaration_in l.table.class).methods →
+    l.chosen.items ≡ map number (filter (has_virtual (declaration_in l.table.class)) (take l.index (map identity_of (declaration_in l.table.class).methods)))

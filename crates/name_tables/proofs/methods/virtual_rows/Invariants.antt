@@ -4,6 +4,6 @@ use Rattle.name_tables.specs.Methods.{virtuals_of}
 use Rattle.name_tables.specs.Sameness.{MethodIdentity, identity_of}
 use Rattle.name_tables.proofs.methods.virtual_rows.Given as goal
 
-abbrev pub invariant-loop-place : goal.invariant-loop-place
-invariant-loop-place l = (number : MethodIdentity → ℕ) → map (λ r. r.items) l.numbers ≡ map (λ t. map (λ m. number (identity_of m)) (declaration_in t.class).methods) l.tables →
-    map (λ r. r.items) l.rows.items ≡ map (λ t. map number (virtuals_of (declaration_in t.class))) (take l.place l.tables)
+abbrev pub invariant-loop-index : goal.invariant-loop-index
+invariant-loop-index l = (number : MethodIdentity → ℕ) → map (λ r. r.items) l.numbers ≡ map (λ t. map (λ m. number (identity_of m)) (declaration_in t.class).methods) l.tables →
+    map (λ r. r.items) l.rows.items ≡ map (λ t. map number (virtuals_of (declaration_in t.class))) (take l.index l.tables)

@@ -52,7 +52,7 @@ returns-clause-real c = λ n f at.
     let made = c.in_ok-machine.ensures.made in
     let real = c.in_ok-explore_machines.ensures.real n f at in (
       real.leads.reports,
-      real.content,
-      (made.tree, made.is_accepted, has_done made.tree c.args.limits c.in_ok-machine.machine real.content f.events.items real.leads.reports made.done.accepted made.done.in_range made.opened.begins real.leads.turns),
+      real.machine_state,
+      (made.tree, made.is_accepted, has_done made.tree c.args.limits c.in_ok-machine.machine real.machine_state f.events.items real.leads.reports made.done.accepted made.done.in_range made.opened.begins real.leads.transitions),
       record { ends = real.ends; shows = real.shows },
     )

@@ -12,8 +12,8 @@ loop-time-preserved c =
     let time = c.loop-time._time in
     let begins = c.args.machine.now in
     let after = c.words_after.new.machine in
-    let (turn, words) = c.in_ok-words_after.ensures in
-    let again = most_again time run.entry.event run.entry.report begins c.loop-time.machine after c.loop-time.most c.loop-time.invariant turn in
+    let (transition, words) = c.in_ok-words_after.ensures in
+    let again = most_again time run.entry.event run.entry.report begins c.loop-time.machine after c.loop-time.most c.loop-time.invariant transition in
     subst (IsMostInUse begins (zip (replicate (time + 1) run.entry.event) (replicate (time + 1) run.entry.report)) after) (sym (c.max-most.ensures ∙ ap (max c.loop-time.most) words))
     (subst (λ n. IsMostInUse begins (zip (replicate n run.entry.event) (replicate n run.entry.report)) after (max c.loop-time.most (words_in_use after))) (sym (add-one time)) again)
 

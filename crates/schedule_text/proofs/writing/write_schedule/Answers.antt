@@ -12,4 +12,4 @@ returns-in_err-write_runs c =
     let test : nat_le (length (events_of c.args.items.now)) MOST_EVENTS ≡ true = sym c.are_few.ensures ∙ c.if-not-are_few.false in
     let few : length (events_of c.args.items.now) ≤ MOST_EVENTS = grind (arith, nat_tests, test) in
     refused _ c.from_residual.result c.from_residual.ensures.1 (λ error same.
-    subst (IsNotWritten (events_of c.args.items.now)) (sym same) (few, sym c.are_numbered.ensures ∙ c.if-not-are_numbered.false))
+    subst (IsNotWritten (events_of c.args.items.now)) (sym same) (few, sym c.have_thread_numbers.ensures ∙ c.if-not-have_thread_numbers.false))

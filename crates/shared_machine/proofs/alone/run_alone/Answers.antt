@@ -9,7 +9,7 @@ pub act_while_memory_lasts-ticket-requires : goal.act_while_memory_lasts-ticket-
 act_while_memory_lasts-ticket-requires g c = counted_first _ (taken _ _ _ _ c.in-Some.ensures.items c.in_ok-shared.ensures.1).0
 
 pub returns-clause-printed : goal.returns-clause-printed
-returns-clause-printed g c = subst (λ most. IsPrintedWithin most g.M.Opening.opening c.in-Ok.outcome.machine) (sym c.requires.printed) c.in-Ok.ensures.printed
+returns-clause-printed g c = subst (λ most. IsPrintedWithin most g.M.Initial.initial_state c.in-Ok.outcome.machine) (sym c.requires.printed) c.in-Ok.ensures.printed
 
 pub returns-clause-events : goal.returns-clause-events
 returns-clause-events g c =

@@ -2,7 +2,7 @@ use Rattle.std.proofs.Common.{◌≡◌, ◌<◌, ℕ, length, ap, ◌∙◌, sy
 use Rattle.shared_machine.specs.Histories.{AreOf}
 use Rattle.shared_machine.specs.Work.{HaveWorked}
 use Rattle.shared_machine.specs.Worlds.{IsPrintedWithin}
-use Rattle.shared_machine.proofs.Openings.{seats_are}
+use Rattle.shared_machine.proofs.InitialStates.{seats_are}
 use Rattle.shared_machine.proofs.OwnEvents.{all_own, complete, length_fresh}
 use Rattle.shared_machine.proofs.together.run_together.Goals as goal
 
@@ -27,7 +27,7 @@ unreachable-requires g c =
     missing.2 (complete c.args.workers before after c.in_ok-shared.ensures.1 worked missing.0 (subst (λ (n : ℕ). missing.0 < n) c.in_ok-shared.ensures.0 missing.1))
 
 pub returns-clause-printed : goal.returns-clause-printed
-returns-clause-printed g c = subst (λ most. IsPrintedWithin most g.M.Opening.opening c.in-Ok.outcome.machine) (sym c.requires.printed) c.in-Ok.ensures.printed
+returns-clause-printed g c = subst (λ most. IsPrintedWithin most g.M.Initial.initial_state c.in-Ok.outcome.machine) (sym c.requires.printed) c.in-Ok.ensures.printed
 
 pub returns-clause-own : goal.returns-clause-own
 returns-clause-own g c =

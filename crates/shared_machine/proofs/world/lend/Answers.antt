@@ -2,7 +2,7 @@ use Rattle.std.proofs.Common.{◌≡◌, ◌<◌, ◌≤◌, ℕ, List, Option, 
 use Rattle.std.specs.Prelude.{slice_set}
 use Rattle.cil_model.specs.declared.limits.TheConstants.{MOST_THREADS}
 use Rattle.cil_model.specs.declared.trees.Tree.{Tree}
-use Rattle.interleaving_core.specs.simulation.MachineContents.{Content}
+use Rattle.interleaving_core.specs.simulation.MachineStates.{MachineState}
 use Rattle.interleaving_core.specs.simulation.threads_monitors.Threads.{is_live_at}
 use Rattle.interleaving_core.specs.simulation.threads_monitors.declared.threads.Thread.{Thread}
 use Rattle.interleaving_core.proofs.Threads.IndexedThreads.{live_within}
@@ -11,7 +11,7 @@ use Rattle.shared_machine.proofs.Lendings.{lent_out, nothing_taken, read_room, s
 use Rattle.shared_machine.proofs.world.lend.Goals as goal
 
 -- where a live thread's room is
-within : (threads : List Thread) (t i count : ℕ) (o : Content) (rooms : List (Option Tree)) → HasRooms o rooms → i ≡ t → is_live_at threads t ≡ true → count ≡ length threads → count ≤ MOST_THREADS → i < length rooms
+within : (threads : List Thread) (t i count : ℕ) (o : MachineState) (rooms : List (Option Tree)) → HasRooms o rooms → i ≡ t → is_live_at threads t ≡ true → count ≡ length threads → count ≤ MOST_THREADS → i < length rooms
 within threads t i count o rooms homes same live all few =
     let inside = live_within threads t i same live in
     let each = homes.each in

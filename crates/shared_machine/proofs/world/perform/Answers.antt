@@ -15,16 +15,16 @@ invariant_of-world-2 g c =
     elim c.match-step.branch [
       | in-Ok w ↦ let is = w.world-inside-is in
           world_at _ _ _ _ _ _ _ _ _ _ _ _
-          (sound_more _ _ _ _ _ _ _ _ _ _ c.world.invariant.sound w.in-Ok.ensures.turns c.thread_is_a_byte.ensures w.note.ensures.agreed)
+          (sound_more _ _ _ _ _ _ _ _ _ _ c.world.invariant.sound w.in-Ok.ensures.transitions c.thread_is_a_byte.ensures w.note.ensures.agreed)
           (ap (λ x. x.core) is)
           (ap (λ x. x.history.entries) is ∙ history_is _ _ _ _ _ _ _ w.add.ensures c.make_room.ensures.entries w.worker.ensures)
           (ap (λ x. x.book) is ∙ w.note.ensures.book)
           (ap (λ x. x.rooms.items) is)
           c.world.invariant.homes
           (ap (λ x. x.most_printed) is ∙ bound)
-          (same_within _ g.M.Opening.opening c.step.new.self c.match-step.world-inside.core (ap (λ x. x.core.printed) is)
-          (subst (λ most. IsPrintedWithin most g.M.Opening.opening c.step.new.self) bound (c.is_print_within.ensures c.if-not-is_print_within.false g.M.Opening.opening (c.step.new.self, w.in-Ok.report) w.in-Ok.ensures.turns
-          (subst (λ most. IsPrintedWithin most g.M.Opening.opening c.world.inside.core) (sym bound) c.world.invariant.printed))))
+          (same_within _ g.M.Initial.initial_state c.step.new.self c.match-step.world-inside.core (ap (λ x. x.core.printed) is)
+          (subst (λ most. IsPrintedWithin most g.M.Initial.initial_state c.step.new.self) bound (c.is_print_within.ensures c.if-not-is_print_within.false g.M.Initial.initial_state (c.step.new.self, w.in-Ok.report) w.in-Ok.ensures.transitions
+          (subst (λ most. IsPrintedWithin most g.M.Initial.initial_state c.world.inside.core) (sym bound) c.world.invariant.printed))))
       | in-Err w ↦ let is = w.world-inside-is in
           world_at _ _ _ _ _ _ _ _ _ _ _ _
           c.world.invariant.sound
@@ -34,7 +34,7 @@ invariant_of-world-2 g c =
           (ap (λ x. x.rooms.items) is)
           c.world.invariant.homes
           (ap (λ x. x.most_printed) is ∙ bound)
-          (same_within _ g.M.Opening.opening c.world.inside.core c.match-step.world-inside.core (ap (λ x. x.core.printed) is ∙ ap (λ x. x.printed) w.in-Err.ensures.refused) c.world.invariant.printed)
+          (same_within _ g.M.Initial.initial_state c.world.inside.core c.match-step.world-inside.core (ap (λ x. x.core.printed) is ∙ ap (λ x. x.printed) w.in-Err.ensures.refused) c.world.invariant.printed)
     ]
 
 pub returns-clause-follows : goal.returns-clause-follows

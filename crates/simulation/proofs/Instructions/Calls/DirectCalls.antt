@@ -22,10 +22,10 @@ use Rattle.interpreter.specs.resolved_code.declared.operations.Operation.TheVari
 use Rattle.interpreter.specs.object_memory.declared.values.Value.{Value}
 use Rattle.interpreter.specs.object_memory.Objects.{Objects}
 use Rattle.interpreter.specs.threads_monitors.Frames.{Frames}
-use Rattle.interpreter.specs.Calls.{run_turn}
-use Rattle.interpreter.specs.Instructions.{MachineTurn, of_calls, operation_turn}
+use Rattle.interpreter.specs.Calls.{run_transition}
+use Rattle.interpreter.specs.Instructions.{MachineTransition, of_calls, operation_transition}
 use Rattle.interpreter.proofs.Linking.{call_does}
-use Rattle.simulation.specs.StandsFor.{Names}
+use Rattle.simulation.specs.Refines.{Names}
 use Rattle.simulation.proofs.Instructions.Correspondence.{IsSetting, DoesAlike}
 use Rattle.simulation.proofs.Instructions.StackOperands.{fine}
 use Rattle.simulation.proofs.Instructions.Calls.MethodExecution.{methods_run_alike}
@@ -63,18 +63,18 @@ module _ (here : Setting) (s : State) (f : StateFrame) (below : List StateFrame)
 module _ (here : Setting) (model : MemoryModel here.tree) (name : Names) (m : Frames) (o : Objects) (statics : List Value) (printed : List ℕ) (s : State) (f : StateFrame) (below : List StateFrame) where
   pub call_alike : (is_instance : Bool) (r : MethodReference) (owner : ℕ) (method : MemberNumber) → class_name here.tree owner ≡ Some r.owner → IsMethod here.tree is_instance r method →
       IsSetting here model name m o statics printed s f below (Named.Call is_instance r) (Resolved.Call is_instance owner method) →
-      DoesAlike here model name m o statics printed s f below (operation_turn here.tree (mutator_in here model) (Resolved.Call is_instance owner method) m o statics printed) (execute here s f below (Named.Call is_instance r))
+      DoesAlike here model name m o statics printed s f below (operation_transition here.tree (mutator_in here model) (Resolved.Call is_instance owner method) m o statics printed) (execute here s f below (Named.Call is_instance r))
   call_alike is_instance r owner method named finds at =
       let run : ClassName × Method = (finds.declared_in, finds.found) in
       let is : IsFound here.tree is_instance r finds.declared_in finds.found = found here.tree at.running.accepted.legal is_instance r finds.declared_in finds.found finds.finds in
       let types : List DeclaredType = reference_operands is_instance r in
-      let turn : MachineTurn = operation_turn here.tree (mutator_in here model) (Resolved.Call is_instance owner method) m o statics printed in
-      let turn_is : turn ≡ of_calls o statics printed (run_turn here.tree (mutator_in here model) run m o printed) = call_does here.tree (mutator_in here model) m o statics printed method run finds.numbered is_instance owner in
+      let transition : MachineTransition = operation_transition here.tree (mutator_in here model) (Resolved.Call is_instance owner method) m o statics printed in
+      let transition_is : transition ≡ of_calls o statics printed (run_transition here.tree (mutator_in here model) run m o printed) = call_does here.tree (mutator_in here model) m o statics printed method run finds.numbered is_instance owner in
       let typed : IsTypedEffect here.tree (operands here s f below types (run_method here s f below run)) =
       subst (λ x. IsTypedEffect here.tree (given_there x (λ y. operands here s f below types (run_method here s f below y)))) finds.finds
       (fine here model name m o statics printed s f below (Named.Call is_instance r) (Resolved.Call is_instance owner method) at) in
-      subst (λ x. DoesAlike here model name m o statics printed s f below turn (given_there x (λ y. operands here s f below types (run_method here s f below y)))) (sym finds.finds)
-      (subst (λ x. DoesAlike here model name m o statics printed s f below x (operands here s f below types (run_method here s f below run))) (sym turn_is)
-      (operands_there here s f below types (run_method here s f below run) (λ e. DoesAlike here model name m o statics printed s f below (of_calls o statics printed (run_turn here.tree (mutator_in here model) run m o printed)) e)
+      subst (λ x. DoesAlike here model name m o statics printed s f below transition (given_there x (λ y. operands here s f below types (run_method here s f below y)))) (sym finds.finds)
+      (subst (λ x. DoesAlike here model name m o statics printed s f below x (operands here s f below types (run_method here s f below run))) (sym transition_is)
+      (operands_there here s f below types (run_method here s f below run) (λ e. DoesAlike here model name m o statics printed s f below (of_calls o statics printed (run_transition here.tree (mutator_in here model) run m o printed)) e)
       (length (argument_types finds.found finds.declared_in)) (operand_count is_instance r finds.declared_in finds.found _ is.static is.signature) typed (λ enough t.
-      methods_run_alike here model name m o statics printed s f below (Named.Call is_instance r) (Resolved.Call is_instance owner method) at run method.class method.place finds.numbered enough t)))
+      methods_run_alike here model name m o statics printed s f below (Named.Call is_instance r) (Resolved.Call is_instance owner method) at run method.class method.index finds.numbered enough t)))

@@ -7,21 +7,21 @@ use Rattle.interpreter.specs.cil_model.Legality.{IsLegal}
 use Rattle.interpreter.specs.name_tables.Numbers.{declarations, method_at}
 use Rattle.interpreter.specs.loaded_program.AllMethods.{all_methods, first_numbers}
 use Rattle.interpreter.specs.loaded_program.MethodNumbers.{number_of}
-use Rattle.interpreter.proofs.loaded_program.FlatLaws.{first_is_there, number_behind}
-use Rattle.interpreter.proofs.loaded_program.NumberLaws.{number_of_place}
+use Rattle.interpreter.proofs.loaded_program.FlatLaws.{first_is_there, number_after}
+use Rattle.interpreter.proofs.loaded_program.NumberLaws.{number_of_index}
 
 -- a method's number, at which it stands
-pub record IsNumbered (tree : Tree) (found : ClassName × Method) : Type 0 where
+pub record HasId (tree : Tree) (found : ClassName × Method) : Type 0 where
   pub number : ℕ
   pub is : number_of tree found ≡ Some number
   pub there : slice_get (all_methods tree) number ≡ Some found
 
--- that of a method at a place of a class
-pub method_numbered : (tree : Tree) → IsLegal tree → (class place : ℕ) (found : ClassName × Method) → method_at tree (class, place) ≡ Some found → IsNumbered tree found
-method_numbered tree legal class place found at = by_first (slice_get (first_numbers 0 (declarations tree)) class) refl
+-- that of a method at an index of a class
+pub method_numbered : (tree : Tree) → IsLegal tree → (class index : ℕ) (found : ClassName × Method) → method_at tree (class, index) ≡ Some found → HasId tree found
+method_numbered tree legal class index found at = by_first (slice_get (first_numbers 0 (declarations tree)) class) refl
   where
-    by_first : (o : Option ℕ) → slice_get (first_numbers 0 (declarations tree)) class ≡ o → IsNumbered tree found
-    by_first None e = absurd (first_is_there tree class place found at (first_numbers 0 (declarations tree)) refl e)
+    by_first : (o : Option ℕ) → slice_get (first_numbers 0 (declarations tree)) class ≡ o → HasId tree found
+    by_first None e = absurd (first_is_there tree class index found at (first_numbers 0 (declarations tree)) refl e)
     by_first (Some first) e =
-        let there : slice_get (all_methods tree) (first + place) ≡ Some found = (number_behind tree class place found at (first_numbers 0 (declarations tree)) first refl e).1 in
-        record { number = first + place; is = number_of_place tree legal (first + place) found there; there = there }
+        let there : slice_get (all_methods tree) (first + index) ≡ Some found = (number_after tree class index found at (first_numbers 0 (declarations tree)) first refl e).1 in
+        record { number = first + index; is = number_of_index tree legal (first + index) found there; there = there }

@@ -10,8 +10,8 @@ use Rattle.interpreter.specs.reference_machine.BuiltIn.{line_of as state_line_of
 use Rattle.interpreter.specs.object_memory.declared.values.Value.{Value}
 use Rattle.interpreter.specs.object_memory.Cells.{literal_number}
 use Rattle.interpreter.specs.object_memory.Objects.{Objects}
-use Rattle.interpreter.specs.instructions.BuiltInTurns.{line_of}
-use Rattle.simulation.specs.StandsFor.{Names, IsValue, int32, int64, native, null_reference, reference, IsLiteralAt}
+use Rattle.interpreter.specs.instructions.BuiltInTransitions.{line_of}
+use Rattle.simulation.specs.Refines.{Names, IsValue, int32, int64, native, null_reference, reference, IsLiteralAt}
 use Rattle.simulation.proofs.Memory.NamedAddresses.{named_is_not_null}
 use Rattle.interpreter.proofs.cil_model.Lists.{none_is_some}
 use Rattle.simulation.proofs.Memory.MemoryModels.{MemoryModel, IsModelled, IsReadable}

@@ -14,8 +14,8 @@ use Rattle.interpreter.specs.object_memory.declared.values.Value.{Value}
 use Rattle.interpreter.specs.object_memory.Objects.{Objects}
 use Rattle.interpreter.specs.threads_monitors.Frames.{Frames}
 use Rattle.interpreter.specs.Instructions.{of_calls}
-use Rattle.interpreter.specs.Calls.{run_turn}
-use Rattle.simulation.specs.StandsFor.{Names}
+use Rattle.interpreter.specs.Calls.{run_transition}
+use Rattle.simulation.specs.Refines.{Names}
 use Rattle.simulation.proofs.Memory.MemoryModels.{MemoryModel, mutator_in}
 use Rattle.simulation.proofs.Instructions.Correspondence.{IsSetting, DoesAlike}
 
@@ -24,8 +24,8 @@ abbrev pub MethodsRunAlike : Type 1
 MethodsRunAlike =
     (here : Setting) (model : MemoryModel here.tree) (name : Names) (m : Frames) (o : Objects) (statics : List Value) (printed : List ℕ) (s : State) (f : StateFrame) (below : List StateFrame) (i : Instruction) (operation : Operation) →
     IsSetting here model name m o statics printed s f below i operation →
-    (found : ClassName × Method) (class place : ℕ) → method_at here.tree (class, place) ≡ Some found →
+    (found : ClassName × Method) (class index : ℕ) → method_at here.tree (class, index) ≡ Some found →
     nat_le (length (argument_types found.1 found.0)) (length f.stack) ≡ true →
     IsTypedEffect here.tree (run_method here s f below found (reverse (take (length (argument_types found.1 found.0)) f.stack)) (drop (length (argument_types found.1 found.0)) f.stack)) →
-    DoesAlike here model name m o statics printed s f below (of_calls o statics printed (run_turn here.tree (mutator_in here model) found m o printed))
+    DoesAlike here model name m o statics printed s f below (of_calls o statics printed (run_transition here.tree (mutator_in here model) found m o printed))
     (run_method here s f below found (reverse (take (length (argument_types found.1 found.0)) f.stack)) (drop (length (argument_types found.1 found.0)) f.stack))

@@ -14,12 +14,12 @@ use Rattle.interpreter.specs.cil_model.Bodies.{argument_types}
 use Rattle.interpreter.specs.cil_model.Chains.{chain_of, listed_by, methods_declared, method_declared, nearest, is_static, is_virtual, is_new_slot_method, is_interface}
 use Rattle.interpreter.specs.cil_model.Declarations.{Declaration}
 use Rattle.interpreter.specs.cil_model.Same.{same_class, same_options, same_signature, same_method_name}
-use Rattle.interpreter.specs.cil_model.Slots.{slot_filled, slot_along, filler_along, class_target, virtual_in, lister_along, interface_target, target}
+use Rattle.interpreter.specs.cil_model.Slots.{slot_filled, slot_along, implementation_along, class_target, virtual_in, implementer_along, interface_target, target}
 use Rattle.interpreter.proofs.cil_model.Lists.{none_is_some, find_passes}
 use Rattle.interpreter.proofs.cil_model.SameLaws.{never, both_second, same_signature_equal}
 use Rattle.interpreter.proofs.reference_machine.Programs.MethodTypings.{IsDeclared, target_is_declared}
 use Rattle.interpreter.specs.name_tables.Numbers.{class_number, method_at}
-use Rattle.interpreter.proofs.name_tables.NumberLaws.{IsNumbered, numbered}
+use Rattle.interpreter.proofs.name_tables.NumberLaws.{HasId, numbered}
 use Rattle.interpreter.proofs.loaded_program.FlatLaws.{numbered_at}
 use Rattle.simulation.proofs.Memory.ClassesAtAddresses.{method_by}
 
@@ -42,13 +42,13 @@ module _ (tree : Tree) (name : MethodName) (signature : Signature) where
   fills_virtual c inherited m slot true h = refl
   fills_virtual c inherited m slot false h = never h
 
-  filler_has_object : (slot : ClassName) (cs : List ClassName) (k : ClassName) (m : Method) → filler_along tree name signature slot cs ≡ Some (k, m) → HasObject m
-  filler_has_object slot [] k m h = none_is_some (k, m) h
-  filler_has_object slot (d ∷ ds) k m h = by_class (method_declared tree name signature d) refl (same_options same_class (slot_along tree name signature (d ∷ ds)) (Some slot)) refl h (filler_has_object slot ds k m)
+  implementation_has_object : (slot : ClassName) (cs : List ClassName) (k : ClassName) (m : Method) → implementation_along tree name signature slot cs ≡ Some (k, m) → HasObject m
+  implementation_has_object slot [] k m h = none_is_some (k, m) h
+  implementation_has_object slot (d ∷ ds) k m h = by_class (method_declared tree name signature d) refl (same_options same_class (slot_along tree name signature (d ∷ ds)) (Some slot)) refl h (implementation_has_object slot ds k m)
     where
       by_class : (o : Option Method) → method_declared tree name signature d ≡ o → (b : Bool) → same_options same_class (slot_along tree name signature (d ∷ ds)) (Some slot) ≡ b →
-          option_map_or (λ x. if b then Some (d, x) else filler_along tree name signature slot ds) o (filler_along tree name signature slot ds) ≡ Some (k, m) →
-          (filler_along tree name signature slot ds ≡ Some (k, m) → HasObject m) → HasObject m
+          option_map_or (λ x. if b then Some (d, x) else implementation_along tree name signature slot ds) o (implementation_along tree name signature slot ds) ≡ Some (k, m) →
+          (implementation_along tree name signature slot ds ≡ Some (k, m) → HasObject m) → HasObject m
       by_class None e b same h' later = later h'
       by_class (Some x) e false same h' later = later h'
       by_class (Some x) e true same h' later =
@@ -59,11 +59,11 @@ module _ (tree : Tree) (name : MethodName) (signature : Signature) where
           (same_signature_equal x.signature signature (both_second _ _ passes), virtual_has_object x.kind (fills_virtual d inherited x slot (is_virtual x.kind) fills))
 
   class_target_has_object : (d c k : ClassName) (m : Method) → class_target tree name signature d c ≡ Some (k, m) → HasObject m
-  class_target_has_object d c k m h = option_and_then_some _ (slot_along tree name signature (chain_of tree c)) (k, m) h (λ slot e f. filler_has_object slot (chain_of tree d) k m f)
+  class_target_has_object d c k m h = option_and_then_some _ (slot_along tree name signature (chain_of tree c)) (k, m) h (λ slot e f. implementation_has_object slot (chain_of tree d) k m f)
 
   interface_target_has_object : (d i k : ClassName) (m : Method) → interface_target tree name signature d i ≡ Some (k, m) → HasObject m
-  interface_target_has_object d i k m h = option_and_then_some _ (lister_along tree name signature i (chain_of tree d)) (k, m) h (λ lister e f.
-      option_and_then_some _ (nearest (virtual_in tree name signature) (chain_of tree lister)) (k, m) f (λ found e' g. class_target_has_object d found.0 k m g))
+  interface_target_has_object d i k m h = option_and_then_some _ (implementer_along tree name signature i (chain_of tree d)) (k, m) h (λ implementer e f.
+      option_and_then_some _ (nearest (virtual_in tree name signature) (chain_of tree implementer)) (k, m) f (λ found e' g. class_target_has_object d found.0 k m g))
 
 -- the target of a call on an object has the signature of the method that is called, and an object
 pub target_has_object : (tree : Tree) (d c : ClassName) (m : Method) (k : ClassName) (m' : Method) → target tree d c m ≡ Some (k, m') → is_static m.kind ≡ false → (m'.signature ≡ m.signature) × (is_static m'.kind ≡ false)
@@ -76,33 +76,33 @@ target_has_object tree d c m k m' h object = by_kind (is_virtual m.kind) (is_int
 
 -- ---- numbers
 
--- a declared method stands at a place of a numbered class
-pub declared_at : (tree : Tree) (c : ClassName) (m : Method) → IsDeclared tree c m → (class : ℕ) × (place : ℕ) × (method_at tree (class, place) ≡ Some (c, m))
-declared_at tree c m (place, h) = by_number (class_number tree c) (numbered tree c)
+-- a declared method is at an index of a class with an id
+pub declared_at : (tree : Tree) (c : ClassName) (m : Method) → IsDeclared tree c m → (class : ℕ) × (index : ℕ) × (method_at tree (class, index) ≡ Some (c, m))
+declared_at tree c m (index, h) = by_number (class_number tree c) (numbered tree c)
   where
-    by_number : (o : Option ℕ) → IsNumbered tree c o → (class : ℕ) × (place : ℕ) × (method_at tree (class, place) ≡ Some (c, m))
-    by_number None e = none_is_some m (sym (ap (λ z. slice_get (listed_by (λ (d : Declaration). d.methods) z) place) e) ∙ h)
+    by_number : (o : Option ℕ) → HasId tree c o → (class : ℕ) × (index : ℕ) × (method_at tree (class, index) ≡ Some (c, m))
+    by_number None e = none_is_some m (sym (ap (λ z. slice_get (listed_by (λ (d : Declaration). d.methods) z) index) e) ∙ h)
     by_number (Some n) (d, e, at) =
-        let own : slice_get d.methods place ≡ Some m = sym (ap (λ z. slice_get (listed_by (λ (y : Declaration). y.methods) z) place) e) ∙ h in
-        (n, place, numbered_at tree n place (c, d) m at own)
+        let own : slice_get d.methods index ≡ Some m = sym (ap (λ z. slice_get (listed_by (λ (y : Declaration). y.methods) z) index) e) ∙ h in
+        (n, index, numbered_at tree n index (c, d) m at own)
 
 -- ---- what is chosen
 
 -- a method with a number, which takes an object and the arguments that the signature names
 pub record IsChosen (tree : Tree) (signature : Signature) (run : ClassName × Method) : Type 0 where
   pub class : ℕ
-  pub place : ℕ
-  pub numbered : method_at tree (class, place) ≡ Some run
+  pub index : ℕ
+  pub numbered : method_at tree (class, index) ≡ Some run
   pub count : length (argument_types run.1 run.0) ≡ suc (length signature.parameters)
 
 -- a declared method of an object, of the signature
 pub is_chosen : (tree : Tree) (signature : Signature) (run : ClassName × Method) → IsDeclared tree run.0 run.1 → run.1.signature ≡ signature → is_static run.1.kind ≡ false → IsChosen tree signature run
 is_chosen tree signature run declared same object =
-    let place = declared_at tree run.0 run.1 declared in
+    let index = declared_at tree run.0 run.1 declared in
     record {
-      class = place.0;
-      place = place.1;
-      numbered = place.2;
+      class = index.0;
+      index = index.1;
+      numbered = index.2;
       count = ap (λ b. length (if b then run.1.signature.parameters else type_of_class run.0 ∷ run.1.signature.parameters)) object ∙ ap (λ (x : Signature). suc (length x.parameters)) same;
     }
 

@@ -15,5 +15,5 @@ returns c =
     let inside : used ≤ length old = omega (arith, inv.2, inv.3) in
     let given = rw (← c.self.view_is) at c.requires in
     let here = read_at old used inv.1 inside c.args.index given in
-    let told = c.read.ensures in
+    let decoded = c.read.ensures in
     rw (← c.self.view_is) cc

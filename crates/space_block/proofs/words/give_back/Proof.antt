@@ -37,7 +37,7 @@ use Rattle.space_block.specs.contracts.words.Lease as lease
 use Rattle.space_block.specs.contracts.words.give_back.{ended, clauses}
 use Rattle.space_block.specs.contracts.words.give_back.Key.{name as #self}
 use Rattle.space_block.proofs.Places.{to_room}
-use Rattle.space_block.proofs.Values.{front_val, front_told, bare_val, bare_told, lease_val, lease_told}
+use Rattle.space_block.proofs.Values.{front_val, front_decoded, bare_val, bare_decoded, lease_val, lease_decoded}
 use Rattle.space_block.proofs.words.give_back.Statement.{statement}
 use Rattle.space_block.proofs.words.give_back.Code as code
 
@@ -59,7 +59,7 @@ give_back_spec 𝓤 𝓛 𝓜 𝓡 wired A L g d dd met md =
     let words_type : Ty = ty_array (ty_int w64) n in let τ : Ty = bare words_type in
     let Asked : Type 0 = (w.at ≡ start) × (length w.places ≡ n) × (k.at ≡ start) × (k.count ≡ n) × (k.alloc ≡ h) in
     subst (λ (vss : List Val × (List Val × (List Val × (List Val × (List Val × Unit {0}))))). ent 𝓤 ((walk_of 𝓛 E hs c).pre (At vss)) (WpFn 𝓤 H 𝓣.C 𝓣.Λ fn ((walk_of 𝓛 E hs c).args (At vss)) ((walk_of 𝓛 E hs c).post (At vss))))
-    (λ j. (sym are.0.0 j, (sym (front_told start vss₀.1.0 are.1.0) j, (sym are.1.1.0.0 j, (sym (bare_told vss₀.1.1.1.0 are.1.1.1.0.0) j, (sym (lease_told vss₀.1.1.1.1.0 are.1.1.1.1.0.0) j, tt)))))) (
+    (λ j. (sym are.0.0 j, (sym (front_decoded start vss₀.1.0 are.1.0) j, (sym are.1.1.0.0 j, (sym (bare_decoded vss₀.1.1.1.0 are.1.1.1.0.0) j, (sym (lease_decoded vss₀.1.1.1.1.0 are.1.1.1.1.0.0) j, tt)))))) (
     qed 𝓛 (((‵ (flft κ q) ⊛ ‵ (flft κs.1.0 qs.1.0) ⊛ ‵ ftrue) ⊛ ‵ (owns (types_at E.signature.params κs) a y.0.4)) ∷ (raw (fact 𝓤 (κs.1.0 ⊑ A.lives)) ⊛ raw (fact 𝓤 Asked)) ∷ []) ∵
     move ! (1 ∷ []) $ split ! $ heard ! (κs.1.0 ⊑ A.lives) (λ le. heard ! Asked (λ asked. split ! $ split ! $ move ! (2 ∷ []) $
     fsplit ! $ fsplit ! $ drop ! $ move ! (1 ∷ []) $ fsplit ! $ drop ! $ fsplit ! $ drop ! $ fsplit ! $ fsplit ! $ drop ! $ move ! (1 ∷ []) $ fsplit ! $ fsplit ! $ drop ! $

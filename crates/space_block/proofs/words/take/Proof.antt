@@ -82,7 +82,7 @@ take_spec 𝓤 𝓛 𝓜 𝓡 wired A L g d dd met md =
     (λ b o e.
     let p : Ptr = block_ptr b o in let x : (front.the_row).Denot = record { start = p } in let w : (words.the_row).Denot = record { at = p; places = replicate n None } in
     let k : (lease.the_row Z g).Denot = record { mark = record {}; at = p; count = n; alloc = h } in let made : Val = three_val (front_val p) bare_val lease_val in
-    let Told : Type 0 = (w.at ≡ x.start) × (w.places ≡ replicate n None) × (k.at ≡ x.start) × (k.count ≡ n) × (k.alloc ≡ h) in
+    let Decoded : Type 0 = (w.at ≡ x.start) × (w.places ≡ replicate n None) × (k.at ≡ x.start) × (k.count ≡ n) × (k.alloc ≡ h) in
     lands_as ! e refl (Answer-typed true b o) $ first ! $ switches_on ! (get_tag ! (vrt ! refl (fld ! refl (stop !))) (whole !)) $ exec ! 𝓣.C 𝓣.Λ En (arm_body 0 (head (after 2 fn.body))) Then $
     sets ! (of_opd ! (get_in ! (vrt ! refl (fld ! refl (stop !))) (in_variant ! 0 0 refl refl (whole !)))) refl (tt, tt) $ sets ! (of_opd ! (get ! refl)) refl (tt, tt) $
     sets ! (agg ! (and_then ! (get ! refl) (no_more !))) refl (word-Good [] p) $ sets ! (agg ! (no_more !)) refl (tt, tt) $
@@ -99,7 +99,7 @@ take_spec 𝓤 𝓛 𝓜 𝓡 wired A L g d dd met md =
     use3 𝓛 (‵ (Three.own_val (x, w, k) (made ∷ []))) (three_made 𝓛 front.the_row words.the_row (lease.the_row Z g) x w k (front_val p) bare_val lease_val) $
     use1 𝓛 (‵ (Out.own_val (Ok (x, w, k)) (live 0 (vcons made vnil) ∷ []))) (ok_of 𝓛 Three refusal.the_row (x, w, k) made) $
     returns ! (look_at ! 0 refl) $ free_all ! refl $ keep ! (1 ∷ 2 ∷ 0 ∷ []) $ join ! $
-    use0 𝓛 (raw (fact 𝓤 Told)) (fact_i 𝓤 Told (emp 𝓤) (refl, refl, refl, refl, refl)) $ nothing ! $ nothing ! $ fjoin ! $ nothing ! $ fjoin ! $
+    use0 𝓛 (raw (fact 𝓤 Decoded)) (fact_i 𝓤 Decoded (emp 𝓤) (refl, refl, refl, refl, refl)) $ nothing ! $ nothing ! $ fjoin ! $ nothing ! $ fjoin ! $
     move ! (2 ∷ 0 ∷ 3 ∷ 1 ∷ []) $ by ! (leaves 𝓛 E hs c y (live 0 (vcons made vnil)) (Ok (x, w, k)) (tt, (tt, tt)) (tt, (tt, tt))))
     (λ e.
     let none : Val = live 1 (vcons bare_val vnil) in

@@ -7,6 +7,6 @@ use Rattle.verifier.specs.Members.{methods_at, own_methods}
 use Rattle.verifier.proofs.members.add_numbers.Given as goal
 
 -- the methods of the numbers so far, and then those that are left
-abbrev pub invariant-loop-place : goal.invariant-loop-place
-invariant-loop-place l = (tree : Tree) (c : Class) → slice_get (declarations tree) l.class ≡ Some (source_entry c) → map (λ m. m.now) l.methods ≡ method_members c →
-    methods_at tree l.members.items ++ map Some (map (λ m. (source_name c, m)) (map (λ m. m.now) (drop l.place l.methods))) ≡ methods_at tree l.initial.members.items ++ map Some (own_methods c)
+abbrev pub invariant-loop-index : goal.invariant-loop-index
+invariant-loop-index l = (tree : Tree) (c : Class) → slice_get (declarations tree) l.class ≡ Some (source_entry c) → map (λ m. m.now) l.methods ≡ method_members c →
+    methods_at tree l.members.items ++ map Some (map (λ m. (source_name c, m)) (map (λ m. m.now) (drop l.index l.methods))) ≡ methods_at tree l.initial.members.items ++ map Some (own_methods c)

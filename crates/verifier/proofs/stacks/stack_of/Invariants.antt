@@ -1,5 +1,5 @@
 use Rattle.std.proofs.Common.{◌≡◌, drop}
 use Rattle.verifier.proofs.stacks.stack_of.Given as goal
 
-abbrev pub invariant-loop-place : goal.invariant-loop-place
-invariant-loop-place l = l.stack ≡ drop l.place l.kept
+abbrev pub invariant-loop-pc : goal.invariant-loop-pc
+invariant-loop-pc l = l.stack ≡ drop l.pc l.kept

@@ -10,6 +10,6 @@ use Rattle.verifier.proofs.typings.typing_of_body.Goals as goal
 pub returns : goal.returns
 returns c owner m code named is coded body =
     let same : c.args.types.now ≡ c.args.program.now = c.requires in
-    let told = c.find_typing.ensures code (subst (λ (tree : Tree). IsBody tree code c.args.body.now) (sym same) body) in
-    let answer : IsTypingAnswer c.args.program.now (types_named c.args.program.now c.in-Ok.arguments.items) (option_map (type_named c.args.program.now) c.args.method.now.return_type) code c.find_typing.result = rw (same, c.as_slice.ensures.value) at told in
+    let reported = c.find_typing.ensures code (subst (λ (tree : Tree). IsBody tree code c.args.body.now) (sym same) body) in
+    let answer : IsTypingAnswer c.args.program.now (types_named c.args.program.now c.in-Ok.arguments.items) (option_map (type_named c.args.program.now) c.args.method.now.return_type) code c.find_typing.result = rw (same, c.as_slice.ensures.value) at reported in
     code_verdict c.args.program.now owner m c.args.method.now code c.in-Ok.arguments.items c.find_typing.result is coded (c.in-Ok.ensures c.args.program.now owner m named is) answer

@@ -1,7 +1,7 @@
 use Rattle.std.proofs.Common.{◌≡◌, ◌<◌, ◌+◌, List, Option, length, arith, refl, sym, ◌∙◌, subst}
 use Rattle.flow_rules.specs.declared.entries.StackEntry.{StackEntry}
 use Rattle.verifier.specs.Verdicts.{AreOfMethods}
-use Rattle.verifier.proofs.TypingLaws.{as_many, none_kept, next_kept, next_refused}
+use Rattle.verifier.proofs.TypingLaws.{same_count, none_kept, next_kept, next_refused}
 use Rattle.verifier.proofs.typings.typings_by.Goals as goal
 
 pub loop-method-init : goal.loop-method-init
@@ -11,7 +11,7 @@ pub returns-in-Err : goal.returns-in-Err
 returns-in-Err c all =
     let below : c.loop-method.method < length c.args.members.now = omega (arith, c.loop-method-test.true) in
     let invariant = c.loop-method.invariant all in
-    next_refused c.args.program.now c.args.members.now c.loop-method.typings.items c.loop-method.method _ all below invariant.0 invariant.1 c.in-Err.error c.refused.result c.in-Err.ensures c.refused.ensures
+    next_refused c.args.program.now c.args.members.now c.loop-method.typings.items c.loop-method.method _ all below invariant.0 invariant.1 c.in-Err.error c.refusal_in.result c.in-Err.ensures c.refusal_in.ensures
 
 pub loop-method-preserved : goal.loop-method-preserved
 loop-method-preserved c all =
@@ -24,4 +24,4 @@ pub returns : goal.returns
 returns c all =
     let invariant = c.loop-method.invariant all in
     let whole : length c.loop-method.typings.items ≡ length c.args.members.now = omega (arith, invariant.0, c.loop-method-test.false, c.loop-method.auto) in
-    rw c.new.ensures (record { whole = whole ∙ as_many c.args.program.now c.args.members.now all; each = invariant.1 })
+    rw c.new.ensures (record { whole = whole ∙ same_count c.args.program.now c.args.members.now all; each = invariant.1 })

@@ -1,7 +1,7 @@
 use Rattle.std.proofs.Common.{List, drop, length, subst}
 use Rattle.interleaving_core.specs.simulation.cil_model.declared.reports.Report.{Report}
-use Rattle.interleaving_core.specs.simulation.MachineContents.{Content}
-use Rattle.interleaving_core.specs.simulation.Runs.{AreTurns}
+use Rattle.interleaving_core.specs.simulation.MachineStates.{MachineState}
+use Rattle.interleaving_core.specs.simulation.Runs.{AreTransitions}
 use Rattle.exploration.proofs.Begins.{begins_first, on_ok, reopened_begins}
 use Rattle.exploration.proofs.replayers.Replayer.replay.Goals as goal
 
@@ -9,7 +9,7 @@ pub returns : goal.returns
 returns g c =
     let first = begins_first c.self.inside.machine c.reopen.new.self g.M.First.first c.in_ok-reopen.ensures.begins c.self.invariant in
     let reports : List Report = drop (length c.clear.new.self.items) c.run.new.reports.items in
-    on_ok c.run.result c.run.ensures.turns (λ turns. record { reports = reports; turns = subst (λ (x : Content). AreTurns x c.args.events.now c.run.new.self reports) first turns })
+    on_ok c.run.result c.run.ensures.transitions (λ transitions. record { reports = reports; transitions = subst (λ (x : MachineState). AreTransitions x c.args.events.now c.run.new.self reports) first transitions })
 
 pub invariant_of-self : goal.invariant_of-self
 invariant_of-self g c = reopened_begins c.self.inside.machine c.reopen.new.self g.M.First.first c.self.invariant c.reopen.result c.reopen.ensures.begins c.reopen.ensures.refused

@@ -1,10 +1,10 @@
 use Rattle.std.proofs.Common.{subst, sym}
 use Rattle.interleaving_core.specs.simulation.cil_model.Legality.{IsLegal}
-use Rattle.interleaving_core.specs.simulation.MachineContents.{Content}
+use Rattle.interleaving_core.specs.simulation.MachineStates.{MachineState}
 use Rattle.interleaving_core.proofs.simulation.resolved_code.InstructionOperations.UniqueOperations.{one_operation}
-use Rattle.exploration.specs.Behind.{IsBehind}
+use Rattle.exploration.specs.Lagging.{IsLagging}
 use Rattle.exploration.proofs.Begins.{begins_program, begins_still}
-use Rattle.exploration.proofs.Covering.{behind_itself}
+use Rattle.exploration.proofs.Covering.{lagging_itself}
 use Rattle.exploration.proofs.Going.{still_at_origin, taken_back}
 use Rattle.exploration.proofs.replayers.Replayer.run_local.Goals as goal
 
@@ -21,7 +21,7 @@ pub returns : goal.returns
 returns g c =
     let here = c.self.inside.machine in
     let origin = still_at_origin here c.args.thread c.lend-loan.result c.run.new.self c.lend-loan.ensures c.run.ensures in
-    subst (λ (x : Content). IsBehind x c.take_back.new.self) c.self.view_is (taken_back here c.take_back.new.self c.run.new.self (one_operation here.tree (subst IsLegal (sym (begins_program here g.M.First.first c.self.invariant).0) c.requires)) origin.0 origin.1 c.laws.ensures c.take_back.ensures.turns)
+    subst (λ (x : MachineState). IsLagging x c.take_back.new.self) c.self.view_is (taken_back here c.take_back.new.self c.run.new.self (one_operation here.tree (subst IsLegal (sym (begins_program here g.M.First.first c.self.invariant).0) c.requires)) origin.0 origin.1 c.laws.ensures c.take_back.ensures.transitions)
 
 pub returns-then-not-is_live : goal.returns-then-not-is_live
-returns-then-not-is_live g c = behind_itself c.args.self.now
+returns-then-not-is_live g c = lagging_itself c.args.self.now

@@ -4,7 +4,7 @@ use Rattle.std.proofs.lemmas.List.FromFn.{map-range_with_len_more}
 use Rattle.std.proofs.lemmas.Result.{IfOk-from_err}
 use Rattle.std.specs.List.{range_with_len}
 use Rattle.flip_table.specs.Plans.{plan_of}
-use Rattle.flip_table.specs.Tokens.{opening_seat}
+use Rattle.flip_table.specs.Tokens.{initial_seat}
 use Rattle.flip_table.proofs.Making.{few_words, some_words}
 use Rattle.flip_table.proofs.flip_table.FlipTable.new.Goals as goal
 
@@ -13,7 +13,7 @@ loop-index-preserved c = record {
   same_table = c.deal_writer.ensures.token.0 ∙ c.loop-index.invariant.same_table;
   dealt = rw (← c.in_ok-words.ensures.words.1) c.deal_writer.ensures.token.1;
   writers = rw (c.push_reserved.ensures.items, c.loop-index.invariant.writers, c.deal_writer.ensures.writer, c.loop-index.invariant.same_table, c.in_ok-words.ensures.words.1)
-      (sym (map-range_with_len_more (opening_seat c.in_ok-words.words.shared.table_id (plan_of c.args.plan)) 0 c.loop-index.index c.loop-index.index (zero-add c.loop-index.index)));
+      (sym (map-range_with_len_more (initial_seat c.in_ok-words.words.shared.table_id (plan_of c.args.plan)) 0 c.loop-index.index c.loop-index.index (zero-add c.loop-index.index)));
   count = c.push_reserved.ensures.len ∙ ap (λ n. n + 1) c.loop-index.invariant.count;
   room = rw c.push_reserved.ensures.capacity c.loop-index.invariant.room;
 }
@@ -51,7 +51,7 @@ returns-clause-copier c = rw (c.copier_of.ensures, c.loop-index.invariant.same_t
 pub returns-clause-writers : goal.returns-clause-writers
 returns-clause-writers c =
     let all : c.loop-index.index ≡ c.args.plan.seats = omega arith in
-    c.loop-index.invariant.writers ∙ ap (λ index. map (opening_seat c.in_ok-words.words.shared.table_id (plan_of c.args.plan)) (range_with_len 0 index)) all
+    c.loop-index.invariant.writers ∙ ap (λ index. map (initial_seat c.in_ok-words.words.shared.table_id (plan_of c.args.plan)) (range_with_len 0 index)) all
 
 pub invariant_of-table : goal.invariant_of-table
 invariant_of-table c =

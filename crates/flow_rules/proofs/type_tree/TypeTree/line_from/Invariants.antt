@@ -1,5 +1,5 @@
 use Rattle.std.proofs.Common.{◌≡◌, length}
-use Rattle.resolved_code.specs.declared.types.NumberedElement.TheVariants.{Class}
+use Rattle.resolved_code.specs.declared.types.ResolvedElement.TheVariants.{Class}
 use Rattle.flow_rules.specs.Merging.{IsUp, IsLine}
 use Rattle.flow_rules.proofs.type_tree.TypeTree.line_from.Given as goal
 

@@ -1,7 +1,7 @@
 use Rattle.std.proofs.Common.{◌≡◌, ◌+◌, Some, sym, ap, ◌∙◌}
 use Rattle.cil_model.specs.declared.trees.Tree.{Tree}
 use Rattle.cil_model.specs.declared.types.DeclaredType.{DeclaredType}
-use Rattle.resolved_code.specs.declared.types.NumberedType.{NumberedType}
+use Rattle.resolved_code.specs.declared.types.ResolvedType.{ResolvedType}
 use Rattle.flow_rules.specs.Named.{type_named}
 use Rattle.flow_rules.proofs.Classes.{one_type}
 use Rattle.flow_rules.proofs.Climbing.{next, too_far}
@@ -16,7 +16,7 @@ returns-then-is_same c =
     let u : DeclaredType = type_named tree c.loop-step.here in
     let same : c.loop-step.there ≡ c.loop-step.here = sym (c.is_same.ensures.same c.if-is_same.true) in
     level_closest tree c.loop-step.step a b u c.requires.level c.loop-step.invariant.none_yet c.loop-step.invariant.first_reached
-    (c.loop-step.invariant.second_reached ∙ ap (λ (t : NumberedType). Some (type_named tree t)) same)
+    (c.loop-step.invariant.second_reached ∙ ap (λ (t : ResolvedType). Some (type_named tree t)) same)
 
 pub returns-in_err-one : goal.returns-in_err-one
 returns-in_err-one c =

@@ -2,7 +2,7 @@ use Rattle.std.proofs.Common.{◌≡◌, ◌-◌, Some, None, sym, ap, ◌∙◌
 use Rattle.cil_model.specs.declared.trees.Tree.{Tree}
 use Rattle.cil_model.specs.declared.types.DeclaredType.{DeclaredType}
 use Rattle.cil_model.specs.TypeTree.{ancestor}
-use Rattle.resolved_code.specs.declared.types.NumberedType.{NumberedType}
+use Rattle.resolved_code.specs.declared.types.ResolvedType.{ResolvedType}
 use Rattle.flow_rules.specs.Named.{type_named}
 use Rattle.flow_rules.proofs.LineLaws.{merged_first, merged_second}
 use Rattle.flow_rules.proofs.DepthLaws.{deep_enough, brought_level, merged_brought}
@@ -11,7 +11,7 @@ use Rattle.flow_rules.proofs.type_tree.TypeTree.merged_types.Goals as goal
 pub returns-then-is_same : goal.returns-then-is_same
 returns-then-is_same c =
     let tree : Tree = c.args.self.now in
-    merged_first tree c.args.first c.args.second (0, ap (λ (t : NumberedType). Some (type_named tree t)) (sym (c.is_same.ensures.same c.if-is_same.true)))
+    merged_first tree c.args.first c.args.second (0, ap (λ (t : ResolvedType). Some (type_named tree t)) (sym (c.is_same.ensures.same c.if-is_same.true)))
 
 pub returns-then-is_above : goal.returns-then-is_above
 returns-then-is_above c = merged_first c.args.self.now c.args.first c.args.second (c.is_above.ensures c.if-is_above.true)

@@ -1,6 +1,6 @@
 use Rattle.std.proofs.Common.{◌≡◌, drop}
-use Rattle.inheritance.specs.Sought.{is_sought, finds_some}
+use Rattle.inheritance.specs.Query.{is_match, finds_some}
 use Rattle.inheritance.proofs.inheritance.Inheritance.finds_along.Given as goal
 
-abbrev pub invariant-loop-place : goal.invariant-loop-place
-invariant-loop-place l = finds_some (is_sought l.sought) l.self.forest (drop l.place l.keys) l.class ≡ finds_some (is_sought l.sought) l.self.forest l.keys l.class
+abbrev pub invariant-loop-index : goal.invariant-loop-index
+invariant-loop-index l = finds_some (is_match l.query) l.self.forest (drop l.index l.keys) l.class ≡ finds_some (is_match l.query) l.self.forest l.keys l.class

@@ -1,7 +1,7 @@
 use Rattle.std.proofs.Common.{ap, sym, ◌∙◌, ◌+ℤ◌, ◌-ℤ◌, ◌*ℤ◌, negsuc, int_div, int_rem, Ok, to_z, of_z, arith}
 use Rattle.std.specs.Int.{w32}
 use Rattle.std.proofs.lemmas.Int.{to_z-of_z, rem_is}
-use Rattle.reference_machine.specs.Arithmetic.{binary, divided}
+use Rattle.reference_machine.specs.Arithmetic.{binary, quotient}
 use Rattle.instructions.proofs.Results.{quotient_fits, read_as, read_back, exact_is, never_both, machine_quotient, divides, tests_32}
 use Rattle.instructions.proofs.integers.I32Integer.binary.Goals as goal
 
@@ -40,13 +40,13 @@ returns-in-MultiplyOverflow c =
 
 pub returns-then-y-eq0 : goal.returns-then-y-eq0
 returns-then-y-eq0 c =
-    sym (ap (λ op. binary w32 op c.args.x c.args.y) c.in-Divide.is ∙ ap (λ k. divided w32 c.args.x k (int_div c.args.x c.args.y)) (read_as w32 c.args.y 0 c.ranges.y c.if-y-eq0.true))
+    sym (ap (λ op. binary w32 op c.args.x c.args.y) c.in-Divide.is ∙ ap (λ k. quotient w32 c.args.x k (int_div c.args.x c.args.y)) (read_as w32 c.args.y 0 c.ranges.y c.if-y-eq0.true))
 
 pub returns-then-y-eqminus1 : goal.returns-then-y-eqminus1
 returns-then-y-eqminus1 c =
     sym (ap (λ op. binary w32 op c.args.x c.args.y) c.in-Divide.is
-    ∙ ap (λ k. divided w32 c.args.x k (int_div c.args.x c.args.y)) (read_as w32 c.args.y 4294967295 c.ranges.y c.if-y-eqminus1.true)
-    ∙ ap (λ k. divided w32 k (negsuc 0) (int_div c.args.x c.args.y)) (read_as w32 c.args.x 2147483648 c.ranges.x c.if-x-eqminus2147483648.true))
+    ∙ ap (λ k. quotient w32 c.args.x k (int_div c.args.x c.args.y)) (read_as w32 c.args.y 4294967295 c.ranges.y c.if-y-eqminus1.true)
+    ∙ ap (λ k. quotient w32 k (negsuc 0) (int_div c.args.x c.args.y)) (read_as w32 c.args.x 2147483648 c.ranges.x c.if-x-eqminus2147483648.true))
 
 pub nonzero_div-result : goal.nonzero_div-result
 nonzero_div-result c =
@@ -59,13 +59,13 @@ returns-else-x-eqminus2147483648 c =
 
 pub returns-then-y-eq0-2 : goal.returns-then-y-eq0-2
 returns-then-y-eq0-2 c =
-    sym (ap (λ op. binary w32 op c.args.x c.args.y) c.in-Remainder.is ∙ ap (λ k. divided w32 c.args.x k (int_rem c.args.x c.args.y)) (read_as w32 c.args.y 0 c.ranges.y c.if-y-eq0-2.true))
+    sym (ap (λ op. binary w32 op c.args.x c.args.y) c.in-Remainder.is ∙ ap (λ k. quotient w32 c.args.x k (int_rem c.args.x c.args.y)) (read_as w32 c.args.y 0 c.ranges.y c.if-y-eq0-2.true))
 
 pub returns-then-y-eqminus1-2 : goal.returns-then-y-eqminus1-2
 returns-then-y-eqminus1-2 c =
     sym (ap (λ op. binary w32 op c.args.x c.args.y) c.in-Remainder.is
-    ∙ ap (λ k. divided w32 c.args.x k (int_rem c.args.x c.args.y)) (read_as w32 c.args.y 4294967295 c.ranges.y c.if-y-eqminus1-2.true)
-    ∙ ap (λ k. divided w32 k (negsuc 0) (int_rem c.args.x c.args.y)) (read_as w32 c.args.x 2147483648 c.ranges.x c.if-x-eqminus2147483648-2.true))
+    ∙ ap (λ k. quotient w32 c.args.x k (int_rem c.args.x c.args.y)) (read_as w32 c.args.y 4294967295 c.ranges.y c.if-y-eqminus1-2.true)
+    ∙ ap (λ k. quotient w32 k (negsuc 0) (int_rem c.args.x c.args.y)) (read_as w32 c.args.x 2147483648 c.ranges.x c.if-x-eqminus2147483648-2.true))
 
 pub nonzero_rem-result : goal.nonzero_rem-result
 nonzero_rem-result c =

@@ -5,7 +5,7 @@ use Rattle.cil_model.proofs.Lists.{none_is_some}
 use Rattle.threads_monitors.specs.Frames.{Frames}
 use Rattle.threads_monitors.specs.declared.threads.Thread.{Thread}
 use Rattle.threads_monitors.specs.Threads.{is_live}
-use Rattle.simulation.specs.Turns.{live_thread}
+use Rattle.simulation.specs.Transitions.{live_thread}
 use Rattle.simulation.specs.interpreter.Local.{IsNextLocal}
 use Rattle.interleaving_core.proofs.Threads.LiveFrames.{found_there, none_there}
 use Rattle.interleaving_core.proofs.Threads.HalfSteps.{same_frames, thread_is}
@@ -26,7 +26,7 @@ returns-in-Live-clause-live c = λ left m is.
 pub returns-in-Ended-clause-live : goal.returns-in-Ended-clause-live
 returns-in-Ended-clause-live c = λ left m is.
     let there = found_there c.args.self.now.threads.items c.args.thread c.args.thread c.thread.result c.in-Some.theirs c.thread.ensures refl c.in-Some.is in
-    let live = ap (λ (x : Thread). x.standing) (same_Some c.in-Some.theirs.now (live_thread left m) (sym there ∙ is)) in
+    let live = ap (λ (x : Thread). x.thread_status) (same_Some c.in-Some.theirs.now (live_thread left m) (sym there ∙ is)) in
     let ended = c.in-Ended.is in
     absurd (cc (live, ended))
 

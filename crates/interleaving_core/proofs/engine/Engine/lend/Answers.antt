@@ -2,9 +2,9 @@ use Rattle.std.proofs.Common.{Some, refl, sym, ap, subst, false, ◌∙◌}
 use Rattle.std.specs.Option.{option_map_or}
 use Rattle.cil_model.specs.declared.trees.Tree.{Tree}
 use Rattle.threads_monitors.specs.Threads.{is_live}
-use Rattle.threads_monitors.specs.declared.threads.Standing.{Standing}
-use Rattle.interleaving_core.specs.Loans.{Begins, CanGoOnLocally}
-use Rattle.interleaving_core.specs.Views.{content_of}
+use Rattle.threads_monitors.specs.declared.threads.ThreadStatus.{ThreadStatus}
+use Rattle.interleaving_core.specs.Loans.{Begins, CanContinueLocally}
+use Rattle.interleaving_core.specs.Views.{machine_state_of}
 use Rattle.interleaving_core.proofs.Threads.LiveFrames.{found_there, runs_frame}
 use Rattle.interleaving_core.proofs.Threads.HalfSteps.{thread_is}
 use Rattle.interleaving_core.proofs.engine.Engine.lend.Goals as goal
@@ -23,13 +23,13 @@ pub fill-requires-clause-ready : goal.fill-requires-clause-ready
 fill-requires-clause-ready c =
     let there = found_there c.args.self.now.threads.items c.args.thread c.args.thread c.thread.result c.in-Some.theirs c.thread.ensures refl c.in-Some.is in
     let ready = c.requires.ready c.in-Some.theirs.now.steps_left c.in-Live.frames (there ∙ ap Some (thread_is c.in-Some.theirs.now c.in-Live.frames c.in-Live.is)) in
-    subst (λ (tree : Tree). CanGoOnLocally tree c.in-Some.theirs.now.steps_left c.in-Live.frames.running) (sym c.requires.tree) ready.2
+    subst (λ (tree : Tree). CanContinueLocally tree c.in-Some.theirs.now.steps_left c.in-Live.frames.running) (sym c.requires.tree) ready.2
 
 pub unreachable-requires-in-Ended : goal.unreachable-requires-in-Ended
 unreachable-requires-in-Ended c =
     let there = found_there c.args.self.now.threads.items c.args.thread c.args.thread c.thread.result c.in-Some.theirs c.thread.ensures refl c.in-Some.is in
     let live = sym (ap (λ o. option_map_or is_live o false) there) ∙ c.requires.live in
-    let ended = ap (λ (s : Standing). is_live (record c.in-Some.theirs.now { standing = s })) c.in-Ended.is in
+    let ended = ap (λ (s : ThreadStatus). is_live (record c.in-Some.theirs.now { thread_status = s })) c.in-Ended.is in
     absurd (cc (live, ended))
 
 pub returns : goal.returns
@@ -37,11 +37,11 @@ returns c =
     let there = found_there c.args.self.now.threads.items c.args.thread c.args.thread c.thread.result c.in-Some.theirs c.thread.ensures refl c.in-Some.is in
     let is = thread_is c.in-Some.theirs.now c.in-Live.frames c.in-Live.is in
     let ready = c.requires.ready c.in-Some.theirs.now.steps_left c.in-Live.frames (there ∙ ap Some is) in
-    subst (Begins (content_of c.args.self.now) c.args.thread) (sym c.fill.ensures)
+    subst (Begins (machine_state_of c.args.self.now) c.args.thread) (sym c.fill.ensures)
     (record {
       tree = c.requires.tree;
       thread = refl;
       done = refl;
       frame = refl;
-      origin = runs_frame (content_of c.args.self.now) c.args.thread c.in-Some.theirs.now.steps_left c.in-Live.frames.running c.in-Live.frames c.in-Some.theirs.now there is refl ready.0;
+      origin = runs_frame (machine_state_of c.args.self.now) c.args.thread c.in-Some.theirs.now.steps_left c.in-Live.frames.running c.in-Live.frames c.in-Some.theirs.now there is refl ready.0;
     })

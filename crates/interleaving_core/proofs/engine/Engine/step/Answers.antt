@@ -7,13 +7,13 @@ pub collect-requires-clause-limits : goal.collect-requires-clause-limits
 collect-requires-clause-limits c = c.requires.ready.limits
 
 pub collect-requires-clause-sound : goal.collect-requires-clause-sound
-collect-requires-clause-sound c = c.requires.ready.content
+collect-requires-clause-sound c = c.requires.ready.machine_state
 
 pub collect-requires-clause-few : goal.collect-requires-clause-few
 collect-requires-clause-few c = c.requires.ready.statics
 
-pub returns-in-Step-clause-turns : goal.returns-in-Step-clause-turns
-returns-in-Step-clause-turns c = rw c.in-Step.is c.step_thread.ensures.turns
+pub returns-in-Step-clause-transitions : goal.returns-in-Step-clause-transitions
+returns-in-Step-clause-transitions c = rw c.in-Step.is c.step_thread.ensures.transitions
 
 pub returns-in-Step-clause-memory : goal.returns-in-Step-clause-memory
 returns-in-Step-clause-memory c = rw c.in-Step.is c.step_thread.ensures.memory
@@ -21,11 +21,11 @@ returns-in-Step-clause-memory c = rw c.in-Step.is c.step_thread.ensures.memory
 pub returns-in-Step-clause-refused : goal.returns-in-Step-clause-refused
 returns-in-Step-clause-refused c = c.step_thread.ensures.refused
 
-pub returns-in-Ack-clause-turns : goal.returns-in-Ack-clause-turns
-returns-in-Ack-clause-turns c = rw c.in-Ack.is c.acknowledge.ensures
+pub returns-in-Ack-clause-transitions : goal.returns-in-Ack-clause-transitions
+returns-in-Ack-clause-transitions c = rw c.in-Ack.is c.acknowledge.ensures
 
-pub returns-in-Gc-clause-turns : goal.returns-in-Gc-clause-turns
-returns-in-Gc-clause-turns c = rw c.in-Gc.is c.collect.ensures.turns
+pub returns-in-Gc-clause-transitions : goal.returns-in-Gc-clause-transitions
+returns-in-Gc-clause-transitions c = rw c.in-Gc.is c.collect.ensures.transitions
 
 pub returns-in-Gc-clause-memory : goal.returns-in-Gc-clause-memory
 returns-in-Gc-clause-memory c = rw c.in-Gc.is c.collect.ensures.memory

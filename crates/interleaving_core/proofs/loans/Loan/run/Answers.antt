@@ -1,10 +1,10 @@
 use Rattle.std.proofs.Common.{◌≡◌, ℕ, arith, ap, sym, subst}
 use Rattle.threads_monitors.specs.Frames.{Frames}
 use Rattle.simulation.specs.interpreter.Local.{AreLocalSteps, IsReadySomewhere, alone}
-use Rattle.simulation.specs.MachineContents.{frame_room}
+use Rattle.simulation.specs.MachineStates.{frame_room}
 use Rattle.interleaving_core.specs.Loans.{IsAlone, IsLent}
 use Rattle.interleaving_core.specs.declared.loans.Rooms.{Rooms}
-use Rattle.interleaving_core.proofs.Threads.LocalRuns.{goes_on, steps_behind}
+use Rattle.interleaving_core.proofs.Threads.LocalRuns.{continues, steps_after}
 use Rattle.interleaving_core.proofs.loans.Loan.run.Goals as goal
 
 -- what a loan's memory is, by what the loan says of it
@@ -19,7 +19,7 @@ run_local-requires-clause-ready c k f less steps =
     let room : c.deref_mut-rooms.result.now.frame.room ≡ frame_room = ap (λ (m : Frames). m.room) held.1 in
     let lent = held.2 in
     subst (λ n. IsReadySomewhere c.deref_mut-rooms.result.now.program n f) (sym room)
-    (goes_on (record { tree = c.deref_mut-rooms.result.now.program; thread = c.self.inside.thread; left = c.self.inside.left; origin = c.deref_mut-rooms.result.now.origin.running; frame = c.deref_mut-rooms.result.now.frame.running; done = c.self.inside.done }) lent k f
+    (continues (record { tree = c.deref_mut-rooms.result.now.program; thread = c.self.inside.thread; left = c.self.inside.left; origin = c.deref_mut-rooms.result.now.origin.running; frame = c.deref_mut-rooms.result.now.frame.running; done = c.self.inside.done }) lent k f
     (omega (arith, less, lent.less, c.min-most.ensures)) (subst (λ n. AreLocalSteps c.deref_mut-rooms.result.now.program n k c.deref_mut-rooms.result.now.frame.running f) room steps))
 
 pub invariant_of-self : goal.invariant_of-self
@@ -33,7 +33,7 @@ invariant_of-self c =
       held.0,
       subst (λ n. c.run_local.new.frames ≡ alone n c.run_local.new.frames.running) room c.run_local.ensures.alone,
       record {
-        steps = steps_behind c.deref_mut-rooms.result.now.program frame_room c.self.inside.done c.run_local.result c.deref_mut-rooms.result.now.origin.running c.deref_mut-rooms.result.now.frame.running c.run_local.new.frames.running lent.steps ran;
+        steps = steps_after c.deref_mut-rooms.result.now.program frame_room c.self.inside.done c.run_local.result c.deref_mut-rooms.result.now.origin.running c.deref_mut-rooms.result.now.frame.running c.run_local.new.frames.running lent.steps ran;
         less = omega (arith, c.run_local.ensures.most, lent.less, c.min-most.ensures);
         ready = lent.ready;
       },

@@ -8,20 +8,20 @@ use Rattle.loaded_program.proofs.parts.Parts.instruction.Goals as goal
 
 pub item-linked-requires : goal.item-linked-requires
 item-linked-requires c =
-    let here = lined c.self.inside.program c.self.inside.methods.items c.self.invariant.linked c.args.method c.args.place (subst (λ (tree : Tree). IsSome (line_in tree c.args.method c.args.place)) (sym c.self.view_is) c.requires) in
+    let here = lined c.self.inside.program c.self.inside.methods.items c.self.invariant.linked c.args.method c.args.index (subst (λ (tree : Tree). IsSome (line_in tree c.args.method c.args.index)) (sym c.self.view_is) c.requires) in
     let method = method_found c.self.inside.program c.self.inside.methods.items c.self.invariant.linked c.args.method here.found here.found_is in
     subst (λ ms. c.args.method < length ms) (sym c.as_slice.ensures.value) (slice_get_within c.self.inside.methods.items c.args.method method.0 method.1)
 
 pub item-requires : goal.item-requires
 item-requires c =
-    let here = lined c.self.inside.program c.self.inside.methods.items c.self.invariant.linked c.args.method c.args.place (subst (λ (tree : Tree). IsSome (line_in tree c.args.method c.args.place)) (sym c.self.view_is) c.requires) in
+    let here = lined c.self.inside.program c.self.inside.methods.items c.self.invariant.linked c.args.method c.args.index (subst (λ (tree : Tree). IsSome (line_in tree c.args.method c.args.index)) (sym c.self.view_is) c.requires) in
     let method_is = sym (ap (λ ms. slice_get ms c.args.method) c.as_slice.ensures.value) ∙ c.item-linked.ensures in
-    subst (λ ls. c.args.place < length ls) (sym c.as_slice-2.ensures.value) (within_code c.self.inside.program c.self.inside.methods.items c.self.invariant.linked c.args.method c.args.place here c.item-linked.result.now method_is)
+    subst (λ ls. c.args.index < length ls) (sym c.as_slice-2.ensures.value) (within_code c.self.inside.program c.self.inside.methods.items c.self.invariant.linked c.args.method c.args.index here c.item-linked.result.now method_is)
 
 pub returns : goal.returns
 returns c =
-    let here = lined c.self.inside.program c.self.inside.methods.items c.self.invariant.linked c.args.method c.args.place (subst (λ (tree : Tree). IsSome (line_in tree c.args.method c.args.place)) (sym c.self.view_is) c.requires) in
+    let here = lined c.self.inside.program c.self.inside.methods.items c.self.invariant.linked c.args.method c.args.index (subst (λ (tree : Tree). IsSome (line_in tree c.args.method c.args.index)) (sym c.self.view_is) c.requires) in
     let method_is = sym (ap (λ ms. slice_get ms c.args.method) c.as_slice.ensures.value) ∙ c.item-linked.ensures in
-    let l_is = sym (ap (λ ls. slice_get ls c.args.place) c.as_slice-2.ensures.value) ∙ c.item.ensures in
-    subst (λ (tree : Tree). IsLinkedAt tree c.args.method c.args.place c.item.result.now) c.self.view_is
-    (is_linked_at c.self.inside.program c.self.inside.methods.items c.self.invariant.linked c.args.method c.args.place here c.item-linked.result.now c.item.result.now method_is l_is)
+    let l_is = sym (ap (λ ls. slice_get ls c.args.index) c.as_slice-2.ensures.value) ∙ c.item.ensures in
+    subst (λ (tree : Tree). IsLinkedAt tree c.args.method c.args.index c.item.result.now) c.self.view_is
+    (is_linked_at c.self.inside.program c.self.inside.methods.items c.self.invariant.linked c.args.method c.args.index here c.item-linked.result.now c.item.result.now method_is l_is)

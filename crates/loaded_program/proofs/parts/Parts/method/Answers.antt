@@ -5,7 +5,7 @@ use Rattle.cil_model.specs.declared.trees.Tree.{Tree}
 use Rattle.loaded_program.specs.AllMethods.{all_methods}
 use Rattle.loaded_program.specs.MethodNumbers.{number_of}
 use Rattle.loaded_program.specs.Prepared.{IsTableMethod}
-use Rattle.loaded_program.proofs.NumberLaws.{number_of_place}
+use Rattle.loaded_program.proofs.NumberLaws.{number_of_index}
 use Rattle.loaded_program.proofs.MethodLaws.{alike_from, some_of}
 use Rattle.loaded_program.proofs.parts.Parts.method.Goals as goal
 
@@ -24,4 +24,4 @@ returns-clause-entry c found at =
 pub returns-clause-number : goal.returns-clause-number
 returns-clause-number c found at =
     let there = subst (λ (tree : Tree). slice_get (all_methods tree) c.args.number ≡ Some found) (sym c.self.view_is) at in
-    subst (λ (tree : Tree). number_of tree found ≡ Some c.args.number) c.self.view_is (number_of_place c.self.inside.program c.self.invariant.laid_out.legal c.args.number found there)
+    subst (λ (tree : Tree). number_of tree found ≡ Some c.args.number) c.self.view_is (number_of_index c.self.inside.program c.self.invariant.laid_out.legal c.args.number found there)

@@ -1,12 +1,12 @@
 use Rattle.std.proofs.Common.{map, sym, ap, subst, ◌∙◌}
 use Rattle.inheritance.specs.declared.forests.Forest.{Forest}
 use Rattle.inheritance.specs.CutCycles.{IsCut}
-use Rattle.name_tables.proofs.KeyNumbers.{place_in_rows, numbered_in_rows}
+use Rattle.name_tables.proofs.KeyNumbers.{index_in_rows, numbered_in_rows}
 use Rattle.name_tables.proofs.inherited.Inherited.new.Goals as goal
 
-pub returns-clause-places : goal.returns-clause-places
-returns-clause-places g c = λ key class.
-    place_in_rows g.K.PartialEq.eq g.met.K.Eq.laws (λ row. row.items) c.args.rows.now c.in_ok-keys.keys _ c.in_ok-keys.ensures
+pub returns-clause-indices : goal.returns-clause-indices
+returns-clause-indices g c = λ key class.
+    index_in_rows g.K.PartialEq.eq g.met.K.Eq.laws (λ row. row.items) c.args.rows.now c.in_ok-keys.keys _ c.in_ok-keys.ensures
     (ap (λ (f : Forest). map (λ r. r.items) f.declared.items) c.in_ok-inheritance.ensures ∙ c.in_ok-forest.ensures.declared) key class
 
 pub invariant_of-result-clause-numbered : goal.invariant_of-result-clause-numbered

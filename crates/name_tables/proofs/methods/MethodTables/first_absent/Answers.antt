@@ -4,7 +4,7 @@ use Rattle.cil_model.specs.declared.trees.Method.{Method}
 use Rattle.inheritance.specs.Lines.{Ends}
 use Rattle.inheritance.specs.Ledgers.{nearest_from}
 use Rattle.name_tables.specs.Inherited.{number_in}
-use Rattle.name_tables.specs.Methods.{identity_number, virtual_number, virtual_place, methods_at}
+use Rattle.name_tables.specs.Methods.{identity_number, virtual_number, virtual_index, methods_at}
 use Rattle.name_tables.proofs.MemberLaws.{of_tree, some_where_some}
 use Rattle.name_tables.proofs.VirtualNumbers.{said_of_numbers, found_by_numbers}
 use Rattle.name_tables.proofs.methods.MethodTables.first_absent.Goals as goal
@@ -27,11 +27,11 @@ returns-in-Ok-clause-ended c = λ some.
     let numbers = c.numbers_at-numbers.result.now in
     let same : list_all (λ n. false) numbers ≡ list_all (λ (m : Method). false) (methods_at t c.args.interface) =
     ap (list_all (λ n. false)) c.numbers_at-numbers.ensures ∙ said_of_numbers t (identity_number names.methods.keys) (map (λ r. r.items) names.methods.inheritance.forest.declared.items) names.methods_are.numbers (λ n. false) c.args.interface in
-    of_tree t tables.inheritance.forest (virtual_number c.args.self.now.names.now.methods.keys tables.keys) (virtual_place t) c.args.self.now.overridable_are (λ bases most. Ends bases most c.args.class)
+    of_tree t tables.inheritance.forest (virtual_number c.args.self.now.names.now.methods.keys tables.keys) (virtual_index t) c.args.self.now.overridable_are (λ bases most. Ends bases most c.args.class)
     (c.in-Ok.ensures.ended (some_where_some numbers (methods_at t c.args.interface) same some))
 
-pub returns-in-Err-clause-endless : goal.returns-in-Err-clause-endless
-returns-in-Err-clause-endless c =
+pub returns-in-Err-clause-cyclic : goal.returns-in-Err-clause-cyclic
+returns-in-Err-clause-cyclic c =
     let t = c.args.self.now.names.now.classes.tree.now in
     let tables = c.args.self.now.overridable in
-    of_tree t tables.inheritance.forest (virtual_number c.args.self.now.names.now.methods.keys tables.keys) (virtual_place t) c.args.self.now.overridable_are (λ bases most. ¬ Ends bases most c.args.class) c.in-Err.ensures.endless
+    of_tree t tables.inheritance.forest (virtual_number c.args.self.now.names.now.methods.keys tables.keys) (virtual_index t) c.args.self.now.overridable_are (λ bases most. ¬ Ends bases most c.args.class) c.in-Err.ensures.cyclic

@@ -3,7 +3,7 @@ use Rattle.inheritance.specs.Lines.{Ends}
 use Rattle.inheritance.specs.Ledgers.{nearest_from}
 use Rattle.name_tables.specs.Inherited.{number_in}
 use Rattle.name_tables.specs.Keys.{method_of_key}
-use Rattle.name_tables.specs.Methods.{virtual_number, virtual_place}
+use Rattle.name_tables.specs.Methods.{virtual_number, virtual_index}
 use Rattle.name_tables.specs.Sameness.{same_identity}
 use Rattle.name_tables.proofs.KeyNumbers.{number_of_view}
 use Rattle.name_tables.proofs.MemberLaws.{nearest_on_line, of_tree}
@@ -20,17 +20,17 @@ returns-in-Ok-clause-found c =
     let forest = all.inheritance.forest in
     let methods = c.args.self.now.names.now.methods in
     let found = c.member_number.ensures ∙ c.in-Ok.ensures.found ∙ ap (λ n. nearest_from forest (number_in (λ (a b : ℕ). a == b) all.keys n) forest.most (Some c.args.class)) (c.number_of.ensures ∙ number_of_view method_of_key same_identity methods.keys c.args.key) ∙
-    nearest_on_line t forest (virtual_number methods.keys all.keys) (virtual_place t) c.args.self.now.overridable_are (method_of_key c.args.key) c.args.class in
-    c.is_some.ensures ∙ sym (is_some-map (λ m. (m.class, m.place)) c.member_number.result) ∙ ap is_some found
+    nearest_on_line t forest (virtual_number methods.keys all.keys) (virtual_index t) c.args.self.now.overridable_are (method_of_key c.args.key) c.args.class in
+    c.is_some.ensures ∙ sym (is_some-map (λ m. (m.class, m.index)) c.member_number.result) ∙ ap is_some found
 
 pub returns-in-Ok-clause-ended : goal.returns-in-Ok-clause-ended
 returns-in-Ok-clause-ended c =
     let t = c.args.self.now.names.now.classes.tree.now in
     let tables = c.args.self.now.overridable in
-    of_tree t tables.inheritance.forest (virtual_number c.args.self.now.names.now.methods.keys tables.keys) (virtual_place t) c.args.self.now.overridable_are (λ bases most. Ends bases most c.args.class) c.in-Ok.ensures.ended
+    of_tree t tables.inheritance.forest (virtual_number c.args.self.now.names.now.methods.keys tables.keys) (virtual_index t) c.args.self.now.overridable_are (λ bases most. Ends bases most c.args.class) c.in-Ok.ensures.ended
 
-pub returns-in-Err-clause-endless : goal.returns-in-Err-clause-endless
-returns-in-Err-clause-endless c =
+pub returns-in-Err-clause-cyclic : goal.returns-in-Err-clause-cyclic
+returns-in-Err-clause-cyclic c =
     let t = c.args.self.now.names.now.classes.tree.now in
     let tables = c.args.self.now.overridable in
-    of_tree t tables.inheritance.forest (virtual_number c.args.self.now.names.now.methods.keys tables.keys) (virtual_place t) c.args.self.now.overridable_are (λ bases most. ¬ Ends bases most c.args.class) c.in-Err.ensures.endless
+    of_tree t tables.inheritance.forest (virtual_number c.args.self.now.names.now.methods.keys tables.keys) (virtual_index t) c.args.self.now.overridable_are (λ bases most. ¬ Ends bases most c.args.class) c.in-Err.ensures.cyclic

@@ -1,18 +1,18 @@
 use Rattle.std.proofs.Common.{◌+◌, arith, inl, inr, sym, ◌∙◌}
 use Rattle.object_memory.proofs.Tiles.{used_words_held}
 use Rattle.object_memory.proofs.Heaps.{shown}
-use Rattle.object_memory.proofs.Places.{begins_here, begins_last, place-le-end}
+use Rattle.object_memory.proofs.Offsets.{begins_here, begins_last, offset-le-end}
 use Rattle.object_memory.proofs.space.Space.at.Goals as goal
 
-pub returns-then-place-used : goal.returns-then-place-used
-returns-then-place-used c =
+pub returns-then-offset-used : goal.returns-then-offset-used
+returns-then-offset-used c =
     rw (← c.self.view_is)
-    (sym (begins_last (shown c.self.inside.start c.self.inside.block.words c.self.inside.block.used) c.args.place (c.if-place-used.true ∙ c.used.ensures ∙ sym (used_words_held c.self.inside.block.words c.self.inside.block.used c.self.invariant.1))))
+    (sym (begins_last (shown c.self.inside.start c.self.inside.block.words c.self.inside.block.used) c.args.offset (c.if-offset-used.true ∙ c.used.ensures ∙ sym (used_words_held c.self.inside.block.words c.self.inside.block.used c.self.invariant.1))))
 
 pub overflow_add-result : goal.overflow_add-result
 overflow_add-result c =
     let given = rw (← c.self.view_is) at c.requires in
-    let last = place-le-end (shown c.self.inside.start c.self.inside.block.words c.self.inside.block.used) (c.self.inside.start + c.args.place) given in
+    let last = offset-le-end (shown c.self.inside.start c.self.inside.block.words c.self.inside.block.used) (c.self.inside.start + c.args.offset) given in
     let held = used_words_held c.self.inside.block.words c.self.inside.block.used c.self.invariant.1 in
     elim c.self.invariant.2 [
       | inl start ↦ record { fits = omega (arith, start, last.1, held, c.self.invariant.0, c.self.invariant.1.inside) }
@@ -23,6 +23,6 @@ pub returns : goal.returns
 returns c =
     let given = rw (← c.self.view_is) at c.requires in
     let held = used_words_held c.self.inside.block.words c.self.inside.block.used c.self.invariant.1 in
-    let more = c.if-place-used.false in
+    let more = c.if-offset-used.false in
     rw (← c.self.view_is)
-    (sym (begins_here (shown c.self.inside.start c.self.inside.block.words c.self.inside.block.used) c.args.place given (λ e. more (e ∙ held ∙ sym c.used.ensures))))
+    (sym (begins_here (shown c.self.inside.start c.self.inside.block.words c.self.inside.block.used) c.args.offset given (λ e. more (e ∙ held ∙ sym c.used.ensures))))

@@ -24,7 +24,7 @@ returns-in-Some c =
     let s = c.args.self.now in
     let ks = identities s.tree.now in
     let k = identity_of c.args.method.now in
-    let found : position_from (same_identity k) 0 ks ≡ Some c.in-Some.place =
+    let found : position_from (same_identity k) 0 ks ≡ Some c.in-Some.index =
     sym (ap (position_from (same_identity k) 0) s.keys_are) ∙ position_from-map method_of_key (same_identity k) 0 s.keys ∙
     ap (λ (q : MethodIdentity). position_from (λ (x : MethodKey). same_identity q (method_of_key x)) 0 s.keys) (sym c.new-key.ensures) ∙ sym c.first.ensures ∙ c.in-Some.is in
     sym (ap (λ o. unwrap_or o (length ks)) found)

@@ -2,7 +2,7 @@ use Rattle.shared_machine.proofs.Histories.{has_run}
 use Rattle.shared_machine.proofs.world.World.into_outcome.Goals as goal
 
 pub returns-clause-ran : goal.returns-clause-ran
-returns-clause-ran g c = has_run _ _ _ c.self.invariant.sound.turns
+returns-clause-ran g c = has_run _ _ _ c.self.invariant.sound.transitions
 
 pub returns-clause-printed : goal.returns-clause-printed
 returns-clause-printed g c = c.self.invariant.printed

@@ -26,14 +26,14 @@ use denote.RawPtr.{Ptr, in_a_block}
 use denote.Signature.{plain, types_at}
 use denote.Steps.{nothing, heard}
 use denote.Triple.Walked.{Stays, stay_dropped, walk_of, Goes-dropped}
-use Rattle.space_block.specs.Memory.{place_lent, words_lent}
+use Rattle.space_block.specs.Memory.{lent_word, words_lent}
 use Rattle.space_block.specs.Written.{IsWritten}
 use Rattle.space_block.specs.contracts.words.Words as words
 use Rattle.space_block.specs.contracts.words.Front as front
 use Rattle.space_block.specs.contracts.words.Words.read.{ended, clauses}
 use Rattle.space_block.specs.contracts.words.Words.read.Key.{name as #self}
 use Rattle.space_block.proofs.Places.{place_seen, written_inside}
-use Rattle.space_block.proofs.Values.{front_val, front_told}
+use Rattle.space_block.proofs.Values.{front_val, front_decoded}
 use Rattle.space_block.proofs.words.Words.read.Statement.{statement}
 use Rattle.space_block.proofs.words.Words.read.Code as code
 
@@ -51,7 +51,7 @@ read_spec 𝓤 𝓛 𝓜 𝓡 wired =
     let Post : Val → SProp 𝓤 = (walk_of 𝓛 ended hs c).post y in
     let Asked : Type 0 = (start ≡ h.at) × IsWritten h.places i in
     subst (λ (vss : List Val × (List Val × (List Val × Unit {0}))). ent 𝓤 ((walk_of 𝓛 ended hs c).pre (At vss)) (WpFn 𝓤 H 𝓣.C 𝓣.Λ fn ((walk_of 𝓛 ended hs c).args (At vss)) ((walk_of 𝓛 ended hs c).post (At vss))))
-    (λ j. (sym are.0.0 j, (sym (front_told start y₀.0.4.1.0 are.1.0) j, (sym are.1.1.0.0 j, tt)))) (
+    (λ j. (sym are.0.0 j, (sym (front_decoded start y₀.0.4.1.0 are.1.0) j, (sym are.1.1.0.0 j, tt)))) (
     qed 𝓛 (((‵ (flft κ qs.0) ⊛ ‵ ftrue) ⊛ ‵ (owns (types_at ended.signature.params κs) a y.0.4)) ∷ raw (fact 𝓤 Asked) ∷ []) ∵
     move ! (1 ∷ []) $ heard ! Asked (λ asked. split ! $ split ! $ move ! (2 ∷ []) $ fsplit ! $ fsplit ! $ keep ! (1 ∷ 3 ∷ []) $
     enter ! 𝓣.C 𝓣.Λ fn (vptr b o ∷ front_val start ∷ vint w64 i ∷ []) Post $
@@ -59,18 +59,18 @@ read_spec 𝓤 𝓛 𝓜 𝓡 wired =
     unhide ! $ fsplit ! $ drop ! $ in_a_block ! h.at (λ p. words_lent p h.places κ) (id⊢ 𝓤 (never 𝓤)) (λ b' o' e. fsplit ! $ flt_l ! (λ small.
     let w = asked.1.0 in let at = i * 8 + o' in let within = written_inside h.places i w asked.1.1 in
     let far : i * 8 < 2 ^ 64 = omega (arith, small, within) in
-    let Told : Type 0 = get_or h.places i None ≡ Some w in let Seen : Fml = hidden_shr u64 κ w b' at in
+    let Decoded : Type 0 = get_or h.places i None ≡ Some w in let Seen : Fml = hidden_shr u64 κ w b' at in
     take_at ! 2 $ rewrite ! 0 (λ (p : Ptr). ‵ (fat full_share (lone F.mir) (l 2) 0 (front_val p))) (asked.0 ∙ e) refl $ give_at ! 2 $ first ! $ blocks ! $
     sets ! (bin ! (get ! refl) (lit ! tt) (record { fits = far })) refl (tt, record { fits = far }) $
     sets ! (bin ! (get_in ! (fld ! refl (stop !)) (sub ! 0 refl (whole !))) (get ! refl) tt) refl (tt, tt) $
-    use1 𝓛 (‵ (place_lent b' at (get_or h.places i None) κ)) (place_seen 𝓛 b' κ o' at h.places i within refl) $
-    rewrite ! 0 (λ (p : Option ℕ). ‵ (place_lent b' at p κ)) asked.1.1 refl $ hide ! $
+    use1 𝓛 (‵ (lent_word b' at (get_or h.places i None) κ)) (place_seen 𝓛 b' κ o' at h.places i within refl) $
+    rewrite ! 0 (λ (p : Option ℕ). ‵ (lent_word b' at p κ)) asked.1.1 refl $ hide ! $
     word_in ! tt w b' at (qed 𝓛 (‵ Seen ∷ []) {P = sep 𝓤 (sem 𝓛 Seen) (sem 𝓛 Seen)} (shr_dup ! u64 (uint_row_laws w64) w b' at κ $ done !)) (λ q' fits.
     -- [nothing; the word; the way back; what shows it]
     drop ! $ sets_last ! (of_opd ! (load ! (through ! refl (stop !)) (look ! 0 refl))) refl (tt, record { fits = fits }) $
     exec ! 𝓣.C 𝓣.Λ En (after 1 fn.body) (at_ret En Post) $ nothing ! $ word_out ! tt w b' at fits $ sets ! (of_opd ! (get ! refl)) refl (tt, record { fits = fits }) $
     returns ! (look_at ! 0 refl) $ free_all ! refl $ keep ! (0 ∷ []) $
     nothing ! $ move ! (1 ∷ 0 ∷ []) $ join ! $
-    use0 𝓛 (raw (fact 𝓤 Told)) (fact_i 𝓤 Told (emp 𝓤) asked.1.1) $ flt_i ! w (2 ^ 64) fits $ feq_i ! (List Val) (vint w64 w ∷ []) (vint w64 w ∷ []) refl $ fjoin ! $
+    use0 𝓛 (raw (fact 𝓤 Decoded)) (fact_i 𝓤 Decoded (emp 𝓤) asked.1.1) $ flt_i ! w (2 ^ 64) fits $ feq_i ! (List Val) (vint w64 w ∷ []) (vint w64 w ∷ []) refl $ fjoin ! $
     nothing ! $ nothing ! $ fjoin ! $ nothing ! $ fjoin ! $ nothing ! $ fjoin ! $
     move ! (3 ∷ 0 ∷ 1 ∷ 2 ∷ []) $ by ! (leaves 𝓛 ended hs c y (vint w64 w) w (tt, (tt, (tt, tt))) (tt, (tt, (tt, tt)))))))))))

@@ -1,4 +1,4 @@
--- A word is stored at its place.
+-- A word is stored at an offset.
 use Rattle.std.proofs.Common.{◌≡◌, ◌+◌, ◌*◌, ◌^◌, ◌<◌, List, [], ◌∷◌, length, set, get_or, sym, refl, subst, ◌∙◌, arith, length-set, w64}
 use Rattle.std.specs.Prelude.{Some, None}
 use Rattle.std.proofs.RcSteps.{word-Good}
@@ -30,7 +30,7 @@ use Rattle.space_block.specs.contracts.words.Front as front
 use Rattle.space_block.specs.contracts.words.Words.write.{ended, clauses}
 use Rattle.space_block.specs.contracts.words.Words.write.Key.{name as #self}
 use Rattle.space_block.proofs.Places.{Besides, place_out, place_in, place_room}
-use Rattle.space_block.proofs.Values.{front_val, front_told}
+use Rattle.space_block.proofs.Values.{front_val, front_decoded}
 use Rattle.space_block.proofs.words.Words.write.Statement.{statement}
 use Rattle.space_block.proofs.words.Words.write.Code as code
 
@@ -48,9 +48,9 @@ write_spec 𝓤 𝓛 𝓜 𝓡 wired =
     let Post : Val → SProp 𝓤 = (walk_of 𝓛 ended hs c).post y in
     let Asked : Type 0 = (start ≡ h.at) × (i < length h.places) in
     let new : R.Denot = record { at = h.at; places = set h.places i (Some w) } in
-    let Told : Type 0 = (new.at ≡ h.at) × (new.places ≡ set h.places i (Some w)) in
+    let Decoded : Type 0 = (new.at ≡ h.at) × (new.places ≡ set h.places i (Some w)) in
     subst (λ (vss : List Val × (List Val × (List Val × (List Val × Unit {0})))). ent 𝓤 ((walk_of 𝓛 ended hs c).pre (At vss)) (WpFn 𝓤 H 𝓣.C 𝓣.Λ fn ((walk_of 𝓛 ended hs c).args (At vss)) ((walk_of 𝓛 ended hs c).post (At vss))))
-    (λ j. (sym are.0.0 j, (sym (front_told start y₀.0.4.1.0 are.1.0) j, (sym are.1.1.0.0 j, (sym are.1.1.1.0.0 j, tt))))) (
+    (λ j. (sym are.0.0 j, (sym (front_decoded start y₀.0.4.1.0 are.1.0) j, (sym are.1.1.0.0 j, (sym are.1.1.1.0.0 j, tt))))) (
     qed 𝓛 (((‵ (flft κs.0 qs.0) ⊛ ‵ ftrue) ⊛ ‵ (owns (types_at ended.signature.params κs) a y.0.4)) ∷ raw (fact 𝓤 Asked) ∷ []) ∵
     move ! (1 ∷ []) $ heard ! Asked (λ asked. split ! $ split ! $ move ! (2 ∷ []) $ fsplit ! $ fsplit3 ! $ keep ! (1 ∷ 2 ∷ 4 ∷ []) $
     enter ! 𝓣.C 𝓣.Λ fn (vptr b o ∷ front_val start ∷ vint w64 i ∷ vint w64 w ∷ []) Post $
@@ -74,5 +74,5 @@ write_spec 𝓤 𝓛 𝓜 𝓡 wired =
     feq_i ! (List Val) (vptr b o ∷ []) (vptr b o ∷ []) refl $ fjoin3 ! $
     nothing ! $ nothing ! $ fjoin ! $ nothing ! $ fjoin ! $ nothing ! $ fjoin ! $ move ! (1 ∷ 0 ∷ []) $ fjoin ! $
     nothing ! $ move ! (2 ∷ 0 ∷ []) $ join ! $
-    use0 𝓛 (raw (fact 𝓤 Told)) (fact_i 𝓤 Told (emp 𝓤) (refl, refl)) $ feq_i ! (List Val) (vunit ∷ []) (vunit ∷ []) refl $
+    use0 𝓛 (raw (fact 𝓤 Decoded)) (fact_i 𝓤 Decoded (emp 𝓤) (refl, refl)) $ feq_i ! (List Val) (vunit ∷ []) (vunit ∷ []) refl $
     move ! (2 ∷ 3 ∷ 0 ∷ 1 ∷ []) $ by ! (leaves 𝓛 ended hs c y vunit tt (new, (tt, (tt, (tt, tt)))) (tt, (tt, (tt, (tt, tt))))))))))))

@@ -16,11 +16,11 @@ pub invariant_of-self : goal.invariant_of-self
 invariant_of-self c =
     let there = rw (← c.self.view_is) at c.requires.there in
     let given = rw (← c.self.view_is) at c.requires.room in
-    let place : c.len.result ≡ length c.self.inside.values.items = omega (arith, c.len.ensures) in
+    let index : c.len.result ≡ length c.self.inside.values.items = omega (arith, c.len.ensures) in
     let after = after_insert c.self.inside.values.items c.self.inside.running c.self.inside.below.items c.self.inside.depth c.self.inside.room (vec_capacity c.self.inside.values) (vec_capacity c.self.inside.below) c.self.invariant c.args.below c.args.value there given in
     let written = rw (ap is_ok c.unwrap.ensures) at c.insert-inserted.ensures.items in
     let items : c.insert-inserted.new.self.items ≡ insert c.self.inside.values.items (length c.self.inside.values.items - c.args.below) c.args.value =
-    written ∙ ap (λ k. insert c.self.inside.values.items (k - c.args.below) c.args.value) place in
+    written ∙ ap (λ k. insert c.self.inside.values.items (k - c.args.below) c.args.value) index in
     let room = has_room c.self.inside.values.items c.self.inside.running c.self.inside.below.items c.self.inside.depth c.self.inside.room (vec_capacity c.self.inside.values) (vec_capacity c.self.inside.below) c.self.invariant 1 (omega (arith, given)) in
     let block = c.insert-inserted.ensures.in_place (omega (arith, room)) in
     subst (λ xs. IsSound xs c.self.inside.running c.self.inside.below.items c.self.inside.depth c.self.inside.room (vec_capacity c.insert-inserted.new.self) (vec_capacity c.self.inside.below)) (sym items)
@@ -30,9 +30,9 @@ pub returns : goal.returns
 returns c =
     let there = rw (← c.self.view_is) at c.requires.there in
     let given = rw (← c.self.view_is) at c.requires.room in
-    let place : c.len.result ≡ length c.self.inside.values.items = omega (arith, c.len.ensures) in
+    let index : c.len.result ≡ length c.self.inside.values.items = omega (arith, c.len.ensures) in
     let after = after_insert c.self.inside.values.items c.self.inside.running c.self.inside.below.items c.self.inside.depth c.self.inside.room (vec_capacity c.self.inside.values) (vec_capacity c.self.inside.below) c.self.invariant c.args.below c.args.value there given in
     let written = rw (ap is_ok c.unwrap.ensures) at c.insert-inserted.ensures.items in
     let items : c.insert-inserted.new.self.items ≡ insert c.self.inside.values.items (length c.self.inside.values.items - c.args.below) c.args.value =
-    written ∙ ap (λ k. insert c.self.inside.values.items (k - c.args.below) c.args.value) place in
+    written ∙ ap (λ k. insert c.self.inside.values.items (k - c.args.below) c.args.value) index in
     rw (← c.self.view_is, items) after.view

@@ -1,8 +1,8 @@
 use Rattle.std.proofs.Common.{arith, ap, ◌∙◌, ◌≡◌, ◌∷◌, [], ◌++◌}
 use Rattle.std.specs.Prelude.{vec_capacity}
 use Rattle.std.specs.Option.{option_to_list}
-use Rattle.threads_monitors.specs.Activations.{shown}
-use Rattle.threads_monitors.specs.Frames.{returned}
+use Rattle.threads_monitors.specs.Activations.{visible_frames}
+use Rattle.threads_monitors.specs.Frames.{return_frames}
 use Rattle.threads_monitors.proofs.Memories.{count_below, after_return}
 use Rattle.threads_monitors.proofs.frames.FrameMemory.pop_frame.Goals as goal
 
@@ -22,4 +22,4 @@ returns c =
     let given = rw (← c.self.view_is) at c.requires in
     let topmost : c.self.inside.below.items ≡ c.pop.new.self.items ++ c.unwrap-self-inside.result ∷ [] = c.pop.ensures.items ∙ ap (λ o. c.pop.new.self.items ++ option_to_list o) c.unwrap-self-inside.ensures in
     let after = (after_return c.self.inside.values.items c.self.inside.running c.self.inside.below.items c.self.inside.depth c.self.inside.room (vec_capacity c.self.inside.values) (vec_capacity c.self.inside.below) c.self.invariant c.unwrap-self-inside.result c.pop.new.self.items given topmost).view in
-    ap (λ xs. shown xs c.unwrap-self-inside.result c.pop.new.self.items c.self.inside.depth c.self.inside.room) c.truncate.ensures.items ∙ after ∙ ap returned c.self.view_is
+    ap (λ xs. visible_frames xs c.unwrap-self-inside.result c.pop.new.self.items c.self.inside.depth c.self.inside.room) c.truncate.ensures.items ∙ after ∙ ap return_frames c.self.view_is

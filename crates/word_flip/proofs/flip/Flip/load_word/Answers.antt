@@ -23,7 +23,7 @@ returns-then-taken_up-eq0-clause-small c = rw (← c.self.view_is) (omega arith,
 pub returns-then-taken_up-eq0-clause-own : goal.returns-then-taken_up-eq0-clause-own
 returns-then-taken_up-eq0-clause-own c =
     let given = rw (← c.writer.view_is, ← c.self.view_is) at c.requires in
-    rw (← c.writer.view_is, ← c.self.view_is) (λ is_own. said_of _ c.args.place _ (rw (c.writer.invariant.1, given.0.1) given.1) (c.load_first-word.ensures.own is_own))
+    rw (← c.writer.view_is, ← c.self.view_is) (λ is_own. said_of _ c.args.index _ (rw (c.writer.invariant.1, given.0.1) given.1) (c.load_first-word.ensures.own is_own))
 
 pub load_second-word-requires-clause-table : goal.load_second-word-requires-clause-table
 load_second-word-requires-clause-table c = rw (← c.writer.view_is, ← c.self.view_is) at c.requires
@@ -46,4 +46,4 @@ returns-clause-small c = rw (← c.self.view_is) (omega arith, omega arith)
 pub returns-clause-own : goal.returns-clause-own
 returns-clause-own c =
     let given = rw (← c.writer.view_is, ← c.self.view_is) at c.requires in
-    rw (← c.writer.view_is, ← c.self.view_is) (λ is_own. said_of _ c.args.place _ (rw (c.writer.invariant.1, given.0.1) given.1) (c.load_second-word.ensures.own is_own))
+    rw (← c.writer.view_is, ← c.self.view_is) (λ is_own. said_of _ c.args.index _ (rw (c.writer.invariant.1, given.0.1) given.1) (c.load_second-word.ensures.own is_own))

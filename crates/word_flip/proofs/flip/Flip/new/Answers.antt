@@ -3,8 +3,8 @@ use Rattle.std.proofs.lemmas.List.{length-replicate}
 use Rattle.std.proofs.lemmas.Result.{IfOk-from_err}
 use Rattle.flip_table.specs.Tokens as Table
 use Rattle.flip_table.specs.declared.slot_table.PlanView.{PlanView}
-use Rattle.word_flip.specs.Tokens.{writer_value, opening_writers}
-use Rattle.word_flip.proofs.Opening.{first_stage, limit_within, opened, opened_idle}
+use Rattle.word_flip.specs.Tokens.{writer_value, initial_writers}
+use Rattle.word_flip.proofs.Initial.{first_stage, limit_within, opened, opened_idle}
 use Rattle.word_flip.proofs.flip.Flip.new.Goals as goal
 
 pub writers_of-requires : goal.writers_of-requires
@@ -12,7 +12,7 @@ writers_of-requires c = record { idle = rw c.in_ok-table.ensures.writers (opened
 
 pub returns-clause-writers : goal.returns-clause-writers
 returns-clause-writers c = c.in_ok-writers.ensures ∙ (ap (λ (tokens : List Table.WriterValue). map writer_value tokens) c.in_ok-table.ensures.writers
-    ∙ (opened _ _ ∙ ap (λ (plan : PlanView). opening_writers c.in_ok-table.table.table plan) (sym c.in_ok-table.ensures.table)))
+    ∙ (opened _ _ ∙ ap (λ (plan : PlanView). initial_writers c.in_ok-table.table.table plan) (sym c.in_ok-table.ensures.table)))
 
 pub new-requires-clause-sizes : goal.new-requires-clause-sizes
 new-requires-clause-sizes c = (rw (c.in_ok-from_slice.ensures.len, c.requires.writers.0) (mul-le-mul c.requires.sizes.0 c.requires.sizes.1), rw c.from.ensures c.requires.sizes.2)

@@ -1,0 +1,2 @@
+mod BarrierTest
+pub mod Tickets

@@ -1,2 +1,0 @@
-mod BarrierTrial
-pub mod Tickets

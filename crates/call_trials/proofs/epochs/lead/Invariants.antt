@@ -1,5 +1,0 @@
-use Rattle.std.proofs.Common.{◌≡◌, ◌≤◌}
-use Rattle.call_trials.proofs.epochs.lead.Given as goal
-
-abbrev pub invariant-loop : goal.invariant-loop
-invariant-loop l = (l.herald.table ≡ l.initial.herald.table) × (l.posted ≤ l.last)

@@ -1,0 +1,143 @@
+//! Fields, arrays and casts (ECMA-335 III.4).
+
+use crate::effects::{Done, Effect, Halt};
+use crate::frames::Frame;
+use crate::heap::{Contents, field_in, set_field_in, set_value};
+use crate::state::State;
+use crate::values::Value;
+use cil_model::instructions::FieldReference;
+use cil_model::reports::Fault;
+use cil_model::types::DeclaredType;
+
+/// Fields.
+impl<'a> State<'a> {
+    /// `ldfld` (ECMA-335 III.4.10).
+    pub fn load_field(&mut self, frame: &mut Frame<'a>, reference: &FieldReference) -> Done {
+        let name = frame.pop()?.not_null(Fault::NullReference)?;
+        let field = self.classes.field(false, reference)?;
+        match &self.heap.object(name)?.contents {
+            Contents::Instance(_, fields) => frame.next_with(field_in(fields.as_slice(), field)?),
+            _ => Err(Halt::Sticks),
+        }
+    }
+
+    /// `stfld` (ECMA-335 III.4.28).
+    pub fn store_field(&mut self, frame: &mut Frame<'a>, reference: &FieldReference) -> Done {
+        let value = frame.pop()?;
+        let name = frame.pop()?.not_null(Fault::NullReference)?;
+        let field = self.classes.field(false, reference)?;
+        match &mut self.heap.object_mut(name)?.contents {
+            Contents::Instance(_, fields) => {
+                set_field_in(fields.as_mut_slice(), field, value)?;
+                Ok(Effect::Next)
+            }
+            _ => Err(Halt::Sticks),
+        }
+    }
+
+    /// `ldsfld` (ECMA-335 III.4.14).
+    pub fn load_static(&mut self, frame: &mut Frame<'a>, reference: &FieldReference) -> Done {
+        let field = self.classes.field(true, reference)?;
+        frame.next_with(field_in(self.statics.as_slice(), field)?)
+    }
+
+    /// `stsfld` (ECMA-335 III.4.30).
+    pub fn store_static(&mut self, frame: &mut Frame<'a>, reference: &FieldReference) -> Done {
+        let value = frame.pop()?;
+        let field = self.classes.field(true, reference)?;
+        set_field_in(self.statics.as_mut_slice(), field, value)?;
+        Ok(Effect::Next)
+    }
+}
+
+/// Births, which may be refused.
+impl<'a> State<'a> {
+    /// A new object of a class (ECMA-335 III.4.21).
+    pub fn new_instance(&mut self, class: usize) -> Result<usize, Halt> {
+        self.transition.check_birth()?;
+        let mut fields = Vec::new(self.alloc);
+        for base in self.classes.chain(class) {
+            self.add_fields(&mut fields, *base, false)?;
+        }
+        self.heap.give_birth(Contents::Instance(class, fields))
+    }
+
+    /// `newarr` (ECMA-335 III.4.20).
+    pub fn new_array(&mut self, frame: &mut Frame<'a>, t: &DeclaredType) -> Done {
+        let length = frame.pop()?.as_index()?;
+        let element = self.classes.type_named(t)?;
+        let Ok(length) = usize::try_from(length) else {
+            return Err(Halt::Raises(Fault::Overflow));
+        };
+        self.transition.check_birth()?;
+        let elements = vec![in self.alloc; Value::zero_of(t); length]?;
+        let array = Contents::Array(element, elements);
+        frame.next_with(Value::Reference(self.heap.give_birth(array)?))
+    }
+}
+
+/// Arrays.
+impl<'a> State<'a> {
+    /// `ldlen` (ECMA-335 III.4.12).
+    pub fn load_length(&mut self, frame: &mut Frame<'a>) -> Done {
+        let name = frame.pop()?.not_null(Fault::NullReference)?;
+        let (_, elements) = self.heap.array(name)?;
+        match i64::try_from(elements.len()) {
+            Err(_) => Err(Halt::Sticks),
+            Ok(length) => frame.next_with(Value::Native(length)),
+        }
+    }
+
+    /// `ldelem.i4`, `ldelem.i8` and `ldelem.ref` (ECMA-335 III.4.8).
+    pub fn load_element(&mut self, frame: &mut Frame<'a>, kind: Value) -> Done {
+        let index = frame.pop()?;
+        let name = frame.pop()?.not_null(Fault::NullReference)?;
+        let index = self.heap.element_index(name, index, kind)?;
+        let (_, elements) = self.heap.array(name)?;
+        match elements.get(index) {
+            None => Err(Halt::Sticks),
+            Some(value) => frame.next_with(*value),
+        }
+    }
+
+    /// `stelem.i4`, `stelem.i8` and `stelem.ref` (ECMA-335 III.4.27). The index is looked at before the object's class.
+    pub fn store_element(&mut self, frame: &mut Frame<'a>, kind: Value) -> Done {
+        let value = frame.pop()?;
+        let index = frame.pop()?;
+        let name = frame.pop()?.not_null(Fault::NullReference)?;
+        let index = self.heap.element_index(name, index, kind)?;
+        let (element, _) = self.heap.array(name)?;
+        if element.is_reference() && !self.heap.fits(self.classes, value, element)? {
+            return Err(Halt::Raises(Fault::ArrayTypeMismatch));
+        }
+        match &mut self.heap.object_mut(name)?.contents {
+            Contents::Array(_, elements) => {
+                set_value(elements.as_mut_slice(), index, value)?;
+                Ok(Effect::Next)
+            }
+            _ => Err(Halt::Sticks),
+        }
+    }
+}
+
+/// Casts.
+impl<'a> State<'a> {
+    /// `castclass` (ECMA-335 III.4.3).
+    pub fn cast_class(&mut self, frame: &mut Frame<'a>, t: &DeclaredType) -> Done {
+        let value = frame.top()?;
+        let required = self.classes.type_named(t)?;
+        if self.heap.fits(self.classes, value, required)? {
+            Ok(Effect::Next)
+        } else {
+            Err(Halt::Raises(Fault::InvalidCast))
+        }
+    }
+
+    /// `isinst` (ECMA-335 III.4.6).
+    pub fn is_instance(&mut self, frame: &mut Frame<'a>, t: &DeclaredType) -> Done {
+        let value = frame.pop()?;
+        let required = self.classes.type_named(t)?;
+        let fits = self.heap.fits(self.classes, value, required)?;
+        frame.next_with(if fits { value } else { Value::Null })
+    }
+}

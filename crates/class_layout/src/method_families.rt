@@ -1,0 +1,200 @@
+//! The methods of one name and signature, and the slots that they fill (ECMA-335 II.10.3 and II.12.2).
+
+ghost use Rattle.std.specs.Prelude.{◌≡◌, ◌==◌, IfOk, false, map, find};
+ghost use Rattle.std.specs.Option.{option_map_or};
+ghost use Rattle.class_layout.specs.Roles.{role_in, role_at, own_at, is_virtual_at, slot_by_role, slot_from, slot_along, implementation_from, implementation_along, filled_along, listed_implementation};
+ghost use Rattle.class_layout.specs.Targets.{is_implementer};
+
+use crate::classes::Classes;
+use crate::roles::{Role, own_index, roles};
+use crate::rows::entry_at;
+use cil_model::memory::NoMemory;
+use name_tables::lookups::MemberNumber;
+use std::alloc::Global;
+
+/// The methods of one name and signature: the role of the first one of each class, by the classes' numbers.
+#[derive(Drop)]
+pub struct MethodFamilies<'p> {
+    pub classes: &'p Classes<'p>,
+    pub identity: usize,
+    roles: Vec<Option<Role>>,
+    ghost roles_are: { roles.items ≡ map (λ r. role_in identity r.methods) classes.now.all.now },
+}
+
+/// The slot that a method of a class fills over the one that it inherits. A slot is known by the number of the class that introduced
+/// it.
+fn slot_filled(class: usize, inherited: Option<usize>, role: Role) -> Option<usize>
+    ensures { result ≡ slot_by_role class inherited role }
+{
+    match role {
+        Role::Plain => None,
+        Role::ReuseSlot => Some(inherited.unwrap_or(class)),
+        Role::NewSlot => Some(class),
+    }
+}
+
+fn is_slot(slot: Option<usize>, wanted: usize) -> bool
+    ensures { result ≡ option_map_or (λ s. s == wanted) slot false }
+{
+    match slot {
+        None => false,
+        Some(number) => number == wanted,
+    }
+}
+
+fn is_implementer(classes: &Classes, interface: usize, class: usize) -> bool
+    ensures { result ≡ is_implementer (map (λ r. r.interfaces) classes.now.all.now) interface class }
+{
+    classes.interfaces(class).contains(&interface)
+}
+
+/// The nearest class of a chain that lists an interface itself.
+fn nearest_implementer(classes: &Classes, interface: usize, chain: &[usize]) -> Option<usize>
+    ensures { result ≡ find (is_implementer (map (λ r. r.interfaces) classes.now.all.now) interface) chain.now }
+{
+    for class in chain {
+        if is_implementer(classes, interface, *class) {
+            return Some(*class);
+        }
+    }
+    None
+}
+
+impl<'p> MethodFamilies<'p> {
+    /// The only error is out of memory.
+    pub fn new(alloc: Global, classes: &'p Classes<'p>, identity: usize) -> Result<Self, NoMemory>
+        ensures classes { IfOk result (λ methods. methods.classes.now ≡ classes.now) }
+        ensures identity { IfOk result (λ methods. methods.identity ≡ identity) }
+    {
+        let roles = roles(alloc, classes.all, identity)?;
+        Ok(MethodFamilies {
+            classes,
+            identity,
+            roles,
+        })
+    }
+
+    /// The role of the method of a class.
+    fn role(&self, class: usize) -> Option<Role>
+        ensures { result ≡ role_at self.now.classes.now.all.now self.now.identity class }
+    {
+        entry_at(self.roles.as_slice(), class)
+    }
+
+    // ---- slots along a chain
+
+    /// The slot as seen from a class, where it is known as seen from its base.
+    fn slot_over(&self, class: usize, inherited: Option<usize>) -> Option<usize>
+        ensures { result ≡ slot_from self.now.classes.now.all.now self.now.identity class inherited }
+    {
+        match self.role(class) {
+            None => inherited,
+            Some(role) => slot_filled(class, inherited, role),
+        }
+    }
+
+    /// The slot that the nearest of these methods along a chain fills.
+    fn slot_along(&self, chain: &[usize]) -> Option<usize>
+        ensures { result ≡ slot_along self.now.classes.now.all.now self.now.identity chain.now }
+    {
+        let mut slot = None;
+        for index in (0..chain.len()).rev() {
+            slot = self.slot_over(chain[index], slot);
+        }
+        slot
+    }
+
+    /// The nearest class whose method fills a slot as seen from a class, where it is known as seen from its base. `fills` says
+    /// whether the class's own method fills that very slot.
+    fn implementation_over(&self, class: usize, fills: bool, below: Option<usize>) -> Option<usize>
+        ensures { result ≡ implementation_from self.now.classes.now.all.now self.now.identity class fills below }
+    {
+        if !fills {
+            return below;
+        }
+        match self.role(class) {
+            None => below,
+            Some(_) => Some(class),
+        }
+    }
+
+    /// The nearest class of a chain whose method fills a slot.
+    fn implementation_along(&self, chain: &[usize], wanted: usize) -> Option<usize>
+        ensures { result ≡ implementation_along self.now.classes.now.all.now self.now.identity wanted chain.now }
+    {
+        let mut slot = None;
+        let mut implementation = None;
+        for index in (0..chain.len()).rev() {
+            slot = self.slot_over(chain[index], slot);
+            implementation = self.implementation_over(
+                chain[index],
+                is_slot(slot, wanted),
+                implementation,
+            );
+        }
+        implementation
+    }
+
+    /// The method that a class declares for its objects.
+    fn own_method(&self, class: usize) -> Option<MemberNumber>
+        ensures { result ≡ own_at self.now.classes.now.all.now self.now.identity class }
+    {
+        match self.classes.all.get(class) {
+            None => None,
+            Some(resolved) => match own_index(resolved.methods.as_slice(), self.identity) {
+                None => None,
+                Some(index) => Some(MemberNumber { class, index }),
+            },
+        }
+    }
+
+    /// The method that fills along one chain the slot that is known along another.
+    pub fn class_implementation(
+        &self,
+        chain: &[usize],
+        introduced: &[usize],
+    ) -> Option<MemberNumber>
+        ensures { result ≡ filled_along self.now.classes.now.all.now self.now.identity chain.now introduced.now }
+    {
+        let slot = self.slot_along(introduced)?;
+        let class = self.implementation_along(chain, slot)?;
+        self.own_method(class)
+    }
+
+    // ---- interfaces
+
+    /// Whether the class of a number has a virtual one.
+    fn has_virtual(&self, class: usize) -> bool
+        ensures { result ≡ is_virtual_at self.now.classes.now.all.now self.now.identity class }
+    {
+        match self.role(class) {
+            None | Some(Role::Plain) => false,
+            Some(Role::ReuseSlot | Role::NewSlot) => true,
+        }
+    }
+
+    /// The nearest class of a chain with a virtual one.
+    fn nearest_virtual(&self, chain: &[usize]) -> Option<usize>
+        ensures { result ≡ find (is_virtual_at self.now.classes.now.all.now self.now.identity) chain.now }
+    {
+        for class in chain {
+            if self.has_virtual(*class) {
+                return Some(*class);
+            }
+        }
+        None
+    }
+
+    /// The method that fills the slot of the nearest virtual one, as seen from the nearest class of a chain that lists the interface.
+    pub fn interface_implementation(
+        &self,
+        chain: &[usize],
+        interface: usize,
+    ) -> Option<MemberNumber>
+        ensures { result ≡ listed_implementation self.now.classes.now.program.now self.now.classes.now.all.now self.now.identity chain.now interface }
+    {
+        let implementer = nearest_implementer(self.classes, interface, chain)?;
+        let found = self.nearest_virtual(self.classes.chain(implementer))?;
+        self.class_implementation(chain, self.classes.chain(found))
+    }
+}

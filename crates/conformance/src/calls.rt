@@ -1,0 +1,137 @@
+//! Calls that no command makes: those of the libraries `api_tests` and `run_api_tests`, and runs of commands whose outputs fail.
+
+use crate::records::NO_LIMITS;
+use commands::{Order, Part, Run, RunKind};
+use driver::{Outputs, WriterOut, drive};
+use run_api_tests::{Call, LIMITS, SUM, calls, run_calls};
+use std::alloc::Global;
+use std::io;
+use std::io::Cursor;
+use std::sync::Wait;
+use std::thread::Threads;
+use std::time::Clock;
+
+/// Makes the calls, prints which of them have an unexpected outcome, and returns how many these are.
+pub fn try_calls(
+    rt: &HostRuntime,
+    threads: &(impl Threads + Wait + Clock + Sync),
+) -> io::Result<usize> {
+    let made = calls(threads, rt.alloc());
+    let runs = run_calls(threads, rt.alloc());
+    let mut differing = report_all(rt, &made)?;
+    differing = differing.saturating_add(report_all(rt, &runs)?);
+    let reported = reports_of_outputs(threads, rt.alloc());
+    differing = differing.saturating_add(write_report(rt, "outputs that fail", reported)?);
+    let cut = leaves_a_beginning(threads, rt.alloc());
+    differing = differing.saturating_add(write_report(rt, "a picture that is cut", cut)?);
+    let ended = ends_at_a_cut_console(threads, rt.alloc());
+    differing = differing.saturating_add(write_report(rt, "a console that is cut", ended)?);
+    let count = made.len().saturating_add(runs.len()).saturating_add(3);
+    println!(rt; "calls: {count} calls, {differing} differ")?;
+    Ok(differing)
+}
+
+/// Prints which of these calls have an unexpected outcome, and returns how many they are.
+fn report_all(rt: &HostRuntime, made: &[Call]) -> io::Result<usize> {
+    let mut differing = 0usize;
+    for call in made {
+        differing = differing.saturating_add(write_report(rt, call.name, call.is_as_expected)?);
+    }
+    Ok(differing)
+}
+
+/// Prints that a call has an unexpected outcome, and returns 1; prints nothing and returns 0 where it is as expected.
+fn write_report(rt: &HostRuntime, name: &str, is_as_expected: bool) -> io::Result<usize> {
+    if is_as_expected {
+        return Ok(0);
+    }
+    println!(rt; "{name}: differs")?;
+    Ok(1)
+}
+
+/// The two outputs of a command.
+fn outputs_of<W, E>(outputs: Outputs<W, E>) -> (W, E) {
+    let Outputs {
+        out,
+        err,
+        files: _files,
+        ended: _,
+    } = outputs;
+    (out, err)
+}
+
+/// Whether the status is 5 where an output takes less than is to be written: of a trace the first line, and of a refusal nothing.
+fn reports_of_outputs(threads: &(impl Threads + Wait + Clock + Sync), alloc: Global) -> bool {
+    let trace = Order::Trace {
+        file: "",
+        schedule: "",
+        limits: NO_LIMITS,
+        expected: None,
+        explain: false,
+    };
+    let page = WriterOut::new(Cursor::new([0; 52]));
+    let mut outputs = Outputs::new(page, WriterOut::new(Vec::new(alloc)));
+    let (source, schedule) = (SUM.as_bytes(), b"s0*3");
+    let traced = drive(threads, alloc, &trace, source, schedule, &mut outputs);
+    let none = WriterOut::new(Cursor::new([0; 0]));
+    let mut failing = Outputs::new(WriterOut::new(Vec::new(alloc)), none);
+    let refused = drive(threads, alloc, &trace, b"{", &[], &mut failing);
+    let (page, err) = outputs_of(outputs);
+    traced == 5
+        && refused == 5
+        && err.into_inner().as_slice() == b"device\n".as_slice()
+        && page.into_inner().get_ref().as_slice().starts_with(
+            b"1\ts0\tran\tP::Main+0  ldc.i4 2\t1\t1\t0\t0\tidle\tidle\n",
+        )
+}
+
+/// Whether the status is 5 where an output takes less than a picture has, and a beginning of it is left, and where it takes it and the
+/// standard error takes nothing of the states of the threads.
+fn leaves_a_beginning(threads: &(impl Threads + Wait + Clock + Sync), alloc: Global) -> bool {
+    let picture = Order::Picture {
+        file: "",
+        schedule: "",
+        part: Part::new(1, None),
+        limits: NO_LIMITS,
+        expected: None,
+        explain: false,
+    };
+    let page = WriterOut::new(Cursor::new([0; 60]));
+    let mut outputs = Outputs::new(page, WriterOut::new(Vec::new(alloc)));
+    let (source, schedule) = (SUM.as_bytes(), b"s0*3");
+    let cut = drive(threads, alloc, &picture, source, schedule, &mut outputs);
+    let none = WriterOut::new(Cursor::new([0; 0]));
+    let mut failing = Outputs::new(WriterOut::new(Vec::new(alloc)), none);
+    let silent = drive(threads, alloc, &picture, source, schedule, &mut failing);
+    let (page, err) = outputs_of(outputs);
+    let (whole, _none) = outputs_of(failing);
+    let whole = whole.into_inner();
+    cut == 5
+        && silent == 5
+        && err.into_inner().as_slice() == b"device\n".as_slice()
+        && whole
+            .as_slice()
+            .starts_with(page.into_inner().get_ref().as_slice())
+        && whole.as_slice().ends_with(b"</svg>\n")
+}
+
+/// Whether nothing is written of the states of the threads where the output takes less than the program printed.
+fn ends_at_a_cut_console(threads: &(impl Threads + Wait + Clock + Sync), alloc: Global) -> bool {
+    let run = Order::Run(Run {
+        file: "",
+        kind: RunKind::Schedule {
+            text: "s0*5",
+            limits: LIMITS,
+        },
+        most_printed: None,
+        explain: false,
+        stats: false,
+    });
+    let page = WriterOut::new(Cursor::new([0; 1]));
+    let mut outputs = Outputs::new(page, WriterOut::new(Vec::new(alloc)));
+    let status = drive(threads, alloc, &run, SUM.as_bytes(), &[], &mut outputs);
+    let (page, err) = outputs_of(outputs);
+    status == 5
+        && page.into_inner().get_ref() == b"5"
+        && err.into_inner().as_slice() == b"device\n".as_slice()
+}

@@ -1,0 +1,5 @@
+use Rattle.exploration.proofs.Stepping.{stays_lagging}
+use Rattle.exploration.proofs.laws.a_lagging_machine_stays_lagging.Goals as goal
+
+pub returns : goal.returns
+returns c = stays_lagging

@@ -1,5 +1,0 @@
-use Rattle.flip_trial.specs.Trial.{IsSameCopier}
-use Rattle.flip_trial.proofs.collector.advance_all.Given as goal
-
-abbrev pub invariant-loop-turn : goal.invariant-loop-turn
-invariant-loop-turn l = IsSameCopier l.initial.copier l.copier

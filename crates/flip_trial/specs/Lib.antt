@@ -1,2 +1,0 @@
-pub mod Promised
-pub mod Trial

@@ -1,5 +1,0 @@
-use Rattle.std.proofs.Common.{◌-◌}
-use Rattle.flow_rules.proofs.type_tree.TypeTree.shared.Given as goal
-
-abbrev pub decreases-loop-least : goal.decreases-loop-least
-decreases-loop-least l = l.most - l.least

@@ -1,5 +1,0 @@
-use Rattle.std.proofs.Common.{sym, ◌∙◌}
-use Rattle.inheritance.proofs.sought.note.Goals as goal
-
-pub returns-then-is_sought-clause-only : goal.returns-then-is_sought-clause-only
-returns-then-is_sought-clause-only c = λ s t low high. let raised = c.raise.ensures.only s t low high in (raised.0, raised.1, sym c.is_sought.ensures ∙ c.if-is_sought.true)

@@ -1,8 +1,0 @@
-use Rattle.loaded_program.proofs.NumberLaws.{declared_is_numbered, place_of_number}
-use Rattle.loaded_program.proofs.laws.declared_methods_are_numbered.Goals as goal
-
-pub returns-clause-some : goal.returns-clause-some
-returns-clause-some c = declared_is_numbered
-
-pub returns-clause-there : goal.returns-clause-there
-returns-clause-there c = place_of_number

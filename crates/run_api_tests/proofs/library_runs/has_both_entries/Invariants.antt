@@ -1,0 +1,8 @@
+use Rattle.std.specs.Prelude.{None}
+use Rattle.run_api_tests.proofs.library_runs.has_both_entries.Given as goal
+
+abbrev pub ghosts-act_in_transition-M-Initial : goal.ghosts-act_in_transition-M-Initial
+ghosts-act_in_transition-M-Initial g a = record { initial_state = a.core; workers = 2; most_printed = None }
+
+abbrev pub ghosts-act_in_transition-M-Naming : goal.ghosts-act_in_transition-M-Naming
+ghosts-act_in_transition-M-Naming g a = record { table = a.blank }

@@ -1,6 +1,0 @@
-use Rattle.std.proofs.Common.{◌∙◌, sym}
-use Rattle.schedule_text.proofs.WritingLemmas.{all_numbered}
-use Rattle.schedule_text.proofs.writing.are_numbered.Goals as goal
-
-pub returns : goal.returns
-returns c = c.have_good_events.ensures ∙ sym (all_numbered c.args.items.now)
