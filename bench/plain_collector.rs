@@ -237,7 +237,7 @@ impl Collected {
             self.progress.scanned_slots = 0;
             return Report::Worked;
         }
-        if holds_reference(&self.program.classes, Kind::told(header), slot) {
+        if holds_reference(&self.program.classes, Kind::decoded(header), slot) {
             let address = Address(self.spaces.old.slot(object, slot) as u32);
             self.spaces.mark(address);
         }
@@ -335,7 +335,7 @@ impl Collected {
         }
         let slot = word - 1;
         let mut value = loaded;
-        if holds_reference(&self.program.classes, Kind::told(header), slot) {
+        if holds_reference(&self.program.classes, Kind::decoded(header), slot) {
             value = u64::from(self.spaces.forward(Address(value as u32)).0);
         }
         self.spaces.cycle().new.set_slot(copy, slot, value);

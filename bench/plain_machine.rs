@@ -126,7 +126,7 @@ impl Kind {
         u64::from(slots) + (number << 32)
     }
 
-    fn told(header: u64) -> Kind {
+    fn decoded(header: u64) -> Kind {
         let number = header >> 32;
         if number < 65_536 {
             Kind::Instance(number as u16)
@@ -183,7 +183,7 @@ impl Objects for Heap {
     }
 
     fn kind(&self, object: Address) -> Kind {
-        Kind::told(self.words[object.place()])
+        Kind::decoded(self.words[object.place()])
     }
 
     fn slots(&self, object: Address) -> u32 {

@@ -40,7 +40,7 @@ impl Note {
         u64::from(self.is_marked) | u64::from(other) << 1
     }
 
-    fn told(word: u64) -> Note {
+    fn decoded(word: u64) -> Note {
         let other = Address((word >> 1) as u32);
         Note {
             is_marked: word & 1 == 1,
@@ -103,7 +103,7 @@ impl Space {
     }
 
     fn note(&self, object: Address) -> Note {
-        Note::told(self.words[self.place(object) + NOTE_WORD])
+        Note::decoded(self.words[self.place(object) + NOTE_WORD])
     }
 
     fn set_note(&mut self, object: Address, note: Note) {
@@ -283,7 +283,7 @@ impl Objects for Mutator<'_> {
     }
 
     fn kind(&self, object: Address) -> Kind {
-        Kind::told(self.spaces.space(object).header(object))
+        Kind::decoded(self.spaces.space(object).header(object))
     }
 
     fn slots(&self, object: Address) -> u32 {

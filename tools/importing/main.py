@@ -94,7 +94,7 @@ def _translated(text: str, report: Report) -> str:
     finally_blocks.rewrite(program)
     generics.rewrite(program, binder)
     enums.rewrite(program)
-    small_integers.tell(program)
+    small_integers.note_declarations(program)
     delegates.rewrite(program)
     interfaces.rewrite(program)
     object_members.rewrite(program)

@@ -49,11 +49,11 @@ class Report:
     def lines(self, name: str) -> list[str]:
         """Returns what is to be printed about the listing `name`."""
         if self.refusals:
-            told = [f"{name}:{remark.line}: {remark.text}" for remark in sorted(self.refusals)]
-            return told + [f"{name}: refused: {len(self.refusals)} without a counterpart"]
-        told = [f"{name}:{remark.line}: {remark.text}" for remark in sorted(self.notes)]
+            lines = [f"{name}:{remark.line}: {remark.text}" for remark in sorted(self.refusals)]
+            return lines + [f"{name}: refused: {len(self.refusals)} without a counterpart"]
+        lines = [f"{name}:{remark.line}: {remark.text}" for remark in sorted(self.notes)]
         counts = "; ".join(f"{kind} {times}" for kind, times in self.changes.most_common())
         summary = f"{name}: {sum(self.changes.values())} changes of {len(self.changes)} kinds"
-        told.append(f"{summary}: {counts}" if counts else summary)
-        told.append(f"{name}: nothing is proved of this translation; `cilvm check` judges the result")
-        return told
+        lines.append(f"{summary}: {counts}" if counts else summary)
+        lines.append(f"{name}: nothing is proved of this translation; `cilvm check` judges the result")
+        return lines

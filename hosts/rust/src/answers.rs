@@ -36,7 +36,7 @@ pub enum End {
 
 /// How a thread stands.
 #[derive(Clone, Copy, Debug, PartialEq, Eq, Hash)]
-pub enum Standing {
+pub enum ThreadStatus {
     NeverStarted,
     Live,
     Ended(End),
@@ -195,11 +195,11 @@ pub(crate) fn gc(code: u32) -> Result<Gc, NotDone> {
     done(code, found)
 }
 
-pub(crate) fn standing(code: u32) -> Standing {
+pub(crate) fn status(code: u32) -> ThreadStatus {
     match code {
-        codes::RAN => Standing::Live,
-        codes::ABSENT => Standing::NeverStarted,
-        code => end(code).map_or(Standing::NeverStarted, Standing::Ended),
+        codes::RAN => ThreadStatus::Live,
+        codes::ABSENT => ThreadStatus::NeverStarted,
+        code => end(code).map_or(ThreadStatus::NeverStarted, ThreadStatus::Ended),
     }
 }
 

@@ -12,7 +12,7 @@ pub mod codes;
 mod events;
 mod ffi;
 
-pub use answers::{Ack, End, Fault, Gc, NotDone, Refused, Report, Standing, Step, Wait};
+pub use answers::{Ack, End, Fault, Gc, NotDone, Refused, Report, Step, ThreadStatus, Wait};
 pub use events::{BadItem, Event, Random, RoundRobin, Schedule, MOST_THREADS};
 
 use std::ptr;
@@ -201,8 +201,8 @@ impl Machine {
     }
 
     /// How a thread stands.
-    pub fn standing(&self, thread: u8) -> Standing {
-        answers::standing(unsafe { ffi::cilvm_end_of(self.session.0, thread) })
+    pub fn status(&self, thread: u8) -> ThreadStatus {
+        answers::status(unsafe { ffi::cilvm_end_of(self.session.0, thread) })
     }
 
     /// How many threads are live.

@@ -4,7 +4,7 @@
 //! writes it from `cilvm trace`.
 
 use cilvm::{
-    Ack, End, Event, Fault, Gc, Limits, Machine, Refused, Report, Schedule, Standing, Step,
+    Ack, End, Event, Fault, Gc, Limits, Machine, Refused, Report, Schedule, Step, ThreadStatus,
 };
 use std::fs;
 use std::path::{Path, PathBuf};
@@ -67,10 +67,10 @@ fn outcome(machine: &Machine) -> String {
     let mut text = String::from_utf8(machine.printed()).unwrap() + "--- err\n";
     let mut early = false;
     for thread in 0..cilvm::MOST_THREADS {
-        let stands = match machine.standing(thread) {
-            Standing::NeverStarted => continue,
-            Standing::Live => "live".to_string(),
-            Standing::Ended(end) => {
+        let stands = match machine.status(thread) {
+            ThreadStatus::NeverStarted => continue,
+            ThreadStatus::Live => "live".to_string(),
+            ThreadStatus::Ended(end) => {
                 early |= end != End::Done;
                 end_name(end)
             }
@@ -185,7 +185,7 @@ fn no_event_is_done_once_more_is_printed_than_may_be() {
     let mut machine = Machine::open(&source, limits).unwrap();
     assert_eq!(machine.run(b"s0*5"), Ok((4, Some(cilvm::NotDone::Full))));
     assert_eq!(machine.step(0), Err(cilvm::NotDone::Full));
-    assert_eq!(machine.standing(0), Standing::Live);
+    assert_eq!(machine.status(0), ThreadStatus::Live);
 }
 
 #[test]

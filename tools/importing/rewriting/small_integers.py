@@ -14,18 +14,18 @@ _UNSIGNED = {"uint32": "int32", "uint64": "int64"}
 _HELPER = Class(None, "Importer.Conversions")
 
 
-def tell(program: Program) -> None:
-    """Tells each declaration of the listing with such a type, by its line."""
+def note_declarations(program: Program) -> None:
+    """Notes each declaration of the listing with such a type, by its line."""
     own = [made for made in program.listing.classes if not made.is_library and not program.is_enum(made.type)]
     methods = [method for made in own for method in made.methods]
     declared = [(part.line, part.type) for made in own for part in made.fields]
     declared += [(method.line, method.returned) for method in methods]
     declared += [(part.line or method.line, part.type) for method in methods for part in method.parameters + method.locals]
     for line, kind in declared:
-        _tell(program, line, kind)
+        _note(program, line, kind)
 
 
-def _tell(program: Program, line: int, kind: Type) -> None:
+def _note(program: Program, line: int, kind: Type) -> None:
     while isinstance(kind, (Array, Pointer)):
         kind = kind.element if isinstance(kind, Array) else kind.target
     name = str(program.underlying(kind))
