@@ -4,7 +4,7 @@ use Rattle.cil_model.specs.declared.events.Event.{Event}
 use Rattle.interleaving_core.specs.simulation.MachineStates.{MachineState}
 use Rattle.cilvm_c.specs.Codes.{number_of}
 use Rattle.cilvm_c.specs.Sessions.{Held, with_machine}
-use Rattle.cilvm_c.specs.Steps.{Acts, HasDoneOne, HasDoneOneBy, HasRun, HasRunBy, HasStepped, HasSteppedBy, IsTextRun, MakesSteps}
+use Rattle.cilvm_c.specs.Steps.{Acts, HasDoneOne, HasDoneOneBy, HasRunText, HasRunBy, HasStepped, HasSteppedBy, IsTextRun, MakesSteps}
 use Rattle.cilvm_c.specs.declared.codes.Code.{Code}
 use Rattle.cilvm_c.specs.declared.codes.Code.TheVariants.{Closed}
 
@@ -22,5 +22,5 @@ module _ (h new : Held) (code : ℕ) (c after : MachineState) (answer : Code) (s
   pub steps_open : (t most done : ℕ) → MakesSteps c h.most_printed t most done answer after → HasStepped t h most done code new
   steps_open t most done makes = subst (λ m. HasSteppedBy t h m most done code new) (sym some) (answer, after, is, same, makes)
 
-  pub run_open : (text : List ℕ) (done : ℕ) → IsTextRun c h.most_printed text done answer after → HasRun text h done code new
+  pub run_open : (text : List ℕ) (done : ℕ) → IsTextRun c h.most_printed text done answer after → HasRunText text h done code new
   run_open text done ran = subst (λ m. HasRunBy text h m done code new) (sym some) (inr (answer, after, is, same, ran))

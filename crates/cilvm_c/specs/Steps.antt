@@ -104,5 +104,5 @@ HasRunBy text h (Some c) done code new =
     ⊎ ((answer : Code) × (after : MachineState) × (code ≡ number_of answer) × (new ≡ with_machine h after) × IsTextRun c h.most_printed text done answer after)
 
 -- a session has its machine do the events of a schedule's text
-abbrev pub HasRun : List ℕ → Held → ℕ → ℕ → Held → Type 0
-HasRun text h = HasRunBy text h h.machine
+abbrev pub HasRunText : List ℕ → Held → ℕ → ℕ → Held → Type 0
+HasRunText text h = HasRunBy text h h.machine

@@ -6,7 +6,7 @@ ghost use Rattle.cil_model.specs.declared.events.Event.TheVariants.{Step, Ack, G
 ghost use Rattle.cilvm_c.specs.Handles.{is_held, such_is_held};
 ghost use Rattle.cilvm_c.specs.InitialStates.{IsChecked, IsInitialBy};
 ghost use Rattle.cilvm_c.specs.Sessions.{AreUsed, Held, IsClosing, IsLiveCount, IsPrintedRead, IsReasonRead, IsStatus, IsWait};
-ghost use Rattle.cilvm_c.specs.Steps.{HasDoneOne, HasRun, HasStepped};
+ghost use Rattle.cilvm_c.specs.Steps.{HasDoneOne, HasRunText, HasStepped};
 ghost use Rattle.cilvm_c.specs.contracts.sessions.Session as row;
 
 use crate::codes::{Code, failure_code, number_of};
@@ -154,7 +154,7 @@ pub unsafe extern "C" fn cilvm_gc(at: *mut u8) -> u32
 }
 
 fn run(session: &mut Session, text: &[u8], done: &mut u64) -> u32
-    ensures { HasRun text.now session.old done.new result session.new }
+    ensures { HasRunText text.now session.old done.new result session.new }
 {
     session.run(text, done)
 }
@@ -164,7 +164,7 @@ fn run(session: &mut Session, text: &[u8], done: &mut u64) -> u32
 pub unsafe extern "C" fn cilvm_run(at: *mut u8, text: &[u8], done: &mut u64) -> u32
     ghost held: { Held }
     requires* { sem 𝓛 (is_held row.the_row at held) }
-    ensures* { sem 𝓛 (such_is_held row.the_row at (HasRun text.now held done.new result)) }
+    ensures* { sem 𝓛 (such_is_held row.the_row at (HasRunText text.now held done.new result)) }
 {
     let session: *mut Session = at.cast();
     run(&mut *session, text, done)

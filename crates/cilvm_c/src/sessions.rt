@@ -3,7 +3,7 @@
 ghost use Rattle.std.specs.Prelude.{◌≡◌, ◌≤◌, ◌⊎◌, [], IfErr, IfOk, None, drop, length, take};
 ghost use Rattle.cilvm_c.specs.InitialStates.{IsInitial};
 ghost use Rattle.cilvm_c.specs.Sessions.{AreUsed, IsRead, live_in, printed_by, status_of, wait_of, used_in};
-ghost use Rattle.cilvm_c.specs.Steps.{HasDoneOne, HasRun, HasStepped};
+ghost use Rattle.cilvm_c.specs.Steps.{HasDoneOne, HasRunText, HasStepped};
 
 use crate::codes::{Code, failure_code, number_of, schedule_code, status_code, wait_code};
 use crate::running::{act_by_number, make_steps, run_text};
@@ -93,7 +93,7 @@ impl Session {
 
     /// Does the events of a schedule's text. `done` says how many were done: none where the text is refused, which the reason explains.
     pub(crate) fn run(&mut self, text: &[u8], done: &mut u64) -> u32
-        ensures { HasRun text.now self.old done.new result self.new }
+        ensures { HasRunText text.now self.old done.new result self.new }
     {
         match &mut self.machine {
             None => {

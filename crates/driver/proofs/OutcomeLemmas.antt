@@ -17,7 +17,7 @@ use Rattle.source_runs.specs.acceptance.declared.failure.Failure.TheVariants.{Me
 use Rattle.event_trace.specs.Traces.{IsTraced}
 use Rattle.source_runs.specs.Runs.{IsPrintedUpTo, IsReady, IsRunBy}
 use Rattle.driver.specs.Outputs.{HasBroken, IsGivenUp, IsUntouched, OutputState}
-use Rattle.driver.specs.Outcomes.{AreCut, AreEndsExplainedFor, AreNotesShownInPart, AreThreadsExplained, HasRun, HasTraced, IsEndText, IsExplanation, IsMachineShown, IsMachineShownInPart, IsRun, IsRunInPart, IsRunShown, IsRunShownInPart, IsRunText, IsShown, IsThreadText, IsTracedThenInPart, status_after, stop_text}
+use Rattle.driver.specs.Outcomes.{AreCut, AreEndsExplainedFor, AreNotesShownInPart, AreThreadsExplained, HasRunSource, HasTraced, IsEndText, IsExplanation, IsMachineShown, IsMachineShownInPart, IsRun, IsRunInPart, IsRunShown, IsRunShownInPart, IsRunText, IsShown, IsThreadText, IsTracedThenInPart, status_after, stop_text}
 use Rattle.driver.specs.Replays.{differences_from, differences_text, status_if_same}
 use Rattle.driver.specs.Statistics.{IsMostOfRun, stats_text}
 use Rattle.run_files.specs.declared.differences.Differences.{Differences}
@@ -157,7 +157,7 @@ module _ (source : List ℕ) (limits : Limits) (text : List ℕ) (most : Option 
 
   -- all that it shows is written
   pub has_run : (o m : OutputState) (err' : Taken) (before status : ℕ) → IsRunShown explain source limits done reports c o m before → m.texts ≡ o.texts
-      → (status ≡ status_after stopped (status_if_same d before)) × Takes m.err err' last → HasRun source limits text most expected explain stats o (record m { err = err' }) status
+      → (status ≡ status_after stopped (status_if_same d before)) × Takes m.err err' last → HasRunSource source limits text most expected explain stats o (record m { err = err' }) status
   has_run o m err' before status (more, explains, shown) same (after, stop) =
       let lines = lines_from 0 (map end_of c.threads) ++ more in
       record {

@@ -193,7 +193,7 @@ pub record IsRun (source : List ℕ) (limits : Limits) (text : List ℕ) (most :
   pub reports_all : reported ≡ lines_from 0 (ends_of state) ++ explanation ++ (stop_text stopped ++ differences_text (differences_from expected source limits state.printed) ++ stats_text stats done reports after most_words)
 
 -- a run is done: what its state has printed and what is reported is shown
-pub record HasRun (source : List ℕ) (limits : Limits) (text : List ℕ) (most : Option ℕ) (expected : Option RunFile) (explain stats : Bool) (o o' : OutputState) (status : ℕ) : Type 0 where
+pub record HasRunSource (source : List ℕ) (limits : Limits) (text : List ℕ) (most : Option ℕ) (expected : Option RunFile) (explain stats : Bool) (o o' : OutputState) (status : ℕ) : Type 0 where
   pub stopped : Bool
   pub state : State
   pub reported : List ℕ
@@ -319,8 +319,8 @@ HasNotExplored source limits failure = IsNotRun source limits failure ⊎ (IsLet
 
 -- a run is done: one by a schedule text takes it from the command line, a replay from the file; only workers leave a record
 abbrev pub IsRunDone : Run → List ℕ → List ℕ → RunKind → OutputState → OutputState → ℕ → Type 0
-IsRunDone run source schedule (Schedule text limits) = HasRun source limits text.now run.most_printed None run.explain run.stats
-IsRunDone run source schedule (Replay name limits expected) = HasRun source (limits_for limits expected) schedule run.most_printed expected run.explain run.stats
+IsRunDone run source schedule (Schedule text limits) = HasRunSource source limits text.now run.most_printed None run.explain run.stats
+IsRunDone run source schedule (Replay name limits expected) = HasRunSource source (limits_for limits expected) schedule run.most_printed expected run.explain run.stats
 IsRunDone run source schedule (Workers workers name stop_at limits) = HasRunThreads source limits workers.count stop_at run.most_printed (is_some name) run.explain run.stats
 
 -- why a run is not done

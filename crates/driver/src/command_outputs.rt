@@ -1,5 +1,7 @@
 //! The outputs of a command.
 
+ghost use Rattle.std.specs.Prelude.{◌≡◌, None};
+
 use crate::recording::RecordFiles;
 use std::time::Instant;
 
@@ -17,8 +19,10 @@ pub struct Outputs<W, E> {
 }
 
 impl<W, E> Outputs<W, E> {
-    /// Those of a command that is not carried out yet.
-    pub fn new(out: W, err: E) -> Outputs<W, E> {
+    /// Those of a command that is not carried out yet: no files, and no run has ended.
+    pub fn new(out: W, err: E) -> Outputs<W, E>
+        ensures { (result.out ≡ out) × (result.err ≡ err) × (result.files ≡ None) × (result.ended ≡ None) }
+    {
         Outputs {
             out,
             err,

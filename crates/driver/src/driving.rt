@@ -9,7 +9,7 @@ ghost use Rattle.source_runs.specs.acceptance.Failures.{IsOfWriting};
 ghost use Rattle.source_runs.specs.acceptance.Sources.{IsLetIn, IsNotAccepted};
 ghost use Rattle.source_runs.specs.acceptance.declared.failure.Failure.TheVariants.{Device as DeviceFailure};
 ghost use Rattle.commands.specs.Orders.{record_file_of};
-ghost use Rattle.driver.specs.Outcomes.{HasNotRun, HasNotTraced, HasRun, HasTraced, IsChecked, IsCheckedInPart, IsDone, IsDoneInPart, IsFlipDone, IsFlipDoneInPart};
+ghost use Rattle.driver.specs.Outcomes.{HasNotRun, HasNotTraced, HasRunSource, HasTraced, IsChecked, IsCheckedInPart, IsDone, IsDoneInPart, IsFlipDone, IsFlipDoneInPart};
 ghost use Rattle.driver.specs.Outcomes.{IsNotChecked, IsNotDone, IsOutcome, IsOutcomeOrCut, IsReportCut, IsRunDone, IsRunDoneInPart, IsRunInPart, IsRunNotDone, IsTracedUpTo, failure_of_tracing};
 ghost use Rattle.driver.specs.Outputs.{IsGivenUp, output_state};
 ghost use Rattle.driver.specs.Records.{texts_of};
@@ -291,7 +291,7 @@ fn show_run<W: Out, E: Out>(
     expected: Option<RunFile>,
     outputs: &mut Outputs<W, E>,
 ) -> Result<u8, Failure>
-    ensures done { IfOk result (HasRun source.now limits text.now run.now.most_printed expected run.now.explain run.now.stats
+    ensures done { IfOk result (HasRunSource source.now limits text.now run.now.most_printed expected run.now.explain run.now.stats
         (output_state W.taken E.taken outputs.old) (output_state W.taken E.taken outputs.new)) }
     ensures given_up { IfErr result (IsGivenUp (HasNotRun source.now limits text.now) (IsRunInPart source.now limits text.now run.now.most_printed expected run.now.explain run.now.stats run.now.explain)
         (output_state W.taken E.taken outputs.old) (output_state W.taken E.taken outputs.new)) }

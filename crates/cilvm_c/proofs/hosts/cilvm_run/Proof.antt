@@ -34,7 +34,7 @@ use denote.Triple.Walked.{Stays, walk_of, stay_dropped, gave_ref, Goes-dropped, 
 use Rattle.cilvm_c.specs.contracts.sessions.Session as row
 use Rattle.cilvm_c.specs.Handles.{is_held}
 use Rattle.cilvm_c.specs.Sessions.{Held}
-use Rattle.cilvm_c.specs.Steps.{HasRun}
+use Rattle.cilvm_c.specs.Steps.{HasRunText}
 use Rattle.cilvm_c.specs.contracts.hosts.cilvm_run as f
 use Rattle.cilvm_c.proofs.hosts.cilvm_run.Statement.{statement}
 use Rattle.cilvm_c.proofs.hosts.cilvm_run.Code as code
@@ -81,14 +81,14 @@ cilvm_run_spec 𝓤 𝓛 𝓜 𝓡 wired =
     calls_at ! (framed 𝓤 𝓛.H 𝓜 (tables 𝓤 𝓛.H 𝓜 𝓡 𝓡.env)) G (met 𝓤 𝓛 𝓜 𝓡 (code.calls-cilvm_c::hosts::run 𝓡.env wired)) z
     (and_then ! (get ! refl) (and_then ! (get ! refl) (and_then ! (get ! refl) (no_more !)))) (λ v.
     use1 𝓛 (later (some (λ (u : ℕ). ((‵ (flft (α ∷ []) full_share) ⊛ (‵ (flft κ0 q0) ⊛ (‵ (flft κ1 q1) ⊛ ‵ ftrue))) ⊛ ‵ (u32.own_val u (v ∷ []))) ⊛
-    some (λ (ws : Held × (Unit {0} × (ℕ × Unit {0}))). ‵ (lasts g.ended z.0.0 z.0.3 ws) ⊛ raw (fact 𝓤 (HasRun text.now it ws.1.1.0 u ws.0)))))) (id⊢ 𝓤 _) $
+    some (λ (ws : Held × (Unit {0} × (ℕ × Unit {0}))). ‵ (lasts g.ended z.0.0 z.0.3 ws) ⊛ raw (fact 𝓤 (HasRunText text.now it ws.1.1.0 u ws.0)))))) (id⊢ 𝓤 _) $
     await ! tt $ pick ! (λ u. split ! $ split ! $ split ! $ lft_end ! tt $ move ! (2 ∷ []) $
     peeks ! u32 (Is u32) (shows 𝓛 u32) u (v ∷ []) (λ is. lands_as ! refl refl ((uint_Lawful 𝓛 w32).typed u _ is).0 $
     -- [the result; α is over; the caller's tokens; the last values; the lender's part]
     move ! (3 ∷ []) $ pick ! (λ ws. split ! $ move ! (1 ∷ []) $ heard ! _ (λ is_so. fsplit ! $ fsplit ! $
     move ! (4 ∷ 6 ∷ 0 ∷ []) $ use3 𝓛 (later (‵ (part_at row.the_row full_share ws.0 b o))) (ref_back 𝓛 row.the_row (α ∷ []) δ ws.0 b o) $ await ! tt $
-    fpack ! (HasRun text.now it ws.1.1.0 u ws.0) (λ _. is_held row.the_row (block_ptr b o) ws.0) is_so $
-    fpack ! (Held) (λ w. fex (HasRun text.now it ws.1.1.0 u w) (λ _. is_held row.the_row (block_ptr b o) w)) ws.0 $
+    fpack ! (HasRunText text.now it ws.1.1.0 u ws.0) (λ _. is_held row.the_row (block_ptr b o) ws.0) is_so $
+    fpack ! (Held) (λ w. fex (HasRunText text.now it ws.1.1.0 u w) (λ _. is_held row.the_row (block_ptr b o) w)) ws.0 $
     -- [the session; its borrow; the other last values; the result; the caller's tokens]
     move ! (2 ∷ []) $ fsplit ! $ move ! (1 ∷ []) $ fsplit ! $
     returns ! (look_at ! 0 refl) $ free_all ! refl $ keep ! (0 ∷ 5 ∷ 3 ∷ 6 ∷ []) $

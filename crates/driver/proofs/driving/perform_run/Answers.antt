@@ -1,13 +1,13 @@
 use Rattle.std.proofs.Common.{subst}
 use Rattle.std.specs.Prelude.{IfErr, IfOk, None}
-use Rattle.driver.specs.Outcomes.{HasNotRun, HasNotRunThreads, HasRun, HasRunThreads, IsRunByWorkersInPart, IsRunInPart}
+use Rattle.driver.specs.Outcomes.{HasNotRun, HasNotRunThreads, HasRunSource, HasRunThreads, IsRunByWorkersInPart, IsRunInPart}
 use Rattle.driver.specs.Outputs.{IsGivenUp, output_state}
 use Rattle.driver.proofs.driving.perform_run.Goals as goal
 
 pub returns-in-Schedule-clause-done : goal.returns-in-Schedule-clause-done
 returns-in-Schedule-clause-done g c =
     let at = output_state g.W.Out.taken g.E.Out.taken in
-    rw c.in-Schedule.is (subst (λ text. IfOk c.show_run.result (HasRun c.args.source.now c.in-Schedule.limits text c.args.run.now.most_printed None c.args.run.now.explain c.args.run.now.stats (at c.args.outputs.now) (at c.show_run.new.outputs))) c.as_bytes-text.ensures.value c.show_run.ensures.done)
+    rw c.in-Schedule.is (subst (λ text. IfOk c.show_run.result (HasRunSource c.args.source.now c.in-Schedule.limits text c.args.run.now.most_printed None c.args.run.now.explain c.args.run.now.stats (at c.args.outputs.now) (at c.show_run.new.outputs))) c.as_bytes-text.ensures.value c.show_run.ensures.done)
 
 pub returns-in-Schedule-clause-given_up : goal.returns-in-Schedule-clause-given_up
 returns-in-Schedule-clause-given_up g c =
@@ -17,7 +17,7 @@ returns-in-Schedule-clause-given_up g c =
 pub returns-in-Replay-clause-done : goal.returns-in-Replay-clause-done
 returns-in-Replay-clause-done g c =
     let at = output_state g.W.Out.taken g.E.Out.taken in
-    rw c.in-Replay.is (subst (λ limits. IfOk c.show_run-in-Replay.result (HasRun c.args.source.now limits c.args.schedule.now c.args.run.now.most_printed c.in-Replay.expected c.args.run.now.explain c.args.run.now.stats (at c.args.outputs.now) (at c.show_run-in-Replay.new.outputs))) c.limits_for-limits.ensures c.show_run-in-Replay.ensures.done)
+    rw c.in-Replay.is (subst (λ limits. IfOk c.show_run-in-Replay.result (HasRunSource c.args.source.now limits c.args.schedule.now c.args.run.now.most_printed c.in-Replay.expected c.args.run.now.explain c.args.run.now.stats (at c.args.outputs.now) (at c.show_run-in-Replay.new.outputs))) c.limits_for-limits.ensures c.show_run-in-Replay.ensures.done)
 
 pub returns-in-Replay-clause-given_up : goal.returns-in-Replay-clause-given_up
 returns-in-Replay-clause-given_up g c =
