@@ -320,7 +320,7 @@ fn measure_stores(kernel: &Kernel, phase: Phase) {
     let (nanoseconds, steps, before, (old, new)) = runs[RUNS / 2];
     let speed = rate(u64::from(steps), 1000.0, nanoseconds);
     println!(
-        "{} in {phase:?}: {speed:.2} million events a second ({steps} events behind {before} of a cycle, {old} and {new} words)",
+        "{} in {phase:?}: {speed:.2} million events a second ({steps} events after {before} of a cycle, {old} and {new} words)",
         kernel.name
     );
 }

@@ -27,7 +27,7 @@ pub struct Classes<'a> {
 
 impl<'a> Classes<'a> {
     /// What the class of a number declares.
-    pub fn declared(&self, class: usize) -> Option<&'a DeclaredClass<'a>> {
+    pub fn source_class(&self, class: usize) -> Option<&'a DeclaredClass<'a>> {
         self.names.classes.class(class)
     }
 
@@ -39,7 +39,7 @@ impl<'a> Classes<'a> {
     /// The method of the number that a look-up found.
     pub fn method_at(&self, found: Option<MemberNumber>) -> Result<Found<'a>, Halt> {
         let MemberNumber { class, index } = found.ok_or(Halt::Sticks)?;
-        let declared = self.declared(class).ok_or(Halt::Sticks)?;
+        let declared = self.source_class(class).ok_or(Halt::Sticks)?;
         match declared.methods.get(index) {
             None => Err(Halt::Sticks),
             Some(method) => Ok(Found { class, method }),
@@ -53,7 +53,7 @@ impl<'a> Classes<'a> {
 
     /// The name of a built-in class; none where it is a class of the source.
     pub fn built_in_name(&self, class: usize) -> Option<&'a str> {
-        let key = self.declared(class)?.name;
+        let key = self.source_class(class)?.name;
         match key.assembly {
             None => None,
             Some(_) => Some(key.name.as_str()),
@@ -72,7 +72,7 @@ impl<'a> Classes<'a> {
 
     /// The first method of a class with that name.
     fn method_named(&self, name: &str, class: usize) -> Result<Found<'a>, Halt> {
-        let declared = self.declared(class).ok_or(Halt::Sticks)?;
+        let declared = self.source_class(class).ok_or(Halt::Sticks)?;
         for method in declared.methods.as_slice() {
             if name_of(method) == name {
                 return Ok(Found { class, method });
@@ -121,7 +121,7 @@ impl<'a> Classes<'a> {
 
     /// Whether a class lists the interface itself.
     fn lists(&self, class: usize, interface: usize) -> bool {
-        match self.declared(class) {
+        match self.source_class(class) {
             None => false,
             Some(declared) => self.is_among(declared.interfaces, interface),
         }
@@ -237,7 +237,7 @@ impl<'a> Classes<'a> {
     /// is listed again, this profile).
     pub fn target(&self, class: usize, called: Found<'a>) -> Result<Found<'a>, Halt> {
         let key = MethodKey::new(&called.method.name, &called.method.signature);
-        let owner = self.declared(called.class).ok_or(Halt::Sticks)?;
+        let owner = self.source_class(called.class).ok_or(Halt::Sticks)?;
         let found = if owner.is_interface {
             self.interface_target(key, class, called.class)
         } else {

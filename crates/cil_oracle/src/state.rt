@@ -120,7 +120,7 @@ impl<'a> State<'a> {
         class: usize,
         is_static: bool,
     ) -> Result<(), Halt> {
-        let Some(declared) = self.classes.declared(class) else {
+        let Some(declared) = self.classes.source_class(class) else {
             return Ok(());
         };
         for (index, field) in declared.fields.iter().enumerate() {

@@ -118,32 +118,32 @@ found_there {X} test s (y ∷ ys) (suc j) x h e = by_test (test y) refl (found_t
     by_test false g further = (further.0, ap (λ b. cond b (Some s) (position_from test (s + 1) ys)) g ∙ further.1)
 
 -- an item of a list is one of a longer list
-abbrev Stands : {X : Type 0} → List X → X → Type 0
-Stands xs x = (j : ℕ) × (slice_get xs j ≡ Some x)
+abbrev Occurs : {X : Type 0} → List X → X → Type 0
+Occurs xs x = (j : ℕ) × (slice_get xs j ≡ Some x)
 
-stands_before : {X : Type 0} (xs ys : List X) (j : ℕ) (x : X) → slice_get xs j ≡ Some x → slice_get (xs ++ ys) j ≡ Some x
-stands_before [] ys j x h = absurd (none-some x h)
-stands_before (z ∷ zs) ys zero x h = h
-stands_before (z ∷ zs) ys (suc j) x h = stands_before zs ys j x h
+occurs_before : {X : Type 0} (xs ys : List X) (j : ℕ) (x : X) → slice_get xs j ≡ Some x → slice_get (xs ++ ys) j ≡ Some x
+occurs_before [] ys j x h = absurd (none-some x h)
+occurs_before (z ∷ zs) ys zero x h = h
+occurs_before (z ∷ zs) ys (suc j) x h = occurs_before zs ys j x h
 
-stands_after : {X : Type 0} (xs ys : List X) (x : X) → Stands ys x → Stands (xs ++ ys) x
-stands_after [] ys x h = h
-stands_after (z ∷ zs) ys x h =
-    let r : Stands (zs ++ ys) x = stands_after zs ys x h in
+occurs_after : {X : Type 0} (xs ys : List X) (x : X) → Occurs ys x → Occurs (xs ++ ys) x
+occurs_after [] ys x h = h
+occurs_after (z ∷ zs) ys x h =
+    let r : Occurs (zs ++ ys) x = occurs_after zs ys x h in
     (suc r.0, r.1)
 
-stands_in_rows : {R X : Type 0} (row : R → List X) (rs : List R) (n : ℕ) (r : R) (p : ℕ) (x : X) → slice_get rs n ≡ Some r → slice_get (row r) p ≡ Some x → Stands (flat_map row rs) x
-stands_in_rows row [] n r p x h at = absurd (none-some r h)
-stands_in_rows row (q ∷ qs) zero r p x h at =
+occurs_in_rows : {R X : Type 0} (row : R → List X) (rs : List R) (n : ℕ) (r : R) (p : ℕ) (x : X) → slice_get rs n ≡ Some r → slice_get (row r) p ≡ Some x → Occurs (flat_map row rs) x
+occurs_in_rows row [] n r p x h at = absurd (none-some r h)
+occurs_in_rows row (q ∷ qs) zero r p x h at =
     let same : q ≡ r = cc in
-    (p, stands_before (row q) (flat_map row qs) p x (ap (λ z. slice_get (row z) p) same ∙ at))
-stands_in_rows row (q ∷ qs) (suc n) r p x h at = stands_after (row q) (flat_map row qs) x (stands_in_rows row qs n r p x h at)
+    (p, occurs_before (row q) (flat_map row qs) p x (ap (λ z. slice_get (row z) p) same ∙ at))
+occurs_in_rows row (q ∷ qs) (suc n) r p x h at = occurs_after (row q) (flat_map row qs) x (occurs_in_rows row qs n r p x h at)
 
-module _ (tree : Tree) (k : MethodIdentity) (i : ℕ) (numbered : identity_number tree k ≡ i) where
+module _ (tree : Tree) (k : MethodIdentity) (i : ℕ) (has_id : identity_number tree k ≡ i) where
   -- ---- names and signatures by their numbers
 
   abbrev is_known : MethodIdentity → Type 0
-  is_known x = Stands (identities tree) x
+  is_known x = Occurs (identities tree) x
 
   abbrev keys : List MethodIdentity
   keys = identities tree
@@ -163,13 +163,13 @@ module _ (tree : Tree) (k : MethodIdentity) (i : ℕ) (numbered : identity_numbe
 
       by_index : (o : Option ℕ) → position_from (same_identity k) 0 keys ≡ o → ⊥
       by_index None p =
-          let past : i ≡ length keys = sym numbered ∙ ap (λ z. unwrap_or z (length keys)) p in
+          let past : i ≡ length keys = sym has_id ∙ ap (λ z. unwrap_or z (length keys)) p in
           let inside : own.0 < length keys = slice_get_within keys own.0 own.2 own.3 in
           let index : found.0 ≡ 0 + own.0 = own.1 in
           let all : i ≡ found.0 = equal ∙ number in
           omega (arith, past, inside, index, all)
       by_index (Some j) p =
-          let here : i ≡ j = sym numbered ∙ ap (λ z. unwrap_or z (length keys)) p in
+          let here : i ≡ j = sym has_id ∙ ap (λ z. unwrap_or z (length keys)) p in
           let others : PassesAt (same_identity k) keys 0 j = passes_at (same_identity k) 0 keys j p in
           let first : found.0 ≡ 0 + own.0 = own.1 in
           let second : j ≡ 0 + others.0 = others.1 in
@@ -184,18 +184,18 @@ module _ (tree : Tree) (k : MethodIdentity) (i : ℕ) (numbered : identity_numbe
           lost h = cc
 
   -- a method's number determines whether it has the name and signature
-  tells : (x : MethodIdentity) → is_known x → (i == identity_number tree x) ≡ same_identity k x
-  tells x known = by_same (same_identity k x) refl
+  agrees : (x : MethodIdentity) → is_known x → (i == identity_number tree x) ≡ same_identity k x
+  agrees x known = by_same (same_identity k x) refl
     where
       by_same : (b : Bool) → same_identity k x ≡ b → (i == identity_number tree x) ≡ b
-      by_same true h = eq-eqb i (identity_number tree x) (sym numbered ∙ ap (identity_number tree) (same_identity_equal k x h))
+      by_same true h = eq-eqb i (identity_number tree x) (sym has_id ∙ ap (identity_number tree) (same_identity_equal k x h))
       by_same false h = ne_eqb i (identity_number tree x) (apart x known h)
 
   abbrev all_known : List Method → Type 0
   all_known ms = (p : ℕ) (m : Method) → slice_get ms p ≡ Some m → is_known (identity_of m)
 
   test_alike : (m : Method) (r : ResolvedMethod) → is_known (identity_of m) → IsResolvedMethod tree m r → (i == r.identity) ≡ same_identity k (identity_of m)
-  test_alike m r known h = ap (λ n. i == n) h.identity ∙ tells (identity_of m) known
+  test_alike m r known h = ap (λ n. i == n) h.identity ∙ agrees (identity_of m) known
 
   role_found : (ms : List Method) (rs : List ResolvedMethod) → all_known ms → AllAlike (IsResolvedMethod tree) ms rs → role_in i rs ≡ option_map (λ (m : Method). role_of_named m.kind) (find (λ m. same_identity k (identity_of m)) ms)
   role_found [] [] known h = refl
@@ -232,7 +232,7 @@ module _ (tree : Tree) (k : MethodIdentity) (i : ℕ) (numbered : identity_numbe
   identities_of e = map identity_of e.1.methods
 
   known_in : (n : ℕ) (e : ClassName × Declaration) → slice_get (declarations tree) n ≡ Some e → all_known e.1.methods
-  known_in n e h p m at = stands_in_rows identities_of (declarations tree) n e p (identity_of m) h (slice_get-map identity_of e.1.methods p ∙ ap (option_map identity_of) at)
+  known_in n e h p m at = occurs_in_rows identities_of (declarations tree) n e p (identity_of m) h (slice_get-map identity_of e.1.methods p ∙ ap (option_map identity_of) at)
 
   module _ (rs : List ResolvedClass) (are : AreResolved tree rs) where
     role_known : (n : ℕ) → role_at rs i n ≡ option_map (λ (m : Method). role_of_named m.kind) (method_found tree k n)

@@ -29,7 +29,7 @@ use Rattle.class_layout.specs.Kinds.{own_kinds, slot_kinds, kind_of}
 use Rattle.class_layout.specs.FieldSlots.{number_after, fields_by_id, statics_after, first_slot, field_rows, class_names}
 use Rattle.cil_model.proofs.Legal.{unbroken}
 use Rattle.cil_model.proofs.Lists.{passes_not}
-use Rattle.resolved_code.proofs.Numbers.Classes.{FoundAt, found_at, not_declared, number_of_index, entries_stand_once}
+use Rattle.resolved_code.proofs.Numbers.Classes.{FoundAt, found_at, not_declared, number_of_index, entries_occur_once}
 use Rattle.class_layout.proofs.KindLaws.{filtered, slots_counted}
 
 -- ---- indices in lists
@@ -257,8 +257,8 @@ module _ (tree : Tree) where
       let apart : is_own_base tree c ≡ false = subst P (sym (ap (λ (y : ClassName × Declaration). y.0) source.3)) (passes_not (λ (k : Class). is_own_base tree (source_name k)) tree.classes source.1 source.0 (no_cycle tree legal) source.2) in
       shorter (same_class c) (suc (suc (length tree.classes))) (base_of tree c) apart
 
-  names_stand_once_too : IsLegal tree → has_repeat same_class (class_names tree) ≡ false
-  names_stand_once_too legal = has_repeat-map (λ (e : ClassName × Declaration). e.0) same_class (declarations tree) ∙ entries_stand_once tree legal
+  names_occur_once_too : IsLegal tree → has_repeat same_class (class_names tree) ≡ false
+  names_occur_once_too legal = has_repeat-map (λ (e : ClassName × Declaration). e.0) same_class (declarations tree) ∙ entries_occur_once tree legal
 
   -- ---- what the table holds
 
@@ -288,7 +288,7 @@ module _ (tree : Tree) where
 
       by_flag : (b : Bool) → f.is_static ≡ b → slice_get (fields_by_id (static_start 0 (class_names tree) n) (first_slot tree c) (fields_declared tree c)) p ≡ slot_of b (record { declared_in = c; name = f.name })
       by_flag false e = instance_placed c f (static_start 0 (class_names tree) n) p (none_above legal c p f at_index) (once_declared legal c p f at_index) at_index e
-      by_flag true e = static_placed c f (first_slot tree c) p (once_declared legal c p f at_index) at_index e (class_names tree) 0 n (names_stand_once_too legal) named ∙ ap (position_from (keyed c f) 0) all_statics
+      by_flag true e = static_placed c f (first_slot tree c) p (once_declared legal c p f at_index) at_index e (class_names tree) 0 n (names_occur_once_too legal) named ∙ ap (position_from (keyed c f) 0) all_statics
 
   -- the number or slot of the field that a class and an index find
   pub slot_found : IsLegal tree → (n p : ℕ) (c : ClassName) (f : Field) → field_at tree (n, p) ≡ Some (c, f) →

@@ -63,8 +63,8 @@ find_own k (x ∷ xs) m h s = by_test (same_identity (identity_of x) k) refl h (
 
 module _ (tree : Tree) where
   -- what a number of a method refers to
-  abbrev pub stands_at : MemberNumber → Option (ClassName × Method)
-  stands_at r = method_at tree (r.class, r.index)
+  abbrev pub target_method : MemberNumber → Option (ClassName × Method)
+  target_method r = method_at tree (r.class, r.index)
 
   -- the chain of a class by its number
   chain_known : (c : ClassName) (n : ℕ) → class_number tree c ≡ Some n → chain_at tree n ≡ chain_numbers tree c
@@ -127,26 +127,26 @@ module _ (tree : Tree) where
             subst Q one here
 
     -- the number of a virtual method that a class declares
-    own_known : (c : ClassName) (n : ℕ) (m : Method) → class_number tree c ≡ Some n → method_declared tree k.name k.signature c ≡ Some m → is_virtual m.kind ≡ true → option_map stands_at (own_method tree k n) ≡ Some (Some (c, m))
+    own_known : (c : ClassName) (n : ℕ) (m : Method) → class_number tree c ≡ Some n → method_declared tree k.name k.signature c ≡ Some m → is_virtual m.kind ≡ true → option_map target_method (own_method tree k n) ≡ Some (Some (c, m))
     own_known c n m e g v =
         let found : FoundAt tree c n = found_at tree c n e in
         let own : Method → Bool = λ x. same_called (k, false) (called_of x) in
-        let numbered : option_map (λ p. method_at tree (n, p)) (index_in (λ d. d.methods) own tree n) ≡ option_map (λ x. Some (c, x)) (find own (methods_declared tree c)) =
+        let has_id : option_map (λ p. method_at tree (n, p)) (index_in (λ d. d.methods) own tree n) ≡ option_map (λ x. Some (c, x)) (find own (methods_declared tree c)) =
         in_present tree (λ d. d.methods) own own (λ x. refl) c found.0 n found.1 found.2 in
-        option_map_of_map (λ p. let r : MemberNumber = record { class = n; index = p } in r) stands_at (index_in (λ d. d.methods) own tree n) ∙ numbered ∙
+        option_map_of_map (λ p. let r : MemberNumber = record { class = n; index = p } in r) target_method (index_in (λ d. d.methods) own tree n) ∙ has_id ∙
         ap (option_map (λ x. Some (c, x))) (find_own k (methods_declared tree c) m g (virtual_not_static m.kind v))
 
     -- a class's method
-    class_known : (d c : ClassName) → option_map stands_at (class_implementation tree k (chain_numbers tree d) (chain_numbers tree c)) ≡ option_map Some (class_target tree k.name k.signature d c)
+    class_known : (d c : ClassName) → option_map target_method (class_implementation tree k (chain_numbers tree d) (chain_numbers tree c)) ≡ option_map Some (class_target tree k.name k.signature d c)
     class_known d c = by_slot (slot_along tree k.name k.signature (chain_of tree c)) (slot_by_id tree k (chain_numbers tree c)) (tied tree k (chain_of tree c))
       where
-        by_implementation : (o : Option (ClassName × Method)) (p : Option ℕ) → IsImplementation o p → option_map stands_at (option_and_then (own_method tree k) p) ≡ option_map Some o
+        by_implementation : (o : Option (ClassName × Method)) (p : Option ℕ) → IsImplementation o p → option_map target_method (option_and_then (own_method tree k) p) ≡ option_map Some o
         by_implementation None None h = refl
         by_implementation (Some f) (Some n) h = own_known f.0 n f.1 h.0 h.1 h.2
         by_implementation None (Some n) h = absurd h
         by_implementation (Some f) None h = absurd h
 
-        by_slot : (o : Option ClassName) (p : Option ℕ) → IsTied tree o p → option_map stands_at (option_and_then (λ slot. option_and_then (own_method tree k) (implementation_by_id tree k slot (chain_numbers tree d))) p) ≡ option_map Some (option_and_then (λ slot. implementations slot (chain_of tree d)) o)
+        by_slot : (o : Option ClassName) (p : Option ℕ) → IsTied tree o p → option_map target_method (option_and_then (λ slot. option_and_then (own_method tree k) (implementation_by_id tree k slot (chain_numbers tree d))) p) ≡ option_map Some (option_and_then (λ slot. implementations slot (chain_of tree d)) o)
         by_slot None None h = refl
         by_slot (Some s) (Some i) h = by_implementation (implementations s (chain_of tree d)) (implementation_by_id tree k i (chain_numbers tree d)) (implementation_known s i h (chain_of tree d))
         by_slot None (Some i) h = absurd h
@@ -213,45 +213,45 @@ module _ (tree : Tree) where
             subst P (sym (found_by_number tree k c n g)) (by_method n (method_declared tree k.name k.signature c) g further)
 
     -- an interface's method
-    interface_known : (d i : ClassName) (j : ℕ) → class_number tree i ≡ Some j → option_map stands_at (interface_implementation tree listed k (chain_numbers tree d) j) ≡ option_map Some (interface_target tree k.name k.signature d i)
+    interface_known : (d i : ClassName) (j : ℕ) → class_number tree i ≡ Some j → option_map target_method (interface_implementation tree listed k (chain_numbers tree d) j) ≡ option_map Some (interface_target tree k.name k.signature d i)
     interface_known d i j e = by_implementer (implementer_along tree k.name k.signature i (chain_of tree d)) (find (is_implementer listed j) (chain_numbers tree d)) (implementer_known i j e (chain_of tree d))
       where
         by_found : (o : Option (ClassName × Method)) (p : Option ℕ) → IsNearest o p →
-            option_map stands_at (option_and_then (λ found. class_implementation tree k (chain_numbers tree d) (chain_at tree found)) p) ≡ option_map Some (option_and_then (λ (found : ClassName × Method). class_target tree k.name k.signature d found.0) o)
+            option_map target_method (option_and_then (λ found. class_implementation tree k (chain_numbers tree d) (chain_at tree found)) p) ≡ option_map Some (option_and_then (λ (found : ClassName × Method). class_target tree k.name k.signature d found.0) o)
         by_found None None h = refl
-        by_found (Some f) (Some n) h = ap (λ ns. option_map stands_at (class_implementation tree k (chain_numbers tree d) ns)) (chain_known f.0 n h) ∙ class_known d f.0
+        by_found (Some f) (Some n) h = ap (λ ns. option_map target_method (class_implementation tree k (chain_numbers tree d) ns)) (chain_known f.0 n h) ∙ class_known d f.0
         by_found None (Some n) h = absurd h
         by_found (Some f) None h = absurd h
 
         by_implementer : (o : Option ClassName) (p : Option ℕ) → IsTied tree o p →
-            option_map stands_at (option_and_then (λ implementer. option_and_then (λ found. class_implementation tree k (chain_numbers tree d) (chain_at tree found)) (find (is_virtual_found tree k) (chain_at tree implementer))) p) ≡
+            option_map target_method (option_and_then (λ implementer. option_and_then (λ found. class_implementation tree k (chain_numbers tree d) (chain_at tree found)) (find (is_virtual_found tree k) (chain_at tree implementer))) p) ≡
             option_map Some (option_and_then (λ l. option_and_then (λ (found : ClassName × Method). class_target tree k.name k.signature d found.0) (nearest (virtual_in tree k.name k.signature) (chain_of tree l))) o)
         by_implementer None None h = refl
         by_implementer (Some l) (Some n) h =
-            ap (λ ns. option_map stands_at (option_and_then (λ found. class_implementation tree k (chain_numbers tree d) (chain_at tree found)) (find (is_virtual_found tree k) ns))) (chain_known l n h) ∙
+            ap (λ ns. option_map target_method (option_and_then (λ found. class_implementation tree k (chain_numbers tree d) (chain_at tree found)) (find (is_virtual_found tree k) ns))) (chain_known l n h) ∙
             by_found (nearest (virtual_in tree k.name k.signature) (chain_of tree l)) (find (is_virtual_found tree k) (chain_numbers tree l)) (virtual_known (chain_of tree l))
         by_implementer None (Some n) h = absurd h
         by_implementer (Some l) None h = absurd h
 
   -- ---- the table
 
-  virtual_target : (c d : ClassName) (n : ℕ) (m : Method) → class_number tree c ≡ Some n → option_map stands_at (target_number tree c (identity_of m) d) ≡
+  virtual_target : (c d : ClassName) (n : ℕ) (m : Method) → class_number tree c ≡ Some n → option_map target_method (target_number tree c (identity_of m) d) ≡
       option_map Some (if is_interface tree c then interface_target tree m.name m.signature d c else class_target tree m.name m.signature d c)
   virtual_target c d n m e = by_kind (is_interface tree c)
     where
       by_kind : (b : Bool) →
-          option_map stands_at (if b then option_and_then (interface_implementation tree (by_class tree (interface_numbers tree)) (identity_of m) (chain_numbers tree d)) (class_number tree c) else class_implementation tree (identity_of m) (chain_numbers tree d) (chain_numbers tree c)) ≡
+          option_map target_method (if b then option_and_then (interface_implementation tree (by_class tree (interface_numbers tree)) (identity_of m) (chain_numbers tree d)) (class_number tree c) else class_implementation tree (identity_of m) (chain_numbers tree d) (chain_numbers tree c)) ≡
           option_map Some (if b then interface_target tree m.name m.signature d c else class_target tree m.name m.signature d c)
-      by_kind true = ap (λ o. option_map stands_at (option_and_then (interface_implementation tree (by_class tree (interface_numbers tree)) (identity_of m) (chain_numbers tree d)) o)) e ∙ interface_known (identity_of m) d c n e
+      by_kind true = ap (λ o. option_map target_method (option_and_then (interface_implementation tree (by_class tree (interface_numbers tree)) (identity_of m) (chain_numbers tree d)) o)) e ∙ interface_known (identity_of m) d c n e
       by_kind false = class_known (identity_of m) d c
 
-  row_tells : (c d : ClassName) (n class : ℕ) (m : Method) (method : MemberNumber) → class_number tree c ≡ Some n → class_name tree class ≡ Some d → stands_at method ≡ Some (c, m) →
-      option_map stands_at (target_in class method (target_row tree c m)) ≡ option_map Some (target tree d c m)
+  row_tells : (c d : ClassName) (n class : ℕ) (m : Method) (method : MemberNumber) → class_number tree c ≡ Some n → class_name tree class ≡ Some d → target_method method ≡ Some (c, m) →
+      option_map target_method (target_in class method (target_row tree c m)) ≡ option_map Some (target tree d c m)
   row_tells c d n class m method e named at = by_kind (is_virtual m.kind)
     where
-      by_kind : (b : Bool) → option_map stands_at (target_in class method (if b then Some (by_class tree (target_number tree c (identity_of m))) else None)) ≡
+      by_kind : (b : Bool) → option_map target_method (target_in class method (if b then Some (by_class tree (target_number tree c (identity_of m))) else None)) ≡
           option_map Some (if b then (if is_interface tree c then interface_target tree m.name m.signature d c else class_target tree m.name m.signature d c) else Some (c, m))
-      by_kind true = ap (option_map stands_at) (answer_of tree (target_number tree c (identity_of m)) (by_class tree (target_number tree c (identity_of m))) class d None refl named) ∙ virtual_target c d n m e
+      by_kind true = ap (option_map target_method) (answer_of tree (target_number tree c (identity_of m)) (by_class tree (target_number tree c (identity_of m))) class d None refl named) ∙ virtual_target c d n m e
       by_kind false = ap Some at
 
   mapped_row : (rows : List (List Targets)) (n : ℕ) → map targets_of (unwrap_or (slice_get rows n) []) ≡ unwrap_or (slice_get (map (map targets_of) rows) n) []
@@ -262,15 +262,15 @@ module _ (tree : Tree) where
       by_row (Some row) = refl
 
   abbrev Tells : List (List Targets) → ℕ → MemberNumber → ClassName → ClassName → Method → Type 0
-  Tells rows class method d x y = option_map stands_at (option_and_then (target_in class method) (option_map targets_of (slice_get (unwrap_or (slice_get rows method.class) []) method.index))) ≡ option_map Some (target tree d x y)
+  Tells rows class method d x y = option_map target_method (option_and_then (target_in class method) (option_map targets_of (slice_get (unwrap_or (slice_get rows method.class) []) method.index))) ≡ option_map Some (target tree d x y)
 
   -- what the table says of a method and a class of objects
-  pub target_found : IsLegal tree → (rows : List (List Targets)) (class : ℕ) (method : MemberNumber) (c d : ClassName) (m : Method) → map (map targets_of) rows ≡ by_class tree (target_rows tree) → class_name tree class ≡ Some d → stands_at method ≡ Some (c, m) →
-      option_map stands_at (option_and_then (target_in class method) (option_map targets_of (slice_get (unwrap_or (slice_get rows method.class) []) method.index))) ≡ option_map Some (target tree d c m)
+  pub target_found : IsLegal tree → (rows : List (List Targets)) (class : ℕ) (method : MemberNumber) (c d : ClassName) (m : Method) → map (map targets_of) rows ≡ by_class tree (target_rows tree) → class_name tree class ≡ Some d → target_method method ≡ Some (c, m) →
+      option_map target_method (option_and_then (target_in class method) (option_map targets_of (slice_get (unwrap_or (slice_get rows method.class) []) method.index))) ≡ option_map Some (target tree d c m)
   target_found legal rows class method c d m are named at = by_entry (slice_get (declarations tree) method.class) refl at
     where
-      by_index : (a : ClassName) (x : Declaration) (y : Method) → slice_get (declarations tree) method.class ≡ Some (a, x) → slice_get x.methods method.index ≡ Some y → stands_at method ≡ Some (a, y) → Tells rows class method d a y
-      by_index a x y h g stands =
+      by_index : (a : ClassName) (x : Declaration) (y : Method) → slice_get (declarations tree) method.class ≡ Some (a, x) → slice_get x.methods method.index ≡ Some y → target_method method ≡ Some (a, y) → Tells rows class method d a y
+      by_index a x y h g holds =
           let number : class_number tree a ≡ Some method.class = number_of_index tree legal method.class (a, x) h in
           let found : FoundAt tree a method.class = found_at tree a method.class number in
           let both : Some (a, found.0) ≡ Some (a, x) = sym found.2 ∙ h in
@@ -283,7 +283,7 @@ module _ (tree : Tree) where
           let entry : option_map targets_of (slice_get (unwrap_or (slice_get rows method.class) []) method.index) ≡ Some (target_row tree a y) =
           sym (slice_get-map targets_of (unwrap_or (slice_get rows method.class) []) method.index) ∙ ap (λ xs. slice_get xs method.index) (mapped_row rows method.class ∙ row) ∙
           slice_get-map (target_row tree a) (methods_declared tree a) method.index ∙ ap (option_map (target_row tree a)) own in
-          ap (λ o. option_map stands_at (option_and_then (target_in class method) o)) entry ∙ row_tells a d method.class class y method number named stands
+          ap (λ o. option_map target_method (option_and_then (target_in class method) o)) entry ∙ row_tells a d method.class class y method number named holds
 
       by_entry : (o : Option (ClassName × Declaration)) → slice_get (declarations tree) method.class ≡ o → option_and_then {U = ClassName × Method} (λ (e : ClassName × Declaration). option_map (λ x. (e.0, x)) (slice_get e.1.methods method.index)) o ≡ Some (c, m) → Tells rows class method d c m
       by_entry None h g = absurd (none_is_some (c, m) g)

@@ -33,12 +33,12 @@ fn slot_filled(class: usize, inherited: Option<usize>, role: Role) -> Option<usi
     }
 }
 
-fn is_slot(slot: Option<usize>, wanted: usize) -> bool
-    ensures { result ≡ option_map_or (λ s. s == wanted) slot false }
+fn is_slot(slot: Option<usize>, required: usize) -> bool
+    ensures { result ≡ option_map_or (λ s. s == required) slot false }
 {
     match slot {
         None => false,
-        Some(number) => number == wanted,
+        Some(number) => number == required,
     }
 }
 
@@ -119,8 +119,8 @@ impl<'p> MethodFamilies<'p> {
     }
 
     /// The nearest class of a chain whose method fills a slot.
-    fn implementation_along(&self, chain: &[usize], wanted: usize) -> Option<usize>
-        ensures { result ≡ implementation_along self.now.classes.now.all.now self.now.identity wanted chain.now }
+    fn implementation_along(&self, chain: &[usize], required: usize) -> Option<usize>
+        ensures { result ≡ implementation_along self.now.classes.now.all.now self.now.identity required chain.now }
     {
         let mut slot = None;
         let mut implementation = None;
@@ -128,7 +128,7 @@ impl<'p> MethodFamilies<'p> {
             slot = self.slot_over(chain[index], slot);
             implementation = self.implementation_over(
                 chain[index],
-                is_slot(slot, wanted),
+                is_slot(slot, required),
                 implementation,
             );
         }

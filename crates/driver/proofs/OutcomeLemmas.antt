@@ -2,9 +2,9 @@
 use Rattle.std.proofs.Common.{◌≡◌, ◌⊎◌, ◌++◌, ℕ, Bool, true, false, List, [], map, None, Option, Result, Ok, Err, refl, ap, ap₂, sym, ◌∙◌, subst, inl, inr, append-nil}
 use Rattle.std.specs.List.{zip}
 use Rattle.std.specs.Prelude.{IfErr, IfSome, OnErr}
-use Rattle.source_runs.proofs.simulation.Representation.VisibleState.{ends_stand, printed_stands}
+use Rattle.source_runs.proofs.simulation.Representation.VisibleState.{ends_refine, printed_refines}
 use Rattle.source_runs.specs.simulation.MachineStates.{MachineState}
-use Rattle.source_runs.specs.simulation.Runs.{StandsAfter}
+use Rattle.source_runs.specs.simulation.Runs.{RefinesAfter}
 use Rattle.source_runs.specs.simulation.Refines.{Represents}
 use Rattle.source_runs.specs.simulation.threads_monitors.Threads.{end_of}
 use Rattle.source_runs.specs.reference_machine.States.{State}
@@ -78,8 +78,8 @@ whole_end_text false source limits events text asked are = absurd (cc asked)
 shown_of : (c : MachineState) (state : State) (more : List ℕ) (o o' : OutputState) (status : ℕ) → Represents c state → IsShown c.printed (map end_of c.threads) more o o' status
     → IsShown state.printed (ends_of state) more o o' status
 shown_of c state more o o' status represents shown =
-    subst (λ p. IsShown p (ends_of state) more o o' status) (printed_stands c state represents)
-    (subst (λ es. IsShown c.printed es more o o' status) (ends_stand c state represents) shown)
+    subst (λ p. IsShown p (ends_of state) more o o' status) (printed_refines c state represents)
+    (subst (λ es. IsShown c.printed es more o o' status) (ends_refine c state represents) shown)
 
 -- ---- what is cut
 
@@ -119,11 +119,11 @@ run_of : (source : List ℕ) (limits : Limits) (text : List ℕ) (most : Option 
     (d : Differences) → d ≡ differences_from expected source limits c.printed
     → (by : IsRunBy source limits text done reports stopped c) → IsPrintedUpTo most c.printed → IsRunText explain ended source limits (zip done reports) c more
     → IfSome most_words (IsMostOfRun source limits (zip done reports))
-    → IsRun source limits text most expected explain stats ended stopped by.ran.2.stands.state
+    → IsRun source limits text most expected explain stats ended stopped by.ran.2.refines.state
     ((lines_from 0 (map end_of c.threads) ++ more) ++ (stop_text stopped ++ differences_text d ++ stats_text stats done reports c most_words))
 run_of source limits text most expected explain stats ended stopped done reports c more most_words d differs by within explains is_most =
-    let after : StandsAfter by.ran.0 limits done reports c = by.ran.2.stands in
-    let found = differs ∙ ap (differences_from expected source limits) (printed_stands c after.state after.represents) in
+    let after : RefinesAfter by.ran.0 limits done reports c = by.ran.2.refines in
+    let found = differs ∙ ap (differences_from expected source limits) (printed_refines c after.state after.represents) in
     record {
       events = by.events;
       are_read = by.are_read;
@@ -131,7 +131,7 @@ run_of source limits text most expected explain stats ended stopped done reports
       are_done = by.are_done;
       reports = reports;
       results_in = results_in source by.ran.0 limits done reports c by.ran.1 by.ran.2;
-      within = subst (IsPrintedUpTo most) (printed_stands c after.state after.represents) within;
+      within = subst (IsPrintedUpTo most) (printed_refines c after.state after.represents) within;
       after = c;
       represents = after.represents;
       explanation = more;
@@ -139,17 +139,17 @@ run_of source limits text most expected explain stats ended stopped done reports
       most_words = most_words;
       is_most = is_most;
       reports_all = ap₂ (λ es d. lines_from 0 es ++ more ++ (stop_text stopped ++ differences_text d ++ stats_text stats done reports c most_words))
-          (ends_stand c after.state after.represents) found;
+          (ends_refine c after.state after.represents) found;
     }
 
 module _ (source : List ℕ) (limits : Limits) (text : List ℕ) (most : Option ℕ) (expected : Option RunFile) (explain stats stopped : Bool) (done : List Event) (reports : List Report) (c : MachineState) (by : IsRunBy source limits text done reports stopped c)
     (within : IsPrintedUpTo most c.printed)
     (d : Differences) (differs : d ≡ differences_from expected source limits c.printed) (most_words : Option ℕ) (is_most : IfSome most_words (IsMostOfRun source limits (zip done reports))) where
   abbrev state : State
-  state = by.ran.2.stands.state
+  state = by.ran.2.refines.state
 
   printed : c.printed ≡ state.printed
-  printed = printed_stands c state by.ran.2.stands.represents
+  printed = printed_refines c state by.ran.2.refines.represents
 
   -- what comes last: that it was stopped, in what it differs, and its numbers
   abbrev last : List ℕ
@@ -168,7 +168,7 @@ module _ (source : List ℕ) (limits : Limits) (text : List ℕ) (most : Option 
         output = subst (Takes o.out m.out) printed shown.output;
         errors = takes_both o.err m.err err' lines last shown.errors stop;
         status_is = after ∙ ap₂ (λ d s. status_after stopped (status_if_same d s)) (differs ∙ ap (differences_from expected source limits) printed)
-            (shown.status_is ∙ ap status_of (ends_stand c state by.ran.2.stands.represents));
+            (shown.status_is ∙ ap status_of (ends_refine c state by.ran.2.refines.represents));
         same = same;
       }
 
@@ -229,22 +229,22 @@ module _ (source : List ℕ) (limits : Limits) (text : List ℕ) (explain : Bool
   -- all that it shows is written
   pub has_traced : (status : ℕ) → IsMachineShown explain after (record o { out = between }) o' status → o'.texts ≡ o.texts → HasTraced source limits text explain o o' status
   has_traced status left same =
-      let stands = done.stands in
+      let refines = done.refines in
       record {
         events = events;
         reports = reports;
-        state = stands.state;
-        results_in = record { are_read = ready.are_read; by_events = record { tree = ready.tree; is_accepted = ready.is_accepted; in_range = ready.in_range; is_run = stands.is_run; budgets = stands.budgets; bounded = done.bounded } };
+        state = refines.state;
+        results_in = record { are_read = ready.are_read; by_events = record { tree = ready.tree; is_accepted = ready.is_accepted; in_range = ready.in_range; is_run = refines.is_run; budgets = refines.budgets; bounded = done.bounded } };
         begins = begins;
         opened = ready.opened;
         after = after;
         between = between;
         traced = traced;
-        represents = stands.represents;
+        represents = refines.represents;
         leaves = done.leaves;
         explanation = left.0;
         explains = left.1;
-        shown = shown_of after stands.state left.0 (record o { out = between }) o' status stands.represents left.2;
+        shown = shown_of after refines.state left.0 (record o { out = between }) o' status refines.represents left.2;
         same = same;
       }
 

@@ -1,6 +1,6 @@
 -- What a run that is drawn, whole or in part, shows of its source.
 use Rattle.std.proofs.Common.{◌≡◌, ◌++◌, ◌≤◌, ℕ, Bool, List, length, subst, ◌∙◌, ap}
-use Rattle.source_runs.proofs.simulation.Representation.VisibleState.{ends_stand}
+use Rattle.source_runs.proofs.simulation.Representation.VisibleState.{ends_refine}
 use Rattle.source_runs.specs.simulation.MachineStates.{MachineState}
 use Rattle.source_runs.specs.Runs.{IsReady}
 use Rattle.source_runs.proofs.interleaving_core.Runs.LongerRuns.{has_done}
@@ -27,19 +27,19 @@ module _ (source : List ℕ) (limits : Limits) (text : List ℕ) (part : Part) (
   -- what the machine that was drawn shows
   pub has_drawn : (status : ℕ) → AreThreadsShown explain after o.err o'.err status → HasDrawn source limits text part explain o o' status
   has_drawn status shown =
-      let stands = done.stands in
-      let ends = ends_stand after stands.state stands.represents in
+      let refines = done.refines in
+      let ends = ends_refine after refines.state refines.represents in
       record {
         events = events;
         few = few;
         reports = reports;
-        state = stands.state;
-        results_in = record { are_read = ready.are_read; by_events = record { tree = ready.tree; is_accepted = ready.is_accepted; in_range = ready.in_range; is_run = stands.is_run; budgets = stands.budgets; bounded = done.bounded } };
+        state = refines.state;
+        results_in = record { are_read = ready.are_read; by_events = record { tree = ready.tree; is_accepted = ready.is_accepted; in_range = ready.in_range; is_run = refines.is_run; budgets = refines.budgets; bounded = done.bounded } };
         begins = begins;
         opened = ready.opened;
         after = after;
         pictured = pictured;
-        represents = stands.represents;
+        represents = refines.represents;
         leaves = done.leaves;
         explanation = shown.0;
         explains = shown.1;
@@ -51,19 +51,19 @@ module _ (source : List ℕ) (limits : Limits) (text : List ℕ) (part : Part) (
   -- what it shows where a write of that fails
   pub drawn_in_part : AreThreadsShownInPart explain after o.err o'.err → IsPicturedThenInPart source limits text part explain o o'
   drawn_in_part shown =
-      let stands = done.stands in
+      let refines = done.refines in
       record {
         events = events;
         few = few;
         reports = reports;
-        state = stands.state;
-        results_in = record { are_read = ready.are_read; by_events = record { tree = ready.tree; is_accepted = ready.is_accepted; in_range = ready.in_range; is_run = stands.is_run; budgets = stands.budgets; bounded = done.bounded } };
+        state = refines.state;
+        results_in = record { are_read = ready.are_read; by_events = record { tree = ready.tree; is_accepted = ready.is_accepted; in_range = ready.in_range; is_run = refines.is_run; budgets = refines.budgets; bounded = done.bounded } };
         begins = begins;
         opened = ready.opened;
         after = after;
         pictured = pictured;
-        represents = stands.represents;
+        represents = refines.represents;
         explanation = shown.0;
         explains = shown.1;
-        errors = subst (λ es. Fails o.err o'.err (lines_from 0 es ++ shown.0)) (ends_stand after stands.state stands.represents) shown.2;
+        errors = subst (λ es. Fails o.err o'.err (lines_from 0 es ++ shown.0)) (ends_refine after refines.state refines.represents) shown.2;
       }

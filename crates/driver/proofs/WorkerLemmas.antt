@@ -13,14 +13,14 @@ use Rattle.cil_model.specs.declared.reports.End.{End}
 use Rattle.schedule_text.specs.Items.{has_thread_number}
 use Rattle.outputs.specs.Taken.{Fails, Taken, Takes}
 use Rattle.outputs.proofs.TakenLaws.{takes_both}
-use Rattle.source_runs.proofs.simulation.Representation.VisibleState.{ends_stand, printed_stands}
+use Rattle.source_runs.proofs.simulation.Representation.VisibleState.{ends_refine, printed_refines}
 use Rattle.source_runs.specs.acceptance.Sources.{HasRunTo}
 use Rattle.source_runs.specs.Runs.{IsPrintedUpTo}
 use Rattle.source_runs.proofs.RunLemmas.{results_in}
 use Rattle.source_runs.specs.shared_machine.Histories.{events_of, reports_of}
 use Rattle.source_runs.specs.shared_machine.declared.history.Entry.{Entry}
 use Rattle.source_runs.specs.simulation.MachineStates.{MachineState}
-use Rattle.source_runs.specs.simulation.Runs.{StandsAfter}
+use Rattle.source_runs.specs.simulation.Runs.{RefinesAfter}
 use Rattle.source_runs.specs.simulation.threads_monitors.Threads.{end_of, is_live as is_live_thread}
 use Rattle.source_runs.specs.simulation.threads_monitors.declared.threads.Thread.{Thread}
 use Rattle.source_runs.specs.shared_machine.Work.{HasEnded, IsOwn, IsOwnOf}
@@ -75,8 +75,8 @@ none_live (t ∷ ts) none =
 
 -- how workers leave a machine is how they leave the state that it represents
 have_ended : (stop_at : StopAt) (c : MachineState) (s : State) (marked : Bool) → Represents c s → HasEnded stop_at c marked → HaveEnded stop_at c s
-have_ended AtEnd c s marked represents none = subst (λ es. list_any is_live es ≡ false) (ends_stand c s represents) (none_live c.threads none)
-have_ended AtDeadlock c s marked represents (inl none) = inl (subst (λ es. list_any is_live es ≡ false) (ends_stand c s represents) (none_live c.threads none))
+have_ended AtEnd c s marked represents none = subst (λ es. list_any is_live es ≡ false) (ends_refine c s represents) (none_live c.threads none)
+have_ended AtDeadlock c s marked represents (inl none) = inl (subst (λ es. list_any is_live es ≡ false) (ends_refine c s represents) (none_live c.threads none))
 have_ended AtDeadlock c s marked represents (inr (stop, deadlocked)) = inr deadlocked
 
 -- what is reported of a machine that workers ran
@@ -87,8 +87,8 @@ module _ (source : List ℕ) (limits : Limits) (workers : ℕ) (stop_at : StopAt
     (ran : HasRunTo source limits (events_of h) (reports_of h) c) (own : All (IsOwnOf workers) h) (within : IsPrintedUpTo most c.printed)
     (marked : Bool) (ended : stopped ≡ false → HasEnded stop_at c marked) (is_record : IsRecordOf asked (events_of h) (run_file source limits workers c.printed) made)
     (most_words : Option ℕ) (is_most : IfSome most_words (IsMostOfRun source limits (zip (events_of h) (reports_of h)))) where
-  abbrev after : StandsAfter ran.0 limits (events_of h) (reports_of h) c
-  after = ran.2.stands
+  abbrev after : RefinesAfter ran.0 limits (events_of h) (reports_of h) c
+  after = ran.2.refines
 
   -- what comes last: why there is no record, that memory ran out, and the numbers of the run
   abbrev last : List ℕ
@@ -97,14 +97,14 @@ module _ (source : List ℕ) (limits : Limits) (workers : ℕ) (stop_at : StopAt
   -- a machine that workers ran shows a run by workers
   run_by_workers : (text : List ℕ) → IsRunText explain explain source limits (zip (events_of h) (reports_of h)) c text → IsRunByWorkers source limits workers stop_at most asked explain stats stopped after.state made (reported_of c text last)
   run_by_workers text explains =
-      let ends = ends_stand c after.state after.represents in
+      let ends = ends_refine c after.state after.represents in
       record {
         entries = h;
         own = own;
         results_in = results_in source ran.0 limits (events_of h) (reports_of h) c ran.1 ran.2;
-        within = subst (IsPrintedUpTo most) (printed_stands c after.state after.represents) within;
+        within = subst (IsPrintedUpTo most) (printed_refines c after.state after.represents) within;
         ended = λ whole. have_ended stop_at c after.state marked after.represents (ended whole);
-        is_record = subst (λ p. IsRecordOf asked (events_of h) (run_file source limits workers p) made) (printed_stands c after.state after.represents) is_record;
+        is_record = subst (λ p. IsRecordOf asked (events_of h) (run_file source limits workers p) made) (printed_refines c after.state after.represents) is_record;
         after = c;
         represents = after.represents;
         explanation = text;
@@ -125,10 +125,10 @@ module _ (source : List ℕ) (limits : Limits) (workers : ℕ) (stop_at : StopAt
         made = made;
         reported = reported_of c text last;
         is_run = run_by_workers text explains;
-        output = subst (λ x. Takes o.out x after.state.printed) (sym printed) (subst (Takes o.out m.out) (printed_stands c after.state after.represents) shown.output);
+        output = subst (λ x. Takes o.out x after.state.printed) (sym printed) (subst (Takes o.out m.out) (printed_refines c after.state after.represents) shown.output);
         errors = takes_both o.err m.err o'.err (lines_from 0 (map end_of c.threads) ++ text) last shown.errors more;
         left = left;
-        status_is = is ∙ ap (λ n. status_after (is_short stopped made) (status_with made n)) (shown.status_is ∙ ap status_of (ends_stand c after.state after.represents));
+        status_is = is ∙ ap (λ n. status_after (is_short stopped made) (status_with made n)) (shown.status_is ∙ ap status_of (ends_refine c after.state after.represents));
       }
 
   -- a write of what it shows failed
@@ -141,7 +141,7 @@ module _ (source : List ℕ) (limits : Limits) (workers : ℕ) (stop_at : StopAt
         made = made;
         reported = reported_of c text last;
         is_run = run_by_workers text explains;
-        cut = subst (λ p. AreCut p (lines ++ last) o o') (printed_stands c after.state after.represents) (cut_more c.printed lines last o o' cut);
+        cut = subst (λ p. AreCut p (lines ++ last) o o') (printed_refines c after.state after.represents) (cut_more c.printed lines last o o' cut);
       }
 
   -- a write of what comes last failed
@@ -156,7 +156,7 @@ module _ (source : List ℕ) (limits : Limits) (workers : ℕ) (stop_at : StopAt
         made = made;
         reported = reported_of c text last;
         is_run = run_by_workers text explains;
-        cut = subst (λ p. AreCut p (lines ++ last) o (record m { err = err' })) (printed_stands c after.state after.represents) (cut_after c.printed lines last o m err' shown.output shown.errors failed);
+        cut = subst (λ p. AreCut p (lines ++ last) o (record m { err = err' })) (printed_refines c after.state after.represents) (cut_after c.printed lines last o m err' shown.output shown.errors failed);
       }
 
 -- some record is of events, whether one is asked for or not

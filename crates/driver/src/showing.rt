@@ -13,7 +13,7 @@ use crate::command_outputs::Outputs;
 use arrayvec::ArrayVec;
 use cil_model::reports::End;
 use event_trace::explain_threads;
-use flip_stress::Outcome as FlipOutcome;
+use flip_stress::StressOutcome;
 use itoa::Buffer;
 use outputs::{Device, Out};
 use source_runs::{Failure, Machine, Outcome, status_of_failure, write_report};
@@ -31,7 +31,7 @@ pub(crate) fn say_accepted<W: Out>(out: &mut W) -> Result<(), Device>
 }
 
 /// Prints the result of a run of the flip.
-pub(crate) fn show_flip<W: Out>(outcome: FlipOutcome, out: &mut W) -> Result<(), Device>
+pub(crate) fn show_flip<W: Out>(outcome: StressOutcome, out: &mut W) -> Result<(), Device>
     ensures whole { OnOk result (Takes (W.taken out.old) (W.taken out.new) (flip_text outcome.kept outcome.retired)) }
     ensures cut { OnErr result (Fails (W.taken out.old) (W.taken out.new) (flip_text outcome.kept outcome.retired)) }
 {

@@ -32,7 +32,7 @@ use Rattle.interleaving_core.specs.simulation.interpreter.Calls.{top_reference}
 use Rattle.interleaving_core.specs.simulation.interpreter.Instructions.{line_at}
 use Rattle.interleaving_core.specs.simulation.MachineStates.{MachineState}
 use Rattle.interleaving_core.specs.simulation.Agreement.{Agree}
-use Rattle.interleaving_core.specs.simulation.Refines.{Names, AreFrames, IsFrame, IsMonitor, IsThread, IsValue, Represents, StandsAlike, int32, int64, native, null_reference, reference}
+use Rattle.interleaving_core.specs.simulation.Refines.{Names, AreFrames, IsFrame, IsMonitor, IsThread, IsValue, Represents, StatusRefines, int32, int64, native, null_reference, reference}
 use Rattle.interleaving_core.specs.Waits.{class_of_object, end_awaited, held_by_another, join_wait, monitor_wait, status_wait, wait_at, wait_by, wait_in}
 use Rattle.interleaving_core.specs.declared.waits.Wait.{Wait}
 use Rattle.interleaving_core.specs.declared.waits.Wait.TheVariants.{Monitor, Join}
@@ -59,7 +59,7 @@ AreWaitsAlike (Some w) None = ⊥
 
 module _ (c : MachineState) (s : State) (r : Represents c s) (t : ℕ) where
   abbrev name : Names
-  name = r.stands.name
+  name = r.refines.name
 
   abbrev here : Setting
   here = record { tree = c.tree; limits = c.limits; thread = t; is_refused = false }
@@ -67,7 +67,7 @@ module _ (c : MachineState) (s : State) (r : Represents c s) (t : ℕ) where
   -- what loads find
   readable : IsReadable c.tree name c.objects s
   readable =
-      let heap = r.stands.by.memory.heap in
+      let heap = r.refines.by.memory.heap in
       record { null_unnamed = heap.null_unnamed; small = heap.small; sizes = slots_few c.objects r.sound.heap.blocks.spaces; born = heap.born; literals = heap.literals; each_literal = heap.each_literal }
 
   -- ---- monitors
@@ -91,7 +91,7 @@ module _ (c : MachineState) (s : State) (r : Represents c s) (t : ℕ) where
       ∙ ap (option_and_then (held_by_another (class_of_object c.objects a) t)) at.held in
       subst (λ w. AreWaitsAlike w (option_and_then (state_held n t) (monitor_of s n))) (sym machine)
       (subst (λ k. AreWaitsAlike (held_by_another (class_of_object c.objects a) t at.monitor) (option_and_then (state_held n t) k)) (sym at.state_held)
-      (held_alike (class_of_object c.objects a) n at.monitor at.state_monitor at.stands))
+      (held_alike (class_of_object c.objects a) n at.monitor at.state_monitor at.refines))
 
   -- ---- ends of threads
 
@@ -205,7 +205,7 @@ module _ (c : MachineState) (s : State) (r : Represents c s) (t : ℕ) where
       by_frames m is [] are h = elim h.frames [ ]
       by_frames m is (f ∷ below) are h = frame_alike m f below (subst (AreTypedFrames c.tree s) are (r.typed.threads t u there is)) h.frames.0
 
-      by_thread_status : (thread_status : ThreadStatus) (ended : Option End) → u.ended ≡ ended → StandsAlike c.tree c.limits name thread_status u.frames ended →
+      by_thread_status : (thread_status : ThreadStatus) (ended : Option End) → u.ended ≡ ended → StatusRefines c.tree c.limits name thread_status u.frames ended →
           AreWaitsAlike (status_wait c t thread_status) (if is_none ended then option_and_then (state_wait_in c.tree s t) (slice_get u.frames 0) else None)
       by_thread_status (Live m) None is h = by_frames m is u.frames refl h
       by_thread_status (Ended e) (Some e') is h = tt
@@ -218,7 +218,7 @@ module _ (c : MachineState) (s : State) (r : Represents c s) (t : ℕ) where
     where
       by_thread : (u : Option StateThread) → slice_get s.threads t ≡ u → AreWaitsAlike (wait_at c t) (option_and_then (wait_of_thread c.tree s t) u)
       by_thread None is =
-          subst (λ x. AreWaitsAlike (option_and_then (λ (y : Thread). status_wait c t y.thread_status) x) None) (sym (agree_beyond (IsThread c.tree c.limits name) c.threads s.threads r.stands.by.threads t is)) tt
+          subst (λ x. AreWaitsAlike (option_and_then (λ (y : Thread). status_wait c t y.thread_status) x) None) (sym (agree_beyond (IsThread c.tree c.limits name) c.threads s.threads r.refines.by.threads t is)) tt
       by_thread (Some u) is =
-          let x = agree_get (IsThread c.tree c.limits name) c.threads s.threads r.stands.by.threads t u is in
+          let x = agree_get (IsThread c.tree c.limits name) c.threads s.threads r.refines.by.threads t u is in
           subst (λ y. AreWaitsAlike (option_and_then (λ (z : Thread). status_wait c t z.thread_status) y) (wait_of_thread c.tree s t u)) (sym x.1) (thread_alike x.0 u is x.2)

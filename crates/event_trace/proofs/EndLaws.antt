@@ -5,7 +5,7 @@ use Rattle.std.proofs.lemmas.List.Elements.{recursion_from_All}
 use Rattle.std.specs.List.{AllByRecursion, join_with_byte, list_all}
 use Rattle.instruction_text.specs.Characters.{IsPrintable, is_printable}
 use Rattle.event_trace.specs.Columns.{line_of}
-use Rattle.event_trace.specs.Laws.{IsLineOf, LinesStandBefore, before_empty_line}
+use Rattle.event_trace.specs.Laws.{IsLineOf, LinesComeBefore, before_empty_line}
 use Rattle.event_trace.proofs.ColumnLaws.{line_columns}
 
 -- ---- bytes without a line feed
@@ -59,7 +59,7 @@ line_then columns line more ten h =
     ∙ whole_line bytes more (joined_columns columns (recursion_from_All IsPrintable columns h.printable)) (some_column columns ten)
     ∙ sym (append_assoc bytes (10 ∷ []) (before_empty_line true more)) ∙ ap (λ l. l ++ before_empty_line true more) (sym h.is)
 
-pub lines_before : LinesStandBefore
+pub lines_before : LinesComeBefore
 lines_before n c d [] rs text printed h = ap (λ t. before_empty_line true (t ++ 10 ∷ printed)) h.2 ∙ sym h.2
 lines_before n c d (e ∷ es) [] text printed h = absurd h
 lines_before n c d (e ∷ es) (r ∷ rs) text printed h =

@@ -105,7 +105,7 @@ module _ (c : MachineState) (s : State) (r : Represents c s) where
       let waits = blocked t inside in
       let live = waiting_lives c.tree s t waits.0 waits.1 in
       let below : t < length s.threads = slice_get_within s.threads t live.0 live.1 in
-      let same : length c.threads ≡ length s.threads = agree_length (IsThread c.tree c.limits r.stands.name) c.threads s.threads r.stands.by.threads in
+      let same : length c.threads ≡ length s.threads = agree_length (IsThread c.tree c.limits r.refines.name) c.threads s.threads r.refines.by.threads in
       all_true (length c.threads) t (omega (arith, below, same))
 
   pub round_is_above : (set : List Bool) → IsAbove set → IsAbove (after_round c set)

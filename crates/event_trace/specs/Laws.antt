@@ -25,6 +25,6 @@ before_empty_line begins (x ∷ bytes) =
     else x ∷ before_empty_line false bytes
 
 -- the lines of events stand before the first empty line, whatever follows it
-abbrev pub LinesStandBefore : Type 0
-LinesStandBefore = (n : ℕ) (old new : MachineState) (events : List Event) (reports : List Report) (text printed : List ℕ) → AreTraced n old events new reports text →
+abbrev pub LinesComeBefore : Type 0
+LinesComeBefore = (n : ℕ) (old new : MachineState) (events : List Event) (reports : List Report) (text printed : List ℕ) → AreTraced n old events new reports text →
     before_empty_line true (text ++ 10 ∷ printed) ≡ text

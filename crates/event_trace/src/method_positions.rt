@@ -58,11 +58,15 @@ impl MethodPositions {
         ensures { option_map class_and_method result ≡ slice_get (all_methods tree.now) number }
     {
         let position = entry_at(self.positions.as_slice(), number as usize)?;
-        self.declared(tree, position)
+        self.owned_method(tree, position)
     }
 
     /// The method that is declared at a position. None where there is none.
-    fn declared<'a>(&'a self, tree: &'a Tree, position: MethodPosition) -> Option<OwnedMethod<'a>>
+    fn owned_method<'a>(
+        &'a self,
+        tree: &'a Tree,
+        position: MethodPosition,
+    ) -> Option<OwnedMethod<'a>>
         ensures { option_map class_and_method result ≡ method_by (map built_in_entry self.now.built_ins) tree.now position }
     {
         match position {

@@ -23,7 +23,7 @@ use Rattle.interleaving_core.proofs.simulation.cil_model.Lists.{none_is_some}
 use Rattle.exploration.specs.Paths.{IsNotTerminalAt, IsReal, IsTerminalAt, CanStepAt, CannotStepAt, AreStepsChecked, LeadsTo, ShowsOneOf, events_of, outcome_found}
 use Rattle.exploration.specs.declared.findings.Found.{Found}
 use Rattle.exploration.specs.Searches.{IsClosed, IsLedTo, LeadsInto}
-use Rattle.exploration.specs.Shown.{CannotStep, IsTerminal, Outcome, ShowOnly, outcome_shown}
+use Rattle.exploration.specs.Shown.{CannotStep, IsTerminal, ShownOutcome, ShowOnly, outcome_shown}
 use Rattle.exploration.specs.declared.findings.Path.{Path}
 
 -- the events of a path at an index
@@ -103,7 +103,7 @@ module _ (first : MachineState) (one : IsOneOperation first.tree) where
 -- ---- the outcomes
 
 -- where some thread can make a step, nothing has to be shown
-pub not_terminal_shown : (first : MachineState) (outcomes : List Outcome) (events : List Event) → IsNotTerminalAt first events → ShowsOneOf first outcomes events
+pub not_terminal_shown : (first : MachineState) (outcomes : List ShownOutcome) (events : List Event) → IsNotTerminalAt first events → ShowsOneOf first outcomes events
 not_terminal_shown first outcomes events h = (h.0, h.1, λ terminal. absurd (h.2 terminal))
 
 -- the outcome of a content in which no thread can make a step
@@ -116,7 +116,7 @@ is_real first found c led one h shows = record {
 }
 
 -- an outcome of a list
-pub contains_at : (found : List Found) (n : ℕ) (f : Found) (o : Outcome) → slice_get found n ≡ Some f → o ≡ outcome_found f → Contains (map outcome_found found) o
+pub contains_at : (found : List Found) (n : ℕ) (f : Found) (o : ShownOutcome) → slice_get found n ≡ Some f → o ≡ outcome_found f → Contains (map outcome_found found) o
 contains_at found n f o at is =
     let there : slice_get (map outcome_found found) n ≡ Some o = slice_get-map outcome_found found n ∙ (ap (option_map outcome_found) at ∙ ap Some (sym is)) in
     (n, slice_get_within (map outcome_found found) n o there, get_or_from_slice_get (map outcome_found found) n o o there)
@@ -138,7 +138,7 @@ module _ (first : MachineState) (one : IsOneOperation first.tree) (paths : List 
       let same : on.0 ≡ c = led_once first one led.path on.0 c on.1.reports led.reports on.1.transitions led.transitions in
       subst (λ (x : MachineState). LeadsInto (IsLedTo first paths) x t) same (on.2 t (ap (λ (x : MachineState). is_live_at x.threads t) same ∙ live))
 
-  pub shows_only : (outcomes : List Outcome) → ((n : ℕ) (events : List Event) → slice_get paths n ≡ Some events → ShowsOneOf first outcomes events) → ShowOnly (IsLedTo first paths) outcomes
+  pub shows_only : (outcomes : List ShownOutcome) → ((n : ℕ) (events : List Event) → slice_get paths n ≡ Some events → ShowsOneOf first outcomes events) → ShowOnly (IsLedTo first paths) outcomes
   shows_only outcomes each c led ends =
       let at : ShowsOneOf first outcomes led.path = each led.path_index led.path led.there in
       let same : at.0 ≡ c = led_once first one led.path at.0 c at.1.reports led.reports at.1.transitions led.transitions in

@@ -8,7 +8,7 @@ use Rattle.interleaving_core.specs.simulation.cil_model.Typings.{IsAccepted}
 use Rattle.interleaving_core.specs.simulation.cil_model.declared.trees.Method.{Method}
 use Rattle.interleaving_core.specs.simulation.cil_model.declared.types.ClassName.{ClassName}
 use Rattle.interleaving_core.specs.simulation.loaded_program.MethodNumbers.{number_of}
-use Rattle.interleaving_core.specs.simulation.Rooms.{ExceedsRoom}
+use Rattle.interleaving_core.specs.simulation.Rooms.{HasNoRoom}
 use Rattle.interleaving_core.specs.simulation.Runs.{AreSteps, AreTransitions, IsRunOf, RefusesBeyondRoom}
 use Rattle.interleaving_core.proofs.simulation.cil_model.Lists.{none_is_some}
 use Rattle.interleaving_core.specs.simulation.cil_model.declared.events.Event.{Event}
@@ -18,7 +18,7 @@ use Rattle.interleaving_core.specs.simulation.cil_model.declared.reports.End.The
 use Rattle.interleaving_core.specs.simulation.cil_model.declared.reports.Report.{Report}
 use Rattle.interleaving_core.specs.simulation.cil_model.declared.reports.Report.TheVariants.{Absent, Ran, Ended as HasEnded}
 use Rattle.interleaving_core.specs.simulation.cil_model.declared.trees.Tree.{Tree}
-use Rattle.interleaving_core.specs.simulation.reference_machine.Rooms.{ExceedsRoom as ExceedsOneSpace, words_of_all}
+use Rattle.interleaving_core.specs.simulation.reference_machine.Rooms.{ExceedsRoom, words_of_all}
 use Rattle.interleaving_core.specs.simulation.reference_machine.Runs.{RunsTo, is_refusal, initial_state, run, step_reports, thread_part}
 use Rattle.interleaving_core.specs.simulation.reference_machine.States.{State}
 use Rattle.interleaving_core.specs.simulation.reference_machine.Steps.{Answers, step}
@@ -107,15 +107,15 @@ module _ (known : MachineState → Type 0) (closed : IsClosed known) where
     }
 
     -- what the machine that collects nothing is granted, the other one is granted too
-    granted_beside : (c d : MachineState) (s : State) (t : ℕ) (r : Report) → IsAlone c s → IsBeside d s → (IsTrue (is_refusal r) → ExceedsRoom d s t) → (next : MachineState × Report) → IsTransition c (Step t) next → is_refusal next.1 ≡ false → is_refusal r ≡ false
+    granted_beside : (c d : MachineState) (s : State) (t : ℕ) (r : Report) → IsAlone c s → IsBeside d s → (IsTrue (is_refusal r) → HasNoRoom d s t) → (next : MachineState × Report) → IsTransition c (Step t) next → is_refusal next.1 ≡ false → is_refusal r ≡ false
     granted_beside c d s t r alone beside refused next transition granted = by_refusal (is_refusal r) refl
       where
         by_refusal : (b : Bool) → is_refusal r ≡ b → is_refusal r ≡ false
         by_refusal false is = is
         by_refusal true is =
-            let one : ExceedsOneSpace d.tree d.limits s t = exceeds_one_space d s beside.represents beside.births t (refused is) in
-            let here : ExceedsOneSpace c.tree c.limits s t =
-            subst (λ (u : Tree). ExceedsOneSpace u c.limits s t) (beside.program ∙ sym alone.program) (subst (λ (l : Limits). ExceedsOneSpace d.tree l s t) (beside.within ∙ sym alone.within) one) in
+            let one : ExceedsRoom d.tree d.limits s t = exceeds_one_space d s beside.represents beside.births t (refused is) in
+            let here : ExceedsRoom c.tree c.limits s t =
+            subst (λ (u : Tree). ExceedsRoom u c.limits s t) (beside.program ∙ sym alone.program) (subst (λ (l : Limits). ExceedsRoom d.tree l s t) (beside.within ∙ sym alone.within) one) in
             let is_refused : is_refusal next.1 ≡ true = (step_is_refused c s alone.whole.represents t next transition).1 (beyond_own each_alike c s alone.whole t here) in
             let no : false ≡ true = sym granted ∙ is_refused in
             absurd (cc no)
@@ -128,7 +128,7 @@ module _ (known : MachineState → Type 0) (closed : IsClosed known) where
       pub beside : IsBeside next after
 
     step_beside : (c d : MachineState) (s : State) (t : ℕ) (r : Report) (after : State) → IsAlone c s → IsBeside d s → step tree limits s t (is_refusal r) ≡ Answers r after → r ≢ HasEnded Budget →
-        (next : MachineState) → IsTransition d (Step t) (next, r) → (IsTrue (is_refusal r) → ExceedsRoom d s t) → AreNext r after next
+        (next : MachineState) → IsTransition d (Step t) (next, r) → (IsTrue (is_refusal r) → HasNoRoom d s t) → AreNext r after next
     step_beside c d s t r after alone beside answers lasts next transition refused =
         let own : IsNext c t = next_of c alone.covered t in
         let stepped = whole_stepped each_alike c s alone.whole t (own.after, own.report) own.transition in

@@ -19,8 +19,8 @@ use Rattle.interleaving_core.specs.simulation.threads_monitors.declared.effects.
 use Rattle.interleaving_core.specs.simulation.threads_monitors.declared.threads.ThreadStatus.{ThreadStatus}
 use Rattle.interleaving_core.specs.simulation.threads_monitors.declared.threads.ThreadStatus.TheVariants.{Live, Ended}
 use Rattle.interleaving_core.specs.simulation.threads_monitors.declared.threads.Thread.{Thread}
-use Rattle.interleaving_core.specs.simulation.interpreter.declared.outcomes.Outcome.{Outcome}
-use Rattle.interleaving_core.specs.simulation.interpreter.declared.outcomes.Outcome.TheVariants.{Comes, Starts, Joins}
+use Rattle.interleaving_core.specs.simulation.interpreter.declared.outcomes.InstructionOutcome.{InstructionOutcome}
+use Rattle.interleaving_core.specs.simulation.interpreter.declared.outcomes.InstructionOutcome.TheVariants.{OwnEffect, Starts, Joins}
 use Rattle.interleaving_core.specs.simulation.Agreement.{Agree}
 use Rattle.interleaving_core.specs.simulation.MachineStates.{MachineState, mutator_of}
 use Rattle.interleaving_core.specs.simulation.Transitions.{after_request, answer_step, count_step, finish, live_thread, seat_thread, seats_after, thread_for}
@@ -144,7 +144,7 @@ module _ (c : MachineState) (ts : List Thread) (agree : Agree (IsThreadLagging c
       let same : join_effect ts c.objects a ≡ join_effect c.threads c.objects a = ap (λ e. if a.number == 0 then Raises NullReference else e) (waits_alike (thread_on c.objects a)) in
       counts c ts agree (join_effect c.threads c.objects a) (after_request (join_effect c.threads c.objects a) m) (subst (λ e. Some (answer_step d t left' m e) ≡ Some y) same h)
 
-  pub finish_alike : (out : Outcome) → finish d t left' m out ≡ Some y → (x : MachineState × Report) × (finish c t left m out ≡ Some x) × TransitionsAlike x y
-  finish_alike (Comes e) h = counts c ts agree e m h
+  pub finish_alike : (out : InstructionOutcome) → finish d t left' m out ≡ Some y → (x : MachineState × Report) × (finish c t left m out ≡ Some x) × TransitionsAlike x y
+  finish_alike (OwnEffect e) h = counts c ts agree e m h
   finish_alike (Starts a) h = start_alike a h
   finish_alike (Joins a) h = join_alike a h

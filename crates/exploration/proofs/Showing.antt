@@ -17,11 +17,11 @@ use Rattle.interleaving_core.specs.simulation.Agreement.{Agree}
 use Rattle.interleaving_core.specs.simulation.MachineStates.{MachineState}
 use Rattle.interleaving_core.specs.simulation.Transitions.{IsTransition}
 use Rattle.interleaving_core.proofs.simulation.Threads.Joins.{lives_alike}
-use Rattle.interleaving_core.proofs.simulation.Representation.VisibleState.{ends_stand, printed_stands}
+use Rattle.interleaving_core.proofs.simulation.Representation.VisibleState.{ends_refine, printed_refines}
 use Rattle.interleaving_core.proofs.simulation.Runs.EventCorrespondence.{step_is_followed}
 use Rattle.exploration.specs.Lagging.{IsLagging, IsStatusLagging, IsThreadLagging}
 use Rattle.exploration.specs.Searches.{IsClosed, IsSeen, LeadsInto}
-use Rattle.exploration.specs.Shown.{CannotStep, IsTerminal, IsOver, Outcome, ShowOnly, outcome_of, outcome_shown}
+use Rattle.exploration.specs.Shown.{CannotStep, IsTerminal, IsOver, ShownOutcome, ShowOnly, outcome_of, outcome_shown}
 use Rattle.exploration.proofs.Running.{same_answer}
 use Rattle.exploration.proofs.Settling.{live_alike}
 use Rattle.exploration.proofs.Stepping.{stays_lagging}
@@ -99,12 +99,12 @@ module _ (tree : Tree) (limits : Limits) (known : MachineState → Type 0) (clos
 
   same_outcome : outcome_shown d ≡ outcome_of s
   same_outcome =
-      let printed : d.printed ≡ s.printed = ap (λ (x : MachineState). x.printed) seen.covered.lagging.rest ∙ printed_stands c s seen.represents in
-      let ends = lagging_ends c.tree c.threads d.threads seen.covered.lagging.threads ∙ ends_stand c s seen.represents in
+      let printed : d.printed ≡ s.printed = ap (λ (x : MachineState). x.printed) seen.covered.lagging.rest ∙ printed_refines c s seen.represents in
+      let ends = lagging_ends c.tree c.threads d.threads seen.covered.lagging.threads ∙ ends_refine c s seen.represents in
       λ i. record { printed = printed i; ends = ends i }
 
   pub shown : (b : MachineState) × known b × (outcome_shown b ≡ outcome_of s) × (IsOver tree limits s → IsTerminal b)
   shown = (d, seen.covered.among, same_outcome, over)
 
-  pub outcome_listed : (outcomes : List Outcome) → ShowOnly known outcomes → IsOver tree limits s → Contains outcomes (outcome_of s)
+  pub outcome_listed : (outcomes : List ShownOutcome) → ShowOnly known outcomes → IsOver tree limits s → Contains outcomes (outcome_of s)
   outcome_listed outcomes only is_over = subst (Contains outcomes) same_outcome (only d seen.covered.among (over is_over))

@@ -13,7 +13,7 @@ use Rattle.interleaving_core.specs.simulation.threads_monitors.declared.effects.
 use Rattle.interleaving_core.specs.simulation.threads_monitors.declared.threads.ThreadStatus.{ThreadStatus}
 use Rattle.interleaving_core.specs.simulation.threads_monitors.declared.threads.ThreadStatus.TheVariants.{Live, Ended}
 use Rattle.interleaving_core.specs.simulation.threads_monitors.declared.threads.Thread.{Thread}
-use Rattle.interleaving_core.specs.simulation.interpreter.declared.outcomes.Outcome.TheVariants.{Comes}
+use Rattle.interleaving_core.specs.simulation.interpreter.declared.outcomes.InstructionOutcome.TheVariants.{OwnEffect}
 use Rattle.interleaving_core.specs.simulation.interpreter.Instructions.{Answer, IsDone, answer_of}
 use Rattle.interleaving_core.specs.simulation.Agreement.{Agree}
 use Rattle.interleaving_core.specs.simulation.MachineStates.{MachineState, mutator_of}
@@ -93,7 +93,7 @@ module _ (c : MachineState) (ts : List Thread) (agree : Agree (IsThreadLagging c
 
     own_step : (last : Frames) (left' : ℕ) → slice_get ts t ≡ Some (live_thread left' last) → IsLocalMove c.tree m n → IsAhead c.tree n last → Steps
     own_step last left' is move further =
-        let a : Answer = answer_of n c.objects c.statics c.printed (Comes Continues) in
+        let a : Answer = answer_of n c.objects c.statics c.printed (OwnEffect Continues) in
         let done : IsDone c.tree (mutator_of c t) m c.objects c.statics c.printed a = move.done (mutator_of c t) c.objects c.statics c.printed in
         let x : MachineState × Report = count_step (left_by c t left a) t left Continues n in
         (x.0, x.1, transition_of x (a, done, refl), by_budget (left - 1 == 0))

@@ -9,7 +9,7 @@ use Rattle.interleaving_core.specs.simulation.threads_monitors.declared.mutators
 use Rattle.interleaving_core.specs.simulation.threads_monitors.declared.threads.ThreadStatus.{ThreadStatus}
 use Rattle.interleaving_core.specs.simulation.threads_monitors.declared.threads.ThreadStatus.TheVariants.{Live, Ended}
 use Rattle.interleaving_core.specs.simulation.threads_monitors.declared.threads.Thread.{Thread}
-use Rattle.interleaving_core.specs.simulation.interpreter.declared.outcomes.Outcome.TheVariants.{Comes}
+use Rattle.interleaving_core.specs.simulation.interpreter.declared.outcomes.InstructionOutcome.TheVariants.{OwnEffect}
 use Rattle.interleaving_core.specs.simulation.interpreter.Instructions.{IsDone, answer_of}
 use Rattle.interleaving_core.specs.simulation.Agreement.{Agree}
 use Rattle.interleaving_core.specs.simulation.MachineStates.{MachineState}
@@ -17,7 +17,7 @@ use Rattle.interleaving_core.specs.simulation.MachineStates.{MachineState}
 -- An instruction leads from these frames to those after it, and its thread continues. It reads and changes the frames alone: it does the same for all objects,
 -- static fields and printed bytes, for each thread and in each phase.
 pub record IsLocalMove (tree : Tree) (m after : Frames) : Type 0 where
-  pub done : (mutator : Mutator) (o : Objects) (statics : List Value) (printed : List ℕ) → IsDone tree mutator m o statics printed (answer_of after o statics printed (Comes Continues))
+  pub done : (mutator : Mutator) (o : Objects) (statics : List Value) (printed : List ℕ) → IsDone tree mutator m o statics printed (answer_of after o statics printed (OwnEffect Continues))
 
 -- any number of such instructions lead from the first frames to the second
 pub data IsAhead (tree : Tree) : Frames → Frames → Type 0 where

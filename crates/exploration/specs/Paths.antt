@@ -6,14 +6,14 @@ use Rattle.interleaving_core.specs.simulation.threads_monitors.Threads.{is_live_
 use Rattle.interleaving_core.specs.simulation.MachineStates.{MachineState}
 use Rattle.interleaving_core.specs.simulation.Runs.{AreTransitions}
 use Rattle.exploration.specs.Searches.{IsClosed, IsCovered, IsLedTo, LeadsInto}
-use Rattle.exploration.specs.Shown.{CannotStep, IsTerminal, Outcome, ShowOnly, outcome_shown}
+use Rattle.exploration.specs.Shown.{CannotStep, IsTerminal, ShownOutcome, ShowOnly, outcome_shown}
 use Rattle.exploration.specs.declared.findings.Found.{Found}
 use Rattle.exploration.specs.declared.findings.Path.{Path}
 
 abbrev pub events_of : Path → List Event
 events_of p = p.events.items
 
-abbrev pub outcome_found : Found → Outcome
+abbrev pub outcome_found : Found → ShownOutcome
 outcome_found f = record { printed = f.printed.items; ends = f.ends.items }
 
 -- ---- one list of events
@@ -46,7 +46,7 @@ abbrev pub AreStepsChecked : MachineState → List (List Event) → List Event �
 AreStepsChecked first paths events = (c : MachineState) × LeadsTo first events c × ((t : ℕ) → is_live_at c.threads t ≡ true → LeadsInto (IsLedTo first paths) c t)
 
 -- if no thread can make a step there, the content shows one of these outcomes
-abbrev pub ShowsOneOf : MachineState → List Outcome → List Event → Type 0
+abbrev pub ShowsOneOf : MachineState → List ShownOutcome → List Event → Type 0
 ShowsOneOf first outcomes events = (c : MachineState) × LeadsTo first events c × (IsTerminal c → Contains outcomes (outcome_shown c))
 
 -- the events of an outcome lead to a content that shows it, and in which no thread can make a step
@@ -60,7 +60,7 @@ pub record IsReal (first : MachineState) (found : Found) : Type 0 where
 
 -- no step leads out of the contents to which the lists lead, the initial content lags behind one of them, and those in which no thread can make a step show
 -- these outcomes alone
-pub record IsComplete (first : MachineState) (paths : List (List Event)) (outcomes : List Outcome) : Type 0 where
+pub record IsComplete (first : MachineState) (paths : List (List Event)) (outcomes : List ShownOutcome) : Type 0 where
   pub closed : IsClosed (IsLedTo first paths)
   pub begins : IsCovered (IsLedTo first paths) first
   pub only : ShowOnly (IsLedTo first paths) outcomes

@@ -28,18 +28,18 @@ IsOver tree limits s = (t : ℕ) → (is_live s t ≡ false) ⊎ ((next : State)
 -- ---- outcomes
 
 -- an outcome: the printed bytes, and the end of each thread by its number, which is none for a blocked thread
-pub record Outcome : Type 0 where
+pub record ShownOutcome : Type 0 where
   pub printed : List ℕ
   pub ends : List (Option End)
 
 -- the outcome of a state
-abbrev pub outcome_of : State → Outcome
+abbrev pub outcome_of : State → ShownOutcome
 outcome_of s = record { printed = s.printed; ends = map (λ (t : StateThread). t.ended) s.threads }
 
 -- the outcome of a machine
-abbrev pub outcome_shown : MachineState → Outcome
+abbrev pub outcome_shown : MachineState → ShownOutcome
 outcome_shown c = record { printed = c.printed; ends = map end_of c.threads }
 
 -- each content of the set in which no thread can make a step shows one of these outcomes
-abbrev pub ShowOnly : (MachineState → Type 0) → List Outcome → Type 0
+abbrev pub ShowOnly : (MachineState → Type 0) → List ShownOutcome → Type 0
 ShowOnly known outcomes = (c : MachineState) → known c → IsTerminal c → Contains outcomes (outcome_shown c)

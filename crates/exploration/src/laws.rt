@@ -19,7 +19,7 @@ ghost use Rattle.interleaving_core.specs.simulation.Transitions.{IsTransition, i
 ghost use Rattle.interleaving_core.specs.simulation.interpreter.Local.{IsLocalStep, frames_over};
 ghost use Rattle.interleaving_core.specs.simulation.threads_monitors.Frames.{Frame};
 ghost use Rattle.exploration.specs.Lagging.{IsLagging, IsLocalMove};
-ghost use Rattle.exploration.specs.Shown.{IsTerminal, IsOver, Outcome, ShowOnly, outcome_of, outcome_shown};
+ghost use Rattle.exploration.specs.Shown.{IsTerminal, IsOver, ShownOutcome, ShowOnly, outcome_of, outcome_shown};
 ghost use Rattle.exploration.specs.Searches.{AreOrdinary, IsClosed, IsCovered, IsLedTo, IsSeen, KeepBudgets};
 
 /// One machine lags behind another, and a thread makes a step in both. Then the step of the first is a local instruction, and it still lags behind the other
@@ -60,6 +60,6 @@ pub fn steps_alone_stay_covered()
 /// thread used up its budget.
 pub fn no_outcome_is_missing()
     ensures { (tree : Tree) (limits : Limits) (first : MachineState) (paths : List (List Event)) → IsClosed (IsLedTo first paths) → (s : State) → initial_machine_state tree limits ≡ Some first → initial_state tree limits ≡ Some s → Represents first s → IsCovered (IsLedTo first paths) first →
-        (outcomes : List Outcome) → ShowOnly (IsLedTo first paths) outcomes →
+        (outcomes : List ShownOutcome) → ShowOnly (IsLedTo first paths) outcomes →
         (events : List Event) (reports : List Report) (last : State) → IsRunOf tree limits events reports last → KeepBudgets reports → IsOver tree limits last → Contains outcomes (outcome_of last) }
 {}

@@ -107,7 +107,7 @@ impl<M: First> Replayer<M> {
         let mut loan = self.machine.lend(thread, room);
         loan.run(MOST_BUDGET);
         loan.laws();
-        let done = loan.done();
+        let done = loan.step_count();
         self.machine.take_back(loan);
         Ok(done)
     }

@@ -8,4 +8,4 @@ mod sizes;
 mod stress;
 
 pub use sizes::Sizes;
-pub use stress::{Outcome, run};
+pub use stress::{StressOutcome, run};

@@ -18,7 +18,7 @@ use word_flip::{Copier, Flip, Writer};
 
 /// The results of a stress run.
 #[derive(Clone, Copy)]
-pub struct Outcome {
+pub struct StressOutcome {
     /// How often a load gave what its seat had stored just before.
     pub kept: u64,
     /// How many first copies were retired.
@@ -137,12 +137,12 @@ fn open(alloc: Global, sizes: Sizes) -> Result<(Flip, Copier, Vec<Writer>), Allo
 }
 
 /// The results of a stress run, by what its seats and its copier found.
-fn outcome_of(seats: &SeatReport, copied: &CopierReport) -> Outcome
+fn outcome_of(seats: &SeatReport, copied: &CopierReport) -> StressOutcome
     ensures kept { result.kept ≡ seats.now.kept }
     ensures retired { result.retired ≡ copied.now.retired }
     ensures finished { result.finished ≡ true → copied.now.finished ≡ true }
 {
-    Outcome {
+    StressOutcome {
         kept: seats.kept,
         retired: copied.retired,
         finished: seats.reclaims && copied.finished,
@@ -157,7 +157,7 @@ fn run_flip(
     copier: Copier,
     writers: Vec<Writer>,
     sizes: Sizes,
-) -> Result<Outcome, AllocError>
+) -> Result<StressOutcome, AllocError>
     requires flip { IsFlipOf sizes (arc_value flip.now) }
     requires copier { IsCopierOf (arc_value flip.now) copier }
     requires writers { writers.items ≡ initial_writers (arc_value flip.now).table (arc_value flip.now).plan }
@@ -177,7 +177,7 @@ fn run_flip(
 ///
 /// Each loop that waits makes at most 1,000,000 iterations, and yields up to 64 times after each. All threads are joined. The only errors are out of
 /// memory, and a thread that can't be started.
-pub fn run(rt: &impl Threads, alloc: Global, sizes: Sizes) -> Result<Outcome, AllocError>
+pub fn run(rt: &impl Threads, alloc: Global, sizes: Sizes) -> Result<StressOutcome, AllocError>
     ensures kept { IfOk result (λ outcome. outcome.kept ≡ sizes.rounds * slot_count sizes) }
     ensures retired { IfOk result (λ outcome. outcome.finished ≡ true → outcome.retired ≡ slot_count sizes) }
     ensures few { IfOk result (λ outcome. outcome.retired ≤ slot_count sizes) }

@@ -49,7 +49,7 @@ deals_at plan id p of room s r at = let k : IsCopierView s.words plan (length s.
             polled_stage = omega arith;
             written_each = length-replicate {A = ℕ} (length p.plan.owners) 0 ∙ wide;
             wrote_written = λ i _. inl (written i);
-            settled = λ _. refl;
+            none_pending = λ _. refl;
           }
           (changed (Knows s.words plan positions) s.views id left
           record {

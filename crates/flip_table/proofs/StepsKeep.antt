@@ -123,7 +123,7 @@ module _ (plan : PlanView) where
     polled_stage = subst (λ (z : ℕ). q.polled ≤ z) (sym (get_or-set_other ws i (m + m + n) x 0 (λ e. omega arith))) k.polled_stage;
     written_each = k.written_each;
     wrote_written = k.wrote_written;
-    settled = k.settled;
+    none_pending = k.none_pending;
   }
   knows_apart positions ws i x l j (OfCopier p) k = record {
     plan_is = k.plan_is;
@@ -162,7 +162,7 @@ module _ (plan : PlanView) where
         polled_stage = w.polled_stage;
         written_each = w.written_each;
         wrote_written = w.wrote_written;
-        settled = w.settled;
+        none_pending = w.none_pending;
       }
       (λ k t. record { first_is = t.first_is; same = t.same; checked = t.checked; wrote_first = t.wrote_first; wrote_second = t.wrote_second; wrote_value = t.wrote_value })
 
@@ -225,7 +225,7 @@ module _ (plan : PlanView) where
               wrote_written = λ k lk. dite (ℕ_discrete k i)
                   (λ e. subst (λ (z : ℕ). IsAmong q'.wrote k z) (sym (wrote k e)) (among_last q.wrote k i x e))
                   (λ ne. subst (λ (z : ℕ). IsAmong q'.wrote k z) (sym (get_or-set_other q.written i k x 0 ne)) (more k (get_or q.written k 0) (w.wrote_written k lk)));
-              settled = λ high. absurd (omega arith);
+              none_pending = λ high. absurd (omega arith);
             }
             (λ j v _ k. knows_apart (length s.views) s.words i x (omega arith) j v k)
             (λ k lk t. dite (ℕ_discrete k i)
@@ -286,7 +286,7 @@ module _ (plan : PlanView) where
               polled_stage = subst (λ (z : ℕ). x ≤ z) (sym top) w.polled_stage;
               written_each = w.written_each;
               wrote_written = w.wrote_written;
-              settled = λ _. idle;
+              none_pending = λ _. idle;
             }
             (λ j v ne k. others ws i x top there grows (λ a d. there a (λ e. omega (arith, e, d, dealt))) j v ne w.position_is k)
             (λ k lk t. apart (λ a b. IsSlot plan.limit a b k (owner k) r.copier) s.words i k x (λ e. omega arith) (λ e. omega arith) t)
@@ -307,7 +307,7 @@ module _ (plan : PlanView) where
         polled_stage = subst (λ (z : ℕ). a.polled ≤ z) (sym top) k.polled_stage;
         written_each = k.written_each;
         wrote_written = k.wrote_written;
-        settled = k.settled;
+        none_pending = k.none_pending;
       }
       others ws i x top there grows still j (OfCopier p) ne position k = record {
         plan_is = k.plan_is;
@@ -341,7 +341,7 @@ module _ (plan : PlanView) where
           polled_stage = omega arith;
           written_each = w.written_each;
           wrote_written = w.wrote_written;
-          settled = w.settled;
+          none_pending = w.none_pending;
         }
         (λ k t. record { first_is = t.first_is; same = t.same; checked = t.checked; wrote_first = t.wrote_first; wrote_second = t.wrote_second; wrote_value = t.wrote_value }),
     (refl, (omega (arith, c.0, w.taken_up_is), omega (arith, c.1, w.taken_up_is)), w.polled_stage, omega (arith, o.stage_is, o.last)),
@@ -369,7 +369,7 @@ module _ (plan : PlanView) where
         wrote_written = λ k lk. dite (ℕ_discrete k i)
             (λ e. subst (λ (z : ℕ × ℕ). IsAmong wrote' z.0 z.1) (λ c. (sym e c, sym (ap (λ (z : ℕ). get_or written' z 0) e ∙ said) c)) among)
             (λ ne. subst (λ (z : ℕ). IsAmong wrote' k z) (sym (else k ne).0) (more k (get_or q.written k 0) (w.wrote_written k lk)));
-        settled = λ _. refl;
+        none_pending = λ _. refl;
       }
       (λ a v _ k. knows_apart (length s.views) s.words j x (omega arith) a v k)
       (λ k lk t. dite (ℕ_discrete k i)
@@ -664,7 +664,7 @@ module _ (plan : PlanView) where
         polled_stage = omega (arith, k.polled_stage, here);
         written_each = k.written_each;
         wrote_written = k.wrote_written;
-        settled = k.settled;
+        none_pending = k.none_pending;
       }
       others ws x here there up j (OfCopier c) ne k = absurd (ne k.position_is)
 

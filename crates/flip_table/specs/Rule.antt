@@ -60,7 +60,7 @@ pub record IsWriterView (words : List ℕ) (plan : PlanView) (position : ℕ) (q
   pub polled_stage : q.polled ≤ slice_index words (length plan.owners + length plan.owners + plan.seats)
   pub written_each : length q.written ≡ length plan.owners
   pub wrote_written : (k : ℕ) → k < length plan.owners → IsAmong q.wrote k (slice_index q.written k)
-  pub settled : 1 < q.taken_up → q.pending ≡ None
+  pub none_pending : 1 < q.taken_up → q.pending ≡ None
 
 -- What the copier knows, whose view has the position 0 of all positions.
 pub record IsCopierView (words : List ℕ) (plan : PlanView) (positions position : ℕ) (p : CopierView) : Type 0 where

@@ -25,8 +25,8 @@ module _ (tree : Tree) where
   refines d k = same_class k d || list_any (same_class d) (interfaces_declared tree k)
 
   -- some class of the rest of a chain is the one, or lists it
-  abbrev pub stands_along : ClassName → ℕ → Option ClassName → Bool
-  stands_along d n c = list_any (refines d) (chain_within tree n c)
+  abbrev pub is_along : ClassName → ℕ → Option ClassName → Bool
+  is_along d n c = list_any (refines d) (chain_within tree n c)
 
   module _ (legal : IsLegal tree) where
     same_number : (m n : ℕ) → is_some (class_name tree m) ≡ true → is_some (class_name tree n) ≡ true → same_class (class_named tree m) (class_named tree n) ≡ (m == n)
@@ -65,12 +65,12 @@ module _ (tree : Tree) where
     chain_next total i c h = let more : total - i ≡ suc (total - (i + 1)) = omega (arith, h) in ap (λ m. chain_within tree m (Some c)) more
 
     along : (total i n to : ℕ) (k : ResolvedClass) (b : Bool) → i < total → IsClassAt tree n k → is_some (class_name tree to) ≡ true → (n == to) || list_any (λ j. j == to) k.interfaces ≡ b →
-        stands_along (class_named tree to) (total - i) (Some (class_named tree n)) ≡ b || stands_along (class_named tree to) (total - (i + 1)) (base_of tree (class_named tree n))
+        is_along (class_named tree to) (total - i) (Some (class_named tree n)) ≡ b || is_along (class_named tree to) (total - (i + 1)) (base_of tree (class_named tree n))
     along total i n to k b h at l is =
-        ap (list_any (refines (class_named tree to))) (chain_next total i (class_named tree n) h) ∙ ap (λ x. x || stands_along (class_named tree to) (total - (i + 1)) (base_of tree (class_named tree n))) (tested n to k at l ∙ is)
+        ap (list_any (refines (class_named tree to))) (chain_next total i (class_named tree n) h) ∙ ap (λ x. x || is_along (class_named tree to) (total - (i + 1)) (base_of tree (class_named tree n))) (tested n to k at l ∙ is)
 
     pub found_here : (total i n to : ℕ) (k : ResolvedClass) (all : Bool) → i < total → IsClassAt tree n k → is_some (class_name tree to) ≡ true → (n == to) || list_any (λ j. j == to) k.interfaces ≡ true →
-        stands_along (class_named tree to) (total - i) (Some (class_named tree n)) ≡ all → true ≡ all
+        is_along (class_named tree to) (total - i) (Some (class_named tree n)) ≡ all → true ≡ all
     found_here total i n to k all h at l is rest = sym (along total i n to k true h at l is) ∙ rest
 
     -- the base's number refers to the base
@@ -88,19 +88,19 @@ module _ (tree : Tree) where
         by_base None h = refl
         by_base (Some c) h = none_is_some (Some c) h
 
-    nothing_along : (d : ClassName) (n : ℕ) → stands_along d n None ≡ false
+    nothing_along : (d : ClassName) (n : ℕ) → is_along d n None ≡ false
     nothing_along d zero = refl
     nothing_along d (suc n) = refl
 
     pub found_nowhere : (total i n to : ℕ) (k : ResolvedClass) (all : Bool) → i < total → IsClassAt tree n k → is_some (class_name tree to) ≡ true → (n == to) || list_any (λ j. j == to) k.interfaces ≡ false → k.base ≡ None →
-        stands_along (class_named tree to) (total - i) (Some (class_named tree n)) ≡ all → false ≡ all
+        is_along (class_named tree to) (total - i) (Some (class_named tree n)) ≡ all → false ≡ all
     found_nowhere total i n to k all h at l is none rest =
-        sym (along total i n to k false h at l is ∙ ap (stands_along (class_named tree to) (total - (i + 1))) (baseless n k at none) ∙ nothing_along (class_named tree to) (total - (i + 1))) ∙ rest
+        sym (along total i n to k false h at l is ∙ ap (is_along (class_named tree to) (total - (i + 1))) (baseless n k at none) ∙ nothing_along (class_named tree to) (total - (i + 1))) ∙ rest
 
     pub found_later : (total i n m to : ℕ) (k : ResolvedClass) (all : Bool) → i < total → IsClassAt tree n k → is_some (class_name tree to) ≡ true → (n == to) || list_any (λ j. j == to) k.interfaces ≡ false → k.base ≡ Some m →
-        stands_along (class_named tree to) (total - i) (Some (class_named tree n)) ≡ all → stands_along (class_named tree to) (total - (i + 1)) (Some (class_named tree m)) ≡ all
+        is_along (class_named tree to) (total - i) (Some (class_named tree n)) ≡ all → is_along (class_named tree to) (total - (i + 1)) (Some (class_named tree m)) ≡ all
     found_later total i n m to k all h at l is e rest =
-        sym (along total i n to k false h at l is ∙ ap (stands_along (class_named tree to) (total - (i + 1))) (based n m k at e)) ∙ rest
+        sym (along total i n to k false h at l is ∙ ap (is_along (class_named tree to) (total - (i + 1))) (based n m k at e)) ∙ rest
 
     pub based_known : (n m : ℕ) (k : ResolvedClass) → IsClassAt tree n k → k.base ≡ Some m → is_some (class_name tree m) ≡ true
     based_known n m k at e = base_known tree k.base m (base_of tree (class_named tree n)) (base_at tree legal n k at) e

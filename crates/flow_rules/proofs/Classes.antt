@@ -17,7 +17,7 @@ use Rattle.cil_model.specs.TypeTree.{parent_element}
 use Rattle.cil_model.specs.Legality.{IsLegal}
 use Rattle.cil_model.proofs.Lists.{none_is_some}
 use Rattle.name_tables.specs.Numbers.{declarations, class_number, source_entry}
-use Rattle.name_tables.proofs.NumberLaws.{HasId, numbered}
+use Rattle.name_tables.proofs.NumberLaws.{HasId, has_id}
 use Rattle.resolved_code.proofs.Numbers.Classes.{number_of_index}
 use Rattle.resolved_code.specs.Numbered.{class_name}
 use Rattle.resolved_code.specs.Resolved.{AreResolved, IsResolvedClass}
@@ -57,7 +57,7 @@ module _ (tree : Tree) where
     pub own_declaration : (n : ℕ) (c : ClassName) (d : Declaration) → slice_get (declarations tree) n ≡ Some (c, d) → declaration_of tree c ≡ Some d
     own_declaration n c d e =
         let number : class_number tree c ≡ Some n = own_number n c (ap (option_map (λ (x : ClassName × Declaration). x.0)) e) in
-        let found : (d' : Declaration) × (declaration_of tree c ≡ Some d') × (slice_get (declarations tree) n ≡ Some (c, d')) = subst (HasId tree c) number (numbered tree c) in
+        let found : (d' : Declaration) × (declaration_of tree c ≡ Some d') × (slice_get (declarations tree) n ≡ Some (c, d')) = subst (HasId tree c) number (has_id tree c) in
         let pairs : (c, found.0) ≡ (c, d) = same_Some (c, found.0) (c, d) (sym found.2 ∙ e) in
         found.1 ∙ ap (λ (x : ClassName × Declaration). Some x.1) pairs
 

@@ -125,18 +125,18 @@ module _ (tree : Tree) where
 
   pub field_there : (b : Bool) (r : FieldReference) (f : MemberNumber) (k : ResolvedClass) (x : ResolvedField) → IsField tree b r f → IsClassAt tree f.class k → slice_get k.fields f.index ≡ Some x → type_named tree x.field_type ≡ r.field_type
   field_there b r f k x is (name, d, at, alike) e =
-      let member : (slice_get d.fields f.index ≡ Some is.found) × (name ≡ is.declared_in) = member_of_class (λ y. y.fields) f.class f.index is.declared_in name d is.found at is.numbered in
+      let member : (slice_get d.fields f.index ≡ Some is.found) × (name ≡ is.declared_in) = member_of_class (λ y. y.fields) f.class f.index is.declared_in name d is.found at is.has_id in
       let field : AlikeTo (IsResolvedField tree) d.fields f.index x = alike_to (IsResolvedField tree) d.fields k.fields f.index x alike.fields e in
       let same : field.item ≡ is.found = same_Some field.item is.found (sym field.there ∙ member.0) in
       type_is_named x.field_type field.item.field_type field.alike.field_type ∙ ap (λ (y : Field). y.field_type) same ∙ field_has_type b r is.declared_in is.found is.finds
 
   pub field_lacks : (b : Bool) (r : FieldReference) (f : MemberNumber) (k : ResolvedClass) → IsField tree b r f → IsClassAt tree f.class k → slice_get k.fields f.index ≡ None → ⊥
   field_lacks b r f k is (name, d, at, alike) e =
-      let member : (slice_get d.fields f.index ≡ Some is.found) × (name ≡ is.declared_in) = member_of_class (λ y. y.fields) f.class f.index is.declared_in name d is.found at is.numbered in
+      let member : (slice_get d.fields f.index ≡ Some is.found) × (name ≡ is.declared_in) = member_of_class (λ y. y.fields) f.class f.index is.declared_in name d is.found at is.has_id in
       none_is_some is.found (sym (alike_beyond (IsResolvedField tree) d.fields k.fields alike.fields f.index e) ∙ member.0)
 
   pub field_nowhere : (b : Bool) (r : FieldReference) (f : MemberNumber) → IsField tree b r f → class_name tree f.class ≡ None → ⊥
-  field_nowhere b r f is none = member_nowhere (λ y. y.fields) f.class f.index is.declared_in is.found none is.numbered
+  field_nowhere b r f is none = member_nowhere (λ y. y.fields) f.class f.index is.declared_in is.found none is.has_id
 
   is_abstract_too : (named : MethodKind) (resolved : ResolvedKind) → IsResolvedKind tree named resolved → is_abstract_kind resolved ≡ is_abstract_method named
   is_abstract_too (NamedKind.Static code) (KindOf.Static body) h = refl
@@ -158,7 +158,7 @@ module _ (tree : Tree) where
 
   pub method_there : (b : Bool) (r : MethodReference) (f : MemberNumber) (k : ResolvedClass) (x : ResolvedMethod) (is : IsMethod tree b r f) → IsClassAt tree f.class k → slice_get k.methods f.index ≡ Some x → IsCallable tree r.signature is.found x
   method_there b r f k x is (name, d, at, alike) e =
-      let member : (slice_get d.methods f.index ≡ Some is.found) × (name ≡ is.declared_in) = member_of_class (λ y. y.methods) f.class f.index is.declared_in name d is.found at is.numbered in
+      let member : (slice_get d.methods f.index ≡ Some is.found) × (name ≡ is.declared_in) = member_of_class (λ y. y.methods) f.class f.index is.declared_in name d is.found at is.has_id in
       let method : AlikeTo (IsResolvedMethod tree) d.methods f.index x = alike_to (IsResolvedMethod tree) d.methods k.methods f.index x alike.methods e in
       let same : method.item ≡ is.found = same_Some method.item is.found (sym method.there ∙ member.0) in
       let signature : method.item.signature ≡ r.signature = ap (λ (y : Method). y.signature) same ∙ method_has_signature b r is.declared_in is.found is.finds in
@@ -170,17 +170,17 @@ module _ (tree : Tree) where
 
   pub method_lacks : (b : Bool) (r : MethodReference) (f : MemberNumber) (k : ResolvedClass) → IsMethod tree b r f → IsClassAt tree f.class k → slice_get k.methods f.index ≡ None → ⊥
   method_lacks b r f k is (name, d, at, alike) e =
-      let member : (slice_get d.methods f.index ≡ Some is.found) × (name ≡ is.declared_in) = member_of_class (λ y. y.methods) f.class f.index is.declared_in name d is.found at is.numbered in
+      let member : (slice_get d.methods f.index ≡ Some is.found) × (name ≡ is.declared_in) = member_of_class (λ y. y.methods) f.class f.index is.declared_in name d is.found at is.has_id in
       none_is_some is.found (sym (alike_beyond (IsResolvedMethod tree) d.methods k.methods alike.methods f.index e) ∙ member.0)
 
   pub method_nowhere : (b : Bool) (r : MethodReference) (f : MemberNumber) → IsMethod tree b r f → class_name tree f.class ≡ None → ⊥
-  method_nowhere b r f is none = member_nowhere (λ y. y.methods) f.class f.index is.declared_in is.found none is.numbered
+  method_nowhere b r f is none = member_nowhere (λ y. y.methods) f.class f.index is.declared_in is.found none is.has_id
 
   -- a constructor is of the class that it is looked for in
   pub constructor_owner : (c : ClassName) (ps : List DeclaredType) (f : MemberNumber) → IsMethod tree true (constructor_reference c ps) f → class_name tree f.class ≡ Some c
   constructor_owner c ps f is =
       let owner : is.declared_in ≡ c = alone (find tested (methods_declared tree c)) is.finds in
-      by_entry (slice_get (declarations tree) f.class) refl is.numbered owner
+      by_entry (slice_get (declarations tree) f.class) refl is.has_id owner
     where
       tested : Method → Bool
       tested m = same_method_name m.name Constructor && same_signature m.signature (record { parameters = ps; return_type = None }) && same_flag (is_static m.kind) (not true)

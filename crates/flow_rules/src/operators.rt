@@ -5,7 +5,7 @@ ghost use Rattle.cil_model.specs.declared.trees.Tree.{Tree};
 ghost use Rattle.flow_rules.specs.Flow.{IsAfter, flow_of};
 ghost use Rattle.flow_rules.specs.Named.{stack_type, stack_types, type_named};
 ghost use Rattle.flow_rules.specs.declared.method_types.MethodTypes.{MethodTypes};
-ghost use Rattle.cil_model.specs.FlowRules.{allowed};
+ghost use Rattle.cil_model.specs.FlowRules.{if_allowed};
 ghost use Rattle.cil_model.specs.declared.instructions.BinaryOperation.{BinaryOperation};
 ghost use Rattle.cil_model.specs.declared.instructions.UnaryOperation.{UnaryOperation};
 ghost use Rattle.cil_model.specs.declared.instructions.ShiftOperation.{ShiftOperation};
@@ -46,7 +46,7 @@ pub fn put_where(
     entry: StackEntry,
     stack: &mut TypeStack,
 ) -> Result<(), FlowError>
-    ensures { (tree : Tree) → IsAfter tree result stack.new (allowed is_allowed (stack_type tree entry ∷ stack_types tree stack.old)) }
+    ensures { (tree : Tree) → IsAfter tree result stack.new (if_allowed is_allowed (stack_type tree entry ∷ stack_types tree stack.old)) }
 {
     if !is_allowed {
         return Err(FlowError::Mismatch(reason));
@@ -60,7 +60,7 @@ pub fn keep_where(
     reason: Mismatch,
     stack: &mut TypeStack,
 ) -> Result<(), FlowError>
-    ensures { (tree : Tree) → IsAfter tree result stack.new (allowed is_allowed (stack_types tree stack.old)) }
+    ensures { (tree : Tree) → IsAfter tree result stack.new (if_allowed is_allowed (stack_types tree stack.old)) }
 {
     if !is_allowed {
         return Err(FlowError::Mismatch(reason));

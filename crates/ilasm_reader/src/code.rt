@@ -139,7 +139,7 @@ fn words_ahead(tokens: Tokens<'_>) -> usize
     tokens
         .iter()
         .take_while(|token| !matches!(token.symbol(), Some(Symbol::CloseBrace)))
-        .filter(|token| token.reserved().is_some())
+        .filter(|token| token.reserved_word().is_some())
         .count()
 }
 

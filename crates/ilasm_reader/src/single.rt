@@ -18,7 +18,7 @@ pub fn take_word(tokens: &mut Tokens<'_>, word: &[u8]) -> bool
     ensures flag { (result, tokens.new.now) ≡ flag_at word.now tokens.old.now }
 {
     match *tokens {
-        [first, rest @ ..] if first.reserved() == Some(word) => {
+        [first, rest @ ..] if first.reserved_word() == Some(word) => {
             *tokens = rest;
             true
         }
@@ -147,7 +147,7 @@ pub fn any_word<'a>(tokens: &mut Tokens<'a>, expected: Expected) -> Result<&'a [
     let [first, rest @ ..] = *tokens else {
         return Err(Failure::Refused { left: 0, expected });
     };
-    let Some(found) = first.reserved() else {
+    let Some(found) = first.reserved_word() else {
         return Err(Failure::Refused {
             left: tokens.len(),
             expected,

@@ -90,7 +90,7 @@ impl<'s> SourceToken<'s> {
     }
 
     /// The bytes of a reserved word; `None` for any other token.
-    pub fn reserved(&self) -> Option<&'s [u8]>
+    pub fn reserved_word(&self) -> Option<&'s [u8]>
         ensures { option_map (λ w. w.now) result ≡ reserved_in self.now }
     {
         match self.part {

@@ -15,7 +15,7 @@ use Rattle.inheritance.specs.declared.ledgers.Entry.{Entry}
 use Rattle.inheritance.specs.Changes.{latest_known, known_of, is_ordered, is_past, changes_of, found_from, AreUpTo, AddsChanges}
 use Rattle.inheritance.specs.Lines.{base_in, line_within, Ends, index_in}
 use Rattle.inheritance.proofs.LineLaws.{line_of_none}
-use Rattle.inheritance.specs.Ledgers.{pair_of, nearest_from, entry_in, height_of, source_of, IsEntered, IsStanding, IsRightBefore}
+use Rattle.inheritance.specs.Ledgers.{pair_of, nearest_from, entry_in, height_of, source_of, IsEntered, HoldsSince, IsRightBefore}
 
 pub past_later : (t : ℕ) (cs : List Change) → is_past t cs ≡ true → is_past (t + 1) cs ≡ true
 past_later t [] h = refl
@@ -61,9 +61,9 @@ module _ (forest : Forest) where
 
   -- ---- where nothing is written
 
-  standing_later : (rows : List (List Change)) (entries : List (Option Entry)) (t : ℕ) (current : Option ℕ) → IsStanding forest rows entries t current → IsStanding forest rows entries (t + 1) current
-  standing_later rows entries t None s = λ key u h k. s key u h (omega (arith, k))
-  standing_later rows entries t (Some class) s = (s.0, s.1, λ key u h k. s.2 key u h (omega (arith, k)))
+  holds_later : (rows : List (List Change)) (entries : List (Option Entry)) (t : ℕ) (current : Option ℕ) → HoldsSince forest rows entries t current → HoldsSince forest rows entries (t + 1) current
+  holds_later rows entries t None s = λ key u h k. s key u h (omega (arith, k))
+  holds_later rows entries t (Some class) s = (s.0, s.1, λ key u h k. s.2 key u h (omega (arith, k)))
 
   pub right_later : (t : ℕ) (rows : List (List Change)) (entries : List (Option Entry)) (current : Option ℕ) → IsRightBefore forest t rows entries current → IsRightBefore forest (t + 1) rows entries current
   right_later t rows entries current r = record {
@@ -72,7 +72,7 @@ module _ (forest : Forest) where
     earlier = λ class entry e. let h : entry.time < t = r.earlier class entry e in omega (arith, h);
     entered = r.entered;
     based = r.based;
-    standing = standing_later rows entries t current r.standing;
+    holds_since = holds_later rows entries t current r.holds_since;
   }
 
   -- ---- where the keys of a class find another declaration
@@ -95,21 +95,21 @@ module _ (forest : Forest) where
         record { short = was.short; ended = was.ended; right = λ key m h k. ap pair_of (before key entry.time h (r.earlier n entry e)) ∙ was.right key m h k }
 
     -- what is found at the time, before the class's keys are
-    found_standing : (now : Option ℕ) → IsStanding forest rows entries t now → (height : ℕ) → height_of entries now ≡ Some height → (key m u : ℕ) → key < forest.keys → height ≤ m → t ≤ u →
+    found_holds : (now : Option ℕ) → HoldsSince forest rows entries t now → (height : ℕ) → height_of entries now ≡ Some height → (key m u : ℕ) → key < forest.keys → height ≤ m → t ≤ u →
         pair_of (known_of rows key u) ≡ nearest_from forest key m now
-    found_standing None s height e key m u h k l = ap pair_of (s key u h l) ∙ sym (nearest_nowhere key m)
-    found_standing (Some n) s height e key m u h k l =
+    found_holds None s height e key m u h k l = ap pair_of (s key u h l) ∙ sym (nearest_nowhere key m)
+    found_holds (Some n) s height e key m u h k l =
         let same : s.0.length ≡ height = same_Some s.0.length height (sym (ap (option_map (λ (x : Entry). x.length)) s.1) ∙ e) in
         ap pair_of (s.2 key u h l) ∙ (r.entered n s.0 s.1).right key m h (omega (arith, same, k))
 
     -- where the current class's bases end, no more classes are found
-    line_standing : (now : Option ℕ) → IsStanding forest rows entries t now → (height m : ℕ) → height_of entries now ≡ Some height → height ≤ m → line_within bases m now ≡ line_within bases height now
-    line_standing None s height m e k = line_of_none bases m ∙ sym (line_of_none bases height)
-    line_standing (Some n) s height m e k =
+    line_holds : (now : Option ℕ) → HoldsSince forest rows entries t now → (height m : ℕ) → height_of entries now ≡ Some height → height ≤ m → line_within bases m now ≡ line_within bases height now
+    line_holds None s height m e k = line_of_none bases m ∙ sym (line_of_none bases height)
+    line_holds (Some n) s height m e k =
         let same : s.0.length ≡ height = same_Some s.0.length height (sym (ap (option_map (λ (x : Entry). x.length)) s.1) ∙ e) in
         (r.entered n s.0 s.1).ended m (omega (arith, same, k)) ∙ ap (λ h. line_within bases h (Some n)) same
 
-    steady : (now : Option ℕ) → IsStanding forest rows entries t now → (key u w : ℕ) → key < forest.keys → t ≤ u → t ≤ w → known_of rows key u ≡ known_of rows key w
+    steady : (now : Option ℕ) → HoldsSince forest rows entries t now → (key u w : ℕ) → key < forest.keys → t ≤ u → t ≤ w → known_of rows key u ≡ known_of rows key w
     steady None s key u w h k l = s key u h k ∙ sym (s key w h l)
     steady (Some n) s key u w h k l = s.2 key u h k ∙ sym (s.2 key w h l)
 
@@ -137,7 +137,7 @@ module _ (forest : Forest) where
     made_right : (key m : ℕ) → key < forest.keys → height + 1 ≤ m → pair_of (known_of new key t) ≡ nearest_from forest key m (Some class)
     made_right key zero h k = absurd (omega (arith, k))
     made_right key (suc m) h k =
-        let further : pair_of (known_of rows key t) ≡ nearest_from forest key m (base_in bases class) = found_standing t rows new entries current r class (Class class) a current r.standing height high key m t h (omega (arith, k)) (omega arith) ∙ ap (nearest_from forest key m) (sym base) in
+        let further : pair_of (known_of rows key t) ≡ nearest_from forest key m (base_in bases class) = found_holds t rows new entries current r class (Class class) a current r.holds_since height high key m t h (omega (arith, k)) (omega arith) ∙ ap (nearest_from forest key m) (sym base) in
         ap pair_of (following t rows new entries current r class (Class class) a key t h (omega arith)) ∙ own_index (index key class) (known_of rows key t) (nearest_from forest key m (base_in bases class)) key further
 
     made_ended : (m : ℕ) → height + 1 ≤ m → line_within bases m (Some class) ≡ line_within bases (height + 1) (Some class)
@@ -145,7 +145,7 @@ module _ (forest : Forest) where
     made_ended (suc m) k =
         let one : height + 1 ≡ suc height = omega arith in
         let further : line_within bases m (base_in bases class) ≡ line_within bases height (base_in bases class) =
-        ap (line_within bases m) base ∙ line_standing t rows new entries current r class (Class class) a current r.standing height m high (omega (arith, k)) ∙ sym (ap (line_within bases height) base) in
+        ap (line_within bases m) base ∙ line_holds t rows new entries current r class (Class class) a current r.holds_since height m high (omega (arith, k)) ∙ sym (ap (line_within bases height) base) in
         ap (λ ns. class ∷ ns) further ∙ sym (ap (λ h. line_within bases h (Some class)) one)
 
     made_entered : IsEntered forest new class made
@@ -167,22 +167,22 @@ module _ (forest : Forest) where
     still n entry e (inl h) = (made, ap (entry_in after) h.1 ∙ after_same)
     still n entry e (inr h) = (entry, after_other n h.1 ∙ e)
 
-    of_current : (b : ℕ) (now : Option ℕ) → now ≡ Some b → IsStanding forest rows entries t now → (other : Entry) × (entry_in after b ≡ Some other)
+    of_current : (b : ℕ) (now : Option ℕ) → now ≡ Some b → HoldsSince forest rows entries t now → (other : Entry) × (entry_in after b ≡ Some other)
     of_current b None e s = absurd (none-some b e)
     of_current b (Some n) e s =
         let same : n ≡ b = same_Some n b e in
         still b s.0 (ap (entry_in entries) (sym same) ∙ s.1) (eqb_tells b class)
 
     based_after : (n b : ℕ) (entry : Entry) → ((n == class) ≡ true) × (n ≡ class) ⊎ ((n == class) ≡ false) × (n ≢ class) → entry_in after n ≡ Some entry → base_in bases n ≡ Some b → (other : Entry) × (entry_in after b ≡ Some other)
-    based_after n b entry (inl h) e k = of_current b current (sym base ∙ ap (base_in bases) (sym h.1) ∙ k) r.standing
+    based_after n b entry (inl h) e k = of_current b current (sym base ∙ ap (base_in bases) (sym h.1) ∙ k) r.holds_since
     based_after n b entry (inr h) e k =
         let found : (other : Entry) × (entry_in entries b ≡ Some other) = r.based n b entry (sym (after_other n h.1) ∙ e) k in
         still b found.0 found.1 (eqb_tells b class)
 
-    standing_after : (key u : ℕ) → key < forest.keys → t + 1 ≤ u → known_of new key u ≡ known_of new key t
-    standing_after key u h k =
+    holds_after : (key u : ℕ) → key < forest.keys → t + 1 ≤ u → known_of new key u ≡ known_of new key t
+    holds_after key u h k =
         following t rows new entries current r class (Class class) a key u h (omega (arith, k)) ∙
-        ap (option_map_or (found_from rows (Class class) key) (index key class)) (steady t rows new entries current r class (Class class) a current r.standing key u t h (omega (arith, k)) (omega arith)) ∙
+        ap (option_map_or (found_from rows (Class class) key) (index key class)) (steady t rows new entries current r class (Class class) a current r.holds_since key u t h (omega (arith, k)) (omega arith)) ∙
         sym (following t rows new entries current r class (Class class) a key t h (omega arith))
 
     pub right_entered : IsRightBefore forest (t + 1) new after (Some class)
@@ -192,7 +192,7 @@ module _ (forest : Forest) where
       earlier = λ n entry e. earlier_after n entry (eqb_tells n class) e;
       entered = λ n entry e. entered_after n entry (eqb_tells n class) e;
       based = λ n b entry e k. based_after n b entry (eqb_tells n class) e k;
-      standing = (made, after_same, standing_after);
+      holds_since = (made, after_same, holds_after);
     }
 
   -- ---- the search goes back
@@ -200,16 +200,16 @@ module _ (forest : Forest) where
   module _ (t : ℕ) (rows new : List (List Change)) (entries : List (Option Entry)) (class : ℕ) (r : IsRightBefore forest t rows entries (Some class))
       (a : AddsChanges rows new (slice_index_or (map (λ v. v.items) forest.declared.items) class []) 0 (source_of entries (base_in bases class)) t) where
     abbrev own : Entry
-    own = r.standing.0
+    own = r.holds_since.0
 
     -- a key that the class does not declare finds what its base finds
     inherited : (key m u : ℕ) → key < forest.keys → own.length ≤ m → t ≤ u → index key class ≡ None → pair_of (known_of rows key u) ≡ nearest_from forest key m (base_in bases class)
     inherited key m u h k l absent =
-        ap pair_of (r.standing.2 key u h l) ∙ (r.entered class own r.standing.1).right key (suc m) h (omega (arith, k)) ∙
+        ap pair_of (r.holds_since.2 key u h l) ∙ (r.entered class own r.holds_since.1).right key (suc m) h (omega (arith, k)) ∙
         ap (λ o. option_map_or (λ p. Some (class, p)) o (nearest_from forest key m (base_in bases class))) absent
 
-    standing_left : (base : Option ℕ) → base_in bases class ≡ base → IsStanding forest new entries (t + 1) base
-    standing_left None e = λ key u h k. by_index key u h k (index key class) refl
+    holds_left : (base : Option ℕ) → base_in bases class ≡ base → HoldsSince forest new entries (t + 1) base
+    holds_left None e = λ key u h k. by_index key u h k (index key class) refl
       where
         by_index : (key u : ℕ) → key < forest.keys → t + 1 ≤ u → (o : Option ℕ) → index key class ≡ o → known_of new key u ≡ None
         by_index key u h k o p =
@@ -221,10 +221,10 @@ module _ (forest : Forest) where
             by_kind None q =
                 ap (λ x. option_map_or (found_from rows Nothing key) x (known_of rows key u)) q ∙
                 same_pairs (known_of rows key u) None (inherited key own.length u h (omega arith) (omega (arith, k)) q ∙ ap (nearest_from forest key own.length) e ∙ nearest_nowhere key own.length)
-    standing_left (Some b) e = (other.0, other.1, λ key u h k. by_index key u h k (index key class) refl)
+    holds_left (Some b) e = (other.0, other.1, λ key u h k. by_index key u h k (index key class) refl)
       where
         other : (x : Entry) × (entry_in entries b ≡ Some x)
-        other = r.based class b own r.standing.1 e
+        other = r.based class b own r.holds_since.1 e
 
         from : source_of entries (base_in bases class) ≡ Time other.0.time
         from = ap (source_of entries) e ∙ ap (λ o. option_map_or (λ (x : Entry). Time x.time) o Nothing) other.1
@@ -250,7 +250,7 @@ module _ (forest : Forest) where
       earlier = λ n entry e. let was : entry.time < t = r.earlier n entry e in omega (arith, was);
       entered = entered_still t rows new entries (Some class) r class _ a;
       based = r.based;
-      standing = standing_left (base_in bases class) refl;
+      holds_since = holds_left (base_in bases class) refl;
     }
 
 -- the bases of a class that was entered end
@@ -277,5 +277,5 @@ right_at_start forest n = record {
   earlier = λ class entry e. absurd (none-some entry (sym (entries_empty n class) ∙ e));
   entered = λ class entry e. absurd (none-some entry (sym (entries_empty n class) ∙ e));
   based = λ class base entry e k. absurd (none-some entry (sym (entries_empty n class) ∙ e));
-  standing = λ key t h k. ap (latest_known None t) (rows_empty forest.keys key);
+  holds_since = λ key t h k. ap (latest_known None t) (rows_empty forest.keys key);
 }

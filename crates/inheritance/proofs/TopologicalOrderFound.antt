@@ -20,7 +20,7 @@ pub record HaveListed (bases : List (Option ℕ)) (met listed : List Bool) (clas
   pub met_width : length met ≡ length bases
   pub listed_width : length listed ≡ length bases
   pub order : IsOrder bases classes
-  pub stands : (class : ℕ) → is_met listed class ≡ true → 0 < times classes class
+  pub is_listed : (class : ℕ) → is_met listed class ≡ true → 0 < times classes class
   pub marked : (class : ℕ) → 0 < times classes class → is_met listed class ≡ true
   pub walked : (class : ℕ) → is_met listed class ≡ true → is_met met class ≡ true
   pub all_met : (class : ℕ) → class < start → is_met met class ≡ true
@@ -40,7 +40,7 @@ none_walked bases = record {
   met_width = length-replicate (length bases) false;
   listed_width = length-replicate (length bases) false;
   order = none_listed bases;
-  stands = λ class e. absurd (not_met (length bases) class e);
+  is_listed = λ class e. absurd (not_met (length bases) class e);
   marked = λ class l. absurd (omega (arith, l));
   walked = λ class e. e;
   all_met = λ class l. absurd (omega (arith, l));
@@ -103,15 +103,15 @@ module _ (bases : List (Option ℕ)) (met listed : List Bool) (classes : List �
 
   module _ (listed' : List Bool) (more : MarksMore listed path listed') (reported : is_listed_next listed next ≡ true) where
     order : IsOrder bases (classes ++ reverse path)
-    order = (list_path bases classes is.order next (reported_listed bases listed classes is.listed_width is.stands next reported) (Some start) path has.on_path each_once (λ class l. omega (arith, (has.of_path class l).0, width))).0
+    order = (list_path bases classes is.order next (reported_listed bases listed classes is.listed_width is.is_listed next reported) (Some start) path has.on_path each_once (λ class l. omega (arith, (has.of_path class l).0, width))).0
 
     pub path_listed : HaveListed bases met' listed' (classes ++ reverse path) (start + 1)
     path_listed = record {
       met_width = width;
       listed_width = more.width ∙ is.listed_width;
       order = order;
-      stands = λ class e. elim (more.newly class e) [
-        | inl h ↦ (let l = is.stands class h in omega (arith, l, times_both classes path class))
+      is_listed = λ class e. elim (more.newly class e) [
+        | inl h ↦ (let l = is.is_listed class h in omega (arith, l, times_both classes path class))
         | inr h ↦ omega (arith, h, times_both classes path class)
       ];
       marked = λ class l. elim (cases_lt 0 (times path class)) [
@@ -159,7 +159,7 @@ module _ (bases : List (Option ℕ)) (met listed : List Bool) (classes : List �
     met_width = width;
     listed_width = is.listed_width;
     order = is.order;
-    stands = is.stands;
+    is_listed = is.is_listed;
     marked = is.marked;
     walked = λ class e. has.kept class (is.walked class e);
     all_met = all_met;
@@ -187,7 +187,7 @@ pub all_listed : (bases : List (Option ℕ)) (met listed : List Bool) (classes :
 all_listed bases met listed classes is = record {
   following = is.order.following;
   once = λ class most within ends. elim (either (is_met listed class)) [
-    | inl e ↦ (let once = is.order.once class in omega (arith, once, is.stands class e))
+    | inl e ↦ (let once = is.order.once class in omega (arith, once, is.is_listed class e))
     | inr e ↦ absurd (kind_never_ends bases (IsCyclic met listed) is.cyclic most class (is.all_met class within, e) ends)
   ];
   others = λ class. elim (cases_lt 0 (times classes class)) [

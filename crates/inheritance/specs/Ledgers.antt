@@ -30,9 +30,9 @@ pub record IsEntered (forest : Forest) (rows : List (List Change)) (class : ℕ)
   pub right : (key n : ℕ) → key < forest.keys → entry.length ≤ n → pair_of (known_of rows key entry.time) ≡ nearest_from forest key n (Some class)
 
 -- from a time on each key finds what it found as the current class was entered, and nothing where there is none
-abbrev pub IsStanding : Forest → List (List Change) → List (Option Entry) → ℕ → Option ℕ → Type 0
-IsStanding forest rows entries time None = (key t : ℕ) → key < forest.keys → time ≤ t → known_of rows key t ≡ None
-IsStanding forest rows entries time (Some class) =
+abbrev pub HoldsSince : Forest → List (List Change) → List (Option Entry) → ℕ → Option ℕ → Type 0
+HoldsSince forest rows entries time None = (key t : ℕ) → key < forest.keys → time ≤ t → known_of rows key t ≡ None
+HoldsSince forest rows entries time (Some class) =
     (entry : Entry) × (entry_in entries class ≡ Some entry) × ((key t : ℕ) → key < forest.keys → time ≤ t → known_of rows key t ≡ known_of rows key entry.time)
 
 -- what is written before a time is right
@@ -42,7 +42,7 @@ pub record IsRightBefore (forest : Forest) (time : ℕ) (rows : List (List Chang
   pub earlier : (class : ℕ) (entry : Entry) → entry_in entries class ≡ Some entry → entry.time < time
   pub entered : (class : ℕ) (entry : Entry) → entry_in entries class ≡ Some entry → IsEntered forest rows class entry
   pub based : (class base : ℕ) (entry : Entry) → entry_in entries class ≡ Some entry → base_in forest.bases.items class ≡ Some base → (other : Entry) × (entry_in entries base ≡ Some other)
-  pub standing : IsStanding forest rows entries time current
+  pub holds_since : HoldsSince forest rows entries time current
 
 abbrev pub IsRight : Forest → ℕ → ScopedTable → Type 0
 IsRight forest time scoped_table = IsRightBefore forest time (map (λ v. v.items) scoped_table.changes.items) scoped_table.entries.items scoped_table.current

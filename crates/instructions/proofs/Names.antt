@@ -16,7 +16,7 @@ use Rattle.cil_model.specs.Assignable.{is_assignable}
 use Rattle.object_memory.specs.declared.addresses.Addr.{Addr}
 use Rattle.object_memory.specs.declared.values.Value.TheVariants.{Ref}
 use Rattle.object_memory.specs.Objects.{Objects}
-use Rattle.instructions.specs.TypeTransitions.{type_of_address, may_stand_as}
+use Rattle.instructions.specs.TypeTransitions.{type_of_address, may_be_used_as}
 use Rattle.flow_rules.specs.Named.{class_named, element_named, is_known}
 use Rattle.cil_model.proofs.Lists.{none_is_some}
 
@@ -53,18 +53,18 @@ pub record Deciding (tree : Tree) (o : Objects) (a : Addr) (to : ResolvedType) :
   pub own : DeclaredType
   pub wanted_is : type_at tree to ≡ Some required
   pub own_is : type_of_address tree o a ≡ Some own
-  pub decided : may_stand_as tree o (Ref a) to ≡ Some (is_assignable tree own required)
+  pub decided : may_be_used_as tree o (Ref a) to ≡ Some (is_assignable tree own required)
 
-pub deciding : (tree : Tree) (o : Objects) (a : Addr) (to : ResolvedType) → (a.number == 0) ≡ false → IsSome (may_stand_as tree o (Ref a) to) → Deciding tree o a to
+pub deciding : (tree : Tree) (o : Objects) (a : Addr) (to : ResolvedType) → (a.number == 0) ≡ false → IsSome (may_be_used_as tree o (Ref a) to) → Deciding tree o a to
 deciding tree o a to apart there = by_types (type_at tree to) refl (type_of_address tree o a) refl there
   where
     decides : Option DeclaredType → Option DeclaredType → Option Bool
     decides to own = option_and_then (λ t. if a.number == 0 then Some true else option_map (λ x. is_assignable tree x t) own) to
 
-    by_types : (t : Option DeclaredType) → type_at tree to ≡ t → (own : Option DeclaredType) → type_of_address tree o a ≡ own → IsSome (may_stand_as tree o (Ref a) to) → Deciding tree o a to
+    by_types : (t : Option DeclaredType) → type_at tree to ≡ t → (own : Option DeclaredType) → type_of_address tree o a ≡ own → IsSome (may_be_used_as tree o (Ref a) to) → Deciding tree o a to
     by_types None e own f h = absurd (cc (ap is_some (ap (λ x. decides x (type_of_address tree o a)) e), h))
     by_types (Some t) e None f h =
-        let none : may_stand_as tree o (Ref a) to ≡ None =
+        let none : may_be_used_as tree o (Ref a) to ≡ None =
         ap (λ x. decides x (type_of_address tree o a)) e ∙ ap (decides (Some t)) f ∙ ap (λ (b : Bool). if b then Some true else None) apart in
         absurd (cc (ap is_some none, h))
     by_types (Some t) e (Some own) f h = record {

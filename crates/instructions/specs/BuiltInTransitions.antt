@@ -15,7 +15,7 @@ use Rattle.threads_monitors.specs.declared.effects.Effect.{Effect}
 use Rattle.threads_monitors.specs.declared.effects.Effect.TheVariants.{Continues}
 use Rattle.threads_monitors.specs.declared.mutators.Mutator.{Mutator}
 use Rattle.barriers.specs.Barriers.{is_monitor_storable}
-use Rattle.instructions.specs.Frames.{given, with_top, onward}
+use Rattle.instructions.specs.Frames.{when_some, with_top, onward}
 use Rattle.instructions.specs.ObjectTransitions.{ObjectTransition, beside}
 
 -- ---- monitors
@@ -64,4 +64,4 @@ print_bytes line console m = option_map (λ (t : Frames × Effect). (t.0, consol
 
 -- Console.WriteLine: the frames and the printed bytes after it
 abbrev pub write_transition : List (List ℕ) → List ℕ → Frames → Option (Frames × List ℕ × Effect)
-write_transition literals console m = with_top m (λ v n. given (line_of literals v) (λ line. print_bytes line console n))
+write_transition literals console m = with_top m (λ v n. when_some (line_of literals v) (λ line. print_bytes line console n))

@@ -55,9 +55,9 @@ abbrev pub with_top : {R : Type 0} → Frames → (Value → Frames → Option R
 with_top m go = top_of m.running.stack m go
 
 -- continues with what is there
-abbrev pub given : {X R : Type 0} → Option X → (X → Option R) → Option R
-given None go = None
-given (Some x) go = go x
+abbrev pub when_some : {X R : Type 0} → Option X → (X → Option R) → Option R
+when_some None go = None
+when_some (Some x) go = go x
 
 -- a result, or the fault
 abbrev pub result_pushed : Frames → Result Value Fault → Transition
@@ -120,10 +120,10 @@ branch_test phase o op _ _ = None
 -- ---- instructions
 
 abbrev pub argument_transition : ℤ → Frames → Transition
-argument_transition n m = given (at_index m.running.arguments n) (λ v. value_pushed v m)
+argument_transition n m = when_some (at_index m.running.arguments n) (λ v. value_pushed v m)
 
 abbrev pub local_transition : ℤ → Frames → Transition
-local_transition n m = given (at_index m.running.locals n) (λ v. value_pushed v m)
+local_transition n m = when_some (at_index m.running.locals n) (λ v. value_pushed v m)
 
 -- a store to an index that is there
 abbrev pub store_in : {X : Type 0} → (ℕ → Frames) → List X → ℤ → Transition
@@ -144,32 +144,32 @@ pop_transition m = with_top m (λ v n. onward n)
 
 -- the second operand lies topmost
 abbrev pub binary_transition : BinaryOperation → Frames → Transition
-binary_transition op m = with_top m (λ w n. with_top n (λ v k. given (binary_result op v w) (result_pushed k)))
+binary_transition op m = with_top m (λ w n. with_top n (λ v k. when_some (binary_result op v w) (result_pushed k)))
 
 abbrev pub unary_transition : UnaryOperation → Frames → Transition
-unary_transition op m = with_top m (λ v n. given (unary_result op v) (λ u. value_pushed u n))
+unary_transition op m = with_top m (λ v n. when_some (unary_result op v) (λ u. value_pushed u n))
 
 abbrev pub shift_transition : ShiftOperation → Frames → Transition
-shift_transition op m = with_top m (λ w n. with_top n (λ v k. given (shift_result op v w) (λ u. value_pushed u k)))
+shift_transition op m = with_top m (λ w n. with_top n (λ v k. when_some (shift_result op v w) (λ u. value_pushed u k)))
 
 abbrev pub compare_transition : Phase → Comparison → Frames → Objects → Transition
-compare_transition phase op m o = with_top m (λ w n. with_top n (λ v k. given (comparison phase o op v w) (λ holds. value_pushed (one_or_zero holds) k)))
+compare_transition phase op m o = with_top m (λ w n. with_top n (λ v k. when_some (comparison phase o op v w) (λ holds. value_pushed (one_or_zero holds) k)))
 
 abbrev pub convert_32_transition : Frames → Transition
-convert_32_transition m = with_top m (λ v n. given (in_32_bits v) (λ u. value_pushed u n))
+convert_32_transition m = with_top m (λ v n. when_some (in_32_bits v) (λ u. value_pushed u n))
 
 abbrev pub convert_64_transition : Frames → Transition
-convert_64_transition m = with_top m (λ v n. given (in_64_bits v) (λ u. value_pushed u n))
+convert_64_transition m = with_top m (λ v n. when_some (in_64_bits v) (λ u. value_pushed u n))
 
 -- brtrue (III.3.18), and brfalse (III.3.17)
 abbrev pub branch_true_transition : ℕ → Frames → Transition
-branch_true_transition pc m = with_top m (λ v n. given (is_set v) (λ holds. branch_if holds pc n))
+branch_true_transition pc m = with_top m (λ v n. when_some (is_set v) (λ holds. branch_if holds pc n))
 
 abbrev pub branch_false_transition : ℕ → Frames → Transition
-branch_false_transition pc m = with_top m (λ v n. given (is_set v) (λ holds. branch_if (not holds) pc n))
+branch_false_transition pc m = with_top m (λ v n. when_some (is_set v) (λ holds. branch_if (not holds) pc n))
 
 abbrev pub branch_compare_transition : Phase → BranchComparison → ℕ → Frames → Objects → Transition
-branch_compare_transition phase op pc m o = with_top m (λ w n. with_top n (λ v k. given (branch_test phase o op v w) (λ holds. branch_if holds pc k)))
+branch_compare_transition phase op pc m o = with_top m (λ w n. with_top n (λ v k. when_some (branch_test phase o op v w) (λ holds. branch_if holds pc k)))
 
 -- to the pc at that index of the table, read as unsigned, or on to the next instruction (III.3.66)
 abbrev pub to_pc : Option ℕ → Frames → Transition

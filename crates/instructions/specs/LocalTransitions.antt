@@ -11,7 +11,7 @@ use Rattle.reference_machine.specs.Values.{Int32 as Int32Value, Int64 as Int64Va
 use Rattle.reference_machine.specs.Arithmetic.{branch_values, comparison_holds}
 use Rattle.threads_monitors.specs.Frames.{Frames}
 use Rattle.threads_monitors.specs.declared.effects.Effect.TheVariants.{Raises}
-use Rattle.instructions.specs.Frames.{Transition, branch_if, given, value_pushed, one_or_zero, with_top}
+use Rattle.instructions.specs.Frames.{Transition, branch_if, when_some, value_pushed, one_or_zero, with_top}
 
 -- a comparison that has a meaning for integers alone
 abbrev pub is_ordered : Comparison → Bool
@@ -40,11 +40,11 @@ integers_branch op _ _ = None
 
 -- cgt (III.3.22) and clt (III.3.25)
 abbrev pub compare_integers_transition : Comparison → Frames → Transition
-compare_integers_transition op m = with_top m (λ w n. with_top n (λ v k. given (integers_compared op v w) (λ holds. value_pushed (one_or_zero holds) k)))
+compare_integers_transition op m = with_top m (λ w n. with_top n (λ v k. when_some (integers_compared op v w) (λ holds. value_pushed (one_or_zero holds) k)))
 
 -- bge, bgt, ble and blt (III.3.6 to III.3.13)
 abbrev pub branch_integers_transition : BranchComparison → ℕ → Frames → Transition
-branch_integers_transition op pc m = with_top m (λ w n. with_top n (λ v k. given (integers_branch op v w) (λ holds. branch_if holds pc k)))
+branch_integers_transition op pc m = with_top m (λ w n. with_top n (λ v k. when_some (integers_branch op v w) (λ holds. branch_if holds pc k)))
 
 -- a rule raises a fault
 abbrev pub IsFaulty : Transition → Type 0

@@ -17,7 +17,7 @@ use Rattle.barriers.specs.Barriers.{can_bear, is_static_storable, is_storable, o
 use Rattle.threads_monitors.specs.Frames.{Frames}
 use Rattle.threads_monitors.specs.declared.effects.Effect.{Effect}
 use Rattle.threads_monitors.specs.declared.effects.Effect.TheVariants.{Raises}
-use Rattle.instructions.specs.Frames.{Transition, given, with_top, value_pushed, onward}
+use Rattle.instructions.specs.Frames.{Transition, when_some, with_top, value_pushed, onward}
 
 -- the frames and the objects after an instruction, and its outcome; or it has no result
 abbrev pub ObjectTransition : Type 0
@@ -41,7 +41,7 @@ index_in (Native x) = Some x
 index_in _ = None
 
 abbrev pub index_of : Value → (ℤ → ObjectTransition) → ObjectTransition
-index_of v go = given (index_in v) go
+index_of v go = when_some (index_in v) go
 
 -- ---- slots
 
@@ -51,11 +51,11 @@ slots_of o a = option_map (λ (c : Cell). c.slots) (object_cell o a)
 
 -- leaves the value of a slot, of its kind
 abbrev pub load_slot : ValueKind → ℕ → Addr → Frames → Objects → ObjectTransition
-load_slot kind slot a m o = given (slots_of o a) (λ slots. given (slice_get slots slot) (λ w. beside o (value_pushed (value_in kind w) m)))
+load_slot kind slot a m o = when_some (slots_of o a) (λ slots. when_some (slice_get slots slot) (λ w. beside o (value_pushed (value_in kind w) m)))
 
 -- stores to a slot, by the phase of the thread, and advances
 abbrev pub store_slot : Phase → Value → ℕ → Addr → Frames → Objects → ObjectTransition
-store_slot phase v slot a m o = given (slots_of o a) (λ slots. given (slice_get slots slot) (λ w.
+store_slot phase v slot a m o = when_some (slots_of o a) (λ slots. when_some (slice_get slots slot) (λ w.
     if is_storable phase o a slot v then beside (stored_value phase o a slot v) (onward m) else None))
 
 -- ldfld (III.4.10)
@@ -80,16 +80,16 @@ in_range (Some n) m o go = go n
 
 -- ldlen (III.4.12)
 abbrev pub load_length_transition : Frames → Objects → ObjectTransition
-load_length_transition m o = with_top m (λ array n. object_of array n o (λ a. given (slots_of o a) (λ slots. beside o (value_pushed (Native (pos (length slots))) n))))
+load_length_transition m o = with_top m (λ array n. object_of array n o (λ a. when_some (slots_of o a) (λ slots. beside o (value_pushed (Native (pos (length slots))) n))))
 
 -- ldelem.i4, ldelem.i8 and ldelem.ref (III.4.8)
 abbrev pub load_element_transition : ValueKind → Frames → Objects → ObjectTransition
-load_element_transition kind m o = with_top m (λ index n. with_top n (λ array k. object_of array k o (λ a. index_of index (λ i. given (slots_of o a) (λ slots.
+load_element_transition kind m o = with_top m (λ index n. with_top n (λ array k. object_of array k o (λ a. index_of index (λ i. when_some (slots_of o a) (λ slots.
     in_range (checked_index i (length slots)) k o (λ slot. load_slot kind slot a k o))))))
 
 -- stelem.i4 and stelem.i8 (III.4.27)
 abbrev pub store_element_transition : Phase → Frames → Objects → ObjectTransition
-store_element_transition phase m o = with_top m (λ v n. with_top n (λ index k. with_top k (λ array j. object_of array j o (λ a. index_of index (λ i. given (slots_of o a) (λ slots.
+store_element_transition phase m o = with_top m (λ v n. with_top n (λ index k. with_top k (λ array j. object_of array j o (λ a. index_of index (λ i. when_some (slots_of o a) (λ slots.
     in_range (checked_index i (length slots)) j o (λ slot. store_slot phase v slot a j o)))))))
 
 -- leaves the object that is born; without one memory is refused
@@ -118,7 +118,7 @@ new_array_transition phase element m o = with_top m (λ v n. index_of v (λ z. n
 
 -- ldsfld (III.4.14)
 abbrev pub load_static_transition : ℕ → Frames → List Value → Transition
-load_static_transition number m statics = given (slice_get statics number) (λ v. value_pushed v m)
+load_static_transition number m statics = when_some (slice_get statics number) (λ v. value_pushed v m)
 
 -- the frames, the objects with the static fields after an instruction, and its outcome; or it has no result
 abbrev pub StaticTransition : Type 0

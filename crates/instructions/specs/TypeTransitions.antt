@@ -25,7 +25,7 @@ use Rattle.object_memory.specs.Cells.{Cell, literal_number}
 use Rattle.object_memory.specs.Objects.{Objects, object_cell}
 use Rattle.threads_monitors.specs.Frames.{Frames}
 use Rattle.threads_monitors.specs.declared.effects.Effect.TheVariants.{Raises}
-use Rattle.instructions.specs.Frames.{given, with_top, value_pushed}
+use Rattle.instructions.specs.Frames.{when_some, with_top, value_pushed}
 use Rattle.instructions.specs.ObjectTransitions.{ObjectTransition, beside, object_of, index_of, slots_of, checked_index, in_range, store_slot}
 
 -- ---- the types of objects
@@ -53,19 +53,19 @@ type_of_address tree o a =
     option_map_or (λ n. Some (plain StringElement)) (literal_number a) (option_and_then (λ (c : Cell). type_of_kind tree c.kind) (object_cell o a))
 
 -- whether a reference may stand where the type is required: null may everywhere
-abbrev pub may_stand : Tree → Objects → Value → DeclaredType → Option Bool
-may_stand tree o (Ref a) t = if a.number == 0 then Some true else option_map (λ own. is_assignable tree own t) (type_of_address tree o a)
-may_stand tree o _ t = None
+abbrev pub may_be_used : Tree → Objects → Value → DeclaredType → Option Bool
+may_be_used tree o (Ref a) t = if a.number == 0 then Some true else option_map (λ own. is_assignable tree own t) (type_of_address tree o a)
+may_be_used tree o _ t = None
 
 -- the same of a type by its number
-abbrev pub may_stand_as : Tree → Objects → Value → ResolvedType → Option Bool
-may_stand_as tree o v to = option_and_then (may_stand tree o v) (type_at tree to)
+abbrev pub may_be_used_as : Tree → Objects → Value → ResolvedType → Option Bool
+may_be_used_as tree o v to = option_and_then (may_be_used tree o v) (type_at tree to)
 
 -- ---- instructions
 
 -- what castclass and isinst do with an object of another class
 abbrev pub cast_transition : Tree → (Frames → Objects → ObjectTransition) → ResolvedType → Frames → Objects → ObjectTransition
-cast_transition tree otherwise to m o = with_top m (λ v n. given (may_stand_as tree o v to) (λ holds.
+cast_transition tree otherwise to m o = with_top m (λ v n. when_some (may_be_used_as tree o v to) (λ holds.
     if holds then beside o (value_pushed v n) else otherwise n o))
 
 -- castclass (III.4.3)
@@ -87,10 +87,10 @@ element_at o a = option_and_then (λ (c : Cell). element_in c.kind) (object_cell
 
 -- stores to an element that is there what the array's own elements admit
 abbrev pub store_admitted : Phase → Tree → Value → ℕ → Addr → Frames → Objects → ObjectTransition
-store_admitted phase tree v slot a m o = given (element_at o a) (λ e. given (may_stand_as tree o v (held_type e)) (λ holds.
+store_admitted phase tree v slot a m o = when_some (element_at o a) (λ e. when_some (may_be_used_as tree o v (held_type e)) (λ holds.
     if holds then store_slot phase v slot a m o else Some (m, o, Raises ArrayTypeMismatch)))
 
 -- stelem.ref (III.4.27): the index is checked before the class
 abbrev pub store_reference_transition : Phase → Tree → Frames → Objects → ObjectTransition
-store_reference_transition phase tree m o = with_top m (λ v n. with_top n (λ index k. with_top k (λ array j. object_of array j o (λ a. index_of index (λ i. given (slots_of o a) (λ slots.
+store_reference_transition phase tree m o = with_top m (λ v n. with_top n (λ index k. with_top k (λ array j. object_of array j o (λ a. index_of index (λ i. when_some (slots_of o a) (λ slots.
     in_range (checked_index i (length slots)) j o (λ slot. store_admitted phase tree v slot a j o)))))))

@@ -7,7 +7,7 @@ ghost use Rattle.instructions.specs.TypeTransitions.{cast_class_transition, is_i
 use crate::arrays::{checked_index, index};
 use crate::control::push_and_advance;
 use crate::fields::store_slot;
-use crate::types::{may_stand, resolved_element};
+use crate::types::{may_be_used, resolved_element};
 use cil_model::phases::Phase;
 use cil_model::reports::Fault;
 use class_layout::Layout;
@@ -29,7 +29,7 @@ pub fn cast_class(
     ensures { Some (frames.new, heap.new, result) ≡ cast_class_transition program.now to frames.old heap.old }
 {
     let value = frames.pop();
-    if may_stand(program, layout, heap, value, to) {
+    if may_be_used(program, layout, heap, value, to) {
         push_and_advance(frames, value)
     } else {
         Effect::Raises(Fault::InvalidCast)
@@ -49,7 +49,7 @@ pub fn is_instance(
     ensures { Some (frames.new, heap.new, result) ≡ is_instance_transition program.now to frames.old heap.old }
 {
     let value = frames.pop();
-    if may_stand(program, layout, heap, value, to) {
+    if may_be_used(program, layout, heap, value, to) {
         push_and_advance(frames, value)
     } else {
         push_and_advance(frames, Value::Ref(Addr::null()))
@@ -94,7 +94,7 @@ fn store_admitted(
     ensures { Some (frames.new, heap.new, result) ≡ store_admitted phase program.now value slot array frames.old heap.old }
 {
     let held = held_type(element(heap, array));
-    if may_stand(program, layout, heap, value, held) {
+    if may_be_used(program, layout, heap, value, held) {
         store_slot(frames, heap, phase, value, array, slot)
     } else {
         Effect::Raises(Fault::ArrayTypeMismatch)

@@ -27,7 +27,7 @@ pub fn return_from(frames: &mut FrameMemory, has_value: bool) -> Effect
     requires { IsSome (return_transition has_value frames.old) }
     ensures { Some (frames.new, result) ≡ return_transition has_value frames.old }
 {
-    if let Some(object) = frames.constructed() {
+    if let Some(object) = frames.constructed_object() {
         return give(frames, Some(Value::Ref(object)));
     }
     if has_value {

@@ -5,7 +5,7 @@ ghost use Rattle.cil_model.specs.declared.trees.Tree.{Tree};
 ghost use Rattle.cil_model.specs.declared.types.DeclaredType.{DeclaredType};
 ghost use Rattle.class_layout.specs.Laid.{IsLayout};
 ghost use Rattle.resolved_code.specs.Numbered.{type_at};
-ghost use Rattle.instructions.specs.TypeTransitions.{resolved_element, type_of_kind, type_of_address, may_stand_as};
+ghost use Rattle.instructions.specs.TypeTransitions.{resolved_element, type_of_kind, type_of_address, may_be_used_as};
 
 use class_layout::Layout;
 use flow_rules::type_tree::element_of_class;
@@ -59,7 +59,7 @@ fn type_of_address(program: &Program, heap: &Heap, object: Addr) -> ResolvedType
 
 /// Whether a reference may stand where a type is required (ECMA-335 I.8.7): null may everywhere, an object where its own type is
 /// assignable to it.
-pub fn may_stand(
+pub fn may_be_used(
     program: &Program,
     layout: &Layout,
     heap: &Heap,
@@ -67,8 +67,8 @@ pub fn may_stand(
     to: ResolvedType,
 ) -> bool
     requires layout { IsLayout program.now layout.now }
-    requires there { IsSome (may_stand_as program.now heap.now value to) }
-    ensures { may_stand_as program.now heap.now value to ≡ Some result }
+    requires there { IsSome (may_be_used_as program.now heap.now value to) }
+    ensures { may_be_used_as program.now heap.now value to ≡ Some result }
 {
     let Value::Ref(object) = value else {
         unreachable!()

@@ -10,5 +10,5 @@ abbrev pub stays : Objects → Addr → Bool
 stays o a = is_some (literal_number a) || is_some (cell_in o.spaces.new a)
 
 -- the forward of an address where it stays: of an old object the address of its new copy, of a new one or a literal its own
-abbrev pub forwarded : Objects → Addr → Option Addr
-forwarded o a = if stays o (forward o.spaces a) then Some (forward o.spaces a) else None
+abbrev pub live_forward : Objects → Addr → Option Addr
+live_forward o a = if stays o (forward o.spaces a) then Some (forward o.spaces a) else None

@@ -9,7 +9,7 @@ use Rattle.cil_model.specs.declared.reports.Report.{Report}
 use Rattle.cil_model.specs.declared.trees.Tree.{Tree}
 use Rattle.simulation.specs.MachineStates.{MachineState}
 use Rattle.simulation.specs.Owed.{AreCyclesBounded, LeavesOnlyOwed}
-use Rattle.simulation.specs.Runs.{AreTransitions, StandsAfter}
+use Rattle.simulation.specs.Runs.{AreTransitions, RefinesAfter}
 use Rattle.simulation.specs.Transitions.{initial_machine_state}
 
 -- A machine that was made for an accepted program has done these events, with these reports, and it stands after them. Its cycles had few working events, and
@@ -20,7 +20,7 @@ pub record HasDone (tree : Tree) (limits : Limits) (events : List Event) (report
   pub first : MachineState
   pub opens : initial_machine_state tree limits ≡ Some first
   pub transitions : AreTransitions first events c reports
-  pub stands : StandsAfter tree limits events reports c
+  pub refines : RefinesAfter tree limits events reports c
   pub bounded : AreCyclesBounded tree limits (zip events reports)
   pub leaves : LeavesOnlyOwed tree limits events reports c
 

@@ -14,7 +14,7 @@ use Rattle.threads_monitors.specs.declared.threads.Thread.{Thread}
 use Rattle.simulation.specs.interpreter.Instructions.{IsDone, Answer}
 use Rattle.simulation.specs.MachineStates.{MachineState, mutator_of}
 use Rattle.simulation.specs.Refines.{Represents}
-use Rattle.simulation.specs.Sound.{IsSound as IsSoundMachineState}
+use Rattle.simulation.specs.Sound.{IsSound}
 use Rattle.simulation.specs.Ready.{IsReady, IsAnswerable}
 use Rattle.interleaving_core.specs.declared.engine.Engine.{Engine}
 
@@ -25,7 +25,7 @@ machine_state_of e = record { tree = e.program; limits = e.limits; threads = e.t
 -- the machine state is sound, each live thread is ready, and what its instruction asks of other threads can be answered
 pub record CanContinue (e : Engine) : Type 0 where
   pub limits : IsTrue (are_in_range e.limits)
-  pub machine_state : IsSoundMachineState (machine_state_of e)
+  pub machine_state : IsSound (machine_state_of e)
   pub statics : length e.store.statics.items < 2 ^ 32
   pub ready : (t left : ℕ) (m : Frames) → slice_get e.threads.items t ≡ Some (record { thread_status = Live m; steps_left = left }) → IsReady (machine_state_of e) t m
   pub answerable : (t left : ℕ) (m : Frames) → slice_get e.threads.items t ≡ Some (record { thread_status = Live m; steps_left = left }) → (a : Answer) →
@@ -36,7 +36,7 @@ abbrev pub end_at : List Thread → ℕ → Option End
 end_at threads n = option_and_then end_of (slice_get threads n)
 
 -- there are no more threads than there may be, and the machine state represents a state of the reference machine
-pub record IsSound (e : Engine) : Type 0 where
+pub record IsSoundEngine (e : Engine) : Type 0 where
   pub state : State
   pub represents : Represents (machine_state_of e) state
   pub few : length e.threads.items ≤ MOST_THREADS

@@ -5,7 +5,7 @@ ghost use Rattle.threads_monitors.specs.Frames.{Frame};
 ghost use Rattle.object_memory.specs.Spaces.{IsThere, forward};
 ghost use Rattle.threads_monitors.specs.Roots.{frame_roots, frames_upward, roots, with_references};
 ghost use Rattle.simulation.specs.Collecting.{answers_round, flips_frames, with_flipped, with_roots_marked, with_thread_marked};
-ghost use Rattle.simulation.specs.Sound.{IsSound as IsSoundMachineState};
+ghost use Rattle.simulation.specs.Sound.{IsSound};
 ghost use Rattle.simulation.specs.Transitions.{IsTransition};
 ghost use Rattle.cil_model.specs.declared.events.Event.TheVariants.{Ack as AckOf};
 ghost use Rattle.interleaving_core.specs.Acknowledging.{AreAllThere};
@@ -22,7 +22,7 @@ impl Engine {
     /// An acknowledgement of a thread: of the posted phase, or else of the posted round, for which all is marked that its frames hold.
     /// With that of ThreadFlip its frames are flipped. Where neither is open to it, nothing changes.
     pub(crate) fn acknowledge(&mut self, thread: u8) -> Report
-        requires sound { IsSoundMachineState (machine_state_of self.old) }
+        requires sound { IsSound (machine_state_of self.old) }
         ensures { IsTransition (machine_state_of self.old) (AckOf thread) (machine_state_of self.new, result) }
     {
         if self.answers_round(thread) {
@@ -69,7 +69,7 @@ impl Engine {
 
     /// Replaces each reference that the frames of a thread hold by its forward. Nothing else changes.
     fn flip_held(&mut self, thread: u8)
-        requires sound { IsSoundMachineState (machine_state_of self.old) }
+        requires sound { IsSound (machine_state_of self.old) }
         requires flips { flips_frames (machine_state_of self.old) thread ≡ true }
         ensures { machine_state_of self.new ≡ record (machine_state_of self.old) { threads = with_flipped self.old.store.heap self.old.threads.items thread (slice_get self.old.threads.items thread) } }
     {
@@ -84,7 +84,7 @@ impl Engine {
 
     /// Marks what the frames of a thread that acknowledges a round hold. Nothing else changes.
     fn mark_held(&mut self, thread: u8)
-        requires sound { IsSoundMachineState (machine_state_of self.old) }
+        requires sound { IsSound (machine_state_of self.old) }
         requires answers { answers_round (machine_state_of self.old) thread ≡ true }
         ensures { machine_state_of self.new ≡ record (machine_state_of self.old) { objects = with_thread_marked self.old.store.heap (slice_get self.old.threads.items thread) } }
     {

@@ -8,7 +8,7 @@ ghost use Rattle.cil_model.specs.declared.reports.Report.TheVariants.{Worked as 
 ghost use Rattle.reference_machine.specs.Cycles.{phase_after};
 ghost use Rattle.phase_handshake.specs.Handshakes.{all_seen};
 ghost use Rattle.simulation.specs.Collecting.{cycle_opened, mark_work, initial_words, rounds, with_next_phase, work};
-ghost use Rattle.simulation.specs.Sound.{IsSound as IsSoundMachineState};
+ghost use Rattle.simulation.specs.Sound.{IsSound};
 ghost use Rattle.simulation.specs.Transitions.{IsTransition, TakesMemory};
 ghost use Rattle.interleaving_core.specs.Views.{machine_state_of};
 
@@ -29,7 +29,7 @@ impl Engine {
     /// that opens a cycle can cause, changes nothing.
     pub(crate) fn collect(&mut self, alloc: Global) -> Result<Report, NoMemory>
         requires limits { are_in_range self.old.limits ≡ true }
-        requires sound { IsSoundMachineState (machine_state_of self.old) }
+        requires sound { IsSound (machine_state_of self.old) }
         requires few { length self.old.store.statics.items < 2 ^ 32 }
         ensures transitions { IfOk result (λ report. IsTransition (machine_state_of self.old) GcOf (machine_state_of self.new, report)) }
         ensures memory { OnErr result (TakesMemory (machine_state_of self.old) GcOf) }
@@ -55,7 +55,7 @@ impl Engine {
     /// the size that is needed, no smaller one is tried.
     fn open_cycle(&mut self, alloc: Global) -> Result<Report, NoMemory>
         requires limits { are_in_range self.old.limits ≡ true }
-        requires sound { IsSoundMachineState (machine_state_of self.old) }
+        requires sound { IsSound (machine_state_of self.old) }
         requires posted { self.old.posts.posted ≡ IdleOf }
         requires seen { all_seen self.old.posts ≡ true }
         ensures opened { IfOk result (λ report. (machine_state_of self.new ≡ cycle_opened (machine_state_of self.old)) × (report ≡ WorkedOf)) }
@@ -72,7 +72,7 @@ impl Engine {
     /// The words of the block that a cycle opens with: twice those of the only one where more than half of it is used, within the limit;
     /// else the same number.
     fn initial_words(&self) -> usize
-        requires sound { IsSoundMachineState (machine_state_of self.now) }
+        requires sound { IsSound (machine_state_of self.now) }
         ensures { result ≡ initial_words (machine_state_of self.now) }
     {
         let (words, _) = self.sizes();
@@ -86,7 +86,7 @@ impl Engine {
 
     /// The words of the old space, or the only one, and of the new one: 0 where there is none.
     pub(crate) fn sizes(&self) -> (usize, usize)
-        requires sound { IsSoundMachineState (machine_state_of self.now) }
+        requires sound { IsSound (machine_state_of self.now) }
         ensures sizes { result ≡ (self.now.store.heap.spaces.old.words, self.now.store.heap.spaces.new.words) }
         ensures few { (result.0 ≤ MOST_WORDS) × (result.1 ≤ MOST_WORDS) }
     {
@@ -109,7 +109,7 @@ impl Engine {
 
     /// A step of Mark: the static fields are scanned, then the grey objects word by word, and then come rounds.
     fn mark_on(&mut self) -> Report
-        requires sound { IsSoundMachineState (machine_state_of self.old) }
+        requires sound { IsSound (machine_state_of self.old) }
         requires posted { self.old.posts.posted ≡ MarkOf }
         requires seen { all_seen self.old.posts ≡ true }
         ensures { (machine_state_of self.new, result) ≡ mark_work (machine_state_of self.old) }
@@ -151,7 +151,7 @@ impl Engine {
 
     /// A step of Allocate: the next old object is looked at, and gets its other copy if it is marked.
     fn look_on(&mut self) -> Report
-        requires sound { IsSoundMachineState (machine_state_of self.old) }
+        requires sound { IsSound (machine_state_of self.old) }
         requires posted { self.old.posts.posted ≡ AllocateOf }
         requires seen { all_seen self.old.posts ≡ true }
         ensures { (machine_state_of self.new, result) ≡ work AllocateOf (machine_state_of self.old) }
@@ -164,7 +164,7 @@ impl Engine {
 
     /// A step of Copy: the next word of an object with two copies is copied.
     fn copy_on(&mut self) -> Report
-        requires sound { IsSoundMachineState (machine_state_of self.old) }
+        requires sound { IsSound (machine_state_of self.old) }
         requires posted { self.old.posts.posted ≡ CopyOf }
         requires seen { all_seen self.old.posts ≡ true }
         ensures { (machine_state_of self.new, result) ≡ work CopyOf (machine_state_of self.old) }
@@ -181,7 +181,7 @@ impl Engine {
 
     /// A step of HeapFlip: the next static field gets the forward of what it holds.
     fn flip_on(&mut self) -> Report
-        requires sound { IsSoundMachineState (machine_state_of self.old) }
+        requires sound { IsSound (machine_state_of self.old) }
         requires few { length self.old.store.statics.items < 2 ^ 32 }
         requires posted { self.old.posts.posted ≡ HeapFlipOf }
         requires seen { all_seen self.old.posts ≡ true }
@@ -200,7 +200,7 @@ impl Engine {
     /// A step of Reclaim: the next object of the new space loses its mark and its other copy. Where none has any, the old space is
     /// retired, and the cycle is over: its block, with no word in use, is kept for the next cycle.
     fn clear_on(&mut self) -> Report
-        requires sound { IsSoundMachineState (machine_state_of self.old) }
+        requires sound { IsSound (machine_state_of self.old) }
         requires posted { self.old.posts.posted ≡ ReclaimOf }
         requires seen { all_seen self.old.posts ≡ true }
         ensures { (machine_state_of self.new, result) ≡ work ReclaimOf (machine_state_of self.old) }

@@ -11,7 +11,7 @@ ghost use Rattle.cil_model.specs.declared.events.Event.TheVariants.{Step as Step
 ghost use Rattle.simulation.specs.instructions.barriers.Barriers.{is_word_storable};
 ghost use Rattle.threads_monitors.specs.Frames.{Frames};
 ghost use Rattle.threads_monitors.specs.Threads.{is_live, is_live_at, start_fault};
-ghost use Rattle.simulation.specs.interpreter.declared.outcomes.Outcome.TheVariants.{Starts as StartsOn, Joins as JoinsOn};
+ghost use Rattle.simulation.specs.interpreter.declared.outcomes.InstructionOutcome.TheVariants.{Starts as StartsOn, Joins as JoinsOn};
 ghost use Rattle.simulation.specs.interpreter.Instructions.{Prints};
 ghost use Rattle.simulation.specs.MachineStates.{mutator_of};
 ghost use Rattle.simulation.specs.Ready.{CanFinish};
@@ -39,7 +39,7 @@ use object_memory::Addr;
 use phase_handshake::Posts;
 use simulation::collector_code::Progress;
 use simulation::interpreter_code::loaded_code::LoadedProgram;
-use simulation::interpreter_code::outcomes::Outcome;
+use simulation::interpreter_code::outcomes::InstructionOutcome;
 use simulation::interpreter_code::stores::Store;
 use std::alloc::Global;
 use threads_monitors::{Effect, Mutator, Thread, ThreadStatus, join, start, start_fault};
@@ -120,7 +120,7 @@ impl Engine {
     }
 
     /// The instruction at a live thread's pc, whose step isn't counted yet.
-    fn instruct(&mut self, number: u8) -> Result<Outcome, NoMemory>
+    fn instruct(&mut self, number: u8) -> Result<InstructionOutcome, NoMemory>
         requires ready { CanContinue self.old }
         requires live { is_live_at self.old.threads.items number ≡ true }
         ensures instructed { IfOk result (λ outcome. IsInstructed (machine_state_of self.old) number outcome (machine_state_of self.new)) }
@@ -139,7 +139,12 @@ impl Engine {
     }
 
     /// Counts the step of a live thread whose instruction had this outcome, and reports it. A start alone can be refused.
-    fn finish(&mut self, alloc: Global, number: u8, outcome: Outcome) -> Result<Report, NoMemory>
+    fn finish(
+        &mut self,
+        alloc: Global,
+        number: u8,
+        outcome: InstructionOutcome,
+    ) -> Result<Report, NoMemory>
         requires limits { are_in_range self.old.limits ≡ true }
         requires live { is_live_at self.old.threads.items number ≡ true }
         requires can { (left : ℕ) (m : Frames) → slice_get self.old.threads.items number ≡ Some (live_thread left m) → CanFinish (machine_state_of self.old) number m outcome }
@@ -148,9 +153,9 @@ impl Engine {
         ensures refused { OnErr result ((object : AnyAddr) × (outcome ≡ StartsOn object) × (machine_state_of self.new ≡ machine_state_of self.old)) }
     {
         match outcome {
-            Outcome::Comes(effect) => Ok(self.charge_step(number, effect)),
-            Outcome::Starts(object) => self.finish_start(alloc, number, object),
-            Outcome::Joins(object) => Ok(self.finish_join(number, object)),
+            InstructionOutcome::OwnEffect(effect) => Ok(self.charge_step(number, effect)),
+            InstructionOutcome::Starts(object) => self.finish_start(alloc, number, object),
+            InstructionOutcome::Joins(object) => Ok(self.finish_join(number, object)),
         }
     }
 

@@ -5,8 +5,8 @@ ghost use Rattle.cil_model.specs.declared.phases.Phase.TheVariants.{Copy as Copy
 ghost use Rattle.object_memory.specs.Cells.{cell_in};
 ghost use Rattle.object_memory.specs.Spaces.{AreSpaces, forward};
 ghost use Rattle.simulation.specs.instructions.barriers.Barriers.{are_same};
-ghost use Rattle.simulation.specs.Sound.{IsSound as IsSoundMachineState};
-ghost use Rattle.interleaving_core.specs.Forwards.{forwarded};
+ghost use Rattle.simulation.specs.Sound.{IsSound};
+ghost use Rattle.interleaving_core.specs.Forwards.{live_forward};
 ghost use Rattle.interleaving_core.specs.Views.{machine_state_of};
 
 use crate::engine::Engine;
@@ -15,7 +15,7 @@ use object_memory::{Addr, Heap};
 impl Engine {
     /// The forward of any address: that of the new copy where an old object with two copies lies there, else the address itself.
     fn forward_of(&self, address: Addr) -> Addr
-        requires sound { IsSoundMachineState (machine_state_of self.now) }
+        requires sound { IsSound (machine_state_of self.now) }
         ensures { result ≡ forward self.now.store.heap.spaces address }
     {
         let heap = &self.store.heap;
@@ -27,9 +27,9 @@ impl Engine {
     }
 
     /// The forward of an address where it is that of a literal or of an object of the new space. None of any other.
-    pub(crate) fn forwarded(&self, address: Addr) -> Option<Addr>
-        requires sound { IsSoundMachineState (machine_state_of self.now) }
-        ensures { result ≡ forwarded self.now.store.heap address }
+    pub(crate) fn live_forward(&self, address: Addr) -> Option<Addr>
+        requires sound { IsSound (machine_state_of self.now) }
+        ensures { result ≡ live_forward self.now.store.heap address }
     {
         let forward = self.forward_of(address);
         if forward.literal_number().is_some() || is_in_new(&self.store.heap, forward) {
@@ -41,7 +41,7 @@ impl Engine {
 
     /// Whether two addresses are equal or those of the two copies of one object.
     pub(crate) fn is_same(&self, first: Addr, second: Addr) -> bool
-        requires sound { IsSoundMachineState (machine_state_of self.now) }
+        requires sound { IsSound (machine_state_of self.now) }
         ensures { result ≡ are_same CopyOf self.now.store.heap first second }
     {
         first == second || self.forward_of(first) == self.forward_of(second)

@@ -145,7 +145,7 @@ impl Loan {
     }
 
     /// How many local instructions were done.
-    pub fn done(&self) -> u32
+    pub fn step_count(&self) -> u32
         ensures { result ≡ self.now.done }
     {
         self.done

@@ -10,7 +10,7 @@ ghost use Rattle.object_memory.specs.Cells.{used_words};
 ghost use Rattle.object_memory.specs.Objects.{used_space, whole_space};
 ghost use Rattle.threads_monitors.specs.Threads.{end_of, is_live, is_live_at};
 ghost use Rattle.simulation.specs.instructions.barriers.Barriers.{are_same};
-ghost use Rattle.interleaving_core.specs.Forwards.{forwarded};
+ghost use Rattle.interleaving_core.specs.Forwards.{live_forward};
 ghost use Rattle.interleaving_core.specs.Histories.{DoesMore, HasDone};
 ghost use Rattle.interleaving_core.specs.Monitors.{next_monitor};
 ghost use Rattle.interleaving_core.specs.Views.{end_at, phase_at};
@@ -88,13 +88,13 @@ pub struct Machine {
 
 impl Model for Machine {
     ghost use Rattle.simulation.specs.MachineStates.{MachineState};
-    ghost use Rattle.interleaving_core.specs.Views.{IsSound, machine_state_of};
+    ghost use Rattle.interleaving_core.specs.Views.{IsSoundEngine, machine_state_of};
 
     ghost Value = { MachineState };
 
     ghost view = { λ m. machine_state_of m.engine };
 
-    ghost invariant = { λ m. IsSound m.engine };
+    ghost invariant = { λ m. IsSoundEngine m.engine };
 }
 
 impl Machine {
@@ -294,7 +294,7 @@ impl Machine {
     /// The object whose monitor the next instruction of a thread enters or leaves (ECMA-335 I.12.6.5), as the thread refers to it. None
     /// where it does neither or does it with null, and where the thread has ended or was never started. It takes no memory.
     ///
-    /// While a cycle is open two addresses may be of one object (`is_same`), and once it has ended, some are of none (`forwarded`).
+    /// While a cycle is open two addresses may be of one object (`is_same`), and once it has ended, some are of none (`live_forward`).
     pub fn monitor_of(&self, thread: u8) -> Option<Addr>
         ensures { result ≡ next_monitor self.now thread }
     {
@@ -308,16 +308,16 @@ impl Machine {
     /// literals while no cycle is open. From `ThreadFlip` on each object that a thread can still reach has one.
     ///
     /// It may be asked of any address. While a cycle is open its time is proportional to the number of objects; it takes no memory.
-    pub fn forwarded(&self, address: Addr) -> Option<Addr>
-        ensures { result ≡ forwarded self.now.objects address }
+    pub fn live_forward(&self, address: Addr) -> Option<Addr>
+        ensures { result ≡ live_forward self.now.objects address }
     {
         // For the prover alone: it brings in the laws of the field.
         let _engine = &self.engine;
-        self.engine.forwarded(address)
+        self.engine.live_forward(address)
     }
 
     /// Whether two addresses are of one object, or equal: as `ceq` compares them in the phase `Copy` (ECMA-335 III.1.5, table 4). It may be
-    /// asked of any two, and takes as long as `forwarded`.
+    /// asked of any two, and takes as long as `live_forward`.
     pub fn is_same(&self, first: Addr, second: Addr) -> bool
         ensures { result ≡ are_same CopyOf self.now.objects first second }
     {

@@ -15,7 +15,7 @@ use cil_model::reports::Report;
 use phase_handshake::Posts;
 use simulation::interpreter_code::fetch::instruction;
 use simulation::interpreter_code::loaded_code::LoadedProgram;
-use simulation::interpreter_code::outcomes::Outcome;
+use simulation::interpreter_code::outcomes::InstructionOutcome;
 use simulation::interpreter_code::stores::Store;
 use threads_monitors::{Effect, FrameMemory, Mutator, Thread, ThreadStatus};
 
@@ -25,7 +25,7 @@ pub(crate) fn instruct(
     mutator: Mutator,
     program: &LoadedProgram,
     store: &mut Store,
-) -> Result<Outcome, NoMemory>
+) -> Result<InstructionOutcome, NoMemory>
     requires live { is_live thread.old ≡ true }
     requires pc { (m : Frames) → thread.old.thread_status ≡ Live m → IsSome (line_at program.now m) }
     requires there { (m : Frames) → thread.old.thread_status ≡ Live m → (op : AnyOperation) → IsAt program.now m op → HasSmallConstant op → IsSome (operation_transition program.now mutator op m store.old.heap store.old.statics.items store.old.console.items) }

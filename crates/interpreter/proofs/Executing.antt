@@ -21,7 +21,7 @@ module _ (tree : Tree) (m : Frames) (l : LinkedInstruction) (at : IsLinkedAt tre
   resolved = at.linked.operation
 
   pub is_at : IsAt tree m resolved
-  is_at = record { found = at.found; line = at.line; found_is = at.found_is; line_is = at.line_is; stands = at.linked.stands }
+  is_at = record { found = at.found; line = at.line; found_is = at.found_is; line_is = at.line_is; refines = at.linked.refines }
 
   pub is_small : HasSmallConstant resolved
   is_small = at.linked.links.constant

@@ -21,7 +21,7 @@ use Rattle.loaded_program.specs.Loaded.{has_value}
 use Rattle.loaded_program.proofs.FlatLaws.{method_of_number}
 use Rattle.threads_monitors.specs.declared.mutators.Mutator.{Mutator}
 use Rattle.threads_monitors.specs.Frames.{Frames}
-use Rattle.instructions.specs.Frames.{given}
+use Rattle.instructions.specs.Frames.{when_some}
 use Rattle.instructions.specs.Calls.{return_transition}
 use Rattle.interpreter.specs.Calls.{make_object, run_transition, virtual_transition}
 use Rattle.interpreter.specs.Instructions.{MachineTransition, link_of, linked_transition, method_of, of_calls, of_frames, of_objects, operation_transition}
@@ -33,14 +33,14 @@ module _ (tree : Tree) (mutator : Mutator) (m : Frames) (o : Objects) (ss : List
 
   -- what its link does
   pub link_does : (op : Operation) (l : LinkedInstruction) → link_of tree m op ≡ Some l → operation_transition tree mutator op m o ss c ≡ transition l
-  link_does op l is = ap (λ x. given x transition) is
+  link_does op l is = ap (λ x. when_some x transition) is
 
   -- where it has a result it has a link, and any linked form of it is that
   pub link_is : (found : ClassName × Method) → method_of tree m ≡ Some found → (op : Operation) (l : LinkedInstruction) → IsLinked tree (has_value found) op l → IsSome (operation_transition tree mutator op m o ss c) → link_of tree m op ≡ Some l
   link_is found at op l is there =
-      let wanted = given_some (link_of tree m op) transition there in
-      let named : link tree (has_value found) op ≡ Some wanted.0 = sym (ap (λ x. link tree (option_map_or has_value x false) op) at) ∙ wanted.1 in
-      wanted.1 ∙ ap Some (sym (is wanted.0 named))
+      let required = given_some (link_of tree m op) transition there in
+      let named : link tree (has_value found) op ≡ Some required.0 = sym (ap (λ x. link tree (option_map_or has_value x false) op) at) ∙ required.1 in
+      required.1 ∙ ap Some (sym (is required.0 named))
 
   -- ---- calls, by the methods that they name
 
@@ -52,14 +52,14 @@ module _ (tree : Tree) (mutator : Mutator) (m : Frames) (o : Objects) (ss : List
     pub call_does : (b : Bool) (owner : ℕ) → operation_transition tree mutator (Resolved.Call b owner n) m o ss c ≡ of_calls o ss c (run_transition tree mutator found m o c)
     call_does b owner =
         link_does (Resolved.Call b owner n) (Linked.Call (flat_number tree n.class n.index)) (ap (option_map (λ number. Linked.Call number)) number_is)
-        ∙ ap (λ x. of_calls o ss c (given x (λ run. run_transition tree mutator run m o c))) (method_of_number tree n.class n.index found is)
+        ∙ ap (λ x. of_calls o ss c (when_some x (λ run. run_transition tree mutator run m o c))) (method_of_number tree n.class n.index found is)
 
     -- callvirt
     pub virtual_does : (owner : ℕ) → operation_transition tree mutator (Resolved.CallVirtual owner n) m o ss c ≡ of_calls o ss c (virtual_transition tree mutator found (length (argument_types found.1 found.0)) m o c)
     virtual_does owner =
         link_does (Resolved.CallVirtual owner n) (Linked.CallVirtual (flat_number tree n.class n.index) (length (argument_types found.1 found.0)))
         (ap (option_map (λ (x : ClassName × Method). Linked.CallVirtual (flat_number tree n.class n.index) (length (argument_types x.1 x.0)))) is)
-        ∙ ap (λ x. of_calls o ss c (given x (λ run. virtual_transition tree mutator run (length (argument_types found.1 found.0)) m o c))) (method_of_number tree n.class n.index found is)
+        ∙ ap (λ x. of_calls o ss c (when_some x (λ run. virtual_transition tree mutator run (length (argument_types found.1 found.0)) m o c))) (method_of_number tree n.class n.index found is)
 
     -- newobj
     pub new_does : (class slots : ℕ) → class_in n ≡ Some class → slots_at tree n ≡ Some slots → operation_transition tree mutator (Resolved.NewObject n) m o ss c ≡ of_objects o ss c (make_object tree mutator class slots found m o)
@@ -68,7 +68,7 @@ module _ (tree : Tree) (mutator : Mutator) (m : Frames) (o : Objects) (ss : List
         (ap (option_and_then (λ k. option_and_then (λ s. option_map (λ number. Linked.NewObject k s number) (number_at tree n)) (slots_at tree n))) class_is
         ∙ ap (option_and_then (λ s. option_map (λ number. Linked.NewObject class s number) (number_at tree n))) slots_are
         ∙ ap (option_map (λ number. Linked.NewObject class slots number)) number_is)
-        ∙ ap (λ x. of_objects o ss c (given x (λ run. make_object tree mutator class slots run m o))) (method_of_number tree n.class n.index found is)
+        ∙ ap (λ x. of_objects o ss c (when_some x (λ run. make_object tree mutator class slots run m o))) (method_of_number tree n.class n.index found is)
 
   -- ret
   pub return_does : (found : ClassName × Method) → method_of tree m ≡ Some found → operation_transition tree mutator Resolved.Return m o ss c ≡ of_frames o ss c (return_transition (has_value found) m)

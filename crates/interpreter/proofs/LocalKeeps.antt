@@ -15,7 +15,7 @@ use Rattle.loaded_program.specs.declared.instructions.LinkedInstruction.TheVaria
 use Rattle.threads_monitors.specs.declared.effects.Effect.{Effect}
 use Rattle.threads_monitors.specs.declared.effects.Effect.TheVariants.{Continues, Raises}
 use Rattle.threads_monitors.specs.Frames.{Frames, size, with_argument, with_local, with_pc, with_running, with_stack}
-use Rattle.instructions.specs.Frames.{Transition, binary_result, branch_if, given, in_32_bits, in_64_bits, is_set, jump, value_pushed, result_pushed, one_or_zero, onward, shift_result, store_in, switch_on, to_pc, top_of, unary_result, with_top}
+use Rattle.instructions.specs.Frames.{Transition, binary_result, branch_if, when_some, in_32_bits, in_64_bits, is_set, jump, value_pushed, result_pushed, one_or_zero, onward, shift_result, store_in, switch_on, to_pc, top_of, unary_result, with_top}
 use Rattle.instructions.specs.LocalTransitions.{integers_branch, integers_compared}
 use Rattle.interpreter.specs.Local.{local_link_transition}
 
@@ -69,7 +69,7 @@ module _ (plain : Bool) where
       by_stack [] = none_keeps m
       by_stack (v ∷ rest) = from_other m (with_stack m rest) refl refl (go v (with_stack m rest)) (keeps v rest)
 
-  given_keeps : {X : Type 0} (x : Option X) (m : Frames) (go : X → Transition) → ((a : X) → TransitionKeeps plain m (go a)) → TransitionKeeps plain m (given x go)
+  given_keeps : {X : Type 0} (x : Option X) (m : Frames) (go : X → Transition) → ((a : X) → TransitionKeeps plain m (go a)) → TransitionKeeps plain m (when_some x go)
   given_keeps None m go keeps = none_keeps m
   given_keeps (Some a) m go keeps = keeps a
 
@@ -87,12 +87,12 @@ module _ (plain : Bool) where
   switch_keeps pcs (Native z) m = none_keeps m
   switch_keeps pcs (Ref a) m = none_keeps m
 
-  one_keeps : {X : Type 0} (f : Value → Option X) (go : X → Frames → Transition) → ((x : X) (k : Frames) → TransitionKeeps plain k (go x k)) → (m : Frames) → TransitionKeeps plain m (with_top m (λ v n. given (f v) (λ x. go x n)))
-  one_keeps f go keeps m = top_keeps m (λ v n. given (f v) (λ x. go x n)) (λ v rest. given_keeps (f v) (with_stack m rest) (λ x. go x (with_stack m rest)) (λ x. keeps x (with_stack m rest)))
+  one_keeps : {X : Type 0} (f : Value → Option X) (go : X → Frames → Transition) → ((x : X) (k : Frames) → TransitionKeeps plain k (go x k)) → (m : Frames) → TransitionKeeps plain m (with_top m (λ v n. when_some (f v) (λ x. go x n)))
+  one_keeps f go keeps m = top_keeps m (λ v n. when_some (f v) (λ x. go x n)) (λ v rest. given_keeps (f v) (with_stack m rest) (λ x. go x (with_stack m rest)) (λ x. keeps x (with_stack m rest)))
 
   two_keeps : {X : Type 0} (f : Value → Value → Option X) (go : X → Frames → Transition) → ((x : X) (k : Frames) → TransitionKeeps plain k (go x k)) → (m : Frames) →
-      TransitionKeeps plain m (with_top m (λ w n. with_top n (λ v k. given (f v w) (λ x. go x k))))
-  two_keeps f go keeps m = top_keeps m (λ w n. with_top n (λ v k. given (f v w) (λ x. go x k))) (λ w rest. one_keeps (λ v. f v w) go keeps (with_stack m rest))
+      TransitionKeeps plain m (with_top m (λ w n. with_top n (λ v k. when_some (f v w) (λ x. go x k))))
+  two_keeps f go keeps m = top_keeps m (λ w n. with_top n (λ v k. when_some (f v w) (λ x. go x k))) (λ w rest. one_keeps (λ v. f v w) go keeps (with_stack m rest))
 
 result_keeps : (r : Result Value Fault) (m : Frames) → TransitionKeeps false m (result_pushed m r)
 result_keeps (Ok v) m x e = leaves_keeps false v m x e

@@ -22,7 +22,7 @@ use Rattle.threads_monitors.specs.declared.mutators.Mutator.{Mutator}
 use Rattle.threads_monitors.specs.declared.effects.Effect.{Effect}
 use Rattle.threads_monitors.specs.declared.effects.Effect.TheVariants.{Continues}
 use Rattle.threads_monitors.specs.Frames.{Frame, Frames, size, with_argument, with_local, with_pc, with_stack}
-use Rattle.instructions.specs.Frames.{Transition, binary_result, branch_if, branch_test, compare_transition, comparison, branch_compare_transition, given, in_32_bits, in_64_bits, is_set, jump, value_pushed, result_pushed, one_or_zero, onward, shift_result, store_in, switch_on, to_pc, top_of, unary_result, with_top}
+use Rattle.instructions.specs.Frames.{Transition, binary_result, branch_if, branch_test, compare_transition, comparison, branch_compare_transition, when_some, in_32_bits, in_64_bits, is_set, jump, value_pushed, result_pushed, one_or_zero, onward, shift_result, store_in, switch_on, to_pc, top_of, unary_result, with_top}
 use Rattle.instructions.specs.LocalTransitions.{branch_integers_transition, compare_integers_transition, integers_branch, integers_compared, is_ordered, is_ordered_branch}
 use Rattle.interpreter.specs.Instructions.{linked_transition, of_frames}
 use Rattle.interpreter.specs.Local.{is_local_link, local_link_transition}
@@ -66,7 +66,7 @@ module _ (below : List Frame) (depth : ℕ) where
       by_stack (v ∷ rest) = moves v (with_stack m rest)
 
   -- with what is there
-  given_moves : {X : Type 0} (x : Option X) (go go' : X → Transition) → ((a : X) → go' a ≡ moved_transition (go a)) → given x go' ≡ moved_transition (given x go)
+  given_moves : {X : Type 0} (x : Option X) (go go' : X → Transition) → ((a : X) → go' a ≡ moved_transition (go a)) → when_some x go' ≡ moved_transition (when_some x go)
   given_moves None go go' moves = refl
   given_moves (Some a) go go' moves = moves a
 
@@ -93,15 +93,15 @@ module _ (below : List Frame) (depth : ℕ) where
 
   -- one value for another
   one_moves : {X : Type 0} (f : Value → Option X) (go : X → Frames → Transition) → ((x : X) (k : Frames) → go x (moved k) ≡ moved_transition (go x k)) → (m : Frames) →
-      with_top (moved m) (λ v n. given (f v) (λ x. go x n)) ≡ moved_transition (with_top m (λ v n. given (f v) (λ x. go x n)))
+      with_top (moved m) (λ v n. when_some (f v) (λ x. go x n)) ≡ moved_transition (with_top m (λ v n. when_some (f v) (λ x. go x n)))
   one_moves f go moves m =
-      top_moves m (λ v n. given (f v) (λ x. go x n)) (λ v n. given (f v) (λ x. go x n)) (λ v k. given_moves (f v) (λ x. go x k) (λ x. go x (moved k)) (λ x. moves x k))
+      top_moves m (λ v n. when_some (f v) (λ x. go x n)) (λ v n. when_some (f v) (λ x. go x n)) (λ v k. given_moves (f v) (λ x. go x k) (λ x. go x (moved k)) (λ x. moves x k))
 
   -- and two for one
   two_moves : {X : Type 0} (f : Value → Value → Option X) (go : X → Frames → Transition) → ((x : X) (k : Frames) → go x (moved k) ≡ moved_transition (go x k)) → (m : Frames) →
-      with_top (moved m) (λ w n. with_top n (λ v k. given (f v w) (λ x. go x k))) ≡ moved_transition (with_top m (λ w n. with_top n (λ v k. given (f v w) (λ x. go x k))))
+      with_top (moved m) (λ w n. with_top n (λ v k. when_some (f v w) (λ x. go x k))) ≡ moved_transition (with_top m (λ w n. with_top n (λ v k. when_some (f v w) (λ x. go x k))))
   two_moves f go moves m =
-      top_moves m (λ w n. with_top n (λ v k. given (f v w) (λ x. go x k))) (λ w n. with_top n (λ v k. given (f v w) (λ x. go x k)))
+      top_moves m (λ w n. with_top n (λ v k. when_some (f v w) (λ x. go x k))) (λ w n. with_top n (λ v k. when_some (f v w) (λ x. go x k)))
       (λ w n. one_moves (λ v. f v w) go moves n)
 
   -- each local instruction
@@ -191,14 +191,14 @@ module _ (phase : Phase) (o : Objects) where
 
   -- two operands, by two tests that agree
   two_alike : {X : Type 0} (f g : Value → Value → Option X) (go : X → Frames → Transition) → ((v w : Value) → f v w ≡ g v w) → (m : Frames) →
-      with_top m (λ w n. with_top n (λ v k. given (f v w) (λ x. go x k))) ≡ with_top m (λ w n. with_top n (λ v k. given (g v w) (λ x. go x k)))
+      with_top m (λ w n. with_top n (λ v k. when_some (f v w) (λ x. go x k))) ≡ with_top m (λ w n. with_top n (λ v k. when_some (g v w) (λ x. go x k)))
   two_alike f g go alike m = by_stack m.running.stack
     where
-      by_rest : (w : Value) (n : Frames) (stack : List Value) → top_of stack n (λ v k. given (f v w) (λ x. go x k)) ≡ top_of stack n (λ v k. given (g v w) (λ x. go x k))
+      by_rest : (w : Value) (n : Frames) (stack : List Value) → top_of stack n (λ v k. when_some (f v w) (λ x. go x k)) ≡ top_of stack n (λ v k. when_some (g v w) (λ x. go x k))
       by_rest w n [] = refl
-      by_rest w n (v ∷ rest) = ap (λ r. given r (λ x. go x (with_stack n rest))) (alike v w)
+      by_rest w n (v ∷ rest) = ap (λ r. when_some r (λ x. go x (with_stack n rest))) (alike v w)
 
-      by_stack : (stack : List Value) → top_of stack m (λ w n. with_top n (λ v k. given (f v w) (λ x. go x k))) ≡ top_of stack m (λ w n. with_top n (λ v k. given (g v w) (λ x. go x k)))
+      by_stack : (stack : List Value) → top_of stack m (λ w n. with_top n (λ v k. when_some (f v w) (λ x. go x k))) ≡ top_of stack m (λ w n. with_top n (λ v k. when_some (g v w) (λ x. go x k)))
       by_stack [] = refl
       by_stack (w ∷ rest) = by_rest w (with_stack m rest) rest
 

@@ -18,7 +18,7 @@ use Rattle.threads_monitors.specs.declared.effects.Effect.TheVariants.{Continues
 use Rattle.threads_monitors.specs.Frames.{Frame, Frames}
 use Rattle.instructions.specs.Frames.{Transition}
 use Rattle.instructions.specs.LocalTransitions.{IsFaulty}
-use Rattle.interpreter.specs.declared.outcomes.Outcome.TheVariants.{Comes}
+use Rattle.interpreter.specs.declared.outcomes.InstructionOutcome.TheVariants.{OwnEffect}
 use Rattle.interpreter.specs.Instructions.{IsAt, IsDone, answer_of, link_of, linked_transition, of_frames, operation_transition}
 use Rattle.interpreter.specs.Local.{EndsLocal, IsLocalStep, IsNextLocal, IsReadySomewhere, alone, frames_over, is_local, is_local_link, local_link_transition}
 use Rattle.interpreter.proofs.Executing.{linked_here}
@@ -39,7 +39,7 @@ module _ (tree : Tree) (room : ℕ) (f : Frame) (l : LinkedInstruction) (at : Is
   op = at.linked.operation
 
   at_over : (below : List Frame) (depth : ℕ) → IsAt tree (frames_over f below depth room) op
-  at_over below depth = record { found = at.found; line = at.line; found_is = at.found_is; line_is = at.line_is; stands = at.linked.stands }
+  at_over below depth = record { found = at.found; line = at.line; found_is = at.found_is; line_is = at.line_is; refines = at.linked.refines }
 
   -- where it is ready
   abbrev somewhere : Frames
@@ -73,7 +73,7 @@ module _ (tree : Tree) (room : ℕ) (f : Frame) (l : LinkedInstruction) (at : Is
     on_linked = local_is tree mutator here o statics printed l local ∙ ap (of_frames o statics printed) (local_moves below depth l (alone room f))
 
     pub done_here : (m : Frames) (e : Effect) → local_link_transition l (alone room f) ≡ Some (m, e) →
-        IsDone tree mutator here o statics printed (answer_of (record m { below = below; depth = depth }) o statics printed (Comes e))
+        IsDone tree mutator here o statics printed (answer_of (record m { below = below; depth = depth }) o statics printed (OwnEffect e))
     done_here m e is = record {
       operation = op;
       at = at_over below depth;
@@ -92,7 +92,7 @@ module _ (tree : Tree) (room : ℕ) (f : Frame) (l : LinkedInstruction) (at : Is
     at = at_over [] 1;
     local = sym is_alike ∙ local;
     done = λ below depth mutator o statics printed.
-        subst (λ (k : Frames). IsDone tree mutator (frames_over f below depth room) o statics printed (answer_of k o statics printed (Comes Continues)))
+        subst (λ (k : Frames). IsDone tree mutator (frames_over f below depth room) o statics printed (answer_of k o statics printed (OwnEffect Continues)))
         (ap (λ (k : Frames). record k { below = below; depth = depth }) same) (done_here local below depth mutator o statics printed m Continues is);
   }
 

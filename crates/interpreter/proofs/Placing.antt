@@ -96,6 +96,6 @@ module _ (tree : Tree) (m : Frames) where
               line = here.line;
               found_is = here.found_is;
               line_is = here.line_is;
-              stands = subst (λ ls. IsOperation tree ls here.line.instruction operation.0) (sym lines) operation.2;
+              refines = subst (λ ls. IsOperation tree ls here.line.instruction operation.0) (sym lines) operation.2;
             };
           }

@@ -13,14 +13,14 @@ use Rattle.loaded_program.proofs.OperandLaws.{then_some}
 use Rattle.threads_monitors.specs.declared.mutators.Mutator.{Mutator}
 use Rattle.threads_monitors.specs.Frames.{Frames}
 use Rattle.threads_monitors.specs.declared.effects.Effect.TheVariants.{Raises}
-use Rattle.instructions.specs.Frames.{given}
-use Rattle.interpreter.specs.declared.outcomes.Outcome.TheVariants.{Comes}
+use Rattle.instructions.specs.Frames.{when_some}
+use Rattle.interpreter.specs.declared.outcomes.InstructionOutcome.TheVariants.{OwnEffect}
 use Rattle.interpreter.specs.Calls.{CallTransition, call_answer, call_by_id, chosen_method, chosen_by, class_at, receiver, run_on, run_transition, virtual_by_id}
 use Rattle.interpreter.proofs.Running.{given_some}
 
 module _ (tree : Tree) (mutator : Mutator) (number operands : ℕ) (m : Frames) (o : Objects) (console : List ℕ) where
   abbrev pub null_raised : CallTransition
-  null_raised = Some (call_answer m o console (Comes (Raises NullReference)))
+  null_raised = Some (call_answer m o console (OwnEffect (Raises NullReference)))
 
   abbrev runs : ClassName × Method → CallTransition
   runs run = run_transition tree mutator run m o console
@@ -38,7 +38,7 @@ module _ (tree : Tree) (mutator : Mutator) (number operands : ℕ) (m : Frames) 
 
   pub receiving : IsSome (virtual_by_id tree mutator number operands m o console) → Receiving
   receiving there =
-      let found = given_some (slice_get (all_methods tree) number) (λ found. given (receiver m.running.stack operands) (received found)) there in
+      let found = given_some (slice_get (all_methods tree) number) (λ found. when_some (receiver m.running.stack operands) (received found)) there in
       let object = given_some (receiver m.running.stack operands) (received found.0) (subst IsSome found.2 there) in
       record { found = found.0; object = object.0; found_is = found.1; object_is = object.1; whole = found.2 ∙ object.2 }
 
@@ -54,7 +54,7 @@ module _ (tree : Tree) (mutator : Mutator) (number operands : ℕ) (m : Frames) 
 
     -- null
     pub on_null : (a.number == 0) ≡ true → virtual_by_id tree mutator number operands m o console ≡ null_raised
-    on_null null = same ∙ ap (λ (b : Bool). if b then null_raised else given (chosen_method tree o a call.found) runs) null
+    on_null null = same ∙ ap (λ (b : Bool). if b then null_raised else when_some (chosen_method tree o a call.found) runs) null
 
     -- or an object: its class, and the method that runs on objects of that
     pub record Choosing : Type 0 where
@@ -66,8 +66,8 @@ module _ (tree : Tree) (mutator : Mutator) (number operands : ℕ) (m : Frames) 
 
     pub choosing : (a.number == 0) ≡ false → Choosing
     choosing object =
-        let whole : virtual_by_id tree mutator number operands m o console ≡ given (chosen_method tree o a call.found) runs =
-        same ∙ ap (λ (b : Bool). if b then null_raised else given (chosen_method tree o a call.found) runs) object in
+        let whole : virtual_by_id tree mutator number operands m o console ≡ when_some (chosen_method tree o a call.found) runs =
+        same ∙ ap (λ (b : Bool). if b then null_raised else when_some (chosen_method tree o a call.found) runs) object in
         let run = given_some (chosen_method tree o a call.found) runs (subst IsSome whole there) in
         let class = then_some (chosen_by tree call.found) (class_at o a) run.0 run.1 in
         record {
@@ -86,7 +86,7 @@ module _ (tree : Tree) (mutator : Mutator) (number operands : ℕ) (m : Frames) 
         let e = choice.class_is in
         let one : choice.class ≡ class = cc in
         let there : slice_get (all_methods tree) target ≡ Some choice.run = target_is ∙ ap (target_in tree number) (sym one) ∙ choice.run_is in
-        choice.whole ∙ sym (ap (λ x. given x runs) there)
+        choice.whole ∙ sym (ap (λ x. when_some x runs) there)
 
     pub target_there : (object : (a.number == 0) ≡ false) (class : Option ℕ) → class_at o a ≡ Some class → IsSome (target_in tree number class)
     target_there object class class_is =

@@ -16,7 +16,7 @@ use Rattle.loaded_program.specs.AllMethods.{all_methods}
 use Rattle.loaded_program.specs.MethodNumbers.{number_of}
 use Rattle.threads_monitors.specs.declared.mutators.Mutator.{Mutator}
 use Rattle.threads_monitors.specs.Frames.{Frames}
-use Rattle.instructions.specs.Frames.{Transition, given}
+use Rattle.instructions.specs.Frames.{Transition, when_some}
 use Rattle.instructions.specs.ObjectTransitions.{beside}
 use Rattle.instructions.specs.Calls.{call_transition, new_object_transition, new_plain_object_transition}
 use Rattle.interpreter.specs.Calls.{act_transition, beside_console, call_by_id, called_as, make_object, made_by_id, run_transition}
@@ -32,11 +32,11 @@ mapped_there f (Some x) there = refl
 mapped_there f None there = there
 
 -- what is given is passed on
-pub given_some : {X R : Type 0} (o : Option X) (go : X → Option R) → IsSome (given o go) → (x : X) × (o ≡ Some x) × (given o go ≡ go x)
+pub given_some : {X R : Type 0} (o : Option X) (go : X → Option R) → IsSome (when_some o go) → (x : X) × (o ≡ Some x) × (when_some o go ≡ go x)
 given_some (Some x) go there = (x, refl, refl)
 given_some None go there = absurd cc
 
-pub given_there : {X R : Type 0} (o : Option X) (go : X → Option R) → IsSome (given o go) → IsSome o
+pub given_there : {X R : Type 0} (o : Option X) (go : X → Option R) → IsSome (when_some o go) → IsSome o
 given_there (Some x) go there = refl
 given_there None go there = there
 
@@ -51,33 +51,33 @@ called_alike tree found entry k locals known same =
 
 module _ (tree : Tree) (mutator : Mutator) (n : ℕ) (found : ClassName × Method) (at : slice_get (all_methods tree) n ≡ Some found) (m : Frames) (o : Objects) (console : List ℕ) where
   pub runs_found : call_by_id tree mutator n m o console ≡ run_transition tree mutator found m o console
-  runs_found = ap (λ x. given x (λ f. run_transition tree mutator f m o console)) at
+  runs_found = ap (λ x. when_some x (λ f. run_transition tree mutator f m o console)) at
 
   pub run_acts : (a : Action) → action_of found.0 found.1 ≡ Some a → call_by_id tree mutator n m o console ≡ act_transition tree mutator a m o console
   run_acts a is =
       runs_found
-      ∙ ap (λ x. option_map_or (λ b. act_transition tree mutator b m o console) x (given (number_of tree found) (λ k. beside_console console (beside o (call_transition (called_as found k) m))))) is
+      ∙ ap (λ x. option_map_or (λ b. act_transition tree mutator b m o console) x (when_some (number_of tree found) (λ k. beside_console console (beside o (call_transition (called_as found k) m))))) is
 
   pub run_calls : action_of found.0 found.1 ≡ None → number_of tree found ≡ Some n → call_by_id tree mutator n m o console ≡ beside_console console (beside o (call_transition (called_as found n) m))
-  run_calls is numbered =
+  run_calls is has_id =
       runs_found
-      ∙ ap (λ x. option_map_or (λ b. act_transition tree mutator b m o console) x (given (number_of tree found) (λ k. beside_console console (beside o (call_transition (called_as found k) m))))) is
-      ∙ ap (λ x. given x (λ k. beside_console console (beside o (call_transition (called_as found k) m)))) numbered
+      ∙ ap (λ x. option_map_or (λ b. act_transition tree mutator b m o console) x (when_some (number_of tree found) (λ k. beside_console console (beside o (call_transition (called_as found k) m))))) is
+      ∙ ap (λ x. when_some x (λ k. beside_console console (beside o (call_transition (called_as found k) m)))) has_id
 
   pub call_there : (t : Transition) → IsSome (beside_console console (beside o t)) → IsSome t
   call_there t there = mapped_there _ t (mapped_there _ (beside o t) there)
 
   module _ (class slots : ℕ) where
     made_found : made_by_id tree mutator class slots n m o ≡ make_object tree mutator class slots found m o
-    made_found = ap (λ x. given x (λ f. make_object tree mutator class slots f m o)) at
+    made_found = ap (λ x. when_some x (λ f. make_object tree mutator class slots f m o)) at
 
     pub made_plain : (a : Action) → action_of found.0 found.1 ≡ Some a → made_by_id tree mutator class slots n m o ≡ new_plain_object_transition mutator.phase class slots m o
     made_plain a is =
         made_found
-        ∙ ap (λ x. option_map_or (λ b. new_plain_object_transition mutator.phase class slots m o) x (given (number_of tree found) (λ k. new_object_transition mutator.phase class slots (called_as found k) m o))) is
+        ∙ ap (λ x. option_map_or (λ b. new_plain_object_transition mutator.phase class slots m o) x (when_some (number_of tree found) (λ k. new_object_transition mutator.phase class slots (called_as found k) m o))) is
 
     pub made_called : action_of found.0 found.1 ≡ None → number_of tree found ≡ Some n → made_by_id tree mutator class slots n m o ≡ new_object_transition mutator.phase class slots (called_as found n) m o
-    made_called is numbered =
+    made_called is has_id =
         made_found
-        ∙ ap (λ x. option_map_or (λ b. new_plain_object_transition mutator.phase class slots m o) x (given (number_of tree found) (λ k. new_object_transition mutator.phase class slots (called_as found k) m o))) is
-        ∙ ap (λ x. given x (λ k. new_object_transition mutator.phase class slots (called_as found k) m o)) numbered
+        ∙ ap (λ x. option_map_or (λ b. new_plain_object_transition mutator.phase class slots m o) x (when_some (number_of tree found) (λ k. new_object_transition mutator.phase class slots (called_as found k) m o))) is
+        ∙ ap (λ x. when_some x (λ k. new_object_transition mutator.phase class slots (called_as found k) m o)) has_id

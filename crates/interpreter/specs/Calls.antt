@@ -27,21 +27,21 @@ use Rattle.threads_monitors.specs.Frames.{Frames}
 use Rattle.threads_monitors.specs.declared.effects.Effect.{Effect}
 use Rattle.threads_monitors.specs.declared.effects.Effect.TheVariants.{Raises}
 pub use Rattle.loaded_program.specs.Loaded.{chosen_by}
-use Rattle.instructions.specs.Frames.{given, with_top, onward}
+use Rattle.instructions.specs.Frames.{when_some, with_top, onward}
 use Rattle.instructions.specs.ObjectTransitions.{ObjectTransition, beside}
 use Rattle.instructions.specs.Calls.{Called, call_transition, new_object_transition, new_plain_object_transition}
 use Rattle.instructions.specs.BuiltInTransitions.{enter_transition, exit_transition, write_transition}
-use Rattle.interpreter.specs.declared.outcomes.Outcome.{Outcome}
-use Rattle.interpreter.specs.declared.outcomes.Outcome.TheVariants.{Comes, Starts, Joins}
+use Rattle.interpreter.specs.declared.outcomes.InstructionOutcome.{InstructionOutcome}
+use Rattle.interpreter.specs.declared.outcomes.InstructionOutcome.TheVariants.{OwnEffect, Starts, Joins}
 
 -- the frames, the objects and the printed bytes after an instruction, and its outcome
 pub record CallAnswer : Type 0 where
   pub frames : Frames
   pub objects : Objects
   pub printed : List ℕ
-  pub outcome : Outcome
+  pub outcome : InstructionOutcome
 
-abbrev pub call_answer : Frames → Objects → List ℕ → Outcome → CallAnswer
+abbrev pub call_answer : Frames → Objects → List ℕ → InstructionOutcome → CallAnswer
 call_answer m o console outcome = record { frames = m; objects = o; printed = console; outcome = outcome }
 
 -- or there is none
@@ -50,7 +50,7 @@ CallTransition = Option CallAnswer
 
 -- a transition of frames and objects beside the printed bytes
 abbrev pub beside_console : List ℕ → ObjectTransition → CallTransition
-beside_console console transition = option_map (λ (t : Frames × Objects × Effect). call_answer t.0 t.1 console (Comes t.2)) transition
+beside_console console transition = option_map (λ (t : Frames × Objects × Effect). call_answer t.0 t.1 console (OwnEffect t.2)) transition
 
 -- whether a rule has a result that prints: there are more bytes than there were
 abbrev pub prints : List ℕ → CallTransition → Bool
@@ -64,13 +64,13 @@ top_reference (Ref a ∷ rest) = Some a
 top_reference _ = None
 
 -- asks for something of another thread; the operand stays until it is done
-abbrev pub asks : (Addr → Outcome) → Frames → Objects → List ℕ → CallTransition
+abbrev pub asks : (Addr → InstructionOutcome) → Frames → Objects → List ℕ → CallTransition
 asks what m o console = option_map (λ a. call_answer m o console (what a)) (top_reference m.running.stack)
 
 -- what a member without code does
 abbrev pub act_transition : Tree → Mutator → Action → Frames → Objects → List ℕ → CallTransition
 act_transition tree mutator Construct m o console = with_top m (λ v n. beside_console console (beside o (onward n)))
-act_transition tree mutator Write m o console = option_map (λ (t : Frames × List ℕ × Effect). call_answer t.0 o t.1 (Comes t.2)) (write_transition (literals_of tree) console m)
+act_transition tree mutator Write m o console = option_map (λ (t : Frames × List ℕ × Effect). call_answer t.0 o t.1 (OwnEffect t.2)) (write_transition (literals_of tree) console m)
 act_transition tree mutator Enter m o console = beside_console console (enter_transition mutator m o)
 act_transition tree mutator Exit m o console = beside_console console (exit_transition mutator m o)
 act_transition tree mutator Start m o console = asks Starts m o console
@@ -86,11 +86,11 @@ called_as found n = record { method = n; arguments = length (argument_types foun
 abbrev pub run_transition : Tree → Mutator → ClassName × Method → Frames → Objects → List ℕ → CallTransition
 run_transition tree mutator found m o console =
     option_map_or (λ a. act_transition tree mutator a m o console) (action_of found.0 found.1)
-    (given (number_of tree found) (λ n. beside_console console (beside o (call_transition (called_as found n) m))))
+    (when_some (number_of tree found) (λ n. beside_console console (beside o (call_transition (called_as found n) m))))
 
 -- the same of the method of a flat number
 abbrev pub call_by_id : Tree → Mutator → ℕ → Frames → Objects → List ℕ → CallTransition
-call_by_id tree mutator number m o console = given (slice_get (all_methods tree) number) (λ found. run_transition tree mutator found m o console)
+call_by_id tree mutator number m o console = when_some (slice_get (all_methods tree) number) (λ found. run_transition tree mutator found m o console)
 
 -- the number of the class of an object of this kind; an array has none
 abbrev pub class_of_kind : Kind → Option ℕ
@@ -121,23 +121,23 @@ receiver stack (suc n) = receiver_in (slice_get stack n)
 -- the method runs that an object has for the named one; null raises NullReference (III.4.2)
 abbrev pub run_on : Tree → Mutator → ClassName × Method → Addr → Frames → Objects → List ℕ → CallTransition
 run_on tree mutator found a m o console =
-    if a.number == 0 then Some (call_answer m o console (Comes (Raises NullReference)))
-    else given (chosen_method tree o a found) (λ run. run_transition tree mutator run m o console)
+    if a.number == 0 then Some (call_answer m o console (OwnEffect (Raises NullReference)))
+    else when_some (chosen_method tree o a found) (λ run. run_transition tree mutator run m o console)
 
 -- a virtual call of a method with this number of operands (III.4.2)
 abbrev pub virtual_transition : Tree → Mutator → ClassName × Method → ℕ → Frames → Objects → List ℕ → CallTransition
-virtual_transition tree mutator found operands m o console = given (receiver m.running.stack operands) (λ a. run_on tree mutator found a m o console)
+virtual_transition tree mutator found operands m o console = when_some (receiver m.running.stack operands) (λ a. run_on tree mutator found a m o console)
 
 -- of the method of a flat number
 abbrev pub virtual_by_id : Tree → Mutator → ℕ → ℕ → Frames → Objects → List ℕ → CallTransition
-virtual_by_id tree mutator number operands m o console = given (slice_get (all_methods tree) number) (λ found. virtual_transition tree mutator found operands m o console)
+virtual_by_id tree mutator number operands m o console = when_some (slice_get (all_methods tree) number) (λ found. virtual_transition tree mutator found operands m o console)
 
 -- an object of a class with this number of slots, at once where its constructor is built in (III.4.21)
 abbrev pub make_object : Tree → Mutator → ℕ → ℕ → ClassName × Method → Frames → Objects → ObjectTransition
 make_object tree mutator class slots found m o =
     option_map_or (λ a. new_plain_object_transition mutator.phase class slots m o) (action_of found.0 found.1)
-    (given (number_of tree found) (λ n. new_object_transition mutator.phase class slots (called_as found n) m o))
+    (when_some (number_of tree found) (λ n. new_object_transition mutator.phase class slots (called_as found n) m o))
 
 -- the same with the constructor of a flat number
 abbrev pub made_by_id : Tree → Mutator → ℕ → ℕ → ℕ → Frames → Objects → ObjectTransition
-made_by_id tree mutator class slots number m o = given (slice_get (all_methods tree) number) (λ found. make_object tree mutator class slots found m o)
+made_by_id tree mutator class slots number m o = when_some (slice_get (all_methods tree) number) (λ found. make_object tree mutator class slots found m o)

@@ -22,12 +22,12 @@ pub use Rattle.loaded_program.specs.Operands.{HasSmallConstant}
 use Rattle.threads_monitors.specs.declared.mutators.Mutator.{Mutator}
 use Rattle.threads_monitors.specs.declared.effects.Effect.{Effect}
 use Rattle.threads_monitors.specs.Frames.{Frames}
-use Rattle.instructions.specs.Frames.{Transition, given, jump, onward, value_pushed, argument_transition, local_transition, store_argument_transition, store_local_transition, duplicate_transition, pop_transition, binary_transition, unary_transition, shift_transition, compare_transition, convert_32_transition, convert_64_transition, branch_true_transition, branch_false_transition, branch_compare_transition, switch_transition}
+use Rattle.instructions.specs.Frames.{Transition, when_some, jump, onward, value_pushed, argument_transition, local_transition, store_argument_transition, store_local_transition, duplicate_transition, pop_transition, binary_transition, unary_transition, shift_transition, compare_transition, convert_32_transition, convert_64_transition, branch_true_transition, branch_false_transition, branch_compare_transition, switch_transition}
 use Rattle.instructions.specs.ObjectTransitions.{ObjectTransition, StaticTransition, load_field_transition, store_field_transition, load_length_transition, load_element_transition, store_element_transition, new_array_transition, load_static_transition, store_static_transition}
 use Rattle.instructions.specs.TypeTransitions.{cast_class_transition, is_instance_transition, store_reference_transition}
 use Rattle.instructions.specs.Calls.{return_transition}
-use Rattle.interpreter.specs.declared.outcomes.Outcome.{Outcome}
-use Rattle.interpreter.specs.declared.outcomes.Outcome.TheVariants.{Comes}
+use Rattle.interpreter.specs.declared.outcomes.InstructionOutcome.{InstructionOutcome}
+use Rattle.interpreter.specs.declared.outcomes.InstructionOutcome.TheVariants.{OwnEffect}
 use Rattle.interpreter.specs.Calls.{CallAnswer, CallTransition, call_by_id, made_by_id, virtual_by_id}
 
 -- the frames of the thread, the objects, the static fields and the printed bytes after an instruction, and its outcome
@@ -36,9 +36,9 @@ pub record Answer : Type 0 where
   pub objects : Objects
   pub statics : List Value
   pub printed : List ℕ
-  pub outcome : Outcome
+  pub outcome : InstructionOutcome
 
-abbrev pub answer_of : Frames → Objects → List Value → List ℕ → Outcome → Answer
+abbrev pub answer_of : Frames → Objects → List Value → List ℕ → InstructionOutcome → Answer
 answer_of m o statics console outcome = record { frames = m; objects = o; statics = statics; printed = console; outcome = outcome }
 
 -- or there is none
@@ -48,15 +48,15 @@ MachineTransition = Option Answer
 module _ (o : Objects) (statics : List Value) (console : List ℕ) where
   -- what changes the frames alone
   abbrev pub of_frames : Transition → MachineTransition
-  of_frames transition = option_map (λ (t : Frames × Effect). answer_of t.0 o statics console (Comes t.1)) transition
+  of_frames transition = option_map (λ (t : Frames × Effect). answer_of t.0 o statics console (OwnEffect t.1)) transition
 
   -- what changes objects too
   abbrev pub of_objects : ObjectTransition → MachineTransition
-  of_objects transition = option_map (λ (t : Frames × Objects × Effect). answer_of t.0 t.1 statics console (Comes t.2)) transition
+  of_objects transition = option_map (λ (t : Frames × Objects × Effect). answer_of t.0 t.1 statics console (OwnEffect t.2)) transition
 
   -- or static fields
   abbrev pub of_statics : StaticTransition → MachineTransition
-  of_statics transition = option_map (λ (t : Frames × (Objects × List Value) × Effect). answer_of t.0 t.1.0 t.1.1 console (Comes t.2)) transition
+  of_statics transition = option_map (λ (t : Frames × (Objects × List Value) × Effect). answer_of t.0 t.1.0 t.1.1 console (OwnEffect t.2)) transition
 
   -- or the printed bytes
   abbrev pub of_calls : CallTransition → MachineTransition
@@ -128,7 +128,7 @@ link_of tree m op = link tree (returns_value tree m) op
 
 -- a resolved instruction does what its link does
 abbrev pub operation_transition : Tree → Mutator → Operation → Frames → Objects → List Value → List ℕ → MachineTransition
-operation_transition tree mutator op m o ss c = given (link_of tree m op) (λ l. linked_transition tree mutator l m o ss c)
+operation_transition tree mutator op m o ss c = when_some (link_of tree m op) (λ l. linked_transition tree mutator l m o ss c)
 
 -- a resolved instruction that represents the one there
 pub record IsAt (tree : Tree) (m : Frames) (op : Operation) : Type 0 where
@@ -136,7 +136,7 @@ pub record IsAt (tree : Tree) (m : Frames) (op : Operation) : Type 0 where
   pub line : Line
   pub found_is : method_of tree m ≡ Some found
   pub line_is : slice_get (lines_of found.1) m.running.pc ≡ Some line
-  pub stands : IsOperation tree (lines_of found.1) line.instruction op
+  pub refines : IsOperation tree (lines_of found.1) line.instruction op
 
 -- what a thread's next instruction has done: its result is that of a resolved instruction there
 pub record IsDone (tree : Tree) (mutator : Mutator) (m : Frames) (o : Objects) (ss : List Value) (c : List ℕ) (answer : Answer) : Type 0 where

@@ -16,7 +16,7 @@ use Rattle.threads_monitors.specs.declared.effects.Effect.TheVariants.{Continues
 use Rattle.threads_monitors.specs.Frames.{Frame, Frames}
 use Rattle.instructions.specs.Frames.{Transition, jump, onward, value_pushed, argument_transition, local_transition, store_argument_transition, store_local_transition, duplicate_transition, pop_transition, binary_transition, unary_transition, shift_transition, convert_32_transition, convert_64_transition, branch_true_transition, branch_false_transition, switch_transition}
 use Rattle.instructions.specs.LocalTransitions.{branch_integers_transition, compare_integers_transition, is_ordered, is_ordered_branch}
-use Rattle.interpreter.specs.declared.outcomes.Outcome.TheVariants.{Comes}
+use Rattle.interpreter.specs.declared.outcomes.InstructionOutcome.TheVariants.{OwnEffect}
 use Rattle.interpreter.specs.Instructions.{HasSmallConstant, IsAt, IsDone, answer_of, line_at, link_of, operation_transition}
 
 -- ---- which they are
@@ -68,7 +68,7 @@ pub record IsLocalStep (tree : Tree) (room : ℕ) (f g : Frame) : Type 0 where
   pub at : IsAt tree (alone room f) operation
   pub local : is_local tree (alone room f) operation ≡ true
   pub done : (below : List Frame) (depth : ℕ) (mutator : Mutator) (o : Objects) (statics : List Value) (printed : List ℕ) →
-      IsDone tree mutator (frames_over f below depth room) o statics printed (answer_of (frames_over g below depth room) o statics printed (Comes Continues))
+      IsDone tree mutator (frames_over f below depth room) o statics printed (answer_of (frames_over g below depth room) o statics printed (OwnEffect Continues))
 
 -- n of them, one after another
 abbrev pub AreLocalSteps : Tree → (room : ℕ) → ℕ → Frame → Frame → Type 0
@@ -90,7 +90,7 @@ pub record IsFaultyLocal (tree : Tree) (room : ℕ) (f : Frame) : Type 0 where
   pub local : is_local tree (alone room f) operation ≡ true
   pub fault : Fault
   pub raises : (below : List Frame) (depth : ℕ) (mutator : Mutator) (o : Objects) (statics : List Value) (printed : List ℕ) →
-      (m : Frames) × IsDone tree mutator (frames_over f below depth room) o statics printed (answer_of m o statics printed (Comes (Raises fault)))
+      (m : Frames) × IsDone tree mutator (frames_over f below depth room) o statics printed (answer_of m o statics printed (OwnEffect (Raises fault)))
 
 -- local instructions end here
 abbrev pub EndsLocal : Tree → (room : ℕ) → Frame → Type 0

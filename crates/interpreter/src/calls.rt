@@ -5,7 +5,7 @@ ghost use Rattle.loaded_program.specs.Prepared.{action_named};
 ghost use Rattle.interpreter.specs.Calls.{act_transition, call_answer, call_by_id, class_at, made_by_id, prints, receiver, top_reference, virtual_by_id};
 ghost use Rattle.interpreter.specs.Stores.{HoldSame};
 
-use crate::outcomes::Outcome;
+use crate::outcomes::InstructionOutcome;
 use crate::stores::Store;
 use cil_model::memory::NoMemory;
 use cil_model::reports::Fault;
@@ -35,7 +35,7 @@ fn act(
     action: Action,
     frames: &mut FrameMemory,
     store: &mut Store,
-) -> Result<Outcome, NoMemory>
+) -> Result<InstructionOutcome, NoMemory>
     requires { IsSome (act_transition program.now mutator (action_named action) frames.old store.old.heap store.old.console.items) }
     ensures done { IfOk result (λ outcome. Some (call_answer frames.new store.new.heap store.new.console.items outcome) ≡ act_transition program.now mutator (action_named action) frames.old store.old.heap store.old.console.items) }
     ensures statics { store.new.statics.items ≡ store.old.statics.items }
@@ -43,16 +43,24 @@ fn act(
     ensures prints { OnErr result (prints store.old.console.items (act_transition program.now mutator (action_named action) frames.old store.old.heap store.old.console.items) ≡ true) }
 {
     match action {
-        Action::Construct => Ok(Outcome::Comes(stack::pop(frames))),
-        Action::Write => Ok(Outcome::Comes(printing::write(
+        Action::Construct => Ok(InstructionOutcome::OwnEffect(stack::pop(frames))),
+        Action::Write => Ok(InstructionOutcome::OwnEffect(printing::write(
             frames,
             &mut store.console,
             program.program().literals(),
         )?)),
-        Action::Enter => Ok(Outcome::Comes(locks::enter(frames, &mut store.heap, mutator))),
-        Action::Exit => Ok(Outcome::Comes(locks::exit(frames, &mut store.heap, mutator))),
-        Action::Start => Ok(Outcome::Starts(top_reference(frames))),
-        Action::Join => Ok(Outcome::Joins(top_reference(frames))),
+        Action::Enter => Ok(InstructionOutcome::OwnEffect(locks::enter(
+            frames,
+            &mut store.heap,
+            mutator,
+        ))),
+        Action::Exit => Ok(InstructionOutcome::OwnEffect(locks::exit(
+            frames,
+            &mut store.heap,
+            mutator,
+        ))),
+        Action::Start => Ok(InstructionOutcome::Starts(top_reference(frames))),
+        Action::Join => Ok(InstructionOutcome::Joins(top_reference(frames))),
     }
 }
 
@@ -65,7 +73,7 @@ pub(crate) fn run(
     number: u32,
     frames: &mut FrameMemory,
     store: &mut Store,
-) -> Result<Outcome, NoMemory>
+) -> Result<InstructionOutcome, NoMemory>
     requires { IsSome (call_by_id program.now mutator number frames.old store.old.heap store.old.console.items) }
     ensures done { IfOk result (λ outcome. Some (call_answer frames.new store.new.heap store.new.console.items outcome) ≡ call_by_id program.now mutator number frames.old store.old.heap store.old.console.items) }
     ensures statics { store.new.statics.items ≡ store.old.statics.items }
@@ -81,7 +89,7 @@ pub(crate) fn run(
                 arguments: entry.arguments,
                 locals: entry.locals.as_slice(),
             };
-            Ok(Outcome::Comes(call(frames, callee)))
+            Ok(InstructionOutcome::OwnEffect(call(frames, callee)))
         }
     }
 }
@@ -120,7 +128,7 @@ pub(crate) fn run_virtual(
     operands: usize,
     frames: &mut FrameMemory,
     store: &mut Store,
-) -> Result<Outcome, NoMemory>
+) -> Result<InstructionOutcome, NoMemory>
     requires { IsSome (virtual_by_id program.now mutator number operands frames.old store.old.heap store.old.console.items) }
     ensures done { IfOk result (λ outcome. Some (call_answer frames.new store.new.heap store.new.console.items outcome) ≡ virtual_by_id program.now mutator number operands frames.old store.old.heap store.old.console.items) }
     ensures statics { store.new.statics.items ≡ store.old.statics.items }
@@ -129,7 +137,7 @@ pub(crate) fn run_virtual(
 {
     let object = receiver(frames, operands);
     if object.is_null() {
-        return Ok(Outcome::Comes(Effect::Raises(Fault::NullReference)));
+        return Ok(InstructionOutcome::OwnEffect(Effect::Raises(Fault::NullReference)));
     }
     let target = program.target(number, class_number(&store.heap, object));
     run(program, mutator, target, frames, store)

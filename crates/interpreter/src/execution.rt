@@ -5,7 +5,7 @@ ghost use Rattle.interpreter.specs.Instructions.{is_printing, answer_of, linked_
 ghost use Rattle.interpreter.specs.Stores.{HoldSame};
 
 use crate::calls::{create, run, run_virtual};
-use crate::outcomes::Outcome;
+use crate::outcomes::InstructionOutcome;
 use crate::stores::Store;
 use cil_model::memory::NoMemory;
 use instructions::{arithmetic, arrays, branches, casts, control, fields, returns, stack, statics};
@@ -21,7 +21,7 @@ pub(crate) fn execute(
     instruction: &LinkedInstruction,
     frames: &mut FrameMemory,
     store: &mut Store,
-) -> Result<Outcome, NoMemory>
+) -> Result<InstructionOutcome, NoMemory>
     requires { IsSome (linked_transition program.now mutator instruction.now frames.old store.old.heap store.old.statics.items store.old.console.items) }
     ensures done { IfOk result (λ outcome. Some (answer_of frames.new store.new.heap store.new.statics.items store.new.console.items outcome) ≡ linked_transition program.now mutator instruction.now frames.old store.old.heap store.old.statics.items store.old.console.items) }
     ensures refused { OnErr result ((frames.new ≡ frames.old) × HoldSame store.old store.new) }
@@ -153,5 +153,5 @@ pub(crate) fn execute(
         ),
         LinkedInstruction::Return { has_value } => returns::return_from(frames, *has_value),
     };
-    Ok(Outcome::Comes(effect))
+    Ok(InstructionOutcome::OwnEffect(effect))
 }

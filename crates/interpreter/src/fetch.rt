@@ -6,7 +6,7 @@ ghost use Rattle.interpreter.specs.Instructions.{HasSmallConstant, IsAt, IsDone,
 ghost use Rattle.interpreter.specs.Stores.{HoldSame};
 
 use crate::execution::execute;
-use crate::outcomes::Outcome;
+use crate::outcomes::InstructionOutcome;
 use crate::stores::Store;
 use cil_model::memory::NoMemory;
 use loaded_program::LoadedProgram;
@@ -36,7 +36,7 @@ pub fn instruction(
     mutator: Mutator,
     frames: &mut FrameMemory,
     store: &mut Store,
-) -> Result<Outcome, NoMemory>
+) -> Result<InstructionOutcome, NoMemory>
     requires pc { IsSome (line_at program.now frames.old) }
     requires there { (op : AnyOperation) → IsAt program.now frames.old op → HasSmallConstant op → IsSome (operation_transition program.now mutator op frames.old store.old.heap store.old.statics.items store.old.console.items) }
     ensures done { IfOk result (λ outcome. IsDone program.now mutator frames.old store.old.heap store.old.statics.items store.old.console.items (answer_of frames.new store.new.heap store.new.statics.items store.new.console.items outcome)) }

@@ -6,8 +6,8 @@ use threads_monitors::Effect;
 /// The outcome of an instruction for its machine: an effect on its own thread, or a start of a thread on an object or a wait for
 /// one, which need the other threads.
 #[derive(Clone, Copy)]
-pub enum Outcome {
-    Comes(Effect),
+pub enum InstructionOutcome {
+    OwnEffect(Effect),
     Starts(Addr),
     Joins(Addr),
 }

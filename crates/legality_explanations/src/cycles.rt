@@ -64,7 +64,7 @@ fn write_bases<W: fmt::Write>(f: &mut fmt::Formatter<W>, own_base: &OwnBase) -> 
 
 /// A class that is its own base. None where the tree has no such class.
 pub(crate) fn own_base<'a>(names: &'a NameTables<'a>, class: usize) -> Option<Found<OwnBase<'a>>>
-    ensures { IfSome result (λ found. IfSome found.1.index (IsOfClass class)) }
+    ensures { IfSome result (λ found. IfSome found.1.location (IsOfClass class)) }
 {
     let declared = names.classes.tree.classes.as_slice().get(class)?;
     let key = ClassKey::of_source(declared);
@@ -74,6 +74,6 @@ pub(crate) fn own_base<'a>(names: &'a NameTables<'a>, class: usize) -> Option<Fo
         names,
     };
     let part = ClassPart::Base;
-    let index = Location::InClass { class, part };
-    Some((own_base, Sites::at(index)))
+    let location = Location::InClass { class, part };
+    Some((own_base, Sites::at(location)))
 }

@@ -82,7 +82,7 @@ fn second_entry(
     first: SourceMember,
     second: SourceMember,
 ) -> Option<Found<BadEntry<'_>>>
-    ensures again { IfSome result (λ found. IfSome found.1.index (IsOfClass second.class)) }
+    ensures again { IfSome result (λ found. IfSome found.1.location (IsOfClass second.class)) }
     ensures first { IfSome result (λ found. IfSome found.1.other (IsOfClass first.class)) }
 {
     let (first, _) = entry_at(tree, first)?;
@@ -92,9 +92,9 @@ fn second_entry(
 
 /// An entry point in a method that returns a value.
 fn returning(tree: &Tree, method: SourceMember) -> Option<Found<BadEntry<'_>>> {
-    let (index, declared) = entry_at(tree, method)?;
+    let (location, declared) = entry_at(tree, method)?;
     let returned = declared.signature.return_type.as_ref()?;
-    found(BadEntry::Returns(returned), Sites::at(index))
+    found(BadEntry::Returns(returned), Sites::at(location))
 }
 
 /// An entry point in a method that has another fault.
@@ -103,9 +103,9 @@ fn unfit<'a>(
     method: SourceMember,
     fault: &'static str,
 ) -> Option<Found<BadEntry<'a>>> {
-    let (index, declared) = entry_at(tree, method)?;
+    let (location, declared) = entry_at(tree, method)?;
     let method = key_of(declared);
-    found(BadEntry::Unfit { method, fault }, Sites::at(index))
+    found(BadEntry::Unfit { method, fault }, Sites::at(location))
 }
 
 /// Why a source has not one fit entry point. None where the tree has no such location.

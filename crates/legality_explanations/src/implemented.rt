@@ -4,7 +4,7 @@ ghost use Rattle.std.specs.Prelude.{IfSome};
 ghost use Rattle.legality_explanations.specs.Locations.{IsOfClass};
 
 use crate::breaches::{Breach, Found};
-use crate::sites::{Sites, class_key, listed_interface, method_index, method_key};
+use crate::sites::{Sites, class_key, listed_interface, method_key, method_location};
 use metadata::violations;
 use source_positions::cil_model::texts::Text;
 use source_positions::cil_model::trees::Class;
@@ -62,7 +62,7 @@ pub(crate) fn not_implemented<'a>(
     names: &NameTables<'a>,
     absent: violations::NotImplemented,
 ) -> Option<Found<NotImplemented<'a>>>
-    ensures { IfSome result (λ found. IfSome found.1.index (IsOfClass absent.class)) }
+    ensures { IfSome result (λ found. IfSome found.1.location (IsOfClass absent.class)) }
 {
     let violations::NotImplemented { class, listed } = absent;
     let declared = names.classes.tree.classes.as_slice().get(class)?;
@@ -79,7 +79,7 @@ pub(crate) fn not_implemented<'a>(
         plain_in: owner_along(names, declared, method),
     };
     let part = ClassPart::Interface(listed.interface);
-    let index = Location::InClass { class, part };
-    let sites = Sites::beside(index, method_index(names, owner.class, method));
+    let location = Location::InClass { class, part };
+    let sites = Sites::beside(location, method_location(names, owner.class, method));
     Some((absent, sites))
 }

@@ -3,7 +3,7 @@
 use crate::breaches::{Breach, Found};
 use crate::sentences::{write_one, write_two};
 use crate::sites::{
-    MemberSpot, Sites, class_key, class_name, key_of, method_index, method_key, source_number,
+    MemberSpot, Sites, class_key, class_name, key_of, method_key, method_location, source_number,
 };
 use metadata::violations;
 use metadata::violations::KindFault;
@@ -185,7 +185,7 @@ fn described_left_open<'a>(
             Some(hiding) => class_key(names, hiding),
         },
     };
-    let declared = method_index(names, owner, method);
+    let declared = method_location(names, owner, method);
     found(kind_mismatch, Sites::beside(class_name(number), declared))
 }
 
@@ -211,18 +211,21 @@ fn named_method(
 }
 
 fn in_interface(class: usize, declared: &Class, method: usize) -> Option<Found<KindMismatch<'_>>> {
-    let (method, index) = named_method(class, declared, method)?;
+    let (method, location) = named_method(class, declared, method)?;
     let interface = &declared.name;
     found(
         KindMismatch::InInterface { interface, method },
-        Sites::at(index),
+        Sites::at(location),
     )
 }
 
 fn is_abstract(class: usize, declared: &Class, method: usize) -> Option<Found<KindMismatch<'_>>> {
-    let (method, index) = named_method(class, declared, method)?;
+    let (method, location) = named_method(class, declared, method)?;
     let class = &declared.name;
-    found(KindMismatch::Abstract { class, method }, Sites::at(index))
+    found(
+        KindMismatch::Abstract { class, method },
+        Sites::at(location),
+    )
 }
 
 /// A method that would override one of a base, which has a number among all classes.
@@ -232,14 +235,14 @@ fn over_plain<'a>(
     named: (MethodKey<'a>, Location),
     base: usize,
 ) -> Option<Found<KindMismatch<'a>>> {
-    let (method, index) = named;
+    let (method, location) = named;
     let kind_mismatch = KindMismatch::OverPlain {
         class: &class.name,
         method,
         owner: class_key(names, base)?,
     };
-    let overridden = method_index(names, base, method);
-    found(kind_mismatch, Sites::beside(index, overridden))
+    let overridden = method_location(names, base, method);
+    found(kind_mismatch, Sites::beside(location, overridden))
 }
 
 /// A method whose kind does not fit its class or what that inherits. None where the tree has no such location.

@@ -124,8 +124,8 @@ impl fmt::Display for Passed<'_> {
 
 impl Breach for Passed<'_> {}
 
-fn found(passed: Passed<'_>, index: Location) -> Option<Found<Passed<'_>>> {
-    Some((passed, Sites::at(index)))
+fn found(passed: Passed<'_>, location: Location) -> Option<Found<Passed<'_>>> {
+    Some((passed, Sites::at(location)))
 }
 
 // ---- one method

@@ -16,8 +16,8 @@ use source_positions::name_tables::lookups::NameTables;
 use source_positions::{Location, Named, offset_of};
 use std::alloc::Global;
 
-fn offset_at(text: &[u8], index: Option<Location>) -> Option<usize> {
-    offset_of(text, index?)
+fn offset_at(text: &[u8], location: Option<Location>) -> Option<usize> {
+    offset_of(text, location?)
 }
 
 /// The sentence of a breach at its location.
@@ -25,9 +25,9 @@ fn sentence_at<B: Breach>(
     alloc: Global,
     named: Named,
     breach: &B,
-    index: Option<Location>,
+    location: Option<Location>,
 ) -> Result<String, NoMemory> {
-    let offset = offset_at(named.text, index);
+    let offset = offset_at(named.text, location);
     let sentence = breach.to_string(alloc)?;
     named.message(alloc, offset, sentence.as_str())
 }
@@ -62,7 +62,7 @@ impl Explanation<'_> {
         let Some((breach, sites)) = found else {
             return rule_text(self.alloc, self.named, self.violation);
         };
-        let mut message = sentence_at(self.alloc, self.named, &breach, sites.index)?;
+        let mut message = sentence_at(self.alloc, self.named, &breach, sites.location)?;
         push_note(&mut message, self.named, &breach, sites.other)?;
         if let Some(advice) = breach.advice() {
             writeln!(message, "help: {advice}")?;

@@ -13,7 +13,7 @@ use source_positions::{ClassPart, LinePart, Location, MemberPart, nth_field, nth
 #[derive(Clone, Copy)]
 pub struct Sites {
     /// The location itself; none where there is none, as of an entry point that is absent.
-    pub index: Option<Location>,
+    pub location: Option<Location>,
     /// Where that stands with which it does not agree, as the first of two names; none where there is no such thing, or it is built in.
     pub other: Option<Location>,
 }
@@ -21,26 +21,26 @@ pub struct Sites {
 impl Sites {
     /// Nowhere.
     pub const NONE: Sites = Sites {
-        index: None,
+        location: None,
         other: None,
     };
 
     /// One location.
-    pub fn at(index: Location) -> Self
-        ensures { (result.index ≡ Some index) × (result.other ≡ None) }
+    pub fn at(location: Location) -> Self
+        ensures { (result.location ≡ Some location) × (result.other ≡ None) }
     {
         Sites {
-            index: Some(index),
+            location: Some(location),
             other: None,
         }
     }
 
     /// A location that does not agree with another.
-    pub fn beside(index: Location, other: Option<Location>) -> Self
-        ensures { (result.index ≡ Some index) × (result.other ≡ other) }
+    pub fn beside(location: Location, other: Option<Location>) -> Self
+        ensures { (result.location ≡ Some location) × (result.other ≡ other) }
     {
         Sites {
-            index: Some(index),
+            location: Some(location),
             other,
         }
     }
@@ -161,7 +161,7 @@ fn member_number(class: &Class, key: MethodKey) -> Option<usize> {
 
 /// The location of the name of a method in a class, which has its number among all classes. None where the class is built in or has no such
 /// method.
-pub fn method_index(names: &NameTables, class: usize, key: MethodKey) -> Option<Location> {
+pub fn method_location(names: &NameTables, class: usize, key: MethodKey) -> Option<Location> {
     let class = source_number(names, class)?;
     let declared = names.classes.tree.classes.as_slice().get(class)?;
     let member = member_number(declared, key)?;

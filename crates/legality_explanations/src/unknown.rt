@@ -63,8 +63,8 @@ pub enum Unknown<'a> {
     },
 }
 
-fn found(unknown: Unknown<'_>, index: Location) -> Option<Found<Unknown<'_>>> {
-    Some((unknown, Sites::at(index)))
+fn found(unknown: Unknown<'_>, location: Location) -> Option<Found<Unknown<'_>>> {
+    Some((unknown, Sites::at(location)))
 }
 
 /// `static` or `instance`
@@ -312,17 +312,17 @@ fn unknown_in_heading(
         HeadingName::Base => ClassPart::Base,
         HeadingName::Interface(entry) => ClassPart::Interface(entry),
     };
-    let index = Location::InClass {
+    let location = Location::InClass {
         class: number,
         part,
     };
-    found(unknown_class(tree, class, role, fault), index)
+    found(unknown_class(tree, class, role, fault), location)
 }
 
 fn unknown_in_type(tree: &Tree, site: TypeSite, fault: ClassFault) -> Option<Found<Unknown<'_>>> {
     let class = class_of(type_at(tree, site)?)?;
-    let index = class_position(tree, site)?;
-    found(unknown_class(tree, class, Role::Type, fault), index)
+    let location = class_position(tree, site)?;
+    found(unknown_class(tree, class, Role::Type, fault), location)
 }
 
 // ---- instructions
@@ -476,10 +476,10 @@ fn unknown_label(
 ) -> Option<Found<Unknown<'_>>> {
     let (spot, instruction) = line_at(tree, method, line)?;
     let label = labels_of(instruction).get(target)?;
-    let index = spot.line(line, LinePart::Target(target));
+    let location = spot.line(line, LinePart::Target(target));
     let (_, declared) = located_method(tree, method)?;
     let near = near_label(lines_of(declared), label);
-    found(Unknown::Label { label, near }, index)
+    found(Unknown::Label { label, near }, location)
 }
 
 // ---- the whole tree

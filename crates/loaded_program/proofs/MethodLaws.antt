@@ -64,7 +64,7 @@ module _ (tree : Tree) (found : ClassName × Method) where
       → AllAlike (IsLinkedOperation tree (has_value found)) operations code → AllAlike (IsLinkedLine tree found) lines code
   through [] [] [] resolved linked = tt
   through (line ∷ lines) (operation ∷ operations) (l ∷ code) resolved linked =
-      (record { operation = operation; stands = resolved.0; links = linked.0 }, through lines operations code resolved.1 linked.1)
+      (record { operation = operation; refines = resolved.0; links = linked.0 }, through lines operations code resolved.1 linked.1)
   through [] (operation ∷ operations) code resolved linked = absurd resolved
   through (line ∷ lines) [] code resolved linked = absurd resolved
   through [] [] (l ∷ code) resolved linked = absurd linked

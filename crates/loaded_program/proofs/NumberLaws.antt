@@ -15,7 +15,7 @@ use Rattle.cil_model.specs.Legality.{IsLegal, has_repeat, same_method, class_dou
 use Rattle.cil_model.proofs.Lists.{passes_not}
 use Rattle.cil_model.proofs.SameLaws.{never, both_first, both_second, same_class_itself, same_method_name_itself, same_signature_itself}
 use Rattle.name_tables.specs.Numbers.{declarations, class_number, source_entry, method_at}
-use Rattle.name_tables.proofs.NumberLaws.{HasId, numbered, none_is_some, position_from-suc}
+use Rattle.name_tables.proofs.NumberLaws.{HasId, has_id, none_is_some, position_from-suc}
 use Rattle.resolved_code.proofs.ListLaws.Repeats.{has_repeat-map}
 use Rattle.loaded_program.specs.AllMethods.{owned_methods, all_methods, first_numbers}
 use Rattle.loaded_program.specs.MethodNumbers.{number_of}
@@ -118,7 +118,7 @@ module _ (tree : Tree) where
 
   -- each method that a class declares has an index
   pub index_of_declared : (k : ℕ) (found : ClassName × Method) → slice_get (methods_declared tree found.0) k ≡ Some found.1 → (n : ℕ) × (slice_get (all_methods tree) n ≡ Some found)
-  index_of_declared k found h = by_number (class_number tree found.0) (numbered tree found.0)
+  index_of_declared k found h = by_number (class_number tree found.0) (has_id tree found.0)
     where
       by_first : (n : ℕ) → method_at tree (n, k) ≡ Some found → (o : Option ℕ) → slice_get (first_numbers 0 (declarations tree)) n ≡ o → (m : ℕ) × (slice_get (all_methods tree) m ≡ Some found)
       by_first n at None e = absurd (first_is_there tree n k found at (first_numbers 0 (declarations tree)) refl e)

@@ -114,8 +114,8 @@ pub record Numbered (tree : Tree) (member : MemberNumber) (n : ℕ) : Type 0 whe
   pub found_is : method_at tree (member.class, member.index) ≡ Some found
   pub number_is : flat_number tree member.class member.index ≡ n
 
-pub numbered : (tree : Tree) (member : MemberNumber) (n : ℕ) → number_at tree member ≡ Some n → Numbered tree member n
-numbered tree member n e =
+pub has_id : (tree : Tree) (member : MemberNumber) (n : ℕ) → number_at tree member ≡ Some n → Numbered tree member n
+has_id tree member n e =
     let found = map_some (λ (found : ClassName × Method). flat_number tree member.class member.index) (method_at tree (member.class, member.index)) n e in
     record { found = found.0; found_is = found.1; number_is = found.2 }
 

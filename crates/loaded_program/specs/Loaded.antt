@@ -30,7 +30,7 @@ use Rattle.loaded_program.specs.Links.{IsLinked}
 -- what instructions are linked by is of one program
 pub record CanLink (linker : Linker) : Type 0 where
   pub laid_out : IsLayout linker.program.now linker.layout.now
-  pub numbered : IsMethodTable linker.program.now linker.table.now
+  pub has_id : IsMethodTable linker.program.now linker.table.now
 
 -- the resolved instructions of a method; none where it has no code (II.15.4.2)
 abbrev pub operations_of : ResolvedKind → List Operation
@@ -51,7 +51,7 @@ pub record IsLinkedOperation (tree : Tree) (has_value : Bool) (operation : Opera
 -- the resolved instruction that represents a line of a method, linked
 pub record IsLinkedLine (tree : Tree) (found : ClassName × Method) (line : Line) (linked : LinkedInstruction) : Type 0 where
   pub operation : Operation
-  pub stands : IsOperation tree (lines_of found.1) line.instruction operation
+  pub refines : IsOperation tree (lines_of found.1) line.instruction operation
   pub links : IsLinkedOperation tree (has_value found) operation linked
 
 -- the number of the method that runs on objects of a class in place of a method, where one does (II.10.3, II.12.2)
@@ -77,7 +77,7 @@ pub record IsLinkedMethod (tree : Tree) (found : ClassName × Method) (method : 
 -- a loaded program
 pub record IsLoaded (tree : Tree) (layout : Layout) (table : MethodTable) (methods : List LinkedMethod) : Type 0 where
   pub laid_out : IsLayout tree layout
-  pub numbered : IsMethodTable tree table
+  pub has_id : IsMethodTable tree table
   pub linked : AllAlike (IsLinkedMethod tree) (all_methods tree) methods
 
 -- ---- what is found

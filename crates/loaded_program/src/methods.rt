@@ -51,14 +51,14 @@ pub fn value_kind(declared: &DeclaredType) -> ValueKind
 }
 
 /// What a variable of a type holds, where the type is given by number.
-pub(crate) fn resolved_kind(numbered: ResolvedType) -> ValueKind
-    ensures by_number { result ≡ kind_of_resolved numbered }
-    ensures by_name { (tree : Tree) (t : DeclaredType) → type_at tree numbered ≡ Some t → result ≡ kind_of_type t }
+pub(crate) fn resolved_kind(resolved: ResolvedType) -> ValueKind
+    ensures by_number { result ≡ kind_of_resolved resolved }
+    ensures by_name { (tree : Tree) (t : DeclaredType) → type_at tree resolved ≡ Some t → result ≡ kind_of_type t }
 {
-    if numbered.brackets > 0 {
+    if resolved.brackets > 0 {
         return ValueKind::Ref;
     }
-    match numbered.element {
+    match resolved.element {
         ResolvedElement::Int32 => ValueKind::Int32,
         ResolvedElement::Int64 => ValueKind::Int64,
         ResolvedElement::Object | ResolvedElement::String | ResolvedElement::Class(_) => {
@@ -84,8 +84,8 @@ fn local_kinds(alloc: Global, kind: &ResolvedKind) -> Result<Vec<ValueKind>, NoM
 {
     let types = locals_of(kind);
     let mut kinds = Vec::with_capacity(alloc, types.len())?;
-    for numbered in types {
-        kinds.push(resolved_kind(*numbered))?;
+    for resolved in types {
+        kinds.push(resolved_kind(*resolved))?;
     }
     Ok(kinds)
 }

@@ -17,7 +17,7 @@ use Rattle.cil_model.specs.Declarations.{Declaration, declaration_of, source_nam
 use Rattle.cil_model.specs.Chains.{chain_of, fields_declared, listed_by}
 use Rattle.cil_model.specs.Fields.{keyed_fields, instance_fields, static_fields}
 use Rattle.name_tables.specs.Numbers.{declarations, class_number, chain_numbers}
-use Rattle.name_tables.proofs.NumberLaws.{HasId, numbered, declared_at_none}
+use Rattle.name_tables.proofs.NumberLaws.{HasId, has_id, declared_at_none}
 use Rattle.cil_model.specs.declared.limits.TheConstants.{MOST_CLASSES, MOST_METHODS, MOST_STATIC_FIELDS, MOST_BRACKETS}
 use Rattle.cil_model.specs.Mentions.{methods_of_tree, types_of_tree}
 use Rattle.cil_model.specs.Legality.{is_small_class, passes_limit}
@@ -57,7 +57,7 @@ module _ (tree : Tree) where
           let none : own_count false c ≡ 0 = ap (λ z. count_by (λ (f : Field). same_flag f.is_static false) (listed_by (λ d. d.fields) z)) (declared_at_none tree c e) in
           omega (arith, none, further)
       by_number (Some n) e further =
-          let found : (x : Declaration) × (declaration_of tree c ≡ Some x) × (slice_get (declarations tree) n ≡ Some (c, x)) = subst (HasId tree c) e (numbered tree c) in
+          let found : (x : Declaration) × (declaration_of tree c ≡ Some x) × (slice_get (declarations tree) n ≡ Some (c, x)) = subst (HasId tree c) e (has_id tree c) in
           let here : own_count false c ≡ instance_count tree n =
           ap (λ z. count_by (λ (f : Field). same_flag f.is_static false) (listed_by (λ d. d.fields) z)) found.1 ∙ sym (ap (λ z. option_map_or (λ (y : ClassName × Declaration). count_in false y.1) z 0) found.2) in
           ap (λ m. m + sum_by (own_count false) cs) here ∙ ap (λ m. instance_count tree n + m) further ∙ sym (sum_by-cons (instance_count tree) n (filter_map (class_number tree) cs))

@@ -7,11 +7,11 @@ use Rattle.metadata.specs.declared.program.MetaError.TheVariants.{Broken, OutOfM
 use Rattle.metadata.specs.declared.violations.Violation.{Violation}
 use Rattle.metadata.specs.declared.violations.Violation.TheVariants.{Duplicate, Unknown, OwnBase, NotImplemented, KindMismatch, BadEntry, Passed}
 use Rattle.metadata.specs.declared.rules.Rule.{Rule}
-use Rattle.metadata.specs.declared.rules.Rule.TheVariants.{NamesStandOnce, NamesAreKnown, BasesEnd, InterfacesAreImplemented, KindsFit, OneEntryPoint, LimitsAreKept}
+use Rattle.metadata.specs.declared.rules.Rule.TheVariants.{NamesOccurOnce, NamesAreKnown, BasesEnd, InterfacesAreImplemented, KindsFit, OneEntryPoint, LimitsAreKept}
 
 -- the number that is printed where the rule is broken (this profile)
 abbrev pub rule_number : Rule → ℕ
-rule_number NamesStandOnce = 201
+rule_number NamesOccurOnce = 201
 rule_number NamesAreKnown = 202
 rule_number BasesEnd = 203
 rule_number InterfacesAreImplemented = 204
@@ -21,7 +21,7 @@ rule_number LimitsAreKept = 207
 
 -- the rule that is broken
 abbrev pub rule_of : Violation → Rule
-rule_of (Duplicate name) = NamesStandOnce
+rule_of (Duplicate name) = NamesOccurOnce
 rule_of (Unknown name) = NamesAreKnown
 rule_of (OwnBase class) = BasesEnd
 rule_of (NotImplemented absent) = InterfacesAreImplemented

@@ -156,7 +156,7 @@ fn count_instance_fields(names: &NameTables, class: usize) -> usize
 fn count_static_fields(names: &NameTables, class: &Class) -> usize
     ensures { result ≡ static_count names.now.classes.tree.now class.now }
 {
-    match names.classes.declared(ClassKey::of_source(class)) {
+    match names.classes.declared_class(ClassKey::of_source(class)) {
         None => 0,
         Some(declared) => count_fields(declared.fields.as_slice(), true),
     }

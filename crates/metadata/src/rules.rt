@@ -22,7 +22,7 @@ use std::fmt;
 #[derive(Clone, Copy)]
 pub enum Rule {
     /// 201: names that have to occur once do so.
-    NamesStandOnce,
+    NamesOccurOnce,
     /// 202: each name refers to something of the kind needed.
     NamesAreKnown,
     /// 203: no class is twice in its own chain of bases.
@@ -43,7 +43,7 @@ impl Rule {
         ensures { result ≡ rule_number self.now }
     {
         match self {
-            Rule::NamesStandOnce => 201,
+            Rule::NamesOccurOnce => 201,
             Rule::NamesAreKnown => 202,
             Rule::BasesEnd => 203,
             Rule::InterfacesAreImplemented => 204,
@@ -58,7 +58,7 @@ impl Rule {
 impl fmt::Display for Rule {
     fn fmt<W: fmt::Write>(&self, f: &mut fmt::Formatter<W>) -> fmt::Result {
         f.write_str(match self {
-            Rule::NamesStandOnce => "a name stands twice",
+            Rule::NamesOccurOnce => "a name stands twice",
             Rule::NamesAreKnown => "a name stands for nothing of the kind needed",
             Rule::BasesEnd => "a class stands in the chain of its base",
             Rule::InterfacesAreImplemented => {

@@ -77,7 +77,7 @@ fn bracket_fault(names: &NameTables, name: &ClassName) -> Option<ClassFault>
     if !is_declared(names.classes.tree.externs.as_slice(), assembly) {
         return Some(ClassFault::NoExtern);
     }
-    match names.classes.declared(ClassKey::of(name)) {
+    match names.classes.declared_class(ClassKey::of(name)) {
         None => Some(ClassFault::Absent),
         Some(_) => None,
     }
@@ -90,7 +90,7 @@ fn is_interface_of_source(names: &NameTables, name: &ClassName) -> Option<bool>
     if name.assembly.is_some() {
         return None;
     }
-    match names.classes.declared(ClassKey::of(name)) {
+    match names.classes.declared_class(ClassKey::of(name)) {
         None => None,
         Some(class) => Some(class.is_interface),
     }
@@ -179,7 +179,7 @@ fn interface_fault(names: &NameTables, interface: &ClassName) -> Option<ClassFau
     if is_source_interface(names, interface) {
         return None;
     }
-    match names.classes.declared(ClassKey::of(interface)) {
+    match names.classes.declared_class(ClassKey::of(interface)) {
         None => Some(ClassFault::Absent),
         Some(_) => Some(ClassFault::IsClass),
     }
@@ -365,7 +365,7 @@ fn absent_member(names: &NameTables, at: LineSite, instruction: &Instruction) ->
     let LineSite { method, line } = at;
     let owner = owner_of_instruction(instruction).map(|owner| ClassKey::of(owner));
     match owner {
-        Some(owner) if names.classes.declared(owner).is_none() => Unknown::Owner {
+        Some(owner) if names.classes.declared_class(owner).is_none() => Unknown::Owner {
             method,
             line,
             fault: ClassFault::Absent,

@@ -228,7 +228,7 @@ impl Violation {
         ensures { result ≡ rule_of self.now }
     {
         match self {
-            Violation::Duplicate(_) => Rule::NamesStandOnce,
+            Violation::Duplicate(_) => Rule::NamesOccurOnce,
             Violation::Unknown(_) => Rule::NamesAreKnown,
             Violation::OwnBase { .. } => Rule::BasesEnd,
             Violation::NotImplemented(_) => Rule::InterfacesAreImplemented,

@@ -124,8 +124,8 @@ module _ (tree : Tree) where
   HasId c None = declaration_of tree c ≡ None
   HasId c (Some n) = (d : Declaration) × (declaration_of tree c ≡ Some d) × (slice_get (declarations tree) n ≡ Some (c, d))
 
-  pub numbered : (c : ClassName) → HasId c (class_number tree c)
-  numbered c = by_index (class_number tree c) (find (entry_named c) (declarations tree)) refl refl (found_at_index (entry_named c) (declarations tree))
+  pub has_id : (c : ClassName) → HasId c (class_number tree c)
+  has_id c = by_index (class_number tree c) (find (entry_named c) (declarations tree)) refl refl (found_at_index (entry_named c) (declarations tree))
     where
       named_itself : (e : ClassName × Declaration) → IsTrue (entry_named c e) → e ≡ (c, e.1)
       named_itself e h = λ i. (sym (same_class_equal c e.0 h) i, e.1)
@@ -146,11 +146,11 @@ module _ (tree : Tree) where
           lost h = cc
 
   pub declared_at_none : (c : ClassName) → class_number tree c ≡ None → declaration_of tree c ≡ None
-  declared_at_none c e = subst (HasId c) e (numbered c)
+  declared_at_none c e = subst (HasId c) e (has_id c)
 
   pub declared_at_number : (c : ClassName) (n : ℕ) → class_number tree c ≡ Some n → option_map (λ (e : ClassName × Declaration). e.1) (slice_get (declarations tree) n) ≡ declaration_of tree c
   declared_at_number c n e =
-      let found : (d : Declaration) × (declaration_of tree c ≡ Some d) × (slice_get (declarations tree) n ≡ Some (c, d)) = subst (HasId c) e (numbered c) in
+      let found : (d : Declaration) × (declaration_of tree c ≡ Some d) × (slice_get (declarations tree) n ≡ Some (c, d)) = subst (HasId c) e (has_id c) in
       ap (option_map (λ (e : ClassName × Declaration). e.1)) found.2 ∙ sym found.1
 
   -- ---- along a chain
@@ -160,7 +160,7 @@ module _ (tree : Tree) where
       (present : (c : ClassName) (d : Declaration) (n : ℕ) → declaration_of tree c ≡ Some d → slice_get (declarations tree) n ≡ Some (c, d) → option_map (λ p. member (n, p)) (index n) ≡ option_map (λ x. Some (c, x)) (at c)) where
     pub nearest_is_numbered : (cs : List ClassName) → option_map member (nearest_number index (filter_map (class_number tree) cs)) ≡ option_map Some (nearest at cs)
     nearest_is_numbered [] = refl
-    nearest_is_numbered (c ∷ cs) = by_number (nearest_is_numbered cs) (class_number tree c) (numbered c)
+    nearest_is_numbered (c ∷ cs) = by_number (nearest_is_numbered cs) (class_number tree c) (has_id c)
       where
         by_found : option_map member (nearest_number index (filter_map (class_number tree) cs)) ≡ option_map Some (nearest at cs) → (n : ℕ) (o : Option ℕ) (f : Option X) → option_map (λ p. member (n, p)) o ≡ option_map (λ x. Some (c, x)) f →
             option_map member (option_map_or (λ p. Some (n, p)) o (nearest_number index (filter_map (class_number tree) cs))) ≡ option_map Some (option_map_or (λ x. Some (c, x)) f (nearest at cs))
@@ -220,7 +220,7 @@ module _ (tree : Tree) where
   pub numbers_of_unknown : (m : ℕ) (c : ClassName) → class_number tree c ≡ None → numbers_within m (Some c) ≡ []
   numbers_of_unknown zero c e = refl
   numbers_of_unknown (suc m) c e =
-      let absent : declaration_of tree c ≡ None = subst (HasId c) e (numbered c) in
+      let absent : declaration_of tree c ≡ None = subst (HasId c) e (has_id c) in
       ap (λ o. cons_option o (numbers_within m (base_of tree c))) e ∙ ap (λ d. numbers_within m (option_and_then (λ (x : Declaration). x.base) d)) absent ∙ numbers_of_none m
 
   abbrev pub base_at : ℕ → Option ClassName
@@ -229,12 +229,12 @@ module _ (tree : Tree) where
   pub numbers_of_known : (m : ℕ) (c : ClassName) (n : ℕ) → 0 < m → class_number tree c ≡ Some n → numbers_within m (Some c) ≡ n ∷ numbers_within (m - 1) (base_at n)
   numbers_of_known zero c n h e = absurd (omega (arith, h))
   numbers_of_known (suc m) c n h e =
-      let found : (d : Declaration) × (declaration_of tree c ≡ Some d) × (slice_get (declarations tree) n ≡ Some (c, d)) = subst (HasId c) e (numbered c) in
+      let found : (d : Declaration) × (declaration_of tree c ≡ Some d) × (slice_get (declarations tree) n ≡ Some (c, d)) = subst (HasId c) e (has_id c) in
       let base : base_of tree c ≡ base_at n = ap (option_and_then (λ (d : Declaration). d.base)) found.1 ∙ sym (ap (option_and_then (λ (y : ClassName × Declaration). y.1.base)) found.2) in
       let k : suc m - 1 ≡ m = omega arith in
       ap (λ o. cons_option o (numbers_within m (base_of tree c))) e ∙ ap (λ b. n ∷ numbers_within m b) base ∙ ap (λ x. n ∷ numbers_within x (base_at n)) (sym k)
 
   pub chain_at_number : (c : ClassName) (n : ℕ) → class_number tree c ≡ Some n → slice_get (map (λ (e : ClassName × Declaration). chain_numbers tree e.0) (declarations tree)) n ≡ Some (chain_numbers tree c)
   chain_at_number c n e =
-      let found : (d : Declaration) × (declaration_of tree c ≡ Some d) × (slice_get (declarations tree) n ≡ Some (c, d)) = subst (HasId c) e (numbered c) in
+      let found : (d : Declaration) × (declaration_of tree c ≡ Some d) × (slice_get (declarations tree) n ≡ Some (c, d)) = subst (HasId c) e (has_id c) in
       slice_get-map (λ (e : ClassName × Declaration). chain_numbers tree e.0) (declarations tree) n ∙ ap (option_map (λ (e : ClassName × Declaration). chain_numbers tree e.0)) found.2

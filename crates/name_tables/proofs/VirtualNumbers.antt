@@ -37,10 +37,10 @@ pub are_keys : (again : ℕ → ℕ) (keys : ℕ) → ((n : ℕ) → again n < k
 are_keys again keys within [] = refl
 are_keys again keys within (n ∷ ns) = and_from _ _ (let low = within n in le-leb (suc (again n)) keys (omega (arith, low))) (are_keys again keys within ns)
 
-module _ (tree : Tree) (number : MethodIdentity → ℕ) (rows : List (List ℕ)) (numbered : AreNumbers tree number rows) where
+module _ (tree : Tree) (number : MethodIdentity → ℕ) (rows : List (List ℕ)) (has_id : AreNumbers tree number rows) where
   -- what is said of the numbers of a class's methods is said of these
   pub said_of_numbers : (q : ℕ → Bool) (class : ℕ) → list_all q (slice_index_or rows class []) ≡ list_all (λ (m : Method). q (number (identity_of m))) (methods_at tree class)
-  said_of_numbers q class = ap (λ rs. list_all q (slice_index_or rs class [])) numbered ∙ of (declarations tree) class
+  said_of_numbers q class = ap (λ rs. list_all q (slice_index_or rs class [])) has_id ∙ of (declarations tree) class
     where
       of : (es : List (ClassName × Declaration)) (n : ℕ) →
           list_all q (slice_index_or (map (λ (e : ClassName × Declaration). map (λ (m : Method). number (identity_of m)) e.1.methods) es) n []) ≡ list_all (λ (m : Method). q (number (identity_of m))) (option_map_or (λ (e : ClassName × Declaration). e.1.methods) (slice_get es n) [])

@@ -23,7 +23,7 @@ pub(crate) struct Inherited<K: Eq + Hash + Copy + Drop> {
     cycles: Option<CutCycles>,
     ghost cut: { ForSome cycles (λ c. IsCut inheritance.forest c.cut.forest) },
     ghost within: { inheritance.forest.keys ≡ length keys + 1 },
-    ghost numbered: { HaveIds K.eq keys (map (λ r. r.items) inheritance.forest.declared.items) },
+    ghost has_id: { HaveIds K.eq keys (map (λ r. r.items) inheritance.forest.declared.items) },
 }
 
 /// Each part is dropped.

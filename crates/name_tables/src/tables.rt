@@ -147,7 +147,7 @@ impl<'a> ClassTables<'a> {
     }
 
     /// What the class that a name refers to declares.
-    pub fn declared(&self, name: ClassKey) -> Option<&DeclaredClass<'a>>
+    pub fn declared_class(&self, name: ClassKey) -> Option<&DeclaredClass<'a>>
         ensures { option_map (λ d. declaration_in d.now) result ≡ declaration_of self.now.tree.now (class_of_key name.entry) }
     {
         match self.number(name) {

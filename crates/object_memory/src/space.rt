@@ -167,7 +167,7 @@ impl Space {
         requires { IsSome (cell_in self.now address) }
         ensures { option_map (λ c. c.kind) (cell_in self.now address) ≡ Some result }
     {
-        Kind::decoded(self.block.read(address.offset(self.start)))
+        Kind::from_header(self.block.read(address.offset(self.start)))
     }
 
     /// The number of its fields or elements.
@@ -212,7 +212,7 @@ impl Space {
         requires { IsSome (cell_in self.now address) }
         ensures { option_map (λ c. c.marked) (cell_in self.now address) ≡ Some result }
     {
-        Copies::decoded(self.block.read(address.offset(self.start) + COPIES_WORD)).marked
+        Copies::from_word(self.block.read(address.offset(self.start) + COPIES_WORD)).marked
     }
 
     /// The address of the object's other copy, where it has one.
@@ -220,7 +220,7 @@ impl Space {
         requires { IsSome (cell_in self.now address) }
         ensures { option_map (λ c. c.other) (cell_in self.now address) ≡ Some result }
     {
-        Copies::decoded(self.block.read(address.offset(self.start) + COPIES_WORD)).other
+        Copies::from_word(self.block.read(address.offset(self.start) + COPIES_WORD)).other
     }
 
     /// Sets whether the object is marked, and what its other copy is. Nothing else changes.
@@ -238,7 +238,7 @@ impl Space {
         requires { IsSome (cell_in self.now address) }
         ensures { option_map (λ c. c.monitor) (cell_in self.now address) ≡ Some result }
     {
-        Monitor::decoded(self.block.read(address.offset(self.start) + MONITOR_WORD))
+        Monitor::from_word(self.block.read(address.offset(self.start) + MONITOR_WORD))
     }
 
     /// Sets the monitor of an object. Nothing else changes.

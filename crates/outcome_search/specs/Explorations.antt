@@ -7,19 +7,19 @@ use Rattle.cil_model.specs.declared.trees.Tree.{Tree}
 use Rattle.acceptance.specs.Sources.{HasRunTo, IsAcceptedSource}
 use Rattle.exploration.specs.Paths.{IsComplete, outcome_found}
 use Rattle.exploration.specs.Searches.{KeepBudgets}
-use Rattle.exploration.specs.Shown.{IsOver, IsTerminal, Outcome, outcome_of, outcome_shown}
+use Rattle.exploration.specs.Shown.{IsOver, IsTerminal, ShownOutcome, outcome_of, outcome_shown}
 use Rattle.exploration.specs.declared.findings.Found.{Found}
 use Rattle.exploration.specs.simulation.MachineStates.{MachineState}
 use Rattle.exploration.specs.simulation.Runs.{IsRunOf}
 use Rattle.exploration.specs.simulation.reference_machine.States.{State}
 
 -- some list of paths from the initial content leads to every reachable content, and these are the outcomes of those in which no thread can make a step
-abbrev pub IsOutcomeList : MachineState → List Outcome → Type 0
+abbrev pub IsOutcomeList : MachineState → List ShownOutcome → Type 0
 IsOutcomeList first outcomes = (paths : List (List Event)) × IsComplete first paths outcomes
 
 -- Each run of the program, with any events of the collector, in which no thread uses up its budget, has one of these outcomes once no thread can make
 -- a step: each has ended or is blocked.
-abbrev pub HasAllOutcomes : List ℕ → Limits → List Outcome → Type 0
+abbrev pub HasAllOutcomes : List ℕ → Limits → List ShownOutcome → Type 0
 HasAllOutcomes source limits outcomes =
     (tree : Tree) → IsAcceptedSource source tree → (events : List Event) (reports : List Report) (s : State) → IsRunOf tree limits events reports s → KeepBudgets reports → IsOver tree limits s → Contains outcomes (outcome_of s)
 

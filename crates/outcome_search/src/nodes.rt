@@ -53,10 +53,19 @@ pub struct Candidate {
 }
 
 /// All nodes that were visited, and those that are not, by their ranks.
-#[derive(Drop)]
 pub struct Nodes {
     all: Vec<Node>,
     queue: BTreeMap<Rank, Vec<Candidate>>,
+}
+
+/// Each part is dropped.
+impl Drop for Nodes {
+    fn drop(self) {
+        let Nodes {
+            all: _all,
+            queue: _queue,
+        } = self;
+    }
 }
 
 /// The index of the next element of a list of this length. `NoMemory` if there is no such index.

@@ -20,13 +20,25 @@ pub struct SearchResult {
 }
 
 /// A search in progress.
-#[derive(Drop)]
 struct Searching {
     bounds: Bounds,
     states: States,
     nodes: Nodes,
     found: Vec<Found>,
     stop: Option<Stop>,
+}
+
+/// Each part is dropped.
+impl Drop for Searching {
+    fn drop(self) {
+        let Searching {
+            bounds: _,
+            states: _states,
+            nodes: _nodes,
+            found: _found,
+            stop: _,
+        } = self;
+    }
 }
 
 /// Searches for all states of a program, by schedules with the fewest preemptions first, and of those with the fewest steps first. The machine is
@@ -48,12 +60,8 @@ pub fn search<M: First>(
         };
         searching.visit_all(replayer, alloc, rank, &candidates)?;
     }
-    Ok(SearchResult {
-        states: searching.states.found(),
-        paths: searching.paths(alloc)?,
-        found: searching.found,
-        stop: searching.stop,
-    })
+    let paths = searching.paths(alloc)?;
+    Ok(searching.into_result(paths))
 }
 
 /// A search after its first node, which is that of the initial state.
@@ -99,6 +107,23 @@ impl Searching {
             return Ok(Vec::new(alloc));
         }
         self.states.paths(alloc, &self.nodes)
+    }
+
+    /// What was found, with these paths.
+    fn into_result(self, paths: Vec<Path>) -> SearchResult {
+        let Searching {
+            bounds: _,
+            states,
+            nodes: _nodes,
+            found,
+            stop,
+        } = self;
+        SearchResult {
+            states: states.found(),
+            paths,
+            found,
+            stop,
+        }
     }
 
     /// Whether it stops here.

@@ -41,12 +41,23 @@ struct State {
 }
 
 /// All states with their edges, and the index of the state with each digest.
-#[derive(Drop)]
 pub struct States {
     all: Vec<State>,
     found: usize,
     edges: Vec<Edge>,
     indices: HashMap<u64, u32>,
+}
+
+/// Each part is dropped.
+impl Drop for States {
+    fn drop(self) {
+        let States {
+            all: _all,
+            found: _,
+            edges: _edges,
+            indices: _indices,
+        } = self;
+    }
 }
 
 impl States {

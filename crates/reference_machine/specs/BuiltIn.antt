@@ -14,7 +14,7 @@ use Rattle.cil_model.specs.Declarations.{object_name, console_name, monitor_name
 use Rattle.cil_model.specs.Slots.{target}
 use Rattle.reference_machine.specs.Values.{ObjectName, Literal, Value, Int32, Int64, Null, Reference}
 use Rattle.reference_machine.specs.States.{Monitor, Free, Held, HeapObject, Frame, State, object_at, with_object, class_of, monitor_of, with_monitor, is_live}
-use Rattle.reference_machine.specs.Effects.{Setting, Effect, Blocks, Raises, Sticks, given, not_null, new_frame, onward}
+use Rattle.reference_machine.specs.Effects.{Setting, Effect, Blocks, Raises, Sticks, when_some, not_null, new_frame, onward}
 use Rattle.cil_model.specs.Chains.{is_thread_class}
 
 -- what the members without code do
@@ -72,7 +72,7 @@ module _ (here : Setting) (s : State) (f : Frame) (below : List Frame) where
   -- continues beside a new thread, which is at the beginning of that method
   abbrev pub begin : ObjectName → List Value → HeapObject → Option (ClassName × Method) → Effect
   begin n rest o run =
-      given run (λ found. given (code_of found.1.kind) (λ code.
+      when_some run (λ found. when_some (code_of found.1.kind) (λ code.
       onward f below (with_thread n o (new_frame found.0 found.1 code (Reference n ∷ []) None)) rest))
 
   -- started already, or there are 16 threads already; otherwise a new thread runs the virtual target of Run
@@ -80,7 +80,7 @@ module _ (here : Setting) (s : State) (f : Frame) (below : List Frame) where
   start n rest o =
       if is_some o.thread then Raises ThreadState
       else if nat_le MOST_THREADS (length s.threads) then Raises TooManyThreads
-      else given (class_of s n) (λ c. begin n rest o (target here.tree c thread_name run_method))
+      else when_some (class_of s n) (λ c. begin n rest o (target here.tree c thread_name run_method))
 
   -- a fault where it is not started; otherwise it waits while the thread is live
   abbrev pub join : List Value → HeapObject → Effect
@@ -88,14 +88,14 @@ module _ (here : Setting) (s : State) (f : Frame) (below : List Frame) where
 
   -- the object of a reference to a thread
   abbrev pub thread_object : ObjectName → (HeapObject → Effect) → Effect
-  thread_object n go = given (class_of s n) (λ c. if is_thread_class here.tree c then given (object_at s n) go else Sticks)
+  thread_object n go = when_some (class_of s n) (λ c. if is_thread_class here.tree c then when_some (object_at s n) go else Sticks)
 
   -- the action on its operands, with the stack below them
   abbrev pub act : Action → List Value → List Value → Effect
   act Construct (v ∷ []) rest = onward f below s rest
-  act Write (v ∷ []) rest = given (line_of v) (λ line. onward f below (record s { printed = s.printed ++ line }) rest)
-  act Enter (v ∷ []) rest = not_null v ArgumentNull (λ n. given (monitor_of s n) (enter n rest))
-  act Exit (v ∷ []) rest = not_null v ArgumentNull (λ n. given (monitor_of s n) (exit n rest))
+  act Write (v ∷ []) rest = when_some (line_of v) (λ line. onward f below (record s { printed = s.printed ++ line }) rest)
+  act Enter (v ∷ []) rest = not_null v ArgumentNull (λ n. when_some (monitor_of s n) (enter n rest))
+  act Exit (v ∷ []) rest = not_null v ArgumentNull (λ n. when_some (monitor_of s n) (exit n rest))
   act Start (v ∷ []) rest = not_null v NullReference (λ n. thread_object n (start n rest))
   act Join (v ∷ []) rest = not_null v NullReference (λ n. thread_object n (join rest))
   act _ _ rest = Sticks

@@ -26,9 +26,9 @@ pub data Effect : Type 0 where
   Sticks : Effect
 
 -- continues with what is there, and sticks where it is missing
-abbrev pub given : {X : Type 0} → Option X → (X → Effect) → Effect
-given None go = Sticks
-given (Some x) go = go x
+abbrev pub when_some : {X : Type 0} → Option X → (X → Effect) → Effect
+when_some None go = Sticks
+when_some (Some x) go = go x
 
 -- continues with a result, or ends by its fault
 abbrev pub unless_fault : {X : Type 0} → Result X Fault → (X → Effect) → Effect

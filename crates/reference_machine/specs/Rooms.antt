@@ -5,7 +5,7 @@ use Rattle.cil_model.specs.declared.limits.Limits.{Limits}
 use Rattle.cil_model.specs.declared.phases.Phase.TheVariants.{Idle}
 use Rattle.cil_model.specs.declared.reports.Report.{Report}
 use Rattle.cil_model.specs.Chains.{is_thread_class}
-use Rattle.reference_machine.specs.Cycles.{Spaces, is_refused}
+use Rattle.reference_machine.specs.Cycles.{SpaceSizes, is_refused}
 use Rattle.reference_machine.specs.States.{Contents, Instance, Array, HeapObject, State}
 use Rattle.reference_machine.specs.Steps.{Answers, step}
 
@@ -20,7 +20,7 @@ words_of_all tree objects = sum_by (λ (o : HeapObject). cell_words tree o.conte
 
 -- The one space of a machine that collects nothing: it has the words of the limit, and those of all births so far are used. (A machine with
 -- two spaces has its own in place of this.)
-abbrev pub spaces : Tree → Limits → State → Spaces
+abbrev pub spaces : Tree → Limits → State → SpaceSizes
 spaces tree limits s = record { old = record { words = limits.words; used = words_of_all tree s.objects }; newer = None }
 
 -- A step of the thread makes an object, unless that is refused, and its cell exceeds the room.

@@ -17,7 +17,7 @@ use Rattle.cil_model.specs.Mentions.{literals_of}
 use Rattle.reference_machine.specs.States.{Free, State, zero_fields}
 use Rattle.reference_machine.specs.Effects.{new_frame}
 use Rattle.reference_machine.specs.Rooms.{RefusesBeyondRoom}
-use Rattle.reference_machine.specs.Steps.{Outcome, Answers, Stuck, step}
+use Rattle.reference_machine.specs.Steps.{StepOutcome, Answers, Stuck, step}
 
 -- the state in which thread 0 is at the beginning of the entry point, nothing was born or printed, and no monitor is held
 abbrev pub initial_state_at : Tree → Limits → ClassName × Method → Code → State
@@ -49,7 +49,7 @@ preceded_by r (RunsTo reports s) = RunsTo (r ∷ reports) s
 preceded_by r (SticksAfter reports) = SticksAfter (r ∷ reports)
 
 -- a step, and then a run from the state after it
-abbrev pub followed_by : Outcome → (State → Run) → Run
+abbrev pub followed_by : StepOutcome → (State → Run) → Run
 followed_by Stuck later = SticksAfter []
 followed_by (Answers r s) later = preceded_by r (later s)
 

@@ -27,7 +27,7 @@ use Rattle.cil_model.specs.Assignable.{is_reference, is_assignable}
 use Rattle.reference_machine.specs.Values.{ObjectName, Literal, Value, Int32, Int64, Native, Null, Reference, zero_of, is_of_kind}
 use Rattle.reference_machine.specs.Arithmetic.{binary_value, unary_value, shift_value, compare_values, branch_values, is_set, convert_32, convert_64, as_index, one_or_zero, not_option}
 use Rattle.reference_machine.specs.States.{Contents, Array, Frame, Thread, State, is_live_thread, entry_at, replaced_entry, replaced_at, field_value, with_field, array_at, with_element, type_of, class_of, next_name, with_birth, new_instance}
-use Rattle.reference_machine.specs.Effects.{Setting, Effect, Goes, Blocks, Raises, Sticks, given, unless_fault, pop_many, not_null, are_of_kinds, new_frame, after, onward, return_value}
+use Rattle.reference_machine.specs.Effects.{Setting, Effect, Goes, Blocks, Raises, Sticks, when_some, unless_fault, pop_many, not_null, are_of_kinds, new_frame, after, onward, return_value}
 use Rattle.cil_model.specs.Stacks.{take_one, take_two, take_three}
 use Rattle.reference_machine.specs.BuiltIn.{action_of, act}
 
@@ -42,7 +42,7 @@ module _ (here : Setting) (s : State) (f : Frame) (below : List Frame) where
 
   -- on to the instruction of a label
   abbrev pub jump : List ℕ → List Value → Effect
-  jump label stack = given (pc_of label (lines_of f.method)) (λ pc. Goes (record f { pc = pc; stack = stack } ∷ below) s)
+  jump label stack = when_some (pc_of label (lines_of f.method)) (λ pc. Goes (record f { pc = pc; stack = stack } ∷ below) s)
 
   -- there where the test holds, otherwise to the next instruction
   abbrev pub branch_if : Bool → List ℕ → List Value → Effect
@@ -69,8 +69,8 @@ module _ (here : Setting) (s : State) (f : Frame) (below : List Frame) where
   abbrev pub element : (DeclaredType → Bool) → Value → Value → (ObjectName → DeclaredType → ℕ → Value → Effect) → Effect
   element test array index go =
       not_null array NullReference (λ n.
-      given (as_index index) (λ i.
-      given (array_at s n) (λ held.
+      when_some (as_index index) (λ i.
+      when_some (array_at s n) (λ held.
       if test held.0 then in_range (slice_get held.1) (go n held.0) i else Sticks)))
 
   -- ldelem.i4, ldelem.i8 and ldelem.ref (III.4.8)
@@ -79,7 +79,7 @@ module _ (here : Setting) (s : State) (f : Frame) (below : List Frame) where
 
   -- stelem.i4 and stelem.i8 (III.4.27)
   abbrev pub store_element : (DeclaredType → Bool) → Effect
-  store_element test = take_three Sticks f.stack (λ array index v rest. element test array index (λ n t i old. given (with_element s n i v) (λ s'. onward f below s' rest)))
+  store_element test = take_three Sticks f.stack (λ array index v rest. element test array index (λ n t i old. when_some (with_element s n i v) (λ s'. onward f below s' rest)))
 
   -- the object's own class has to fit the array's own elements (III.4.27)
   abbrev pub may_hold : DeclaredType → Value → Option Bool
@@ -90,17 +90,17 @@ module _ (here : Setting) (s : State) (f : Frame) (below : List Frame) where
   -- stelem.ref (III.4.27): the index is checked before the class
   abbrev pub store_reference : Effect
   store_reference = take_three Sticks f.stack (λ array index v rest. element is_reference array index (λ n t i old.
-      given (may_hold t v) (λ holds. if holds then given (with_element s n i v) (λ s'. onward f below s' rest) else Raises ArrayTypeMismatch)))
+      when_some (may_hold t v) (λ holds. if holds then when_some (with_element s n i v) (λ s'. onward f below s' rest) else Raises ArrayTypeMismatch)))
 
   -- what castclass and isinst do with an object of another class (III.4.3, III.4.6)
   abbrev pub cast : DeclaredType → (List Value → Effect) → Effect
-  cast t otherwise = take_one Sticks f.stack (λ v rest. given (may_hold t v) (λ holds. if holds then next (v ∷ rest) else otherwise rest))
+  cast t otherwise = take_one Sticks f.stack (λ v rest. when_some (may_hold t v) (λ holds. if holds then next (v ∷ rest) else otherwise rest))
 
   -- ---- calls
 
   -- a method with code gets a frame, within the depth limit
   abbrev pub frame_for : ClassName → Method → List Value → Option ObjectName → State → List Value → Effect
-  frame_for c m arguments constructed s' rest = given (code_of m.kind) (λ code. Goes (new_frame c m code arguments constructed ∷ after f rest ∷ below) s')
+  frame_for c m arguments constructed s' rest = when_some (code_of m.kind) (λ code. Goes (new_frame c m code arguments constructed ∷ after f rest ∷ below) s')
 
   -- the thread has the maximal number of frames
   abbrev pub is_too_deep : Bool
@@ -125,7 +125,7 @@ module _ (here : Setting) (s : State) (f : Frame) (below : List Frame) where
   abbrev pub run_virtual : ClassName × Method → List Value → List Value → Effect
   run_virtual found [] rest = Sticks
   run_virtual found (this ∷ arguments) rest =
-      not_null this NullReference (λ n. given (method_for n found) (λ chosen. run_method chosen (this ∷ arguments) rest))
+      not_null this NullReference (λ n. when_some (method_for n found) (λ chosen. run_method chosen (this ∷ arguments) rest))
 
   -- a new object: at once where the constructor is built in, otherwise with a frame that pushes it at its end (III.4.21)
   abbrev pub construct : ClassName → ClassName × Method → List Value → List Value → Effect
@@ -170,32 +170,32 @@ module _ (here : Setting) (s : State) (f : Frame) (below : List Frame) where
   execute (LoadInt64 z) = next (Int64 z ∷ f.stack)
   execute LoadNull = next (Null ∷ f.stack)
   execute (LoadString characters) = next (Reference (Literal characters) ∷ f.stack)
-  execute (LoadArgument n) = given (at_index f.arguments n) (λ v. next (v ∷ f.stack))
-  execute (LoadLocal n) = given (at_index f.locals n) (λ v. next (v ∷ f.stack))
-  execute (StoreArgument n) = take_one Sticks f.stack (λ v rest. given (store_at n v f.arguments) (λ arguments. Goes (after (record f { arguments = arguments }) rest ∷ below) s))
-  execute (StoreLocal n) = take_one Sticks f.stack (λ v rest. given (store_at n v f.locals) (λ locals. Goes (after (record f { locals = locals }) rest ∷ below) s))
+  execute (LoadArgument n) = when_some (at_index f.arguments n) (λ v. next (v ∷ f.stack))
+  execute (LoadLocal n) = when_some (at_index f.locals n) (λ v. next (v ∷ f.stack))
+  execute (StoreArgument n) = take_one Sticks f.stack (λ v rest. when_some (store_at n v f.arguments) (λ arguments. Goes (after (record f { arguments = arguments }) rest ∷ below) s))
+  execute (StoreLocal n) = take_one Sticks f.stack (λ v rest. when_some (store_at n v f.locals) (λ locals. Goes (after (record f { locals = locals }) rest ∷ below) s))
   execute Duplicate = take_one Sticks f.stack (λ v rest. next (v ∷ v ∷ rest))
   execute Pop = take_one Sticks f.stack (λ v rest. next rest)
-  execute (Binary op) = take_two Sticks f.stack (λ v w rest. given (binary_value op v w) (λ result. unless_fault result (λ u. next (u ∷ rest))))
-  execute (Unary op) = take_one Sticks f.stack (λ v rest. given (unary_value op v) (λ u. next (u ∷ rest)))
-  execute (Shift op) = take_two Sticks f.stack (λ v amount rest. given (shift_value op v amount) (λ u. next (u ∷ rest)))
-  execute (Compare op) = take_two Sticks f.stack (λ v w rest. given (compare_values op v w) (λ holds. next (one_or_zero holds ∷ rest)))
-  execute ConvertInt32 = take_one Sticks f.stack (λ v rest. given (convert_32 v) (λ u. next (u ∷ rest)))
-  execute ConvertInt64 = take_one Sticks f.stack (λ v rest. given (convert_64 v) (λ u. next (u ∷ rest)))
+  execute (Binary op) = take_two Sticks f.stack (λ v w rest. when_some (binary_value op v w) (λ result. unless_fault result (λ u. next (u ∷ rest))))
+  execute (Unary op) = take_one Sticks f.stack (λ v rest. when_some (unary_value op v) (λ u. next (u ∷ rest)))
+  execute (Shift op) = take_two Sticks f.stack (λ v amount rest. when_some (shift_value op v amount) (λ u. next (u ∷ rest)))
+  execute (Compare op) = take_two Sticks f.stack (λ v w rest. when_some (compare_values op v w) (λ holds. next (one_or_zero holds ∷ rest)))
+  execute ConvertInt32 = take_one Sticks f.stack (λ v rest. when_some (convert_32 v) (λ u. next (u ∷ rest)))
+  execute ConvertInt64 = take_one Sticks f.stack (λ v rest. when_some (convert_64 v) (λ u. next (u ∷ rest)))
   execute (Branch label) = jump label f.stack
-  execute (BranchTrue label) = take_one Sticks f.stack (λ v rest. given (is_set v) (λ holds. branch_if holds label rest))
-  execute (BranchFalse label) = take_one Sticks f.stack (λ v rest. given (not_option (is_set v)) (λ holds. branch_if holds label rest))
-  execute (BranchCompare op label) = take_two Sticks f.stack (λ v w rest. given (branch_values op v w) (λ holds. branch_if holds label rest))
+  execute (BranchTrue label) = take_one Sticks f.stack (λ v rest. when_some (is_set v) (λ holds. branch_if holds label rest))
+  execute (BranchFalse label) = take_one Sticks f.stack (λ v rest. when_some (not_option (is_set v)) (λ holds. branch_if holds label rest))
+  execute (BranchCompare op label) = take_two Sticks f.stack (λ v w rest. when_some (branch_values op v w) (λ holds. branch_if holds label rest))
   execute (Switch labels) = take_one Sticks f.stack (switch_on labels)
-  execute (LoadField r) = take_one Sticks f.stack (λ object rest. given (find_field here.tree false r) (λ found.
-      not_null object NullReference (λ n. given (field_value s n (key_of found)) (λ v. next (v ∷ rest)))))
-  execute (StoreField r) = take_two Sticks f.stack (λ object v rest. given (find_field here.tree false r) (λ found.
-      not_null object NullReference (λ n. given (with_field s n (key_of found) v) (λ s'. onward f below s' rest))))
-  execute (LoadStaticField r) = given (find_field here.tree true r) (λ found. given (entry_at same_key (key_of found) s.statics) (λ v. next (v ∷ f.stack)))
-  execute (StoreStaticField r) = take_one Sticks f.stack (λ v rest. given (find_field here.tree true r) (λ found.
-      given (replaced_entry (key_of found) v s.statics) (λ statics. onward f below (record s { statics = statics }) rest)))
-  execute (NewArray t) = take_one Sticks f.stack (λ v rest. given (as_index v) (λ z. new_array t z rest))
-  execute LoadLength = take_one Sticks f.stack (λ array rest. not_null array NullReference (λ n. given (array_at s n) (λ held. next (Native (pos (length held.1)) ∷ rest))))
+  execute (LoadField r) = take_one Sticks f.stack (λ object rest. when_some (find_field here.tree false r) (λ found.
+      not_null object NullReference (λ n. when_some (field_value s n (key_of found)) (λ v. next (v ∷ rest)))))
+  execute (StoreField r) = take_two Sticks f.stack (λ object v rest. when_some (find_field here.tree false r) (λ found.
+      not_null object NullReference (λ n. when_some (with_field s n (key_of found) v) (λ s'. onward f below s' rest))))
+  execute (LoadStaticField r) = when_some (find_field here.tree true r) (λ found. when_some (entry_at same_key (key_of found) s.statics) (λ v. next (v ∷ f.stack)))
+  execute (StoreStaticField r) = take_one Sticks f.stack (λ v rest. when_some (find_field here.tree true r) (λ found.
+      when_some (replaced_entry (key_of found) v s.statics) (λ statics. onward f below (record s { statics = statics }) rest)))
+  execute (NewArray t) = take_one Sticks f.stack (λ v rest. when_some (as_index v) (λ z. new_array t z rest))
+  execute LoadLength = take_one Sticks f.stack (λ array rest. not_null array NullReference (λ n. when_some (array_at s n) (λ held. next (Native (pos (length held.1)) ∷ rest))))
   execute LoadElementInt32 = load_element (same_type (plain Int32Element))
   execute LoadElementInt64 = load_element (same_type (plain Int64Element))
   execute LoadElementReference = load_element is_reference
@@ -204,19 +204,19 @@ module _ (here : Setting) (s : State) (f : Frame) (below : List Frame) where
   execute StoreElementReference = store_reference
   execute (CastClass t) = cast t (λ rest. Raises InvalidCast)
   execute (IsInstance t) = cast t (λ rest. next (Null ∷ rest))
-  execute (Call is_instance r) = given (find_method here.tree is_instance r) (λ found. operands (reference_operands is_instance r) (run_method found))
-  execute (CallVirtual owner name signature) = given (find_method here.tree true (virtual_reference owner name signature)) (λ found.
+  execute (Call is_instance r) = when_some (find_method here.tree is_instance r) (λ found. operands (reference_operands is_instance r) (run_method found))
+  execute (CallVirtual owner name signature) = when_some (find_method here.tree true (virtual_reference owner name signature)) (λ found.
       operands (reference_operands true (virtual_reference owner name signature)) (run_virtual found))
-  execute (NewObject c parameters) = given (find_method here.tree true (constructor_reference c parameters)) (λ found.
+  execute (NewObject c parameters) = when_some (find_method here.tree true (constructor_reference c parameters)) (λ found.
       operands parameters (construct c found))
   execute Return = return_from
 
 -- ---- one step of a thread
 
 -- the report of a step, with the state after it; or it meets a missing operand, one of the wrong kind, an absent member or an unknown name
-pub data Outcome : Type 0 where
-  Answers : Report → State → Outcome
-  Stuck : Outcome
+pub data StepOutcome : Type 0 where
+  Answers : Report → State → StepOutcome
+  Stuck : StepOutcome
 
 -- the instruction that a frame is at
 abbrev pub instruction_at : Frame → Option Instruction
@@ -225,23 +225,23 @@ instruction_at f = option_map (λ (l : Line). l.instruction) (slice_get (lines_o
 -- what the thread's frames do next
 abbrev pub effect_of : Setting → State → List Frame → Effect
 effect_of here s [] = Sticks
-effect_of here s (f ∷ below) = given (instruction_at f) (execute here s f below)
+effect_of here s (f ∷ below) = when_some (instruction_at f) (execute here s f below)
 
 -- the state with another thread of that number
 abbrev pub with_thread_at : State → ℕ → Thread → State
 with_thread_at s t thread = record s { threads = slice_set s.threads t thread }
 
 -- a thread that ends drops its frames; monitors that it holds stay held
-abbrev pub ended_as : State → ℕ → ℕ → End → Outcome
+abbrev pub ended_as : State → ℕ → ℕ → End → StepOutcome
 ended_as s t left e = Answers (Ended e) (with_thread_at s t (record { frames = []; steps_left = left; ended = Some e }))
 
 -- a live thread continues, unless its budget is used up
-abbrev pub continues : Report → State → ℕ → ℕ → List Frame → Outcome
+abbrev pub continues : Report → State → ℕ → ℕ → List Frame → StepOutcome
 continues report s t zero frames = ended_as s t 0 Budget
 continues report s t (suc left) frames = Answers report (with_thread_at s t (record { frames = frames; steps_left = suc left; ended = None }))
 
 -- the report, where this number of steps is left after this one
-abbrev pub charge : State → ℕ → ℕ → List Frame → Effect → Outcome
+abbrev pub charge : State → ℕ → ℕ → List Frame → Effect → StepOutcome
 charge s t left frames (Goes [] s') = ended_as s' t left Done
 charge s t left frames (Goes (f ∷ below) s') = continues Ran s' t left (f ∷ below)
 charge s t left frames Blocks = continues Blocked s t left frames
@@ -249,10 +249,10 @@ charge s t left frames (Raises fault) = ended_as s t left (ByFault fault)
 charge s t left frames Sticks = Stuck
 
 -- a thread that has ended is absent; each step of a live one takes one from its budget
-abbrev pub step_of : Setting → State → Thread → Outcome
+abbrev pub step_of : Setting → State → Thread → StepOutcome
 step_of here s thread =
     if is_live_thread thread then charge s here.thread (thread.steps_left - 1) thread.frames (effect_of here s thread.frames) else Answers Absent s
 
 -- one step of thread t, where it was started; `refused` counts where an allocation is due
-abbrev pub step : Tree → Limits → State → ℕ → Bool → Outcome
+abbrev pub step : Tree → Limits → State → ℕ → Bool → StepOutcome
 step tree limits s t refused = option_map_or (step_of (record { tree = tree; limits = limits; thread = t; is_refused = refused }) s) (slice_get s.threads t) (Answers Absent s)

@@ -29,4 +29,4 @@ type_at tree t = option_map (λ e. record { element = e; brackets = t.brackets }
 
 -- the types that a list represents
 abbrev pub AreTypes : Tree → List ResolvedType → List DeclaredType → Type 0
-AreTypes tree numbered types = map (type_at tree) numbered ≡ map Some types
+AreTypes tree has_id types = map (type_at tree) has_id ≡ map Some types

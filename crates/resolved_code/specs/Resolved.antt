@@ -59,14 +59,14 @@ pub record IsField (tree : Tree) (is_static : Bool) (r : FieldReference) (field 
   pub declared_in : ClassName
   pub found : Field
   pub finds : find_field tree is_static r ≡ Some (declared_in, found)
-  pub numbered : field_at tree (field.class, field.index) ≡ Some (declared_in, found)
+  pub has_id : field_at tree (field.class, field.index) ≡ Some (declared_in, found)
 
 -- the method that a reference finds (II.15.1.3)
 pub record IsMethod (tree : Tree) (is_instance : Bool) (r : MethodReference) (method : MemberNumber) : Type 0 where
   pub declared_in : ClassName
   pub found : Method
   pub finds : find_method tree is_instance r ≡ Some (declared_in, found)
-  pub numbered : method_at tree (method.class, method.index) ≡ Some (declared_in, found)
+  pub has_id : method_at tree (method.class, method.index) ≡ Some (declared_in, found)
 
 -- an instruction of a method with these lines, and what runs for it
 pub data IsOperation (tree : Tree) (lines : List Line) : Instruction → Operation → Type 0 where

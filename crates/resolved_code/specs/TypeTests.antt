@@ -36,6 +36,6 @@ abbrev pub type_test : ResolvedType → ResolvedType → TypeTest
 type_test from to = if from.brackets == to.brackets then element_test from.element to.element else Answered (nat_lt to.brackets from.brackets && is_object to.element)
 
 -- the outcome of a test: its result, or that of the two classes with its numbers
-abbrev pub ComesTo : Tree → TypeTest → Bool → Type 0
-ComesTo tree (Answered answer) is = answer ≡ is
-ComesTo tree (OfClasses from to) is = (c : ClassName) × (d : ClassName) × (class_name tree from ≡ Some c) × (class_name tree to ≡ Some d) × (is_class_assignable tree c d ≡ is)
+abbrev pub IsResultOf : Tree → TypeTest → Bool → Type 0
+IsResultOf tree (Answered answer) is = answer ≡ is
+IsResultOf tree (OfClasses from to) is = (c : ClassName) × (d : ClassName) × (class_name tree from ≡ Some c) × (class_name tree to ≡ Some d) × (is_class_assignable tree c d ≡ is)

@@ -51,14 +51,14 @@ impl<'a> Resolve<ClassName> for NameTables<'a> {
 fn resolved_element(names: &NameTables, element: &Element) -> Option<ResolvedElement>
     ensures { result ≡ element_rule names.now.classes.tree.now element.now }
 {
-    let numbered = match element {
+    let resolved = match element {
         Element::Int32 => ResolvedElement::Int32,
         Element::Int64 => ResolvedElement::Int64,
         Element::Object => ResolvedElement::Object,
         Element::String => ResolvedElement::String,
         Element::Class(class) => ResolvedElement::Class(class_number(names, class)?),
     };
-    Some(numbered)
+    Some(resolved)
 }
 
 /// A type by number (ECMA-335 II.7.1). None where the class that it names refers to nothing.

@@ -5,7 +5,7 @@ ghost use Rattle.cil_model.specs.declared.trees.Tree.{Tree};
 ghost use Rattle.cil_model.specs.declared.types.DeclaredType.{DeclaredType};
 ghost use Rattle.cil_model.specs.Assignable.{is_assignable};
 ghost use Rattle.resolved_code.specs.Numbered.{type_at};
-ghost use Rattle.resolved_code.specs.TypeTests.{is_object, element_test, type_test, ComesTo};
+ghost use Rattle.resolved_code.specs.TypeTests.{is_object, element_test, type_test, IsResultOf};
 
 use crate::types::{ResolvedElement, ResolvedType};
 
@@ -58,9 +58,9 @@ impl ResolvedType {
     /// Whether a value of this type may be given where the other is expected (ECMA-335 I.8.7), as far as elements and brackets
     /// determine it.
     /// An array may be given for one with the same number of brackets where its element may be given for the other's, and for `object` with fewer.
-    pub fn test_for(self, wanted: ResolvedType) -> TypeTest
-        ensures { (tree : Tree) (a b : DeclaredType) → type_at tree self ≡ Some a → type_at tree wanted ≡ Some b → ComesTo tree result (is_assignable tree a b) }
+    pub fn test_for(self, required: ResolvedType) -> TypeTest
+        ensures { (tree : Tree) (a b : DeclaredType) → type_at tree self ≡ Some a → type_at tree required ≡ Some b → IsResultOf tree result (is_assignable tree a b) }
     {
-        type_test(self, wanted)
+        type_test(self, required)
     }
 }

@@ -55,7 +55,7 @@ impl Monitors {
             return Ok(known);
         }
         let number = self.count;
-        let address = machine.forwarded(address).unwrap_or(address);
+        let address = machine.live_forward(address).unwrap_or(address);
         self.known.push(KnownObject { address, number })?;
         self.count = number + 1;
         Ok(Some(number))
@@ -65,7 +65,7 @@ impl Monitors {
     pub(crate) fn forward(&mut self, alloc: Global, machine: &Machine) -> Result<(), AllocError> {
         let mut kept = Vec::new(alloc);
         for known in self.known.as_slice() {
-            if let Some(address) = machine.forwarded(known.address) {
+            if let Some(address) = machine.live_forward(known.address) {
                 kept.push(KnownObject {
                     address,
                     number: known.number,

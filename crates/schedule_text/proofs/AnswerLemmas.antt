@@ -54,7 +54,7 @@ count_of_item word item (inr (name, digits, _, _, _, some)) = some
 -- such a word is good
 good_at : (before : List (List ℕ)) (word : List ℕ) (after : List (List ℕ)) (all events : List Event) → AreRead (before ++ word ∷ after) all → AreRead before events →
     (item : Item) × IsItem word item × IsTrue (has_thread_number item.event) × (length events + item.count ≤ MOST_EVENTS)
-good_at before word after all events (items, are, is, numbered, few) (front', are', is', _, _) =
+good_at before word after all events (items, are, is, has_number, few) (front', are', is', _, _) =
     let parts = items_at before word after items are in
     let front = parts.0 in
     let item = parts.1 in
@@ -63,7 +63,7 @@ good_at before word after all events (items, are, is, numbered, few) (front', ar
     is ∙ ap events_of parts.3 ∙ flat_map-append (λ i. replicate i.count i.event) front (item ∷ back) in
     let earlier : events ≡ events_of front = is' ∙ ap events_of (same_items before front' front are' parts.4) in
     let following : list_all has_thread_number (replicate item.count item.event ++ events_of back) ≡ true =
-    (both (list_all has_thread_number (events_of front)) _ (sym (list_all-append has_thread_number (events_of front) (replicate item.count item.event ++ events_of back)) ∙ ap (list_all has_thread_number) (sym whole) ∙ numbered)).1 in
+    (both (list_all has_thread_number (events_of front)) _ (sym (list_all-append has_thread_number (events_of front) (replicate item.count item.event ++ events_of back)) ∙ ap (list_all has_thread_number) (sym whole) ∙ has_number)).1 in
     let own : list_all has_thread_number (replicate item.count item.event) ≡ true =
     (both (list_all has_thread_number (replicate item.count item.event)) _ (sym (list_all-append has_thread_number (replicate item.count item.event) (events_of back)) ∙ following)).0 in (
       item,
@@ -73,13 +73,13 @@ good_at before word after all events (items, are, is, numbered, few) (front', ar
     )
 
 good_is_no_fault : (before : ℕ) (word : List ℕ) (item : Item) (error : ScheduleError) → IsItem word item → IsTrue (has_thread_number item.event) → before + item.count ≤ MOST_EVENTS → IsFaulty before word error → error ≡ OutOfMemory
-good_is_no_fault before word item NoItem is numbered room fault = absurd (fault item is)
-good_is_no_fault before word item NoThread is numbered room (other, other_is, none) =
-    absurd (true≢false (sym numbered ∙ ap (λ i. has_thread_number i.event) (one_item word item other is other_is) ∙ none))
-good_is_no_fault before word item TooLong is numbered room (other, other_is, (_, many)) =
+good_is_no_fault before word item NoItem is has_number room fault = absurd (fault item is)
+good_is_no_fault before word item NoThread is has_number room (other, other_is, none) =
+    absurd (true≢false (sym has_number ∙ ap (λ i. has_thread_number i.event) (one_item word item other is other_is) ∙ none))
+good_is_no_fault before word item TooLong is has_number room (other, other_is, (_, many)) =
     let count = ap (λ i. i.count) (one_item word item other is other_is) in
     absurd (omega (arith, many))
-good_is_no_fault before word item OutOfMemory is numbered room fault = refl
+good_is_no_fault before word item OutOfMemory is has_number room fault = refl
 
 pub no_fault_among : (before : List (List ℕ)) (word : List ℕ) (after : List (List ℕ)) (all events : List Event) (error : ScheduleError) →
     AreRead (before ++ word ∷ after) all → AreRead before events → IsFaulty (length events) word error → error ≡ OutOfMemory
@@ -128,10 +128,10 @@ same_fault before word NoItem NoThread h (item, is, _) e f = absurd (h item is)
 same_fault before word NoItem TooLong h (item, is, _) e f = absurd (h item is)
 same_fault before word NoThread NoItem (item, is, _) k e f = absurd (k item is)
 same_fault before word TooLong NoItem (item, is, _) k e f = absurd (k item is)
-same_fault before word NoThread TooLong (item, is, none) (other, other_is, (numbered, _)) e f =
-    absurd (true≢false (sym numbered ∙ ap (λ i. has_thread_number i.event) (one_item word other item other_is is) ∙ none))
-same_fault before word TooLong NoThread (other, other_is, (numbered, _)) (item, is, none) e f =
-    absurd (true≢false (sym numbered ∙ ap (λ i. has_thread_number i.event) (one_item word other item other_is is) ∙ none))
+same_fault before word NoThread TooLong (item, is, none) (other, other_is, (has_number, _)) e f =
+    absurd (true≢false (sym has_number ∙ ap (λ i. has_thread_number i.event) (one_item word other item other_is is) ∙ none))
+same_fault before word TooLong NoThread (other, other_is, (has_number, _)) (item, is, none) e f =
+    absurd (true≢false (sym has_number ∙ ap (λ i. has_thread_number i.event) (one_item word other item other_is is) ∙ none))
 
 pub same_first_fault : (words : List (List ℕ)) (error other : ScheduleError) → IsFirstFault words error → IsFirstFault words other → error ≢ OutOfMemory → other ≢ OutOfMemory → error ≡ other
 same_first_fault words error other (before, word, after, events, split, read, fault) (before', word', after', events', split', read', fault') e f =

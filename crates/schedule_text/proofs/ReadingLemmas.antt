@@ -43,8 +43,8 @@ uncapped_fault Gc e = e
 
 -- an item that is good as the program holds it is the item that is written
 pub uncapped : (item written : Item) → item ≡ capped_item written → has_thread_number item.event ≡ true → item.count ≤ MOST_EVENTS → item ≡ written
-uncapped item written e numbered few =
-    let event : has_thread_number (capped_event written.event) ≡ true = ap (λ i. has_thread_number i.event) (sym e) ∙ numbered in
+uncapped item written e has_number few =
+    let event : has_thread_number (capped_event written.event) ≡ true = ap (λ i. has_thread_number i.event) (sym e) ∙ has_number in
     let count : min written.count (2 ^ 32 - 1) ≤ MOST_EVENTS = subst (λ i. i.count ≤ MOST_EVENTS) e few in
     e ∙ same_item (capped_item written) written (uncapped_event written.event event) (omega arith)
 
@@ -96,11 +96,11 @@ list_all-replicate : {X : Type 0} (test : X → Bool) (n : ℕ) (x : X) → test
 list_all-replicate test n x e = list_all-from_AllPass test (replicate n x) (All-replicate (λ y. test y ≡ true) n x e)
 
 pub read_more : (words : List (List ℕ)) (events after : List Event) (word : List ℕ) (item : Item) → AreRead words events → IsItem word item → IsAdded events item after → AreRead (words ++ word ∷ []) after
-read_more words events after word item (items, are, is, all, few) here (numbered, room, added) = (
+read_more words events after word item (items, are, is, all, few) here (has_number, room, added) = (
   items ++ item ∷ [],
   AreItems-push words items word item are here,
   added ∙ ap (λ es. es ++ replicate item.count item.event) is ∙ sym (events_of-push items item),
-  rw added (rw (list_all-append has_thread_number events (replicate item.count item.event)) (rw all (list_all-replicate has_thread_number item.count item.event numbered))),
+  rw added (rw (list_all-append has_thread_number events (replicate item.count item.event)) (rw all (list_all-replicate has_thread_number item.count item.event has_number))),
   rw added (omega (arith, length-append events (replicate item.count item.event), length-replicate item.count item.event)),
 )
 

@@ -57,11 +57,11 @@ name_is (Ack thread) e = (decimal thread, refl, decimal_is thread (small_thread 
 name_is Gc e = refl
 
 item_is : (item : Item) → IsGood item → IsItem (item_text item) item
-item_is item (numbered, some, few) = by_count (item.count == 1) refl
+item_is item (has_number, some, few) = by_count (item.count == 1) refl
   where
     by_count : (one : Bool) → (item.count == 1) ≡ one → IsItem (if one then name_of item.event else name_of item.event ++ codes "*" ++ decimal item.count) item
-    by_count true e = inl (name_is item.event numbered, eqb-true item.count 1 e)
-    by_count false e = inr (name_of item.event, decimal item.count, append_assoc (name_of item.event) (codes "*") (decimal item.count), name_is item.event numbered, decimal_is item.count (omega arith), some)
+    by_count true e = inl (name_is item.event has_number, eqb-true item.count 1 e)
+    by_count false e = inr (name_of item.event, decimal item.count, append_assoc (name_of item.event) (codes "*") (decimal item.count), name_is item.event has_number, decimal_is item.count (omega arith), some)
 
 -- ---- no separator is in it
 
@@ -80,10 +80,10 @@ name_is_whole (Ack thread) e = All-cons (λ byte. is_separator byte ≡ false) 9
 name_is_whole Gc e = All-cons (λ byte. is_separator byte ≡ false) 103 [] refl (All-nil (λ byte. is_separator byte ≡ false))
 
 item_is_whole : (item : Item) → IsGood item → IsWhole (item_text item)
-item_is_whole item (numbered, some, few) = by_count (item.count == 1)
+item_is_whole item (has_number, some, few) = by_count (item.count == 1)
   where
     name : IsWhole (name_of item.event)
-    name = name_is_whole item.event numbered
+    name = name_is_whole item.event has_number
 
     star : IsWhole (codes "*")
     star = All-cons (λ byte. is_separator byte ≡ false) 42 [] refl (All-nil (λ byte. is_separator byte ≡ false))
@@ -117,16 +117,16 @@ texts_are [] good = tt
 texts_are (item ∷ items) good = (item_is item (All-head IsGood item items good), texts_are items (All-tail IsGood item items good))
 
 goods : (items : List Item) → All (λ i. 0 < i.count) items → list_all has_thread_number (events_of items) ≡ true → length (events_of items) ≤ MOST_EVENTS → All IsGood items
-goods [] filled numbered few = All-nil IsGood
-goods (item ∷ items) filled numbered few =
+goods [] filled has_number few = All-nil IsGood
+goods (item ∷ items) filled has_number few =
     let some = All-head (λ i. 0 < i.count) item items filled in
-    let parts = both (list_all has_thread_number (replicate item.count item.event)) (list_all has_thread_number (events_of items)) (sym (list_all-append has_thread_number (replicate item.count item.event) (events_of items)) ∙ numbered) in
+    let parts = both (list_all has_thread_number (replicate item.count item.event)) (list_all has_thread_number (events_of items)) (sym (list_all-append has_thread_number (replicate item.count item.event) (events_of items)) ∙ has_number) in
     let long = length-append (replicate item.count item.event) (events_of items) in
     let own = length-replicate item.count item.event in
     All-cons IsGood item items (first_passes has_thread_number item.count item.event some parts.0, some, omega arith)
     (goods items (All-tail (λ i. 0 < i.count) item items filled) parts.1 (omega arith))
 
 pub text_is_read : (events : List Event) (text : List ℕ) → IsWritten events text → AreRead (words text) events
-text_is_read events text ((few, numbered), (items, runs, is)) =
-    let good = goods items runs.filled (ap (list_all has_thread_number) (sym runs.together) ∙ numbered) (subst (λ es. length es ≤ MOST_EVENTS) runs.together few) in
-    (items, subst (λ ws. AreItems ws items) (sym (ap words is ∙ words_are items good)) (texts_are items good), runs.together, numbered, few)
+text_is_read events text ((few, has_number), (items, runs, is)) =
+    let good = goods items runs.filled (ap (list_all has_thread_number) (sym runs.together) ∙ has_number) (subst (λ es. length es ≤ MOST_EVENTS) runs.together few) in
+    (items, subst (λ ws. AreItems ws items) (sym (ap words is ∙ words_are items good)) (texts_are items good), runs.together, has_number, few)

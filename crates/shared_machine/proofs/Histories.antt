@@ -17,7 +17,7 @@ use Rattle.interleaving_core.proofs.Runs.LongerRuns.{does_more}
 use Rattle.interleaving_core.proofs.Runs.FollowedRuns.{transitions_follow, transitions_length, transitions_more, transitions_program}
 use Rattle.shared_machine.specs.Codes.{add}
 use Rattle.shared_machine.specs.Histories.{IsSmall, plain, entry, events_of, reports_of, add_if, count_in_history, count_of}
-use Rattle.shared_machine.specs.Worlds.{HasRun, IsSound, fresh}
+use Rattle.shared_machine.specs.Worlds.{HasRun, IsSoundWorld, fresh}
 use Rattle.shared_machine.specs.declared.history.Entry.{Entry}
 use Rattle.shared_machine.specs.declared.history.Run.{Run}
 
@@ -61,7 +61,7 @@ has_run o core h transitions =
     }
 
 pub sound_more : (o : MachineState) (workers : ℕ) (core next : MachineState) (h : List Entry) (book : List ℕ) (w n : ℕ) (e : Event) (r : Report)
-    → IsSound o workers core h book → IsTransition core e (next, r) → IsSmall e → slice_get book w ≡ Some n → IsSound o workers next (h ++ entry w e r ∷ []) (set book w (add n e r))
+    → IsSoundWorld o workers core h book → IsTransition core e (next, r) → IsSmall e → slice_get book w ≡ Some n → IsSoundWorld o workers next (h ++ entry w e r ∷ []) (set book w (add n e r))
 sound_more o workers core next h book w n e r s transition small there =
     record {
       transitions = transitions_after o core next h (entry w e r) s.transitions transition;
@@ -129,8 +129,8 @@ plain-longer_by xs n d new e k len some same new_is =
     ap (λ (r : Run). plain (set xs (n - 1) r)) more ∙ last_longer_by xs (n - 1) d e k (omega arith) same
 
 -- the same under equations
-pub sound_at : (o : MachineState) (workers : ℕ) (core core' : MachineState) (h h' : List Entry) (book book' : List ℕ) → IsSound o workers core h book → core' ≡ core → h' ≡ h → book' ≡ book → IsSound o workers core' h' book'
-sound_at o workers core core' h h' book book' s a b c = subst (λ (x : MachineState × (List Entry × List ℕ)). IsSound o workers x.0 x.1.0 x.1.1) (λ i. (sym a i, (sym b i, sym c i))) s
+pub sound_at : (o : MachineState) (workers : ℕ) (core core' : MachineState) (h h' : List Entry) (book book' : List ℕ) → IsSoundWorld o workers core h book → core' ≡ core → h' ≡ h → book' ≡ book → IsSoundWorld o workers core' h' book'
+sound_at o workers core core' h h' book book' s a b c = subst (λ (x : MachineState × (List Entry × List ℕ)). IsSoundWorld o workers x.0 x.1.0 x.1.1) (λ i. (sym a i, (sym b i, sym c i))) s
 
 pub history_is : (all kept old : List Entry) (v w : ℕ) (e : Event) (r : Report) → all ≡ kept ++ entry v e r ∷ [] → kept ≡ old → v ≡ w → all ≡ old ++ entry w e r ∷ []
 history_is all kept old v w e r a b c = a ∙ ap (λ (x : List Entry × ℕ). x.0 ++ entry x.1 e r ∷ []) (λ i. (b i, c i))
@@ -149,7 +149,7 @@ pub fresh-more : (n : ℕ) (all rest : List Count) (t : Count) → all ≡ rest 
 fresh-more n all rest t a b c = a ∙ ap (λ (x : List Count × Count). x.0 ++ x.1 ∷ []) (λ i. (b i, c i)) ∙ sym (ap fresh (add-one n))
 
 -- before the first entry
-pub sound_first : (o : MachineState) (workers : ℕ) (core : MachineState) (h : List Entry) (book : List ℕ) → core ≡ o → h ≡ [] → length book ≡ workers → ((w n : ℕ) → slice_get book w ≡ Some n → n ≡ 0) → IsSound o workers core h book
+pub sound_first : (o : MachineState) (workers : ℕ) (core : MachineState) (h : List Entry) (book : List ℕ) → core ≡ o → h ≡ [] → length book ≡ workers → ((w n : ℕ) → slice_get book w ≡ Some n → n ≡ 0) → IsSoundWorld o workers core h book
 sound_first o workers core h book is none each zeros =
-    subst (λ (x : List Entry). IsSound o workers core x book) (sym none)
+    subst (λ (x : List Entry). IsSoundWorld o workers core x book) (sym none)
     (record { transitions = (is, refl); theirs = All-nil (λ (x : Entry). (x.worker < workers) × IsSmall x.event); each = each; counts = zeros })

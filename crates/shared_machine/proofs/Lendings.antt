@@ -17,7 +17,7 @@ use Rattle.interleaving_core.specs.simulation.Runs.{AreTransitions}
 use Rattle.shared_machine.specs.Codes.{add, add_times}
 use Rattle.shared_machine.specs.Counts.{Count}
 use Rattle.shared_machine.specs.Histories.{IsSmall, entry, events_of, reports_of}
-use Rattle.shared_machine.specs.Worlds.{HasRooms, IsCheckedIn, IsLentOut, IsPrintedWithin, IsSound, IsWorld, Shown, added_times, book_times, is_lent_in, lent_of, with_entries}
+use Rattle.shared_machine.specs.Worlds.{HasRooms, IsCheckedIn, IsLentOut, IsPrintedWithin, IsSoundWorld, IsWorld, Shown, added_times, book_times, is_lent_in, lent_of, with_entries}
 use Rattle.shared_machine.specs.declared.history.Entry.{Entry}
 use Rattle.shared_machine.proofs.Histories.{sound_at, sound_more}
 use Rattle.shared_machine.proofs.Moves.{get_same}
@@ -34,25 +34,25 @@ set_twice (x ∷ xs) (suc k) p q = ap (λ (l : List ℕ). x ∷ l) (set_twice xs
 
 module _ (o : MachineState) (workers w : ℕ) (e : Event) (r : Report) (small : IsSmall e) (next : MachineState) where
   -- the same entry n times more, of a worker whose count is in the book
-  sound_some : (n : ℕ) (core : MachineState) (h : List Entry) (book : List ℕ) (count : ℕ) → IsSound o workers core h book → slice_get book w ≡ Some count → AreTransitions core (replicate n e) next (replicate n r)
-      → IsSound o workers next (h ++ replicate n (entry w e r)) (set book w (add_times n count e r))
+  sound_some : (n : ℕ) (core : MachineState) (h : List Entry) (book : List ℕ) (count : ℕ) → IsSoundWorld o workers core h book → slice_get book w ≡ Some count → AreTransitions core (replicate n e) next (replicate n r)
+      → IsSoundWorld o workers next (h ++ replicate n (entry w e r)) (set book w (add_times n count e r))
   sound_some zero core h book count s there transitions =
-      subst (λ (x : MachineState × (List Entry × List ℕ)). IsSound o workers x.0 x.1.0 x.1.1) (λ i. (sym transitions.0 i, (sym (append-nil h) i, sym (set_there book w count there) i))) s
+      subst (λ (x : MachineState × (List Entry × List ℕ)). IsSoundWorld o workers x.0 x.1.0 x.1.1) (λ i. (sym transitions.0 i, (sym (append-nil h) i, sym (set_there book w count there) i))) s
   sound_some (suc n) core h book count s there (mid, one, more) =
       let step = sound_more o workers core mid h book w count e r s one small there in
       let rest = sound_some n mid (h ++ entry w e r ∷ []) (set book w (add count e r)) (add count e r) step (get_same book w count (add count e r) there) more in
-      subst (λ (x : List Entry × List ℕ). IsSound o workers next x.0 x.1)
+      subst (λ (x : List Entry × List ℕ). IsSoundWorld o workers next x.0 x.1)
       (λ i. (append_assoc h (entry w e r ∷ []) (replicate n (entry w e r)) i, set_twice book w (add count e r) (add_times n (add count e r) e r) i)) rest
 
   -- n times, none among them
-  pub sound_times : (n : ℕ) (core : MachineState) (h : List Entry) (book : List ℕ) (count : ℕ) → IsSound o workers core h book → (0 < n → slice_get book w ≡ Some count) → AreTransitions core (replicate n e) next (replicate n r)
-      → IsSound o workers next (h ++ replicate n (entry w e r)) (book_times book (record { worker = w; count = count }) n e r)
+  pub sound_times : (n : ℕ) (core : MachineState) (h : List Entry) (book : List ℕ) (count : ℕ) → IsSoundWorld o workers core h book → (0 < n → slice_get book w ≡ Some count) → AreTransitions core (replicate n e) next (replicate n r)
+      → IsSoundWorld o workers next (h ++ replicate n (entry w e r)) (book_times book (record { worker = w; count = count }) n e r)
   sound_times zero core h book count s there transitions =
-      subst (λ (x : MachineState × List Entry). IsSound o workers x.0 x.1 book) (λ i. (sym transitions.0 i, sym (append-nil h) i)) s
+      subst (λ (x : MachineState × List Entry). IsSoundWorld o workers x.0 x.1 book) (λ i. (sym transitions.0 i, sym (append-nil h) i)) s
   sound_times (suc n) core h book count s there transitions = sound_some (suc n) core h book count s (there (omega arith)) transitions
 
 -- a world under equations
-pub world_at : (o : MachineState) (workers : ℕ) (most kept : Option ℕ) (core core' : MachineState) (h h' : List Entry) (book book' : List ℕ) (rooms rooms' : List (Option Tree)) → IsSound o workers core h book → core' ≡ core → h' ≡ h → book' ≡ book → rooms' ≡ rooms → HasRooms o rooms
+pub world_at : (o : MachineState) (workers : ℕ) (most kept : Option ℕ) (core core' : MachineState) (h h' : List Entry) (book book' : List ℕ) (rooms rooms' : List (Option Tree)) → IsSoundWorld o workers core h book → core' ≡ core → h' ≡ h → book' ≡ book → rooms' ≡ rooms → HasRooms o rooms
     → kept ≡ most → IsPrintedWithin most o core' → IsWorld o workers most kept core' h' book' rooms'
 world_at o workers most kept core core' h h' book book' rooms rooms' s a b c d homes same within = record {
   sound = sound_at o workers core core' h h' book book' s a b c;
@@ -113,7 +113,7 @@ pub read_room : (rooms : List (Option Tree)) (t i : ℕ) (room : Option Tree) �
 read_room rooms t i room same inside reads = subst (λ n. slice_get rooms n ≡ Some room) same (slice_get_read rooms (length rooms) i room refl inside reads)
 
 -- a machine runs the program that it was opened with
-pub same_tree : (o : MachineState) (workers : ℕ) (core : MachineState) (h : List Entry) (book : List ℕ) → IsSound o workers core h book → core.tree ≡ o.tree
+pub same_tree : (o : MachineState) (workers : ℕ) (core : MachineState) (h : List Entry) (book : List ℕ) → IsSoundWorld o workers core h book → core.tree ≡ o.tree
 same_tree o workers core h book s = (transitions_program o core (events_of h) (reports_of h) s.transitions).0
 
 -- ---- what a world shows

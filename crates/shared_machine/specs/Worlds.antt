@@ -47,7 +47,7 @@ pub record Shown : Type 0 where
 
 -- the transitions over the history's events lead from the initial machine state to the machine's with the history's reports, each entry is of one of
 -- the workers, and the book has the count of each worker's entries
-pub record IsSound (initial_state : MachineState) (workers : ℕ) (core : MachineState) (history : List Entry) (book : List ℕ) : Type 0 where
+pub record IsSoundWorld (initial_state : MachineState) (workers : ℕ) (core : MachineState) (history : List Entry) (book : List ℕ) : Type 0 where
   pub transitions : AreTransitions initial_state (events_of history) core (reports_of history)
   pub theirs : AreOf workers history
   pub each : length book ≡ workers
@@ -68,7 +68,7 @@ IsPrintedWithin most initial_state core = IfSome most (λ bytes. (length core.pr
 
 -- all of these, with the bound that is kept
 pub record IsWorld (initial_state : MachineState) (workers : ℕ) (most kept : Option ℕ) (core : MachineState) (history : List Entry) (book : List ℕ) (rooms : List (Option Tree)) : Type 0 where
-  pub sound : IsSound initial_state workers core history book
+  pub sound : IsSoundWorld initial_state workers core history book
   pub homes : HasRooms initial_state rooms
   pub bound : kept ≡ most
   pub printed : IsPrintedWithin most initial_state core

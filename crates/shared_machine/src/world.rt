@@ -11,7 +11,7 @@ ghost use Rattle.shared_machine.specs.Histories.{AreOf, IsSmall, entry, events_o
 ghost use Rattle.cil_model.specs.declared.events.Event.TheVariants.{Step as StepOf};
 ghost use Rattle.cil_model.specs.declared.reports.Report.{Report as AnyReport};
 ghost use Rattle.cil_model.specs.declared.reports.Report.TheVariants.{Ran as RanOf};
-ghost use Rattle.shared_machine.specs.Worlds.{AgreesWith, CannotLend, HasRooms, HasRun, IfDid, IfNoMemory, IsCheckedIn, IsDid, IsIn, IsKept, IsLentOut, IsPrintedWithin, IsSound, add_event, added_times, book_times, is_away, is_lent_in, lent_of};
+ghost use Rattle.shared_machine.specs.Worlds.{AgreesWith, CannotLend, HasRooms, HasRun, IfDid, IfNoMemory, IsCheckedIn, IsDid, IsIn, IsKept, IsLentOut, IsPrintedWithin, IsSoundWorld, add_event, added_times, book_times, is_away, is_lent_in, lent_of};
 ghost use Rattle.shared_machine.specs.declared.answer.Answer.TheVariants.{Away};
 
 use crate::answer::Answer;
@@ -336,7 +336,7 @@ pub fn check_in<M: Initial>(
         most_printed: _,
     } = world;
     let thread = lent.loan.thread();
-    let times = lent.loan.done();
+    let times = lent.loan.step_count();
     if !is_lent(rooms, thread) || !core.is_at_origin(&lent.loan) {
         return Err(lent);
     }
@@ -384,7 +384,7 @@ impl<M: Initial> World<M> {
 
     /// What holds whenever the lock is free. It does nothing; its contract says so.
     pub fn laws(&self)
-        ensures sound { IsSound M.initial_state M.workers self.now.core self.now.history self.now.book }
+        ensures sound { IsSoundWorld M.initial_state M.workers self.now.core self.now.history self.now.book }
         ensures ran { HasRun M.initial_state (events_of self.now.history) (reports_of self.now.history) self.now.core }
         ensures printed { IsPrintedWithin M.most_printed M.initial_state self.now.core }
     {

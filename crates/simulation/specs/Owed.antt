@@ -20,8 +20,8 @@ use Rattle.simulation.specs.Rooms.{spaces_of}
 use Rattle.simulation.specs.Runs.{HoldsAfter}
 
 -- the reference machine reaches this state by the steps among the events
-abbrev pub ResultsIn : Tree → Limits → State → List (Event × Report) → State → Type 0
-ResultsIn tree limits first events s = run tree limits first (thread_part events) ≡ RunsTo (step_reports events) s
+abbrev pub RunsUpTo : Tree → Limits → State → List (Event × Report) → State → Type 0
+RunsUpTo tree limits first events s = run tree limits first (thread_part events) ≡ RunsTo (step_reports events) s
 
 -- what was reachable when the newest cycle began, and what was born since, have this number of words together after all events
 pub record OwesAfter (tree : Tree) (limits : Limits) (events : List Event) (reports : List Report) (words : ℕ) : Type 0 where
@@ -31,9 +31,9 @@ pub record OwesAfter (tree : Tree) (limits : Limits) (events : List Event) (repo
   pub first : State
   pub opens : initial_state tree limits ≡ Some first
   pub before : State
-  pub began : ResultsIn tree limits first earlier before
+  pub began : RunsUpTo tree limits first earlier before
   pub now : State
-  pub comes : ResultsIn tree limits first (zip events reports) now
+  pub comes : RunsUpTo tree limits first (zip events reports) now
   pub owes : OwesWords tree before now words
 
 -- where the last event ends a cycle, no more words are in use than are owed, all in one space

@@ -9,8 +9,8 @@ use Rattle.interpreter.specs.instructions.barriers.Barriers.{is_word_storable}
 use Rattle.interpreter.specs.threads_monitors.Frames.{Frames}
 use Rattle.interpreter.specs.threads_monitors.Threads.{start_fault}
 use Rattle.interpreter.specs.Instructions.{HasSmallConstant, IsAt, line_at, operation_transition, Answer}
-use Rattle.interpreter.specs.declared.outcomes.Outcome.{Outcome}
-use Rattle.interpreter.specs.declared.outcomes.Outcome.TheVariants.{Comes, Starts, Joins}
+use Rattle.interpreter.specs.declared.outcomes.InstructionOutcome.{InstructionOutcome}
+use Rattle.interpreter.specs.declared.outcomes.InstructionOutcome.TheVariants.{OwnEffect, Starts, Joins}
 use Rattle.simulation.specs.MachineStates.{MachineState, mutator_of}
 use Rattle.simulation.specs.Transitions.{left_by, thread_for}
 
@@ -26,8 +26,8 @@ pub record HasRequest (o : Objects) (m : Frames) (object : Addr) : Type 0 where
   pub following : m.running.pc < MOST_INSTRUCTIONS
 
 -- what the thread with these frames asks of other threads can be answered
-abbrev pub CanFinish : MachineState → ℕ → Frames → Outcome → Type 0
-CanFinish c t m (Comes e) = Unit {0}
+abbrev pub CanFinish : MachineState → ℕ → Frames → InstructionOutcome → Type 0
+CanFinish c t m (OwnEffect e) = Unit {0}
 CanFinish c t m (Starts object) =
     HasRequest c.objects m object
     × (object ≢ null → is_word_storable (mutator_of c t).phase c.objects object 0 ≡ true)
@@ -35,5 +35,5 @@ CanFinish c t m (Starts object) =
 CanFinish c t m (Joins object) = HasRequest c.objects m object
 
 -- and so it is for what an instruction leaves
-abbrev pub IsAnswerable : MachineState → ℕ → ℕ → Answer → Outcome → Type 0
+abbrev pub IsAnswerable : MachineState → ℕ → ℕ → Answer → InstructionOutcome → Type 0
 IsAnswerable c t left a outcome = CanFinish (left_by c t left a) t a.frames outcome

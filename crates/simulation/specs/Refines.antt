@@ -59,7 +59,7 @@ pub data IsValue (name : Names) : Value → StateValue → Type 0 where
 -- a word of a slot that holds the value
 pub record IsWord (name : Names) (w : ℕ) (v : StateValue) : Type 0 where
   pub value : Value
-  pub stands : IsValue name value v
+  pub refines : IsValue name value v
   pub is : value_word value ≡ w
 
 -- ---- objects
@@ -106,18 +106,18 @@ pub record IsBornAt (tree : Tree) (name : Names) (o : Objects) (s : State) (a n 
   pub lies : object_cell o (record { number = a }) ≡ Some cell
   pub object : HeapObject
   pub is : slice_get s.objects n ≡ Some object
-  pub stands : IsCell tree name cell object
+  pub refines : IsCell tree name cell object
 
 -- the address is that of a literal of the program, with its monitor
 pub record IsLiteralAt (tree : Tree) (o : Objects) (s : State) (a : ℕ) (characters : List ℕ) : Type 0 where
   pub number : ℕ
-  pub numbered : literal_number (record { number = a }) ≡ Some number
+  pub has_id : literal_number (record { number = a }) ≡ Some number
   pub is : slice_get (literals_of tree) number ≡ Some characters
   pub monitor : Monitor
   pub held : slice_get o.literals number ≡ Some monitor
   pub state_monitor : StateMonitor
   pub state_held : entry_at same_text characters s.literal_monitors ≡ Some state_monitor
-  pub stands : IsMonitor monitor state_monitor
+  pub refines : IsMonitor monitor state_monitor
 
 -- one address is that of the other copy of an old object
 abbrev pub AreTwins : Spaces → ℕ → ℕ → Type 0
@@ -163,15 +163,15 @@ pub record AreFrames (tree : Tree) (limits : Limits) (name : Names) (m : Frames)
   pub room : m.room ≡ frame_room
 
 -- live with the same frames, or ended alike
-abbrev pub StandsAlike : Tree → Limits → Names → ThreadStatus → List StateFrame → Option End → Type 0
-StandsAlike tree limits name (Live m) fs None = AreFrames tree limits name m fs
-StandsAlike tree limits name (Ended e) fs (Some e') = e ≡ e'
-StandsAlike tree limits name (Live m) fs (Some e') = ⊥
-StandsAlike tree limits name (Ended e) fs None = ⊥
+abbrev pub StatusRefines : Tree → Limits → Names → ThreadStatus → List StateFrame → Option End → Type 0
+StatusRefines tree limits name (Live m) fs None = AreFrames tree limits name m fs
+StatusRefines tree limits name (Ended e) fs (Some e') = e ≡ e'
+StatusRefines tree limits name (Live m) fs (Some e') = ⊥
+StatusRefines tree limits name (Ended e) fs None = ⊥
 
 -- a thread with the same number of steps left
 pub record IsThread (tree : Tree) (limits : Limits) (name : Names) (t : Thread) (u : StateThread) : Type 0 where
-  pub thread_status : StandsAlike tree limits name t.thread_status u.frames u.ended
+  pub thread_status : StatusRefines tree limits name t.thread_status u.frames u.ended
   pub steps_left : t.steps_left ≡ u.steps_left
 
 -- ---- the whole
@@ -183,14 +183,14 @@ pub record IsMemory (tree : Tree) (name : Names) (o : Objects) (statics : List V
   pub printed_is : printed ≡ s.printed
 
 -- under these names
-pub record StandsBy (name : Names) (c : MachineState) (s : State) : Type 0 where
+pub record RefinesUnder (name : Names) (c : MachineState) (s : State) : Type 0 where
   pub memory : IsMemory c.tree name c.objects c.statics c.printed s
   pub threads : Agree (IsThread c.tree c.limits name) c.threads s.threads
 
 -- under some names
 pub record Refines (c : MachineState) (s : State) : Type 0 where
   pub name : Names
-  pub by : StandsBy name c s
+  pub by : RefinesUnder name c s
 
 -- Within limits that a run may have, an accepted program's sound machine represents a typed state, whose monitors are counted.
 pub record Represents (c : MachineState) (s : State) : Type 0 where
@@ -199,4 +199,4 @@ pub record Represents (c : MachineState) (s : State) : Type 0 where
   pub typed : IsTyped c.tree s
   pub counted : IsCounted c.limits s
   pub sound : IsSound c
-  pub stands : Refines c s
+  pub refines : Refines c s

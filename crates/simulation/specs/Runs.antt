@@ -11,7 +11,7 @@ use Rattle.interpreter.specs.reference_machine.Runs.{RunsTo, is_refusal, initial
 use Rattle.interpreter.specs.reference_machine.Steps.{Answers, step}
 use Rattle.simulation.specs.MachineStates.{MachineState}
 use Rattle.simulation.specs.Refines.{Represents}
-use Rattle.simulation.specs.Rooms.{ExceedsRoom}
+use Rattle.simulation.specs.Rooms.{HasNoRoom}
 use Rattle.simulation.specs.Transitions.{IsTransition, initial_machine_state}
 use Rattle.simulation.specs.Budgets.{AreWithinBudget, KeepsBudgets}
 
@@ -40,7 +40,7 @@ IsNext tree limits s Gc r next = next ≡ s
 
 -- in an event a birth is refused exactly where it exceeds the room
 abbrev pub IsRefusedBeyondRoom : MachineState → State → Event → Report → Type 0
-IsRefusedBeyondRoom c s (Step t) r = IsTrue (is_refusal r) ↔ ExceedsRoom c s t
+IsRefusedBeyondRoom c s (Step t) r = IsTrue (is_refusal r) ↔ HasNoRoom c s t
 IsRefusedBeyondRoom c s (Ack t) r = Unit {0}
 IsRefusedBeyondRoom c s Gc r = Unit {0}
 
@@ -80,7 +80,7 @@ pub record IsRunOf (tree : Tree) (limits : Limits) (events : List Event) (report
   pub refuses : RefusesBeyondRoom machine first (zip events reports) last
 
 -- a machine represents such a state, to which each thread came within its budget
-pub record StandsAfter (tree : Tree) (limits : Limits) (events : List Event) (reports : List Report) (c : MachineState) : Type 0 where
+pub record RefinesAfter (tree : Tree) (limits : Limits) (events : List Event) (reports : List Report) (c : MachineState) : Type 0 where
   pub state : State
   pub is_run : IsRunOf tree limits events reports state
   pub ends : is_run.last ≡ c

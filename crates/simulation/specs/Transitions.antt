@@ -33,8 +33,8 @@ use Rattle.interpreter.specs.threads_monitors.declared.threads.ThreadStatus.TheV
 use Rattle.interpreter.specs.threads_monitors.declared.threads.Thread.{Thread}
 use Rattle.interpreter.specs.Calls.{chosen_at}
 use Rattle.interpreter.specs.Instructions.{IsDone, Answer}
-use Rattle.interpreter.specs.declared.outcomes.Outcome.{Outcome}
-use Rattle.interpreter.specs.declared.outcomes.Outcome.TheVariants.{Comes, Starts, Joins}
+use Rattle.interpreter.specs.declared.outcomes.InstructionOutcome.{InstructionOutcome}
+use Rattle.interpreter.specs.declared.outcomes.InstructionOutcome.TheVariants.{OwnEffect, Starts, Joins}
 use Rattle.simulation.specs.MachineStates.{MachineState, frame_room, mutator_of}
 use Rattle.simulation.specs.Collecting.{collect, with_acknowledgement}
 
@@ -118,14 +118,14 @@ abbrev pub left_by : MachineState → ℕ → ℕ → Answer → MachineState
 left_by c t leave_handshakes a = record c { threads = slice_set c.threads t (live_thread leave_handshakes a.frames); objects = a.objects; statics = a.statics; printed = a.printed }
 
 -- the machine state once the step of a thread with these frames is counted, by the outcome of its instruction
-abbrev pub finish : MachineState → ℕ → ℕ → Frames → Outcome → Option (MachineState × Report)
-finish c t leave_handshakes m (Comes e) = Some (count_step c t leave_handshakes e m)
+abbrev pub finish : MachineState → ℕ → ℕ → Frames → InstructionOutcome → Option (MachineState × Report)
+finish c t leave_handshakes m (OwnEffect e) = Some (count_step c t leave_handshakes e m)
 finish c t leave_handshakes m (Starts object) =
     option_map (λ (x : List Thread × Objects × Effect). answer_step (record c { threads = x.0; posts = seat_thread x.2 c.posts (length c.threads) t; objects = x.1 }) t leave_handshakes m x.2) (start_thread (mutator_of c t).phase c.tree c.limits c.threads c.objects object)
 finish c t leave_handshakes m (Joins object) = Some (answer_step c t leave_handshakes m (join_effect c.threads c.objects object))
 
 -- the step of a thread that had this number of steps left: its instruction, and then the outcome of that
-abbrev pub finish_step : MachineState → ℕ → ℕ → Answer → Outcome → Option (MachineState × Report)
+abbrev pub finish_step : MachineState → ℕ → ℕ → Answer → InstructionOutcome → Option (MachineState × Report)
 finish_step c t leave_handshakes a outcome = finish (left_by c t leave_handshakes a) t leave_handshakes a.frames outcome
 
 -- a live thread does its next instruction; one that has ended is absent

@@ -30,8 +30,8 @@ ghost use Rattle.simulation.specs.Lending.{RunsFrame, with_live};
 ghost use Rattle.simulation.specs.MachineStates.{MachineState, frame_room, mutator_of};
 ghost use Rattle.simulation.specs.Owed.{AreCyclesBounded, LeavesOnlyOwed, OwesAfter};
 ghost use Rattle.simulation.specs.Reached.{IsReached};
-ghost use Rattle.simulation.specs.Rooms.{ExceedsRoom};
-ghost use Rattle.simulation.specs.Runs.{AreSteps, AreTransitions, IsRunOf, StandsAfter};
+ghost use Rattle.simulation.specs.Rooms.{HasNoRoom};
+ghost use Rattle.simulation.specs.Runs.{AreSteps, AreTransitions, IsRunOf, RefinesAfter};
 ghost use Rattle.simulation.specs.Sound.{AreSeated, IsSound};
 ghost use Rattle.simulation.specs.Refines.{Represents};
 ghost use Rattle.simulation.specs.Transitions.{IsTransition, initial_machine_state};
@@ -115,7 +115,7 @@ pub fn an_acknowledgement_is_answered_once()
 /// A step is refused memory exactly where the object that it would make has more words than the machine's spaces have left for it, where
 /// the phase of the thread has it born.
 pub fn births_are_refused_beyond_the_room()
-    ensures { (c : MachineState) (s : State) → Represents c s → (t : ℕ) (after : MachineState × Report) → IsTransition c (Step t) after → IsTrue (is_refusal after.1) ↔ ExceedsRoom c s t }
+    ensures { (c : MachineState) (s : State) → Represents c s → (t : ℕ) (after : MachineState × Report) → IsTransition c (Step t) after → IsTrue (is_refusal after.1) ↔ HasNoRoom c s t }
 {}
 
 /// In a run of steps alone, without a collector, a birth is refused exactly where its cell has more words than the limit less those of all
@@ -135,7 +135,7 @@ pub fn the_run_is_one()
 /// At the end of a cycle no more words are in use than are owed: those of the objects that were reachable in the state of the reference machine when the
 /// cycle began, or were born since. They are all in one space.
 pub fn a_cycle_leaves_what_is_owed()
-    ensures { (tree : Tree) → IsAccepted tree → (limits : Limits) → IsTrue (are_in_range limits) → (events : List Event) (reports : List Report) (c : MachineState) → StandsAfter tree limits events reports c →
+    ensures { (tree : Tree) → IsAccepted tree → (limits : Limits) → IsTrue (are_in_range limits) → (events : List Event) (reports : List Report) (c : MachineState) → RefinesAfter tree limits events reports c →
         LeavesOnlyOwed tree limits events reports c }
 {}
 

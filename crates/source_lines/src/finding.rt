@@ -17,7 +17,7 @@ pub(crate) enum Part {
 fn begins(token: &SourceToken, part: Part) -> bool
     ensures { result ≡ begins part token.now }
 {
-    match token.reserved() {
+    match token.reserved_word() {
         None => false,
         Some(word) => is_first_word(word, part),
     }

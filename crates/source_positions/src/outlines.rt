@@ -9,8 +9,8 @@ use source_lines::line_of_byte;
 
 /// The offset in bytes, from 0, at which a part of a source begins. None where it is not there. What is returned of a source that is no
 /// sentence of the grammar, or of a part that its tree lacks, says nothing.
-pub fn offset_of(source: &[u8], index: Location) -> Option<usize> {
-    beginning_of(Walk::at_first(source), index).offset()
+pub fn offset_of(source: &[u8], location: Location) -> Option<usize> {
+    beginning_of(Walk::at_first(source), location).offset()
 }
 
 /// A member of a source, from which its parts are found without a look at what stands before it.
@@ -47,8 +47,8 @@ impl<'t> FoundMember<'t> {
 }
 
 /// The token with which a part begins, by the first of the source.
-fn beginning_of(first: Walk<'_>, index: Location) -> Walk<'_> {
-    match index {
+fn beginning_of(first: Walk<'_>, location: Location) -> Walk<'_> {
+    match location {
         Location::Extern(number) => first
             .to_directive(Mark::Token(b".assembly"), number)
             .forward(2),

@@ -19,13 +19,13 @@ use Rattle.source_runs.specs.Runs.{ResultsInBy, IsPrintedUpTo}
 
 -- what a machine has done shows a run to its state
 pub results_in : (source : List ℕ) (tree : Tree) (limits : Limits) (events : List Event) (reports : List Report) (c : MachineState) → IsAcceptedSource source tree →
-    (done : HasDone tree limits events reports c) → ResultsInBy source limits events reports done.stands.state
+    (done : HasDone tree limits events reports c) → ResultsInBy source limits events reports done.refines.state
 results_in source tree limits events reports c is_accepted done = record {
   tree = tree;
   is_accepted = is_accepted;
   in_range = done.in_range;
-  is_run = done.stands.is_run;
-  budgets = done.stands.budgets;
+  is_run = done.refines.is_run;
+  budgets = done.refines.budgets;
   bounded = done.bounded;
 }
 

@@ -14,7 +14,7 @@ use Rattle.object_memory.specs.declared.values.Value.{Value}
 use Rattle.object_memory.specs.declared.values.ValueKind.{ValueKind}
 use Rattle.threads_monitors.specs.declared.frames.Activation.{Activation}
 use Rattle.threads_monitors.specs.Frames.{Frame, Frames, size, zero_value, new_frame, with_pc, with_stack, with_argument, with_local, with_call, with_running, return_frames}
-use Rattle.threads_monitors.specs.Activations.{Lays, Fit, IsSound, visible_frames, activation, activations, frame_of, row, lowest, moved_to, with_constructed}
+use Rattle.threads_monitors.specs.Activations.{Lays, Fit, IsSoundStack, visible_frames, activation, activations, frame_of, row, lowest, moved_to, with_constructed}
 use Rattle.threads_monitors.specs.Roots.{values_of, reference_in, frames_upward, roots, with_reference, frame_with_references, with_references}
 use Rattle.threads_monitors.proofs.Rows as rows
 use Rattle.threads_monitors.proofs.Replacing as replacing
@@ -23,7 +23,7 @@ use Rattle.threads_monitors.proofs.Upward as upward
 -- a memory that shows these frames, and is sound
 pub record Holds (values : List Value) (running : Activation) (below : List Activation) (depth room capacity most_below : ℕ) (frames : Frames) : Type 0 where
   pub view : visible_frames values running below depth room ≡ frames
-  pub sound : IsSound values running below depth room capacity most_below
+  pub sound : IsSoundStack values running below depth room capacity most_below
 
 holds : (values : List Value) (running : Activation) (below : List Activation) (depth room capacity most_below : ℕ) (f : Frame) (fs : List Frame)
     → Lays values running (reverse below) f fs → Fit room (f ∷ fs) → length below + 1 ≤ depth → depth * room ≤ capacity → depth ≤ most_below + 1
@@ -72,7 +72,7 @@ begun arguments kinds method depth room values below stack capacity most_below s
     })
     (rw count (omega (arith, fits)), tt) (omega (arith, some, ap length below_are)) large deep
 
-module _ (values : List Value) (running : Activation) (below : List Activation) (depth room capacity most_below : ℕ) (s : IsSound values running below depth room capacity most_below) where
+module _ (values : List Value) (running : Activation) (below : List Activation) (depth room capacity most_below : ℕ) (s : IsSoundStack values running below depth room capacity most_below) where
   abbrev m : Frames
   m = visible_frames values running below depth room
 
@@ -101,7 +101,7 @@ module _ (values : List Value) (running : Activation) (below : List Activation) 
   pub record Popped (new : List Value) (v : Value) : Type 0 where
     pub stack_is : f.stack ≡ v ∷ (visible_frames new running below depth room).running.stack
     pub others : visible_frames new running below depth room ≡ with_stack m (visible_frames new running below depth room).running.stack
-    pub sound : IsSound new running below depth room capacity most_below
+    pub sound : IsSoundStack new running below depth room capacity most_below
 
   pub after_pop : (new : List Value) (v : Value) → 0 < length f.stack → values ≡ new ++ v ∷ [] → Popped new v
   after_pop new v some split = by f.stack refl
@@ -319,8 +319,8 @@ module _ (values : List Value) (running : Activation) (below : List Activation) 
 
 -- ---- the running frame of another memory
 
-module _ (values : List Value) (running : Activation) (below : List Activation) (depth room capacity most_below : ℕ) (s : IsSound values running below depth room capacity most_below)
-    (values' : List Value) (running' : Activation) (below' : List Activation) (depth' room' capacity' most_below' : ℕ) (s' : IsSound values' running' below' depth' room' capacity' most_below') (fits : room' ≤ room) where
+module _ (values : List Value) (running : Activation) (below : List Activation) (depth room capacity most_below : ℕ) (s : IsSoundStack values running below depth room capacity most_below)
+    (values' : List Value) (running' : Activation) (below' : List Activation) (depth' room' capacity' most_below' : ℕ) (s' : IsSoundStack values' running' below' depth' room' capacity' most_below') (fits : room' ≤ room) where
   abbrev old : Frames
   old = visible_frames values running below depth room
 
@@ -389,7 +389,7 @@ module _ (values : List Value) (running : Activation) (below : List Activation) 
 
 -- ---- one frame in two memories
 
-module _ (values : List Value) (running : Activation) (below : List Activation) (depth room capacity most_below : ℕ) (s : IsSound values running below depth room capacity most_below) where
+module _ (values : List Value) (running : Activation) (below : List Activation) (depth room capacity most_below : ℕ) (s : IsSoundStack values running below depth room capacity most_below) where
   -- the running frame lies in its own values
   pub own_values : drop running.arguments values ≡ values_of (visible_frames values running below depth room).running
   own_values =

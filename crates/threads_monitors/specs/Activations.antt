@@ -75,7 +75,7 @@ visible_frames values running below depth room = record {
 }
 
 -- the value stack and the activations are those of the frames, which fit into the memory that was taken
-pub record IsSound (values : List Value) (running : Activation) (below : List Activation) (depth room capacity most_below : ℕ) : Type 0 where
+pub record IsSoundStack (values : List Value) (running : Activation) (below : List Activation) (depth room capacity most_below : ℕ) : Type 0 where
   pub lays : Lays values running (reverse below) (visible_frames values running below depth room).running (visible_frames values running below depth room).below
   pub fit : Fit room ((visible_frames values running below depth room).running ∷ (visible_frames values running below depth room).below)
   pub few : length below + 1 ≤ depth

@@ -51,14 +51,14 @@ pub struct FrameMemory {
 
 impl Model for FrameMemory {
     ghost use Rattle.std.specs.Prelude.{vec_capacity};
-    ghost use Rattle.threads_monitors.specs.Activations.{IsSound, visible_frames};
+    ghost use Rattle.threads_monitors.specs.Activations.{IsSoundStack, visible_frames};
     ghost use Rattle.threads_monitors.specs.Frames.{Frames};
 
     ghost Value = { Frames };
 
     ghost view = { λ m. visible_frames m.values.items m.running m.below.items m.depth m.room };
 
-    ghost invariant = { λ m. IsSound m.values.items m.running m.below.items m.depth m.room (vec_capacity m.values) (vec_capacity m.below) };
+    ghost invariant = { λ m. IsSoundStack m.values.items m.running m.below.items m.depth m.room (vec_capacity m.values) (vec_capacity m.below) };
 }
 
 impl FrameMemory {
@@ -149,7 +149,7 @@ impl FrameMemory {
     }
 
     /// The object that the running constructor of `newobj` makes (ECMA-335 III.4.21). None in any other method.
-    pub fn constructed(&self) -> Option<Addr>
+    pub fn constructed_object(&self) -> Option<Addr>
         ensures { result ≡ self.now.running.constructed }
     {
         self.running.constructed

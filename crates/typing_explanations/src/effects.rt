@@ -48,7 +48,7 @@ fn is_jump(operation: &Operation) -> bool {
 impl Scene<'_> {
     /// The number of values that an instruction pops.
     pub fn pops(self, operation: &Operation) -> usize {
-        match self.declared(operation) {
+        match self.declared_type(operation) {
             None => count_popped(operation),
             Some((None, others)) => others.len(),
             Some((Some(_), others)) => others.len().saturating_add(1),

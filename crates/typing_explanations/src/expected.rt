@@ -2,7 +2,7 @@
 
 ghost use Rattle.std.specs.Prelude.{◌≤◌, length};
 
-use crate::numbered::{ClassNames, TypeOf};
+use crate::id_texts::{ClassNames, TypeOf};
 use flow_rules::type_tree::type_of_class;
 use resolved_code::Program;
 use resolved_code::operations::Operation;
@@ -98,7 +98,7 @@ impl<'a> Scene<'a> {
     }
 
     /// The operands of an instruction that are declared types, the first by itself; None where the sentence has them already.
-    pub fn declared(
+    pub fn declared_type(
         self,
         operation: &Operation,
     ) -> Option<(Option<ResolvedType>, &'a [ResolvedType])> {
@@ -171,7 +171,7 @@ fn elements_expected(operation: &Operation) -> &'static str {
 
 impl fmt::Display for Expected<'_> {
     fn fmt<W: fmt::Write>(&self, f: &mut fmt::Formatter<W>) -> fmt::Result {
-        match self.0.declared(self.1) {
+        match self.0.declared_type(self.1) {
             Some((first, others)) => write_types(f, self.0.names, first, others),
             None => f.write_str(kinds_expected(self.1)),
         }

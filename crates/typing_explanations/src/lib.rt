@@ -6,8 +6,8 @@
 mod effects;
 mod expected;
 mod heights;
+mod id_texts;
 mod methods;
-mod numbered;
 mod operand_types;
 mod refusals;
 mod remedies;

@@ -73,7 +73,7 @@ fn count_types(
 impl Scene<'_> {
     /// Whether the operands of an instruction are on the stack, and in another order.
     pub fn is_permuted(self, operation: &Operation, stack: &[StackEntry]) -> bool {
-        let Some((first, others)) = self.declared(operation) else {
+        let Some((first, others)) = self.declared_type(operation) else {
             return false;
         };
         let Some(operands) = stack.get(..self.pops(operation)) else {
@@ -134,7 +134,7 @@ impl Scene<'_> {
 
     /// The type of an operand of an instruction, by its index from that pushed first.
     fn expected_at(self, operation: &Operation, index: usize) -> Option<ResolvedType> {
-        match self.declared(operation)? {
+        match self.declared_type(operation)? {
             (None, others) => others.get(index).copied(),
             (first, others) => match index.checked_sub(1) {
                 None => first,

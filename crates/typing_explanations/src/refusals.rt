@@ -1,7 +1,7 @@
 //! Why a method has no typing (number 301), in words.
 
 use crate::expected::Scene;
-use crate::numbered::{ClassById, EntryOf};
+use crate::id_texts::{ClassById, EntryOf};
 use flow_rules::entries::StackEntry;
 use flow_rules::mismatches::Mismatch;
 use resolved_code::operations::Operation;

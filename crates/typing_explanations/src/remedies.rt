@@ -1,6 +1,6 @@
 //! What to write so that an instruction finds the operands that it expects.
 
-use crate::numbered::TypeOf;
+use crate::id_texts::TypeOf;
 use crate::operand_types::{alike, conversion, is_reversed, on_operand, on_two, takes_alike};
 use crate::refusals::Refusal;
 use flow_rules::entries::{StackEntry, is_reference};

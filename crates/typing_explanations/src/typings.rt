@@ -1,8 +1,8 @@
 //! Where a method has no typing (number 301).
 
 use crate::expected::{Expected, Scene};
+use crate::id_texts::{ClassNames, StackOf};
 use crate::methods::SourceMethod;
-use crate::numbered::{ClassNames, StackOf};
 use crate::refusals::Refusal;
 use crate::remedies::{Operands, Remedy};
 use flow_rules::type_tree::type_of_class;

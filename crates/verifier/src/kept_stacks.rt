@@ -77,7 +77,7 @@ fn kept_entry(entry: StackEntry) -> Option<KeptEntry>
     }
 }
 
-fn declared(element: ResolvedElement, brackets: u32) -> StackEntry
+fn declared_entry(element: ResolvedElement, brackets: u32) -> StackEntry
     ensures { result ≡ Declared (record { element = element; brackets = brackets }) }
 {
     StackEntry::Declared(ResolvedType { element, brackets })
@@ -88,11 +88,14 @@ fn entry_of(kept: KeptEntry) -> StackEntry
     ensures { result ≡ entry_of kept }
 {
     match kept.kind {
-        EntryKind::Int32 => declared(ResolvedElement::Int32, kept.brackets),
-        EntryKind::Int64 => declared(ResolvedElement::Int64, kept.brackets),
-        EntryKind::Object => declared(ResolvedElement::Object, kept.brackets),
-        EntryKind::String => declared(ResolvedElement::String, kept.brackets),
-        EntryKind::Class => declared(ResolvedElement::Class(kept.class as usize), kept.brackets),
+        EntryKind::Int32 => declared_entry(ResolvedElement::Int32, kept.brackets),
+        EntryKind::Int64 => declared_entry(ResolvedElement::Int64, kept.brackets),
+        EntryKind::Object => declared_entry(ResolvedElement::Object, kept.brackets),
+        EntryKind::String => declared_entry(ResolvedElement::String, kept.brackets),
+        EntryKind::Class => declared_entry(
+            ResolvedElement::Class(kept.class as usize),
+            kept.brackets,
+        ),
         EntryKind::NativeInt => StackEntry::NativeInt,
         EntryKind::Null => StackEntry::Null,
     }

@@ -12,7 +12,7 @@ use Rattle.cil_model.specs.declared.types.Element.TheVariants.{Int32}
 use Rattle.cil_model.specs.Declarations.{plain}
 use Rattle.reference_machine.specs.Values.{Born}
 use Rattle.reference_machine.specs.States.{Instance, Array, State}
-use Rattle.reference_machine.specs.Cycles.{Spaces, room, is_refused, most_working, working_in_cycle, is_cycle_open, begins_cycle, BeginsNewestCycle}
+use Rattle.reference_machine.specs.Cycles.{SpaceSizes, room, is_refused, most_working, working_in_cycle, is_cycle_open, begins_cycle, BeginsNewestCycle}
 use Rattle.reference_machine.specs.Runs.{thread_part, step_reports}
 use Rattle.reference_machine.specs.Reachable.{IsReachable, from_root, from_member}
 use Rattle.reference_machine.specs.Rooms.{cell_words}
@@ -24,11 +24,11 @@ use Rattle.definition_tests.proofs.Samples.FarmProgram.{farm, farm_state, idle_f
 
 -- ---- room: two spaces of 64 words, 40 of the old one and 20 of the new one in use
 
-abbrev spaces : Spaces
+abbrev spaces : SpaceSizes
 spaces = record { old = record { words = 64; used = 40 }; newer = Some (record { words = 64; used = 20 }) }
 
 -- after a cycle, a thread that is still in its last phase births in the only space
-abbrev after_cycle : Spaces
+abbrev after_cycle : SpaceSizes
 after_cycle = record { old = record { words = 64; used = 4 }; newer = None }
 
 room_in_old : room spaces Mark ≡ 24

@@ -19,6 +19,6 @@ same_length tree s (e ∷ es) [] h = elim h [ ]
 
 pub statics_few : (c : MachineState) (s : State) → Represents c s → length c.statics < 2 ^ 32
 statics_few c s r =
-    let values = agree_length (λ v (f : FieldKey × StateValue). IsValue r.stands.name v f.1) c.statics s.statics r.stands.by.memory.static_values in
+    let values = agree_length (λ v (f : FieldKey × StateValue). IsValue r.refines.name v f.1) c.statics s.statics r.refines.by.memory.static_values in
     let fields = same_length c.tree s s.statics (static_fields c.tree) r.typed.statics in
     omega (arith, values, fields, static_fields_small c.tree r.accepted.legal)

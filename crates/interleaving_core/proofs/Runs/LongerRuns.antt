@@ -7,13 +7,13 @@ use Rattle.cil_model.specs.declared.limits.Limits.{Limits}
 use Rattle.cil_model.specs.declared.reports.Report.{Report}
 use Rattle.cil_model.specs.declared.trees.Tree.{Tree}
 use Rattle.simulation.specs.MachineStates.{MachineState}
-use Rattle.simulation.specs.Runs.{AreTransitions, StandsAfter}
+use Rattle.simulation.specs.Runs.{AreTransitions, RefinesAfter}
 use Rattle.simulation.specs.Transitions.{IsTransition, initial_machine_state}
 use Rattle.simulation.proofs.CycleBounds.BoundedCycles.{cycles_bounded}
 use Rattle.simulation.proofs.CycleBounds.OpenCycles.{opened_is}
 use Rattle.simulation.proofs.OwedWords.CycleEnds.{leaves_owed}
 use Rattle.simulation.proofs.Runs.EventCorrespondence.{each_alike}
-use Rattle.simulation.proofs.Representation.VisibleState.{stands_after}
+use Rattle.simulation.proofs.Representation.VisibleState.{occurs_after}
 use Rattle.interleaving_core.specs.Histories.{DoesMore, HasDone}
 use Rattle.interleaving_core.proofs.Runs.FollowedRuns.{transitions_follow, transitions_length, transitions_program}
 use Rattle.interleaving_core.proofs.Threads.LiveThreads.{some_budget}
@@ -32,8 +32,8 @@ has_done tree limits first c events reports accepted in_range opens transitions 
     let opened = opened_represents tree limits accepted in_range first opens in
     let own = opened_is tree limits first opens in
     let some : 0 < limits.budget = subst (λ (l : Limits). 0 < l.budget) own.limits_are (let least = some_budget first opened.0 opened.2 in omega (arith, least)) in
-    let stands : StandsAfter tree limits events reports c =
-    stands_after tree limits first c events reports opened.0 opened.1 opens opened.2 own.tree_is own.limits_are (transitions_program first c events reports transitions).1 some
+    let refines : RefinesAfter tree limits events reports c =
+    occurs_after tree limits first c events reports opened.0 opened.1 opens opened.2 own.tree_is own.limits_are (transitions_program first c events reports transitions).1 some
     (transitions_length first c events reports transitions) (transitions_follow first c events reports transitions) in
     record {
       accepted = accepted;
@@ -41,9 +41,9 @@ has_done tree limits first c events reports accepted in_range opens transitions 
       first = first;
       opens = opens;
       transitions = transitions;
-      stands = stands;
-      bounded = cycles_bounded tree limits accepted in_range events reports stands.state stands.is_run;
-      leaves = leaves_owed each_alike tree accepted limits in_range events reports c stands;
+      refines = refines;
+      bounded = cycles_bounded tree limits accepted in_range events reports refines.state refines.is_run;
+      leaves = leaves_owed each_alike tree accepted limits in_range events reports c refines;
     }
 
 -- so with more transitions

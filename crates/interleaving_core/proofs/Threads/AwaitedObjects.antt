@@ -42,13 +42,13 @@ use Rattle.simulation.specs.instructions.barriers.Barriers.{is_monitor_storable}
 use Rattle.threads_monitors.specs.Monitors.{with_entry}
 use Rattle.threads_monitors.specs.declared.effects.Effect.TheVariants.{Raises}
 use Rattle.simulation.specs.instructions.Calls.{call_transition}
-use Rattle.simulation.specs.instructions.Frames.{given}
+use Rattle.simulation.specs.instructions.Frames.{when_some}
 use Rattle.simulation.specs.instructions.ObjectTransitions.{ObjectTransition, beside}
 use Rattle.simulation.specs.instructions.BuiltInTransitions.{carry, is_countable, reference_from}
 use Rattle.simulation.specs.interpreter.Calls.{CallTransition, act_transition, beside_console, call_answer, called_as, chosen_method, chosen_by, class_at, class_of_kind, receiver, run_transition, top_reference, run_on}
 use Rattle.simulation.specs.interpreter.Instructions.{Answer, HasSmallConstant, IsAt, IsDone, MachineTransition, answer_of, line_at, of_calls, operation_transition}
 use Rattle.simulation.proofs.interpreter.Linking.{call_does, virtual_does}
-use Rattle.simulation.specs.interpreter.declared.outcomes.Outcome.TheVariants.{Comes, Joins}
+use Rattle.simulation.specs.interpreter.declared.outcomes.InstructionOutcome.TheVariants.{OwnEffect, Joins}
 use Rattle.simulation.specs.MachineStates.{MachineState, mutator_of}
 use Rattle.simulation.specs.Ready.{IsAnswerable, IsReady}
 use Rattle.interleaving_core.specs.Waits.{HasObject, action_at, called_member}
@@ -78,7 +78,7 @@ module _ (tree : Tree) (m : Frames) (op : Operation) (at : IsAt tree m op) where
 
   -- where the instruction is no call there is none
   pub no_member : called_member op ≡ None → action_at tree m ≡ None
-  no_member none = action_is ∙ by_calls at.line.instruction op (calls_of tree (lines_of at.found.1) at.line.instruction op at.stands) none
+  no_member none = action_is ∙ by_calls at.line.instruction op (calls_of tree (lines_of at.found.1) at.line.instruction op at.refines) none
     where
       by_calls : (i : Instruction) (o : Operation) → Calls tree i o → called_member o ≡ None → called_action tree i ≡ None
       by_calls _ _ (plainly flag r owner method finds) e = none_is_some method (sym e)
@@ -87,13 +87,13 @@ module _ (tree : Tree) (m : Frames) (op : Operation) (at : IsAt tree m op) where
 
   -- and else it is that of the method of the member's number
   pub member_acts : (method : MemberNumber) → called_member op ≡ Some method → (found : ClassName × Method) × (method_at tree (method.class, method.index) ≡ Some found) × (action_at tree m ≡ action_of found.0 found.1)
-  member_acts method is = by_calls at.line.instruction op (calls_of tree (lines_of at.found.1) at.line.instruction op at.stands) is action_is
+  member_acts method is = by_calls at.line.instruction op (calls_of tree (lines_of at.found.1) at.line.instruction op at.refines) is action_is
     where
       Acting : Option Action → Type 0
       Acting a = (found : ClassName × Method) × (method_at tree (method.class, method.index) ≡ Some found) × (a ≡ action_of found.0 found.1)
 
       found_acts : (flag : Bool) (r : MethodReference) (k : MemberNumber) → IsMethod tree flag r k → k ≡ method → (a : Option Action) → a ≡ action_found (find_method tree flag r) → Acting a
-      found_acts flag r k finds same a e = ((finds.declared_in, finds.found), subst (λ (x : MemberNumber). method_at tree (x.class, x.index) ≡ Some (finds.declared_in, finds.found)) same finds.numbered, e ∙ ap action_found finds.finds)
+      found_acts flag r k finds same a e = ((finds.declared_in, finds.found), subst (λ (x : MemberNumber). method_at tree (x.class, x.index) ≡ Some (finds.declared_in, finds.found)) same finds.has_id, e ∙ ap action_found finds.finds)
 
       by_calls : (i : Instruction) (o : Operation) → Calls tree i o → called_member o ≡ Some method → action_at tree m ≡ called_action tree i → Acting (action_at tree m)
       by_calls _ _ (plainly flag r owner k finds) e a = found_acts flag r k finds (same_Some k method e) (action_at tree m) a
@@ -128,13 +128,13 @@ module _ (tree : Tree) (mutator : Mutator) (m : Frames) (o : Objects) (ss : List
   run_is found acts = ap (λ k. option_map_or (λ b. act_transition tree mutator b m o pr) k otherwise) acts
     where
       otherwise : CallTransition
-      otherwise = given (number_of tree found) (λ n. beside_console pr (beside o (call_transition (called_as found n) m)))
+      otherwise = when_some (number_of tree found) (λ n. beside_console pr (beside o (call_transition (called_as found n) m)))
 
   plain_is : (flag : Bool) (r : MethodReference) (owner : ℕ) (method : MemberNumber) → IsMethod tree flag r method → called_action tree (Named.Call flag r) ≡ Some a →
       operation_transition tree mutator (Resolved.Call flag owner method) m o ss pr ≡ acted
   plain_is flag r owner method finds acts =
       let own : action_of finds.declared_in finds.found ≡ Some a = sym (ap action_found finds.finds) ∙ acts in
-      call_does tree mutator m o ss pr method (finds.declared_in, finds.found) finds.numbered flag owner ∙ ap (of_calls o ss pr) (run_is (finds.declared_in, finds.found) own)
+      call_does tree mutator m o ss pr method (finds.declared_in, finds.found) finds.has_id flag owner ∙ ap (of_calls o ss pr) (run_is (finds.declared_in, finds.found) own)
 
   -- a method that is not virtual runs itself
   chosen_itself : (found run : ClassName × Method) → is_virtual found.1.kind ≡ false → (k : Option ℕ) → chosen_by tree found k ≡ Some run → run ≡ found
@@ -168,13 +168,13 @@ module _ (tree : Tree) (mutator : Mutator) (m : Frames) (o : Objects) (ss : List
           let stack = stack_is m.running.stack top in
           ap (receiver m.running.stack) (ap length (acts_as_member tree finds.declared_in finds.found a declared own).takes) ∙ ap (λ l. receiver l 1) stack.1
 
-      whole : operation_transition tree mutator (Resolved.CallVirtual owner method) m o ss pr ≡ of_calls o ss pr (given (chosen_method tree o x found) runs)
+      whole : operation_transition tree mutator (Resolved.CallVirtual owner method) m o ss pr ≡ of_calls o ss pr (when_some (chosen_method tree o x found) runs)
       whole =
-          virtual_does tree mutator m o ss pr method found finds.numbered owner
-          ∙ ap (λ k. of_calls o ss pr (given k go)) called
-          ∙ ap (λ b. of_calls o ss pr (if b then Some (call_answer m o pr (Comes (Raises NullReference))) else given (chosen_method tree o x found) runs)) nonzero
+          virtual_does tree mutator m o ss pr method found finds.has_id owner
+          ∙ ap (λ k. of_calls o ss pr (when_some k go)) called
+          ∙ ap (λ b. of_calls o ss pr (if b then Some (call_answer m o pr (OwnEffect (Raises NullReference))) else when_some (chosen_method tree o x found) runs)) nonzero
 
-      by_run : (r : Option (ClassName × Method)) → chosen_method tree o x found ≡ r → IsSome (of_calls o ss pr (given r runs)) → of_calls o ss pr (given r runs) ≡ acted
+      by_run : (r : Option (ClassName × Method)) → chosen_method tree o x found ≡ r → IsSome (of_calls o ss pr (when_some r runs)) → of_calls o ss pr (when_some r runs) ≡ acted
       by_run None e there' = absurd cc
       by_run (Some run) e there' =
           let same : run ≡ found = option_and_then_some (chosen_by tree found) (class_at o x) run e (λ k lies h. chosen_itself found run (acting_is_not_virtual tree finds.declared_in finds.found a declared own) k h) in
@@ -185,7 +185,7 @@ module _ (tree : Tree) (mutator : Mutator) (m : Frames) (o : Objects) (ss : List
 module _ (c : MachineState) (t left : ℕ) (m : Frames) (ready : IsReady c t m) (answers : (a : Answer) → IsDone c.tree (mutator_of c t) m c.objects c.statics c.printed a → IsAnswerable c t left a a.outcome) where
   module _ (op : Operation) (at : IsAt c.tree m op) (x : Addr) (top : top_reference m.running.stack ≡ Some x) (apart : x ≢ null) where
     transition_of : (a : Action) → action_at c.tree m ≡ Some a → HasSmallConstant op × (operation_transition c.tree (mutator_of c t) op m c.objects c.statics c.printed ≡ of_calls c.objects c.statics c.printed (act_transition c.tree (mutator_of c t) a m c.objects c.printed))
-    transition_of a acts = by_calls at.line.instruction op (calls_of c.tree (lines_of at.found.1) at.line.instruction op at.stands) (sym (action_is c.tree m op at) ∙ acts) (ready.there op at)
+    transition_of a acts = by_calls at.line.instruction op (calls_of c.tree (lines_of at.found.1) at.line.instruction op at.refines) (sym (action_is c.tree m op at) ∙ acts) (ready.there op at)
       where
         nonzero : IsNot0 x
         nonzero = not_null_number x apart

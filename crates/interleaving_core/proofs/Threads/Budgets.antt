@@ -18,7 +18,7 @@ use Rattle.threads_monitors.specs.declared.threads.ThreadStatus.{ThreadStatus}
 use Rattle.threads_monitors.specs.declared.threads.ThreadStatus.TheVariants.{Live, Ended}
 use Rattle.threads_monitors.specs.declared.threads.Thread.{Thread}
 use Rattle.phase_handshake.specs.Handshakes.{Handshakes, acknowledge_phase, leave_handshakes as without_seat}
-use Rattle.simulation.specs.interpreter.declared.outcomes.Outcome.{Outcome}
+use Rattle.simulation.specs.interpreter.declared.outcomes.InstructionOutcome.{InstructionOutcome}
 use Rattle.simulation.specs.Budgets.{KeepsBudgets, made_step, steps_left_of, steps_made}
 use Rattle.simulation.specs.MachineStates.{MachineState}
 use Rattle.simulation.specs.Collecting.{acknowledgement, collect, flips_frames, objects_after, status_flipped, thread_flipped, with_acknowledgement, with_flipped}
@@ -181,7 +181,7 @@ module _ (c : MachineState) (live : LiveHaveSteps c.limits.budget c.threads) (so
         have_steps = live_following c.limits.budget (left_by c n leave_handshakes a).threads more.new (subst (λ k. 0 < k) (sym more.whole) some) replaced.have_steps;
       })
 
-      outcome_keeps : (o : Outcome) (after : MachineState × Report) → finish_step c n leave_handshakes a o ≡ Some after → KeepsBudgets c after.0 ((Step n, after.1) ∷ [])
+      outcome_keeps : (o : InstructionOutcome) (after : MachineState × Report) → finish_step c n leave_handshakes a o ≡ Some after → KeepsBudgets c after.0 ((Step n, after.1) ∷ [])
       outcome_keeps o after done =
           let way = finished_by c n leave_handshakes a after o done in
           subst (λ (x : MachineState × Report). KeepsBudgets c x.0 ((Step n, x.1) ∷ [])) way.is

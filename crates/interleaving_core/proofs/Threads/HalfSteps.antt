@@ -18,8 +18,8 @@ use Rattle.threads_monitors.specs.declared.effects.Effect.TheVariants.{Continues
 use Rattle.threads_monitors.specs.declared.threads.ThreadStatus.{ThreadStatus}
 use Rattle.threads_monitors.specs.declared.threads.ThreadStatus.TheVariants.{Live, Ended}
 use Rattle.threads_monitors.specs.declared.threads.Thread.{Thread}
-use Rattle.simulation.specs.interpreter.declared.outcomes.Outcome.{Outcome}
-use Rattle.simulation.specs.interpreter.declared.outcomes.Outcome.TheVariants.{Starts}
+use Rattle.simulation.specs.interpreter.declared.outcomes.InstructionOutcome.{InstructionOutcome}
+use Rattle.simulation.specs.interpreter.declared.outcomes.InstructionOutcome.TheVariants.{Starts}
 use Rattle.simulation.specs.MachineStates.{MachineState, mutator_of}
 use Rattle.simulation.specs.Transitions.{IsStatusTransition, IsThreadTransition, IsTransition, finish, finish_step, left_by, live_thread, start_thread, thread_for}
 use Rattle.simulation.specs.Ready.{CanFinish, IsAnswerable}
@@ -68,7 +68,7 @@ started_keeps phase tree limits threads o a n t after is done = by_fault (start_
 
 -- ---- both halves
 
-module _ (c : MachineState) (t : ℕ) (outcome : Outcome) (after : MachineState) (half : IsInstructed c t outcome after) where
+module _ (c : MachineState) (t : ℕ) (outcome : InstructionOutcome) (after : MachineState) (half : IsInstructed c t outcome after) where
   pub thread_left : slice_get after.threads t ≡ Some (live_thread half.left half.answer.frames)
   thread_left = ap (λ (x : MachineState). slice_get x.threads t) half.is ∙ set_is_there c.threads t (live_thread half.left half.answer.frames) (live_thread half.left half.frames) half.there
 
@@ -81,7 +81,7 @@ module _ (c : MachineState) (t : ℕ) (outcome : Outcome) (after : MachineState)
       let second : finish (left_by c t half.left half.answer) t half.left half.answer.frames outcome ≡ Some (final, report) =
       subst (λ (x : MachineState). finish x t half.left half.answer.frames outcome ≡ Some (final, report)) half.is (counts half.left half.answer.frames thread_left) in
       let whole : finish_step c t half.left half.answer half.answer.outcome ≡ Some (final, report) =
-      subst (λ (x : Outcome). finish_step c t half.left half.answer x ≡ Some (final, report)) (sym half.comes) second in
+      subst (λ (x : InstructionOutcome). finish_step c t half.left half.answer x ≡ Some (final, report)) (sym half.comes) second in
       let transition : IsStatusTransition c t half.left (Live half.frames) (final, report) = (half.answer, half.done, whole) in
       subst (λ (x : Option Thread). IsThreadTransition c t x (final, report)) (sym half.there) transition
 
@@ -99,7 +99,7 @@ same_frames left l m n e = same_live m n (ap (λ (x : Thread). x.thread_status) 
     same_live : (x y : Frames) → Live x ≡ Live y → x ≡ y
     same_live x y h = cc
 
-module _ (c : MachineState) (t : ℕ) (outcome : Outcome) (after : MachineState) (half : IsInstructed c t outcome after) (answerable : IsAnswerable c t half.left half.answer half.answer.outcome) where
+module _ (c : MachineState) (t : ℕ) (outcome : InstructionOutcome) (after : MachineState) (half : IsInstructed c t outcome after) (answerable : IsAnswerable c t half.left half.answer half.answer.outcome) where
   pub can_finish : (left : ℕ) (m : Frames) → slice_get after.threads t ≡ Some (live_thread left m) → CanFinish after t m outcome
   can_finish left m is =
       let asked : CanFinish (left_by c t half.left half.answer) t half.answer.frames outcome = subst (IsAnswerable c t half.left half.answer) half.comes answerable in

@@ -23,7 +23,7 @@ use Rattle.resolved_code.specs.declared.operations.Operation.{Operation}
 use Rattle.threads_monitors.specs.declared.mutators.Mutator.{Mutator}
 use Rattle.simulation.specs.Ready.{IsReady}
 use Rattle.simulation.specs.interpreter.Instructions.{IsDone, answer_of, HasSmallConstant, IsAt, operation_transition}
-use Rattle.simulation.specs.interpreter.declared.outcomes.Outcome.{Outcome}
+use Rattle.simulation.specs.interpreter.declared.outcomes.InstructionOutcome.{InstructionOutcome}
 use Rattle.simulation.specs.MachineStates.{MachineState, mutator_of}
 use Rattle.simulation.specs.Transitions.{after_request, answer_step, count_step, live_thread, start_thread, thread_for, seats_after}
 use Rattle.interleaving_core.specs.Finishing.{IsInstructed}
@@ -87,7 +87,7 @@ module _ (c : MachineState) (t i : ℕ) (same : i ≡ t) (thread : Thread) (read
         (h m (ap (λ (x : Thread). x.thread_status) is_thread) ∙ ap (λ (x : Thread). charge effect (record x { thread_status = Live (after_request effect m) })) is_thread)
 
   -- once its instruction is done
-  pub instructed : (mutator : Mutator) → mutator ≡ mutator_of c t → is_live_at c.threads t ≡ true → (new : Thread) (o : Objects) (statics : List Value) (printed : List ℕ) (outcome : Outcome)
+  pub instructed : (mutator : Mutator) → mutator ≡ mutator_of c t → is_live_at c.threads t ≡ true → (new : Thread) (o : Objects) (statics : List Value) (printed : List ℕ) (outcome : InstructionOutcome)
       → ((m : Frames) → thread.thread_status ≡ Live m → (n : Frames) × (new ≡ record thread { thread_status = Live n }) × IsDone c.tree mutator m c.objects c.statics c.printed (answer_of n o statics printed outcome))
       → IsInstructed c t outcome (record c { threads = slice_set c.threads i new; objects = o; statics = statics; printed = printed })
   instructed mutator own live new o statics printed outcome does =

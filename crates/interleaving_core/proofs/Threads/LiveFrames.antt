@@ -14,22 +14,22 @@ use Rattle.threads_monitors.specs.declared.threads.Thread.{Thread}
 use Rattle.simulation.specs.interpreter.Local.{AreLocalSteps, frames_over}
 use Rattle.simulation.specs.Lending.{RunsFrame, with_live}
 use Rattle.simulation.specs.MachineStates.{MachineState, frame_room}
-use Rattle.simulation.specs.Refines.{IsThread, Represents, StandsAlike}
+use Rattle.simulation.specs.Refines.{IsThread, Represents, StatusRefines}
 use Rattle.simulation.specs.Transitions.{live_thread}
 use Rattle.simulation.proofs.ListLaws.AgreeingLists.{agree_at}
 use Rattle.simulation.proofs.Threads.LocalInstructions.{local_ready, local_represents}
 use Rattle.interleaving_core.specs.Loans.{CanContinueLocally}
-use Rattle.interleaving_core.specs.Views.{IsSound, machine_state_of}
+use Rattle.interleaving_core.specs.Views.{IsSoundEngine, machine_state_of}
 use Rattle.interleaving_core.specs.declared.engine.Engine.{Engine}
 use Rattle.interleaving_core.proofs.Threads.LiveThreads.{live_have_steps}
 
 module _ (c : MachineState) (s : State) (r : Represents c s) (t left : ℕ) (m : Frames) (there : slice_get c.threads t ≡ Some (live_thread left m)) where
   pub live_room : m.room ≡ frame_room
   live_room =
-      let at = agree_at (IsThread c.tree c.limits r.stands.name) c.threads s.threads r.stands.by.threads t (live_thread left m) there in
+      let at = agree_at (IsThread c.tree c.limits r.refines.name) c.threads s.threads r.refines.by.threads t (live_thread left m) there in
       by_end at.0 at.0.ended at.2.thread_status
     where
-      by_end : (u : StateThread) (ended : Option End) → StandsAlike c.tree c.limits r.stands.name (live_thread left m).thread_status u.frames ended → m.room ≡ frame_room
+      by_end : (u : StateThread) (ended : Option End) → StatusRefines c.tree c.limits r.refines.name (live_thread left m).thread_status u.frames ended → m.room ≡ frame_room
       by_end u None h = h.room
       by_end u (Some e) h = absurd h
 
@@ -48,8 +48,8 @@ module _ (c : MachineState) (s : State) (r : Represents c s) (t left : ℕ) (m :
   top_continues n g less steps = local_ready c t left m.running top_runs s r n g less steps
 
 -- a machine advances to one that represents a state
-pub lent_sound : (e e' : Engine) → IsSound e → (t left n : ℕ) (f g : Frame) → (at : RunsFrame (machine_state_of e) t left f) → n < left → AreLocalSteps (machine_state_of e).tree frame_room n f g
-    → machine_state_of e' ≡ with_live (machine_state_of e) t (left - n) (frames_over g at.below at.depth frame_room) → IsSound e'
+pub lent_sound : (e e' : Engine) → IsSoundEngine e → (t left n : ℕ) (f g : Frame) → (at : RunsFrame (machine_state_of e) t left f) → n < left → AreLocalSteps (machine_state_of e).tree frame_room n f g
+    → machine_state_of e' ≡ with_live (machine_state_of e) t (left - n) (frames_over g at.below at.depth frame_room) → IsSoundEngine e'
 lent_sound e e' sound t left n f g at less steps is =
     let more = local_represents (machine_state_of e) t left f at sound.state sound.represents n g less steps in
     record {

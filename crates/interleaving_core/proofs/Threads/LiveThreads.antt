@@ -8,7 +8,7 @@ use Rattle.threads_monitors.specs.declared.threads.Thread.{Thread}
 use Rattle.threads_monitors.specs.declared.threads.ThreadStatus.{ThreadStatus}
 use Rattle.threads_monitors.specs.declared.threads.ThreadStatus.TheVariants.{Live, Ended}
 use Rattle.simulation.specs.MachineStates.{MachineState}
-use Rattle.simulation.specs.Refines.{IsThread, Names, Represents, StandsAlike}
+use Rattle.simulation.specs.Refines.{IsThread, Names, Represents, StatusRefines}
 use Rattle.simulation.proofs.ListLaws.AgreeingLists.{agree_at}
 use Rattle.interleaving_core.proofs.Threads.Budgets.{LiveHaveSteps}
 use Rattle.simulation.proofs.ProgramSizes.LimitRanges.{budget_is_some as budget_of}
@@ -21,13 +21,13 @@ module _ (c : MachineState) (s : State) (r : Represents c s) where
   live_have_steps t = by_thread (slice_get c.threads t) refl
     where
       name : Names
-      name = r.stands.name
+      name = r.refines.name
 
       -- the state's thread of that number is live too
       by_state : (thread : Thread) → is_live thread ≡ true → (u : StateThread) → slice_get s.threads t ≡ Some u → IsThread c.tree c.limits name thread u → 0 < thread.steps_left
       by_state thread live u there alike = by_thread_status thread.thread_status live u.ended refl alike.thread_status
         where
-          by_thread_status : (thread_status : ThreadStatus) → is_live (record thread { thread_status = thread_status }) ≡ true → (ended : Option End) → u.ended ≡ ended → StandsAlike c.tree c.limits name thread_status u.frames ended → 0 < thread.steps_left
+          by_thread_status : (thread_status : ThreadStatus) → is_live (record thread { thread_status = thread_status }) ≡ true → (ended : Option End) → u.ended ≡ ended → StatusRefines c.tree c.limits name thread_status u.frames ended → 0 < thread.steps_left
           by_thread_status (Live m) h None is k = subst (λ n. 0 < n) (sym alike.steps_left) (r.counted.live t u there is)
           by_thread_status (Live m) h (Some e) is k = absurd k
           by_thread_status (Ended e) h ended is k = absurd cc
@@ -35,5 +35,5 @@ module _ (c : MachineState) (s : State) (r : Represents c s) where
       by_thread : (o : Option Thread) → slice_get c.threads t ≡ o → option_map_or is_live o false ≡ true → 0 < option_map_or (λ (x : Thread). x.steps_left) o c.limits.budget
       by_thread None is h = absurd cc
       by_thread (Some thread) is h =
-          let at = agree_at (IsThread c.tree c.limits name) c.threads s.threads r.stands.by.threads t thread is in
+          let at = agree_at (IsThread c.tree c.limits name) c.threads s.threads r.refines.by.threads t thread is in
           by_state thread h at.0 at.1 at.2

@@ -40,7 +40,7 @@ use Rattle.threads_monitors.specs.declared.threads.Thread.{Thread}
 use Rattle.simulation.specs.loaded_program.MethodNumbers.{number_of}
 use Rattle.simulation.specs.instructions.BuiltInTransitions.{line_of, print_bytes}
 use Rattle.simulation.specs.instructions.Calls.{call_transition}
-use Rattle.simulation.specs.instructions.Frames.{Transition, given, onward, top_of}
+use Rattle.simulation.specs.instructions.Frames.{Transition, when_some, onward, top_of}
 use Rattle.simulation.specs.instructions.ObjectTransitions.{ObjectTransition, StaticTransition, beside}
 use Rattle.simulation.specs.interpreter.Calls.{CallTransition, act_transition, beside_console, call_answer, called_as, chosen_method, chosen_by, class_at, receiver, run_transition, top_reference, run_on}
 use Rattle.simulation.specs.loaded_program.declared.instructions.LinkedInstruction.TheVariants as Linked
@@ -51,8 +51,8 @@ use Rattle.simulation.specs.loaded_program.declared.instructions.LinkedInstructi
 use Rattle.simulation.specs.loaded_program.Links.{number_at}
 use Rattle.simulation.specs.loaded_program.Operands.{array_held, class_in, held_at, slot_at, slots_at, static_at}
 use Rattle.simulation.proofs.interpreter.Linking.{call_does, virtual_does}
-use Rattle.simulation.specs.interpreter.declared.outcomes.Outcome.{Outcome}
-use Rattle.simulation.specs.interpreter.declared.outcomes.Outcome.TheVariants.{Comes, Starts, Joins}
+use Rattle.simulation.specs.interpreter.declared.outcomes.InstructionOutcome.{InstructionOutcome}
+use Rattle.simulation.specs.interpreter.declared.outcomes.InstructionOutcome.TheVariants.{OwnEffect, Starts, Joins}
 use Rattle.simulation.specs.MachineStates.{MachineState, mutator_of}
 use Rattle.simulation.specs.Transitions.{IsStatusTransition, IsThreadTransition, IsTransition}
 use Rattle.interleaving_core.specs.Prints.{next_print, print_by, print_in, status_print}
@@ -101,21 +101,21 @@ module _ (tree : Tree) (mutator : Mutator) (m : Frames) (o : Objects) (ss : List
   -- what leaves the printed bytes as they are
   frames_keep : (transition : Transition) → Some answer ≡ of_frames o ss c transition → answer.printed ≡ c
   frames_keep None e = none_is_some answer (sym e)
-  frames_keep (Some t) e = ap (λ (x : Answer). x.printed) (same_Some answer (answer_of t.0 o ss c (Comes t.1)) e)
+  frames_keep (Some t) e = ap (λ (x : Answer). x.printed) (same_Some answer (answer_of t.0 o ss c (OwnEffect t.1)) e)
 
   objects_keep : (transition : ObjectTransition) → Some answer ≡ of_objects o ss c transition → answer.printed ≡ c
   objects_keep None e = none_is_some answer (sym e)
-  objects_keep (Some t) e = ap (λ (x : Answer). x.printed) (same_Some answer (answer_of t.0 t.1 ss c (Comes t.2)) e)
+  objects_keep (Some t) e = ap (λ (x : Answer). x.printed) (same_Some answer (answer_of t.0 t.1 ss c (OwnEffect t.2)) e)
 
   statics_keep : (transition : StaticTransition) → Some answer ≡ of_statics o ss c transition → answer.printed ≡ c
   statics_keep None e = none_is_some answer (sym e)
-  statics_keep (Some t) e = ap (λ (x : Answer). x.printed) (same_Some answer (answer_of t.0 t.1.0 t.1.1 c (Comes t.2)) e)
+  statics_keep (Some t) e = ap (λ (x : Answer). x.printed) (same_Some answer (answer_of t.0 t.1.0 t.1.1 c (OwnEffect t.2)) e)
 
   console_keeps : (transition : ObjectTransition) → Some answer ≡ of_calls o ss c (beside_console c transition) → answer.printed ≡ c
   console_keeps None e = none_is_some answer (sym e)
-  console_keeps (Some t) e = ap (λ (x : Answer). x.printed) (same_Some answer (answer_of t.0 t.1 ss c (Comes t.2)) e)
+  console_keeps (Some t) e = ap (λ (x : Answer). x.printed) (same_Some answer (answer_of t.0 t.1 ss c (OwnEffect t.2)) e)
 
-  asks_keep : (what : Addr → Outcome) (a : Option Addr) → Some answer ≡ of_calls o ss c (option_map (λ x. call_answer m o c (what x)) a) → answer.printed ≡ c
+  asks_keep : (what : Addr → InstructionOutcome) (a : Option Addr) → Some answer ≡ of_calls o ss c (option_map (λ x. call_answer m o c (what x)) a) → answer.printed ≡ c
   asks_keep what None e = none_is_some answer (sym e)
   asks_keep what (Some a) e = ap (λ (x : Answer). x.printed) (same_Some answer (answer_of m o ss c (what a)) e)
 
@@ -123,15 +123,15 @@ module _ (tree : Tree) (mutator : Mutator) (m : Frames) (o : Objects) (ss : List
   abbrev linked_answer : LinkedInstruction → MachineTransition
   linked_answer l = linked_transition tree mutator l m o ss c
 
-  mapped_keep : {X : Type 0} (f : X → LinkedInstruction) → ((x : X) → Some answer ≡ linked_answer (f x) → answer.printed ≡ c) → (x : Option X) → Some answer ≡ given (option_map f x) linked_answer → answer.printed ≡ c
+  mapped_keep : {X : Type 0} (f : X → LinkedInstruction) → ((x : X) → Some answer ≡ linked_answer (f x) → answer.printed ≡ c) → (x : Option X) → Some answer ≡ when_some (option_map f x) linked_answer → answer.printed ≡ c
   mapped_keep f keep None e = none_is_some answer (sym e)
   mapped_keep f keep (Some x) e = keep x e
 
-  then_keep : {X : Type 0} (f : X → Option LinkedInstruction) → ((x : X) → Some answer ≡ given (f x) linked_answer → answer.printed ≡ c) → (x : Option X) → Some answer ≡ given (option_and_then f x) linked_answer → answer.printed ≡ c
+  then_keep : {X : Type 0} (f : X → Option LinkedInstruction) → ((x : X) → Some answer ≡ when_some (f x) linked_answer → answer.printed ≡ c) → (x : Option X) → Some answer ≡ when_some (option_and_then f x) linked_answer → answer.printed ≡ c
   then_keep f keep None e = none_is_some answer (sym e)
   then_keep f keep (Some x) e = keep x e
 
-  string_keeps : (a : Addr) (b : Bool) → Some answer ≡ given (if b then Some (Linked.LoadString a) else None) linked_answer → answer.printed ≡ c
+  string_keeps : (a : Addr) (b : Bool) → Some answer ≡ when_some (if b then Some (Linked.LoadString a) else None) linked_answer → answer.printed ≡ c
   string_keeps a true e = frames_keep _ e
   string_keeps a false e = none_is_some answer (sym e)
 
@@ -162,18 +162,18 @@ module _ (tree : Tree) (mutator : Mutator) (m : Frames) (o : Objects) (ss : List
   quiet _ h e = frames_keep _ e
 
   -- a built-in member
-  writes : (stack : List Value) → Some answer ≡ of_calls o ss c (option_map (λ (t : Frames × List ℕ × Effect). call_answer t.0 o t.1 (Comes t.2)) (top_of stack m (λ v n. given (line_of (literals_of tree) v) (λ line. print_bytes line c n)))) → Within (print_by tree Write stack)
+  writes : (stack : List Value) → Some answer ≡ of_calls o ss c (option_map (λ (t : Frames × List ℕ × Effect). call_answer t.0 o t.1 (OwnEffect t.2)) (top_of stack m (λ v n. when_some (line_of (literals_of tree) v) (λ line. print_bytes line c n)))) → Within (print_by tree Write stack)
   writes [] e = none_is_some answer (sym e)
   writes (v ∷ rest) e = by_line (line_of (literals_of tree) v) e
     where
       on : List ℕ → Option (Frames × Effect) → Option (Frames × List ℕ × Effect)
       on line transition = option_map (λ (t : Frames × Effect). (t.0, c ++ line, t.1)) transition
 
-      by_transition : (line : List ℕ) (transition : Option (Frames × Effect)) → Some answer ≡ of_calls o ss c (option_map (λ (t : Frames × List ℕ × Effect). call_answer t.0 o t.1 (Comes t.2)) (on line transition)) → answer.printed ≡ c ++ line
+      by_transition : (line : List ℕ) (transition : Option (Frames × Effect)) → Some answer ≡ of_calls o ss c (option_map (λ (t : Frames × List ℕ × Effect). call_answer t.0 o t.1 (OwnEffect t.2)) (on line transition)) → answer.printed ≡ c ++ line
       by_transition line None e' = none_is_some answer (sym e')
-      by_transition line (Some t) e' = ap (λ (x : Answer). x.printed) (same_Some answer (answer_of t.0 o ss (c ++ line) (Comes t.1)) e')
+      by_transition line (Some t) e' = ap (λ (x : Answer). x.printed) (same_Some answer (answer_of t.0 o ss (c ++ line) (OwnEffect t.1)) e')
 
-      by_line : (l : Option (List ℕ)) → Some answer ≡ of_calls o ss c (option_map (λ (t : Frames × List ℕ × Effect). call_answer t.0 o t.1 (Comes t.2)) (given l (λ line. print_bytes line c (with_stack m rest)))) → Within (unwrap_or l [])
+      by_line : (l : Option (List ℕ)) → Some answer ≡ of_calls o ss c (option_map (λ (t : Frames × List ℕ × Effect). call_answer t.0 o t.1 (OwnEffect t.2)) (when_some l (λ line. print_bytes line c (with_stack m rest)))) → Within (unwrap_or l [])
       by_line None e' = none_is_some answer (sym e')
       by_line (Some line) e' = line_within line (by_transition line (onward (with_stack m rest)) e')
 
@@ -194,10 +194,10 @@ module _ (tree : Tree) (mutator : Mutator) (m : Frames) (o : Objects) (ss : List
   print_of k = option_map_or (λ a. print_by tree a m.running.stack) k []
 
   -- a method that runs
-  runs : (found : ClassName × Method) (k : Option Action) → Some answer ≡ of_calls o ss c (option_map_or (λ a. act_transition tree mutator a m o c) k (given (number_of tree found) (λ n. beside_console c (beside o (call_transition (called_as found n) m))))) → Within (print_of k)
+  runs : (found : ClassName × Method) (k : Option Action) → Some answer ≡ of_calls o ss c (option_map_or (λ a. act_transition tree mutator a m o c) k (when_some (number_of tree found) (λ n. beside_console c (beside o (call_transition (called_as found n) m))))) → Within (print_of k)
   runs found None e = by_number (number_of tree found) e
     where
-      by_number : (n : Option ℕ) → Some answer ≡ of_calls o ss c (given n (λ n. beside_console c (beside o (call_transition (called_as found n) m)))) → Within []
+      by_number : (n : Option ℕ) → Some answer ≡ of_calls o ss c (when_some n (λ n. beside_console c (beside o (call_transition (called_as found n) m)))) → Within []
       by_number None e' = none_is_some answer (sym e')
       by_number (Some n) e' = same_within (console_keeps (beside o (call_transition (called_as found n) m)) e') []
   runs found (Some a) e = acts a e
@@ -205,18 +205,18 @@ module _ (tree : Tree) (mutator : Mutator) (m : Frames) (o : Objects) (ss : List
   -- call
   called : (flag : Bool) (owner : ℕ) (method : MemberNumber) (found : ClassName × Method) → method_at tree (method.class, method.index) ≡ Some found →
       Some answer ≡ operation_transition tree mutator (Call flag owner method) m o ss c → Within (print_of (action_of found.0 found.1))
-  called flag owner method found numbered e = runs found (action_of found.0 found.1) (e ∙ call_does tree mutator m o ss c method found numbered flag owner)
+  called flag owner method found has_id e = runs found (action_of found.0 found.1) (e ∙ call_does tree mutator m o ss c method found has_id flag owner)
 
   -- callvirt
   called_virtually : (owner : ℕ) (method : MemberNumber) (found : ClassName × Method) → IsDeclared tree found.0 found.1 → method_at tree (method.class, method.index) ≡ Some found →
       Some answer ≡ operation_transition tree mutator (CallVirtual owner method) m o ss c → Within (print_of (action_of found.0 found.1))
-  called_virtually owner method found declared numbered e =
-      by_receiver (receiver m.running.stack (length (argument_types found.1 found.0))) (e ∙ virtual_does tree mutator m o ss c method found numbered owner)
+  called_virtually owner method found declared has_id e =
+      by_receiver (receiver m.running.stack (length (argument_types found.1 found.0))) (e ∙ virtual_does tree mutator m o ss c method found has_id owner)
     where
       go : Addr → CallTransition
       go y = run_on tree mutator found y m o c
 
-      by_run : (y : Addr) (r : Option (ClassName × Method)) → chosen_method tree o y found ≡ r → Some answer ≡ of_calls o ss c (given r (λ run. run_transition tree mutator run m o c)) → Within (print_of (action_of found.0 found.1))
+      by_run : (y : Addr) (r : Option (ClassName × Method)) → chosen_method tree o y found ≡ r → Some answer ≡ of_calls o ss c (when_some r (λ run. run_transition tree mutator run m o c)) → Within (print_of (action_of found.0 found.1))
       by_run y None is e' = none_is_some answer (sym e')
       by_run y (Some run) is e' = by_action (action_of run.0 run.1) refl (runs run (action_of run.0 run.1) e')
         where
@@ -225,11 +225,11 @@ module _ (tree : Tree) (mutator : Mutator) (m : Frames) (o : Objects) (ss : List
           by_action (Some a) some h =
               option_and_then_some (chosen_by tree found) (class_at o y) run is (λ k lies e''. subst (λ x. Within (print_of x)) (sym (chosen_acts tree found run declared a some k e'')) h)
 
-      by_null : (y : Addr) (b : Bool) → Some answer ≡ of_calls o ss c (if b then Some (call_answer m o c (Comes (Raises NullReference))) else given (chosen_method tree o y found) (λ run. run_transition tree mutator run m o c)) → Within (print_of (action_of found.0 found.1))
-      by_null y true e' = same_within (ap (λ (x : Answer). x.printed) (same_Some answer (answer_of m o ss c (Comes (Raises NullReference))) e')) (print_of (action_of found.0 found.1))
+      by_null : (y : Addr) (b : Bool) → Some answer ≡ of_calls o ss c (if b then Some (call_answer m o c (OwnEffect (Raises NullReference))) else when_some (chosen_method tree o y found) (λ run. run_transition tree mutator run m o c)) → Within (print_of (action_of found.0 found.1))
+      by_null y true e' = same_within (ap (λ (x : Answer). x.printed) (same_Some answer (answer_of m o ss c (OwnEffect (Raises NullReference))) e')) (print_of (action_of found.0 found.1))
       by_null y false e' = by_run y (chosen_method tree o y found) refl e'
 
-      by_receiver : (r : Option Addr) → Some answer ≡ of_calls o ss c (given r go) → Within (print_of (action_of found.0 found.1))
+      by_receiver : (r : Option Addr) → Some answer ≡ of_calls o ss c (when_some r go) → Within (print_of (action_of found.0 found.1))
       by_receiver None e' = none_is_some answer (sym e')
       by_receiver (Some y) e' = by_null y (y.number == 0) e'
 
@@ -237,14 +237,14 @@ module _ (tree : Tree) (mutator : Mutator) (m : Frames) (o : Objects) (ss : List
   done_within : IsDone tree mutator m o ss c answer → Within (print_in tree m)
   done_within done =
       subst (λ k. Within (print_of k)) (sym (action_is tree m done.operation done.at))
-      (by_calls done.at.line.instruction done.operation (calls_of tree (lines_of done.at.found.1) done.at.line.instruction done.operation done.at.stands) done.is)
+      (by_calls done.at.line.instruction done.operation (calls_of tree (lines_of done.at.found.1) done.at.line.instruction done.operation done.at.refines) done.is)
     where
       by_calls : (i : Instruction) (op : Operation) → Calls tree i op → Some answer ≡ operation_transition tree mutator op m o ss c → Within (print_of (called_action tree i))
       by_calls _ _ (plainly flag r owner method finds) e =
-          subst (λ k. Within (print_of (action_found k))) (sym finds.finds) (called flag owner method (finds.declared_in, finds.found) finds.numbered e)
+          subst (λ k. Within (print_of (action_found k))) (sym finds.finds) (called flag owner method (finds.declared_in, finds.found) finds.has_id e)
       by_calls _ _ (virtually d name signature owner method finds) e =
           subst (λ k. Within (print_of (action_found k))) (sym finds.finds)
-          (called_virtually owner method (finds.declared_in, finds.found) (found_is_declared tree true (virtual_reference d name signature) finds.declared_in finds.found finds.finds) finds.numbered e)
+          (called_virtually owner method (finds.declared_in, finds.found) (found_is_declared tree true (virtual_reference d name signature) finds.declared_in finds.found finds.finds) finds.has_id e)
       by_calls _ _ (nothing i op none none') e = same_within (quiet op none' e) (print_of (called_action tree i))
 
 -- ---- any event

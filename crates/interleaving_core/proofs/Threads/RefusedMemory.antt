@@ -15,8 +15,8 @@ use Rattle.threads_monitors.specs.declared.effects.Effect.{Effect}
 use Rattle.threads_monitors.specs.declared.effects.Effect.TheVariants.{Continues, Raises}
 use Rattle.threads_monitors.specs.declared.threads.Thread.{Thread}
 use Rattle.simulation.specs.interpreter.Instructions.{IsDone, Prints, Answer}
-use Rattle.simulation.specs.interpreter.declared.outcomes.Outcome.{Outcome}
-use Rattle.simulation.specs.interpreter.declared.outcomes.Outcome.TheVariants.{Comes, Starts, Joins}
+use Rattle.simulation.specs.interpreter.declared.outcomes.InstructionOutcome.{InstructionOutcome}
+use Rattle.simulation.specs.interpreter.declared.outcomes.InstructionOutcome.TheVariants.{OwnEffect, Starts, Joins}
 use Rattle.simulation.specs.MachineStates.{MachineState, mutator_of}
 use Rattle.simulation.specs.Transitions.{IsThreadTransition, IsTransition, TakesMemory, after_request, count_step, finish_step, left_by, live_thread, start_thread, thread_for, seat_thread}
 use Rattle.simulation.specs.Ready.{IsAnswerable}
@@ -53,8 +53,8 @@ module _ (c : MachineState) (t left : ℕ) (a : Answer) where
         by_fault None (Some new) h = refl
         by_fault None None h = h refl
 
-  finished_there : (o : Outcome) → IsAnswerable c t left a o → (after : MachineState × Report) × (finish_step c t left a o ≡ Some after)
-  finished_there (Comes e) h = (count_step (left_by c t left a) t left e a.frames, refl)
+  finished_there : (o : InstructionOutcome) → IsAnswerable c t left a o → (after : MachineState × Report) × (finish_step c t left a o ≡ Some after)
+  finished_there (OwnEffect e) h = (count_step (left_by c t left a) t left e a.frames, refl)
   finished_there (Joins object) h =
       let effect = join_effect (left_by c t left a).threads a.objects object in (count_step (left_by c t left a) t left effect (after_request effect a.frames), refl)
   finished_there (Starts object) h =
@@ -87,10 +87,10 @@ module _ (c : MachineState) (t left : ℕ) (m : Frames) (there : slice_get c.thr
       (after.0, transition_is a prints.1 after.0 after.1, inl (subst (λ (bytes : List ℕ). length c.printed < length bytes) (sym (finished_printed c t left a after.0 a.outcome after.1)) prints.2))
 
 -- an instruction that starts a thread
-pub start_refused : (c : MachineState) (t : ℕ) (outcome : Outcome) (middle : MachineState) (half : IsInstructed c t outcome middle) → IsAnswerable c t half.left half.answer half.answer.outcome →
+pub start_refused : (c : MachineState) (t : ℕ) (outcome : InstructionOutcome) (middle : MachineState) (half : IsInstructed c t outcome middle) → IsAnswerable c t half.left half.answer half.answer.outcome →
     (object : Addr) → outcome ≡ Starts object → start_fault middle.threads middle.objects object ≡ None → TakesMemory c (Step t)
 start_refused c t outcome middle half answerable object starts free =
     let is : half.answer.outcome ≡ Starts object = half.comes ∙ starts in
     let free' : start_fault (left_by c t half.left half.answer).threads half.answer.objects object ≡ None = subst (λ (x : MachineState). start_fault x.threads x.objects object ≡ None) half.is free in
     let more = one_more c t half.left half.answer object (subst (IsAnswerable c t half.left half.answer) is answerable) free' in
-    (more.0, transition_is c t half.left half.frames half.there half.answer half.done more.0 (subst (λ (o : Outcome). finish_step c t half.left half.answer o ≡ Some more.0) (sym is) more.1), inr (inl more.2))
+    (more.0, transition_is c t half.left half.frames half.there half.answer half.done more.0 (subst (λ (o : InstructionOutcome). finish_step c t half.left half.answer o ≡ Some more.0) (sym is) more.1), inr (inl more.2))

@@ -10,15 +10,15 @@ use Rattle.threads_monitors.specs.Frames.{Frames}
 use Rattle.threads_monitors.specs.Threads.{is_live_at, join_effect}
 use Rattle.threads_monitors.specs.declared.effects.Effect.{Effect}
 use Rattle.threads_monitors.specs.declared.threads.Thread.{Thread}
-use Rattle.simulation.specs.interpreter.declared.outcomes.Outcome.{Outcome}
-use Rattle.simulation.specs.interpreter.declared.outcomes.Outcome.TheVariants.{Starts, Joins}
+use Rattle.simulation.specs.interpreter.declared.outcomes.InstructionOutcome.{InstructionOutcome}
+use Rattle.simulation.specs.interpreter.declared.outcomes.InstructionOutcome.TheVariants.{Starts, Joins}
 use Rattle.simulation.specs.Ready.{CanFinish}
 use Rattle.simulation.specs.MachineStates.{MachineState, mutator_of}
 use Rattle.simulation.specs.Transitions.{answer_step, finish, live_thread, start_thread, seat_thread}
 use Rattle.interleaving_core.proofs.Threads.HalfSteps.{live_by, live_there, started_keeps}
 
 -- what is known of a live thread's frames
-pub of_live : (c : MachineState) (t : ℕ) (outcome : Outcome) → is_live_at c.threads t ≡ true → ((left : ℕ) (m : Frames) → slice_get c.threads t ≡ Some (live_thread left m) → CanFinish c t m outcome)
+pub of_live : (c : MachineState) (t : ℕ) (outcome : InstructionOutcome) → is_live_at c.threads t ≡ true → ((left : ℕ) (m : Frames) → slice_get c.threads t ≡ Some (live_thread left m) → CanFinish c t m outcome)
     → (m : Frames) × CanFinish c t m outcome
 of_live c t outcome live can = let there = live_there c.threads t live in (there.1, can there.0 there.1 there.2)
 

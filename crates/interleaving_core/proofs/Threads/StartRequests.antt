@@ -17,7 +17,7 @@ use Rattle.threads_monitors.specs.Frames.{Frames}
 use Rattle.threads_monitors.specs.declared.mutators.Mutator.{Mutator}
 use Rattle.threads_monitors.specs.declared.effects.Effect.{Effect}
 use Rattle.threads_monitors.specs.declared.effects.Effect.TheVariants.{Raises}
-use Rattle.simulation.specs.instructions.Frames.{Transition, given, onward, top_of}
+use Rattle.simulation.specs.instructions.Frames.{Transition, when_some, onward, top_of}
 use Rattle.simulation.specs.instructions.ObjectTransitions.{ObjectTransition, beside, StaticTransition}
 use Rattle.simulation.specs.instructions.Calls.{call_transition}
 use Rattle.simulation.specs.instructions.BuiltInTransitions.{enter_transition, exit_transition, write_transition}
@@ -26,15 +26,15 @@ use Rattle.simulation.specs.interpreter.Instructions.{IsDone, MachineTransition,
 use Rattle.simulation.specs.loaded_program.AllMethods.{all_methods}
 use Rattle.simulation.specs.loaded_program.declared.instructions.LinkedInstruction.{LinkedInstruction}
 use Rattle.simulation.specs.interpreter.Calls.{CallTransition, act_transition, beside_console, called_as, receiver, run_transition, top_reference, CallAnswer, call_answer, call_by_id, chosen_method, run_on, virtual_by_id, virtual_transition}
-use Rattle.simulation.specs.interpreter.declared.outcomes.Outcome.{Outcome}
-use Rattle.simulation.specs.interpreter.declared.outcomes.Outcome.TheVariants.{Comes, Starts, Joins}
+use Rattle.simulation.specs.interpreter.declared.outcomes.InstructionOutcome.{InstructionOutcome}
+use Rattle.simulation.specs.interpreter.declared.outcomes.InstructionOutcome.TheVariants.{OwnEffect, Starts, Joins}
 use Rattle.cil_model.proofs.Lists.{none_is_some}
 
 -- an outcome for the thread itself, or a wait, is no start
-comes_not : {A : Type 0} (e : Effect) (object : Addr) → Comes e ≡ Starts object → A
+comes_not : {A : Type 0} (e : Effect) (object : Addr) → OwnEffect e ≡ Starts object → A
 comes_not {A} e object h = absurd (lost h)
   where
-    lost : Comes e ≡ Starts object → ⊥
+    lost : OwnEffect e ≡ Starts object → ⊥
     lost k = cc
 
 joins_not : {A : Type 0} (a object : Addr) → Joins a ≡ Starts object → A
@@ -53,21 +53,21 @@ module _ (m : Frames) (o : Objects) (statics : List Value) (printed : List ℕ) 
 
   -- ---- what results in an effect asks for nothing
 
-  other_outcome : {A : Type 0} (answer other : Answer) (e : Effect) (object : Addr) → Some answer ≡ Some other → other.outcome ≡ Comes e → answer.outcome ≡ Starts object → A
+  other_outcome : {A : Type 0} (answer other : Answer) (e : Effect) (object : Addr) → Some answer ≡ Some other → other.outcome ≡ OwnEffect e → answer.outcome ≡ Starts object → A
   other_outcome answer other e object is comes starts =
       comes_not e object (sym comes ∙ sym (ap (λ (x : Answer). x.outcome) (same_Some answer other is)) ∙ starts)
 
   frames_keep : (transition : Transition) → KeepsAll (of_frames o statics printed transition)
   frames_keep None answer object is starts = none_is_some answer (sym is)
-  frames_keep (Some t) answer object is starts = other_outcome answer (answer_of t.0 o statics printed (Comes t.1)) t.1 object is refl starts
+  frames_keep (Some t) answer object is starts = other_outcome answer (answer_of t.0 o statics printed (OwnEffect t.1)) t.1 object is refl starts
 
   objects_keep : (transition : ObjectTransition) → KeepsAll (of_objects o statics printed transition)
   objects_keep None answer object is starts = none_is_some answer (sym is)
-  objects_keep (Some t) answer object is starts = other_outcome answer (answer_of t.0 t.1 statics printed (Comes t.2)) t.2 object is refl starts
+  objects_keep (Some t) answer object is starts = other_outcome answer (answer_of t.0 t.1 statics printed (OwnEffect t.2)) t.2 object is refl starts
 
   statics_keep : (transition : StaticTransition) → KeepsAll (of_statics o statics printed transition)
   statics_keep None answer object is starts = none_is_some answer (sym is)
-  statics_keep (Some t) answer object is starts = other_outcome answer (answer_of t.0 t.1.0 t.1.1 printed (Comes t.2)) t.2 object is refl starts
+  statics_keep (Some t) answer object is starts = other_outcome answer (answer_of t.0 t.1.0 t.1.1 printed (OwnEffect t.2)) t.2 object is refl starts
 
   -- ---- calls
 
@@ -78,9 +78,9 @@ module _ (m : Frames) (o : Objects) (statics : List Value) (printed : List ℕ) 
       same ∙ ap (λ (x : CallAnswer). answer_of x.frames x.objects statics x.printed x.outcome) (keeps t object refl (sym (ap (λ (x : Answer). x.outcome) same) ∙ starts))
 
   -- a call that results in an effect
-  effect_keeps : (n : Frames) (p : Objects) (w : List ℕ) (e : Effect) → KeepsCall (Some (call_answer n p w (Comes e)))
+  effect_keeps : (n : Frames) (p : Objects) (w : List ℕ) (e : Effect) → KeepsCall (Some (call_answer n p w (OwnEffect e)))
   effect_keeps n p w e t object is starts =
-      comes_not e object (sym (ap (λ (x : CallAnswer). x.outcome) (same_Some t (call_answer n p w (Comes e)) is)) ∙ starts)
+      comes_not e object (sym (ap (λ (x : CallAnswer). x.outcome) (same_Some t (call_answer n p w (OwnEffect e)) is)) ∙ starts)
 
   none_keeps : KeepsCall None
   none_keeps t object is starts = none_is_some t (sym is)
@@ -89,11 +89,11 @@ module _ (m : Frames) (o : Objects) (statics : List Value) (printed : List ℕ) 
   console_keeps None = none_keeps
   console_keeps (Some t) = effect_keeps t.0 t.1 printed t.2
 
-  write_keeps : (transition : Option (Frames × List ℕ × Effect)) → KeepsCall (option_map (λ (t : Frames × List ℕ × Effect). call_answer t.0 o t.1 (Comes t.2)) transition)
+  write_keeps : (transition : Option (Frames × List ℕ × Effect)) → KeepsCall (option_map (λ (t : Frames × List ℕ × Effect). call_answer t.0 o t.1 (OwnEffect t.2)) transition)
   write_keeps None = none_keeps
   write_keeps (Some t) = effect_keeps t.0 o t.1 t.2
 
-  given_keeps : {X : Type 0} (found : Option X) (go : X → CallTransition) → ((x : X) → KeepsCall (go x)) → KeepsCall (given found go)
+  given_keeps : {X : Type 0} (found : Option X) (go : X → CallTransition) → ((x : X) → KeepsCall (go x)) → KeepsCall (when_some found go)
   given_keeps None go keeps = none_keeps
   given_keeps (Some x) go keeps = keeps x
 
@@ -101,7 +101,7 @@ module _ (m : Frames) (o : Objects) (statics : List Value) (printed : List ℕ) 
   start_keeps None t object is starts = none_is_some t (sym is)
   start_keeps (Some a) t object is starts =
       let same : t ≡ (call_answer m o printed (Starts a)) = same_Some t (call_answer m o printed (Starts a)) is in
-      same ∙ ap (λ (x : Outcome). call_answer m o printed x) (sym (ap (λ (x : CallAnswer). x.outcome) same) ∙ starts)
+      same ∙ ap (λ (x : InstructionOutcome). call_answer m o printed x) (sym (ap (λ (x : CallAnswer). x.outcome) same) ∙ starts)
 
   join_keeps : (found : Option Addr) → KeepsCall (option_map (λ a. call_answer m o printed (Joins a)) found)
   join_keeps None t object is starts = none_is_some t (sym is)
@@ -126,10 +126,10 @@ module _ (m : Frames) (o : Objects) (statics : List Value) (printed : List ℕ) 
 
     run_keeps : (found : ClassName × Method) → KeepsCall (run_transition tree mutator found m o printed)
     run_keeps found =
-        action_keeps (action_of found.0 found.1) (given (number_of tree found) (λ n. beside_console printed (beside o (call_transition (called_as found n) m))))
+        action_keeps (action_of found.0 found.1) (when_some (number_of tree found) (λ n. beside_console printed (beside o (call_transition (called_as found n) m))))
         (given_keeps (number_of tree found) (λ n. beside_console printed (beside o (call_transition (called_as found n) m))) (λ n. console_keeps (beside o (call_transition (called_as found n) m))))
 
-    null_keeps : (is_null : Bool) (transition : CallTransition) → KeepsCall transition → KeepsCall (if is_null then Some (call_answer m o printed (Comes (Raises NullReference))) else transition)
+    null_keeps : (is_null : Bool) (transition : CallTransition) → KeepsCall transition → KeepsCall (if is_null then Some (call_answer m o printed (OwnEffect (Raises NullReference))) else transition)
     null_keeps true transition keeps = effect_keeps m o printed (Raises NullReference)
     null_keeps false transition keeps = keeps
 
@@ -137,7 +137,7 @@ module _ (m : Frames) (o : Objects) (statics : List Value) (printed : List ℕ) 
     virtual_keeps number operands =
         given_keeps (slice_get (all_methods tree) number) (λ found. virtual_transition tree mutator found operands m o printed) (λ found.
         given_keeps (receiver m.running.stack operands) (λ a. run_on tree mutator found a m o printed) (λ a.
-        null_keeps (a.number == 0) (given (chosen_method tree o a found) (λ run. run_transition tree mutator run m o printed)) (given_keeps (chosen_method tree o a found) (λ run. run_transition tree mutator run m o printed) run_keeps)))
+        null_keeps (a.number == 0) (when_some (chosen_method tree o a found) (λ run. run_transition tree mutator run m o printed)) (given_keeps (chosen_method tree o a found) (λ run. run_transition tree mutator run m o printed) run_keeps)))
 
     -- ---- every instruction
 
@@ -157,7 +157,7 @@ module _ (m : Frames) (o : Objects) (statics : List Value) (printed : List ℕ) 
     link_keeps (Linked.NewObject class slots number) = objects_keep _
     link_keeps _ = frames_keep _
 
-    linked_keeps : (l : Option LinkedInstruction) → KeepsAll (given l (λ x. linked_transition tree mutator x m o statics printed))
+    linked_keeps : (l : Option LinkedInstruction) → KeepsAll (when_some l (λ x. linked_transition tree mutator x m o statics printed))
     linked_keeps None = λ answer object is starts. none_is_some answer (sym is)
     linked_keeps (Some l) = link_keeps l
 

@@ -21,7 +21,7 @@ use Rattle.reference_machine.specs.Values.{ObjectName, Value, Int32, Int64, Nati
 use Rattle.reference_machine.specs.Arithmetic.{binary_value, unary_value, shift_value, compare_values, branch_values, is_set, convert_32, convert_64, as_index, not_option}
 use Rattle.reference_machine.specs.States.{Monitor, Free, Held, Contents, Array, HeapObject, Frame, State, entry_at, replaced_entry, field_value, with_field, object_at, class_of, monitor_of, with_monitor, is_live, array_at, with_element, next_name, with_birth, new_instance}
 use Rattle.cil_model.specs.Stacks.{take_one, take_two, take_three}
-use Rattle.reference_machine.specs.Effects.{Setting, Effect, Goes, Blocks, Raises, Sticks, given, unless_fault, not_null, are_of_kinds, after, onward}
+use Rattle.reference_machine.specs.Effects.{Setting, Effect, Goes, Blocks, Raises, Sticks, when_some, unless_fault, not_null, are_of_kinds, after, onward}
 use Rattle.reference_machine.specs.BuiltIn.{Action, Construct, Write, Enter, Exit, Start, Join, action_of, line_of, enter, exit, begin, start, join, thread_object, act}
 use Rattle.reference_machine.specs.Steps.{instruction_at, effect_of, key_of, store_at, execute, jump, branch_if, birth, new_array, in_range, element, load_element, store_element, may_hold, store_reference, cast, frame_for, is_too_deep, run_method as run_found, operands, method_for, run_virtual, construct, return_from, to_label, switch_on}
 use Rattle.std.proofs.lemmas.Option.{option_and_then_some, same_Some}
@@ -77,7 +77,7 @@ module _ (here : Setting) (legal : IsLegal here.tree) (s : State) (f : Frame) wh
   Keeps e = LeavesOthers here s f e
 
   -- with what is there
-  given_keeps : {X : Type 0} {go : X → Effect} (o : Option X) → ((x : X) → o ≡ Some x → Keeps (go x)) → Keeps (given o go)
+  given_keeps : {X : Type 0} {go : X → Effect} (o : Option X) → ((x : X) → o ≡ Some x → Keeps (go x)) → Keeps (when_some o go)
   given_keeps None each = sticks
   given_keeps (Some x) each = each x refl
 
@@ -158,7 +158,7 @@ module _ (here : Setting) (legal : IsLegal here.tree) (s : State) (f : Frame) wh
     started_keeps n rest o there = by_thread o.thread refl
       where
         by_thread : (u : Option ℕ) → o.thread ≡ u →
-            Keeps (if is_some u then Raises ThreadState else if nat_le MOST_THREADS (length s.threads) then Raises TooManyThreads else given (class_of s n) (λ c. begin here s f below n rest o (target here.tree c thread_name run_method)))
+            Keeps (if is_some u then Raises ThreadState else if nat_le MOST_THREADS (length s.threads) then Raises TooManyThreads else when_some (class_of s n) (λ c. begin here s f below n rest o (target here.tree c thread_name run_method)))
         by_thread (Some u) e = raises ThreadState
         by_thread None e =
             if_keeps (nat_le MOST_THREADS (length s.threads)) (λ e'. raises TooManyThreads) (
@@ -184,7 +184,7 @@ module _ (here : Setting) (legal : IsLegal here.tree) (s : State) (f : Frame) wh
     abbrev Waits : Action → Value → Type 0
     Waits a v = (w : Wait) → wait_by s here.thread a (v ∷ []) ≡ Some w → IsWaiting here s f
 
-    enter_value : (v : Value) (rest : List Value) → Waits Enter v → Keeps (not_null v ArgumentNull (λ n. given (monitor_of s n) (enter here s f below n rest)))
+    enter_value : (v : Value) (rest : List Value) → Waits Enter v → Keeps (not_null v ArgumentNull (λ n. when_some (monitor_of s n) (enter here s f below n rest)))
     enter_value Null rest may = raises ArgumentNull
     enter_value (Reference n) rest may = given_keeps (monitor_of s n) (λ m e. enter_keeps n rest m e (λ w h. may w (ap (option_and_then (held_by_another n here.thread)) e ∙ h)))
     enter_value (Int32 z) rest may = sticks
@@ -269,7 +269,7 @@ module _ (here : Setting) (legal : IsLegal here.tree) (s : State) (f : Frame) wh
     load_keeps test = two_keeps f.stack (λ array index rest. element_of_keeps test array index (λ n t i v. onward_keeps (v ∷ rest)))
 
     -- another element
-    put_keeps : (n : ObjectName) (i : ℕ) (v : Value) (rest : List Value) → Keeps (given (with_element s n i v) (λ s'. onward f below s' rest))
+    put_keeps : (n : ObjectName) (i : ℕ) (v : Value) (rest : List Value) → Keeps (when_some (with_element s n i v) (λ s'. onward f below s' rest))
     put_keeps n i v rest = given_keeps (with_element s n i v) (λ s' e. goes _ s' (element_keeps here.thread s n i v s' e))
 
     -- stelem

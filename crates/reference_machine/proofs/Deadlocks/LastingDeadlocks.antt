@@ -17,7 +17,7 @@ use Rattle.reference_machine.specs.BuiltIn.{Action, Construct, Write, Enter, Exi
 use Rattle.reference_machine.specs.Effects.{Setting, Effect, Goes, Blocks, Raises, Sticks}
 use Rattle.reference_machine.specs.Runs.{StepRequest, RunsTo, followed_by, run}
 use Rattle.reference_machine.specs.States.{Monitor, Free, Held, HeapObject, Frame, Thread, State, is_live, is_live_thread, monitor_of, object_at}
-use Rattle.reference_machine.specs.Steps.{Outcome, Answers, Stuck, effect_of, ended_as, continues, instruction_at, charge, step, step_of, with_thread_at}
+use Rattle.reference_machine.specs.Steps.{StepOutcome, Answers, Stuck, effect_of, ended_as, continues, instruction_at, charge, step, step_of, with_thread_at}
 use Rattle.reference_machine.specs.Values.{ObjectName, Born, Literal, Value}
 use Rattle.reference_machine.proofs.Runs.JoinedRuns.{after_run}
 use Rattle.reference_machine.proofs.Runs.InstructionEffects.{same_after}

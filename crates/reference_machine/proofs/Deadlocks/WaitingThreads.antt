@@ -18,7 +18,7 @@ use Rattle.cil_model.specs.Typings.{IsAccepted}
 use Rattle.cil_model.proofs.Lists.{none_is_some}
 use Rattle.cil_model.proofs.SameLaws.{not_both}
 use Rattle.reference_machine.specs.BuiltIn.{Action, Construct, Write, Enter, Exit, Start, Join, action_of, act, enter, join, thread_object}
-use Rattle.reference_machine.specs.Effects.{Setting, Effect, Goes, Blocks, Raises, Sticks, given, pop_many, not_null, are_of_kinds, onward}
+use Rattle.reference_machine.specs.Effects.{Setting, Effect, Goes, Blocks, Raises, Sticks, when_some, pop_many, not_null, are_of_kinds, onward}
 use Rattle.reference_machine.specs.States.{Monitor, Free, Held, HeapObject, Frame, Thread, State, class_of, is_live, is_live_thread, monitor_of, object_at, with_monitor}
 use Rattle.reference_machine.specs.Steps.{instruction_at, effect_of, execute, frame_for, is_too_deep, method_for, operands, run_method, run_virtual}
 use Rattle.reference_machine.specs.Values.{ObjectName, Value, Int32, Int64, Native, Null, Reference}
@@ -95,7 +95,7 @@ module _ (here : Setting) (s : State) (f : Frame) (below : List Frame) where
         by_owner owner count true e = none_is_some w e
         by_owner owner count false e = refl
 
-        by_monitor : (m : Option Monitor) → option_and_then (held_by_another n here.thread) m ≡ Some w → given m (enter here s f below n rest) ≡ Blocks
+        by_monitor : (m : Option Monitor) → option_and_then (held_by_another n here.thread) m ≡ Some w → when_some m (enter here s f below n rest) ≡ Blocks
         by_monitor None e = none_is_some w e
         by_monitor (Some Free) e = none_is_some w e
         by_monitor (Some (Held owner count)) e = by_owner owner count (owner == here.thread) e
@@ -115,16 +115,16 @@ module _ (here : Setting) (s : State) (f : Frame) (below : List Frame) where
         by_thread None e = none_is_some w e
         by_thread (Some k) e = by_life k (is_live s k) e
 
-        by_object : (o : Option HeapObject) → option_and_then (λ (x : HeapObject). option_and_then (end_awaited s) x.thread) o ≡ Some w → given o (join here s f below rest) ≡ Blocks
+        by_object : (o : Option HeapObject) → option_and_then (λ (x : HeapObject). option_and_then (end_awaited s) x.thread) o ≡ Some w → when_some o (join here s f below rest) ≡ Blocks
         by_object None e = none_is_some w e
         by_object (Some o) e = by_thread o.thread e
 
-        by_test : (b : Bool) → IsTypedEffect here.tree (if b then given (object_at s n) (join here s f below rest) else Sticks) → (if b then given (object_at s n) (join here s f below rest) else Sticks) ≡ Blocks
+        by_test : (b : Bool) → IsTypedEffect here.tree (if b then when_some (object_at s n) (join here s f below rest) else Sticks) → (if b then when_some (object_at s n) (join here s f below rest) else Sticks) ≡ Blocks
         by_test true typed' = by_object (object_at s n) h
         by_test false typed' = elim typed' [ ]
 
-        by_class : (c : Option ClassName) → IsTypedEffect here.tree (given c (λ k. if is_thread_class here.tree k then given (object_at s n) (join here s f below rest) else Sticks)) →
-            given c (λ k. if is_thread_class here.tree k then given (object_at s n) (join here s f below rest) else Sticks) ≡ Blocks
+        by_class : (c : Option ClassName) → IsTypedEffect here.tree (when_some c (λ k. if is_thread_class here.tree k then when_some (object_at s n) (join here s f below rest) else Sticks)) →
+            when_some c (λ k. if is_thread_class here.tree k then when_some (object_at s n) (join here s f below rest) else Sticks) ≡ Blocks
         by_class None typed' = elim typed' [ ]
         by_class (Some c) typed' = by_test (is_thread_class here.tree c) typed'
 
@@ -168,7 +168,7 @@ module _ (here : Setting) (s : State) (f : Frame) (below : List Frame) where
     virtual_acts : (method : ClassName × Method) → action_of method.0 method.1 ≡ Some a → is_virtual method.1.kind ≡ false → (rest : List Value) →
         run_virtual here s f below method (Reference n ∷ []) rest ≡ act here s f below a (Reference n ∷ []) rest
     virtual_acts method acts plain rest =
-        ap (λ b. given (if b then option_and_then (λ d. target here.tree d method.0 method.1) (class_of s n) else Some method) (λ chosen. run_method here s f below chosen (Reference n ∷ []) rest)) plain ∙ run_acts method acts rest
+        ap (λ b. when_some (if b then option_and_then (λ d. target here.tree d method.0 method.1) (class_of s n) else Some method) (λ chosen. run_method here s f below chosen (Reference n ∷ []) rest)) plain ∙ run_acts method acts rest
 
     taken_acts : (e : Effect) (go : List Value → List Value → Effect) → TakesOne f.stack e go → ((rest : List Value) → go (Reference n ∷ []) rest ≡ act here s f below a (Reference n ∷ []) rest) → Acts e
     taken_acts e go (v, rest, stack, is) each =
@@ -176,14 +176,14 @@ module _ (here : Setting) (s : State) (f : Frame) (below : List Frame) where
         (rest, stack ∙ ap (λ x. x ∷ rest) same, is ∙ (ap (λ x. go (x ∷ []) rest) same ∙ each rest))
 
     call_acts : (is_instance : Bool) (r : MethodReference) (o : Option (ClassName × Method)) → find_method here.tree is_instance r ≡ o → action_found o ≡ Some a →
-        IsTypedEffect here.tree (given o (λ x. operands here s f below (reference_operands is_instance r) (run_method here s f below x))) → Acts (given o (λ x. operands here s f below (reference_operands is_instance r) (run_method here s f below x)))
+        IsTypedEffect here.tree (when_some o (λ x. operands here s f below (reference_operands is_instance r) (run_method here s f below x))) → Acts (when_some o (λ x. operands here s f below (reference_operands is_instance r) (run_method here s f below x)))
     call_acts is_instance r None e acts typed = none_is_some a acts
     call_acts is_instance r (Some x) e acts typed =
         taken_acts (operands here s f below (reference_operands is_instance r) (run_method here s f below x)) (run_method here s f below x)
         (takes_one (reference_operands is_instance r) (run_method here s f below x) (one_operand here.tree legal is_instance r x.0 x.1 a e acts) typed) (run_acts x acts)
 
     call_virtual_acts : (r : MethodReference) (o : Option (ClassName × Method)) → find_method here.tree true r ≡ o → action_found o ≡ Some a →
-        IsTypedEffect here.tree (given o (λ x. operands here s f below (reference_operands true r) (run_virtual here s f below x))) → Acts (given o (λ x. operands here s f below (reference_operands true r) (run_virtual here s f below x)))
+        IsTypedEffect here.tree (when_some o (λ x. operands here s f below (reference_operands true r) (run_virtual here s f below x))) → Acts (when_some o (λ x. operands here s f below (reference_operands true r) (run_virtual here s f below x)))
     call_virtual_acts r None e acts typed = none_is_some a acts
     call_virtual_acts r (Some x) e acts typed =
         taken_acts (operands here s f below (reference_operands true r) (run_virtual here s f below x)) (run_virtual here s f below x)
@@ -242,7 +242,7 @@ calling_acts here accepted s typed f below frames i at a acts n top =
     let same : runs.0 ≡ i = same_Some runs.0 i (sym runs.1 ∙ at) in
     let done : IsTypedEffect here.tree (execute here s f below i) = subst (λ x. IsTypedEffect here.tree (execute here s f below x)) same (instruction_typed here s f below runs.0 runs.2) in
     let is = acts_at here s f below accepted.legal a n top i acts done in
-    (is.0, is.1, ap (λ x. given x (execute here s f below)) at ∙ is.2, subst (IsTypedEffect here.tree) is.2 done)
+    (is.0, is.1, ap (λ x. when_some x (execute here s f below)) at ∙ is.2, subst (IsTypedEffect here.tree) is.2 done)
 
 -- the instruction of a frame whose thread waits blocks
 pub waiting_blocks : (here : Setting) → IsAccepted here.tree → (s : State) → IsTyped here.tree s → (f : Frame) (below : List Frame) → AreTypedFrames here.tree s (f ∷ below) → IsWaiting here s f → effect_of here s (f ∷ below) ≡ Blocks

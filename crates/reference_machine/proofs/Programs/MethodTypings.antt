@@ -30,33 +30,33 @@ use Rattle.std.proofs.lemmas.Option.{option_and_then_some, same_Some}
 -- ---- lists
 
 -- the item is somewhere in the list
-abbrev pub Stands : {X : Type 0} → List X → X → Type 0
-Stands xs x = (n : ℕ) × (slice_get xs n ≡ Some x)
+abbrev pub Occurs : {X : Type 0} → List X → X → Type 0
+Occurs xs x = (n : ℕ) × (slice_get xs n ≡ Some x)
 
-found_stands : {X : Type 0} (test : X → Bool) (xs : List X) (x : X) → find test xs ≡ Some x → Stands xs x
-found_stands test [] x h = none_is_some x h
-found_stands {X} test (y ∷ ys) x h = by_test (test y) h (found_stands test ys x)
+found_refines : {X : Type 0} (test : X → Bool) (xs : List X) (x : X) → find test xs ≡ Some x → Occurs xs x
+found_refines test [] x h = none_is_some x h
+found_refines {X} test (y ∷ ys) x h = by_test (test y) h (found_refines test ys x)
   where
-    by_test : (b : Bool) → cond b (Some y) (find test ys) ≡ Some x → (find test ys ≡ Some x → Stands ys x) → Stands (y ∷ ys) x
+    by_test : (b : Bool) → cond b (Some y) (find test ys) ≡ Some x → (find test ys ≡ Some x → Occurs ys x) → Occurs (y ∷ ys) x
     by_test true e later = (0, e)
-    by_test false e later = let s : Stands ys x = later e in (suc s.0, s.1)
+    by_test false e later = let s : Occurs ys x = later e in (suc s.0, s.1)
 
-stands_after : {X : Type 0} (xs ys : List X) (y : X) → Stands ys y → Stands (xs ++ ys) y
-stands_after [] ys y h = h
-stands_after (x ∷ xs) ys y h = let s : Stands (xs ++ ys) y = stands_after xs ys y h in (suc s.0, s.1)
+occurs_after : {X : Type 0} (xs ys : List X) (y : X) → Occurs ys y → Occurs (xs ++ ys) y
+occurs_after [] ys y h = h
+occurs_after (x ∷ xs) ys y h = let s : Occurs (xs ++ ys) y = occurs_after xs ys y h in (suc s.0, s.1)
 
-stands_in_flat : {X Y : Type 0} (f : X → List Y) (xs : List X) (x : X) (y : Y) → Stands xs x → Stands (f x) y → Stands (flat_map f xs) y
-stands_in_flat f [] x y (n, h) k = none_is_some x h
-stands_in_flat {X} {Y} f (z ∷ zs) x y (zero, h) (j, k) =
+occurs_in_flat : {X Y : Type 0} (f : X → List Y) (xs : List X) (x : X) (y : Y) → Occurs xs x → Occurs (f x) y → Occurs (flat_map f xs) y
+occurs_in_flat f [] x y (n, h) k = none_is_some x h
+occurs_in_flat {X} {Y} f (z ∷ zs) x y (zero, h) (j, k) =
     let P : X → Type 0 = λ w. slice_get (f w) j ≡ Some y in
     (j, get_before (f z) (flat_map f zs) j y (subst P (sym (same_Some z x h)) k))
-stands_in_flat f (z ∷ zs) x y (suc n, h) k =
-    stands_after (f z) (flat_map f zs) y (stands_in_flat f zs x y (n, h) k)
+occurs_in_flat f (z ∷ zs) x y (suc n, h) k =
+    occurs_after (f z) (flat_map f zs) y (occurs_in_flat f zs x y (n, h) k)
 
-stands_in_map : {X Y : Type 0} (f : X → Y) (xs : List X) (x : X) → Stands xs x → Stands (map f xs) (f x)
-stands_in_map f [] x (n, h) = none_is_some x h
-stands_in_map f (y ∷ ys) x (zero, h) = (0, ap Some (ap f (same_Some y x h)))
-stands_in_map f (y ∷ ys) x (suc n, h) = let s : Stands (map f ys) (f x) = stands_in_map f ys x (n, h) in (suc s.0, s.1)
+occurs_in_map : {X Y : Type 0} (f : X → Y) (xs : List X) (x : X) → Occurs xs x → Occurs (map f xs) (f x)
+occurs_in_map f [] x (n, h) = none_is_some x h
+occurs_in_map f (y ∷ ys) x (zero, h) = (0, ap Some (ap f (same_Some y x h)))
+occurs_in_map f (y ∷ ys) x (suc n, h) = let s : Occurs (map f ys) (f x) = occurs_in_map f ys x (n, h) in (suc s.0, s.1)
 
 -- ---- what is found is declared
 
@@ -72,10 +72,10 @@ nearest_found {X} at (d ∷ ds) c x h = by_class (at d) refl h (nearest_found at
 
 module _ (tree : Tree) where
   abbrev pub IsDeclared : ClassName → Method → Type 0
-  IsDeclared c m = Stands (methods_declared tree c) m
+  IsDeclared c m = Occurs (methods_declared tree c) m
 
   pub found_is_declared : (is_instance : Bool) (r : MethodReference) (c : ClassName) (m : Method) → find_method tree is_instance r ≡ Some (c, m) → IsDeclared c m
-  found_is_declared is_instance r c m h = found_stands fits (methods_declared tree c) m (nearest_found (λ k. find fits (methods_declared tree k)) (classes_searched tree r.name r.owner) c m h)
+  found_is_declared is_instance r c m h = found_refines fits (methods_declared tree c) m (nearest_found (λ k. find fits (methods_declared tree k)) (classes_searched tree r.name r.owner) c m h)
     where
       fits : Method → Bool
       fits x = same_method_name x.name r.name && same_signature x.signature r.signature && same_flag (is_static x.kind) (not is_instance)
@@ -97,7 +97,7 @@ module _ (tree : Tree) where
 
     class_target_is_declared : (d c k : ClassName) (m : Method) → class_target tree name signature d c ≡ Some (k, m) → IsDeclared k m
     class_target_is_declared d c k m h = option_and_then_some _ (slot_along tree name signature (chain_of tree c)) (k, m) h (λ slot e f.
-        found_stands _ (methods_declared tree k) m (implementation_is_declared slot (chain_of tree d) k m f))
+        found_refines _ (methods_declared tree k) m (implementation_is_declared slot (chain_of tree d) k m f))
 
     interface_target_is_declared : (d i k : ClassName) (m : Method) → interface_target tree name signature d i ≡ Some (k, m) → IsDeclared k m
     interface_target_is_declared d i k m h = option_and_then_some _ (implementer_along tree name signature i (chain_of tree d)) (k, m) h (λ implementer e f.
@@ -179,10 +179,10 @@ module _ (tree : Tree) where
   member_of_thread (suc (suc (suc (suc n)))) m e h = none_is_some m e
 
   -- a method of a class of the source
-  source_has_typing : IsAccepted tree → (x : Class) (m : Method) → Stands tree.classes x → Stands (method_members x) m → HasTyping (source_name x) m
+  source_has_typing : IsAccepted tree → (x : Class) (m : Method) → Occurs tree.classes x → Occurs (method_members x) m → HasTyping (source_name x) m
   source_has_typing accepted x m there own =
-      let own_pair : Stands (map (λ (k : Method). (source_name x, k)) (method_members x)) (source_name x, m) = stands_in_map (λ (k : Method). (source_name x, k)) (method_members x) m own in
-      let s : Stands (source_methods tree) (source_name x, m) = stands_in_flat (λ (c : Class). map (λ (k : Method). (source_name c, k)) (method_members c)) tree.classes x (source_name x, m) there own_pair in
+      let own_pair : Occurs (map (λ (k : Method). (source_name x, k)) (method_members x)) (source_name x, m) = occurs_in_map (λ (k : Method). (source_name x, k)) (method_members x) m own in
+      let s : Occurs (source_methods tree) (source_name x, m) = occurs_in_flat (λ (c : Class). map (λ (k : Method). (source_name c, k)) (method_members c)) tree.classes x (source_name x, m) there own_pair in
       accepted.typed s.0 (source_name x) m s.1
 
   -- a method that some class declares and that does not act at once, by whether the class has an assembly
@@ -199,7 +199,7 @@ module _ (tree : Tree) where
       by_class (inr (x, found, same, among)) =
           let own_method : slice_get (method_members x) n ≡ Some m = sym (ap (λ (o : Option Class). slice_get (listed_by (λ (d : Declaration). d.methods) (option_map (λ (y : Class). declared_as y.kind (field_members y) (method_members y)) o)) n) found) ∙ e in
           let P : ClassName → Type 0 = λ k. HasTyping k m in
-          subst P (same_class_equal (source_name x) c same) (source_has_typing accepted x m (found_stands (λ (y : Class). same_class (source_name y) c) tree.classes x found) (n, own_method))
+          subst P (same_class_equal (source_name x) c same) (source_has_typing accepted x m (found_refines (λ (y : Class). same_class (source_name y) c) tree.classes x found) (n, own_method))
   framed_at accepted (Some a) own n m e h = by_name (same_class object_name c) (same_class string_name c) (same_class console_name c) (same_class monitor_name c) (same_class thread_name c) refl refl refl refl refl e
     where
       c : ClassName

@@ -39,13 +39,13 @@ pub kept_from : {X : Type 0} (test : X → Bool) (xs : List X) (n : ℕ) (x : X)
 kept_from test [] n x e = none_is_some x e
 kept_from {X} test (y ∷ ys) n x e = by_test (test y) refl n e (kept_from test ys)
   where
-    Stands : List X → X → Type 0
-    Stands zs z = (k : ℕ) × (slice_get zs k ≡ Some z) × IsTrue (test z)
+    Occurs : List X → X → Type 0
+    Occurs zs z = (k : ℕ) × (slice_get zs k ≡ Some z) × IsTrue (test z)
 
-    following : (z : X) → Stands ys z → Stands (y ∷ ys) z
+    following : (z : X) → Occurs ys z → Occurs (y ∷ ys) z
     following z h = (suc h.0, h.1, h.2)
 
-    by_test : (b : Bool) → test y ≡ b → (n : ℕ) → slice_get (cond b (y ∷ filter test ys) (filter test ys)) n ≡ Some x → ((k : ℕ) (z : X) → slice_get (filter test ys) k ≡ Some z → Stands ys z) → Stands (y ∷ ys) x
+    by_test : (b : Bool) → test y ≡ b → (n : ℕ) → slice_get (cond b (y ∷ filter test ys) (filter test ys)) n ≡ Some x → ((k : ℕ) (z : X) → slice_get (filter test ys) k ≡ Some z → Occurs ys z) → Occurs (y ∷ ys) x
     by_test true is zero h later = (0, h, subst (λ z. IsTrue (test z)) (same_Some y x h) is)
     by_test true is (suc n) h later = following x (later n x h)
     by_test false is n h later = following x (later n x h)

@@ -22,7 +22,7 @@ use Rattle.cil_model.proofs.Lists.{none_is_some}
 use Rattle.reference_machine.specs.Values.{ObjectName, Value, Int32, Int64, Native, Null, Reference, zero_of, is_of_kind}
 use Rattle.reference_machine.specs.Arithmetic.{binary_value, unary_value, shift_value, compare_values, branch_values, is_set, convert_32, convert_64, as_index, not_option}
 use Rattle.reference_machine.specs.States.{Monitor, Free, Held, Contents, Array, HeapObject, Frame, State, entry_at, replaced_entry, field_value, with_field, object_at, with_object, class_of, monitor_of, is_live, array_at, with_element, next_name, with_birth, new_instance}
-use Rattle.reference_machine.specs.Effects.{Setting, Effect, Goes, Blocks, Raises, Sticks, given, unless_fault, pop_many, not_null, are_of_kinds, new_frame, after, onward, return_value}
+use Rattle.reference_machine.specs.Effects.{Setting, Effect, Goes, Blocks, Raises, Sticks, when_some, unless_fault, pop_many, not_null, are_of_kinds, new_frame, after, onward, return_value}
 use Rattle.reference_machine.specs.BuiltIn.{Action, Construct, Write, Enter, Exit, Start, Join, action_of, line_of, enter, exit, with_thread, begin, start, join, thread_object, act}
 use Rattle.reference_machine.specs.Reachable.{constructed_value, values_of_contents}
 use Rattle.reference_machine.specs.Steps.{key_of, store_at, execute, jump, branch_if, birth, new_array, in_range, element, load_element, store_element, may_hold, store_reference, cast, frame_for, is_too_deep, run_method as run_found, operands, method_for, run_virtual, construct, push_and_advance_value, return_from, to_label, switch_on}
@@ -39,7 +39,7 @@ pub data KeepsWithin (Inside : ℕ → Type 0) : Effect → Type 0 where
 module _ (Inside : ℕ → Type 0) where
   -- ---- what effects are put together from
 
-  pub given_within : {X : Type 0} {go : X → Effect} (o : Option X) → ((x : X) → o ≡ Some x → KeepsWithin Inside (go x)) → KeepsWithin Inside (given o go)
+  pub given_within : {X : Type 0} {go : X → Effect} (o : Option X) → ((x : X) → o ≡ Some x → KeepsWithin Inside (go x)) → KeepsWithin Inside (when_some o go)
   given_within None each = sticks
   given_within (Some x) each = each x refl
 
@@ -202,7 +202,7 @@ module _ (Inside : ℕ → Type 0) (here : Setting) (s : State) (f : Frame) (bel
   load_element_within : (test : DeclaredType → Bool) → KeepsWithin Inside (load_element here s f below test)
   load_element_within test = two_within Inside f.stack running.frame.stack (λ array index rest h h' k. elem_within test array index h (λ n t i v is value. next_within (v ∷ rest) (value, k)))
 
-  put_within : (n : ObjectName) (i : ℕ) (v : Value) (rest : List Value) → IsWithin Inside (Reference n) → IsWithin Inside v → AreWithin Inside rest → KeepsWithin Inside (given (with_element s n i v) (λ s'. onward f below s' rest))
+  put_within : (n : ObjectName) (i : ℕ) (v : Value) (rest : List Value) → IsWithin Inside (Reference n) → IsWithin Inside v → AreWithin Inside rest → KeepsWithin Inside (when_some (with_element s n i v) (λ s'. onward f below s' rest))
   put_within n i v rest is value k = given_within Inside (with_element s n i v) (λ s' e. onward_within s' rest (closed_element Inside s running.closed n i v s' is value e) k)
 
   store_element_within : (test : DeclaredType → Bool) → KeepsWithin Inside (store_element here s f below test)

@@ -12,7 +12,7 @@ use Rattle.reference_machine.specs.States.{Frame, Thread, State}
 use Rattle.reference_machine.specs.Effects.{Setting, Effect, Goes, Blocks, Raises, Sticks}
 use Rattle.reference_machine.specs.OwedWords.{IsOwed}
 use Rattle.reference_machine.specs.Reachable.{IsReachable}
-use Rattle.reference_machine.specs.Steps.{Outcome, Answers, Stuck, instruction_at, effect_of, with_thread_at, ended_as, continues, charge, step_of, step}
+use Rattle.reference_machine.specs.Steps.{StepOutcome, Answers, Stuck, instruction_at, effect_of, with_thread_at, ended_as, continues, charge, step_of, step}
 use Rattle.reference_machine.specs.Runs.{StepRequest, RunsTo, followed_by, run}
 use Rattle.reference_machine.proofs.Runs.InstructionEffects.{same_after}
 use Rattle.reference_machine.proofs.Runs.JoinedRuns.{clash, same_state, after_run}
@@ -77,7 +77,7 @@ module _ (Inside : ℕ → Type 0) where
   run_within tree limits [] s s' reports h e = subst (IsClosed Inside) (same_state [] reports s s' e) h
   run_within tree limits (q ∷ qs) s s' reports h e = by_outcome (step tree limits s q.0 q.1) refl e (λ u rs closed k. run_within tree limits qs u s' rs closed k)
     where
-      by_outcome : (o : Outcome) → step tree limits s q.0 q.1 ≡ o → followed_by o (λ u. run tree limits u qs) ≡ RunsTo reports s' →
+      by_outcome : (o : StepOutcome) → step tree limits s q.0 q.1 ≡ o → followed_by o (λ u. run tree limits u qs) ≡ RunsTo reports s' →
           ((u : State) (rs : List Report) → IsClosed Inside u → run tree limits u qs ≡ RunsTo rs s' → IsClosed Inside s') → IsClosed Inside s'
       by_outcome Stuck is k later = clash [] reports s' k
       by_outcome (Answers r u) is k later = after_run r reports s' (run tree limits u qs) k (λ rs k' e'. later u rs (step_within tree limits s u q.0 q.1 r h is) k')

@@ -27,7 +27,7 @@ use Rattle.reference_machine.specs.Values.{ObjectName, Value, Int32, Int64, Nati
 use Rattle.reference_machine.specs.Arithmetic.{binary_value, unary_value, shift_value, compare_values, branch_values, is_set, convert_32, convert_64, as_index, not_option}
 use Rattle.reference_machine.specs.States.{Monitor, Free, Held, Contents, Array, HeapObject, Frame, Thread, State, is_live_thread, entry_at, replaced_entry, field_value, with_field, object_at, with_object, class_of, monitor_of, is_live, array_at, with_element, next_name, with_birth, new_instance}
 use Rattle.cil_model.specs.Stacks.{take_one, take_two, take_three}
-use Rattle.reference_machine.specs.Effects.{Setting, Effect, Goes, Blocks, Raises, Sticks, given, unless_fault, pop_many, not_null, are_of_kinds, new_frame, after, onward}
+use Rattle.reference_machine.specs.Effects.{Setting, Effect, Goes, Blocks, Raises, Sticks, when_some, unless_fault, pop_many, not_null, are_of_kinds, new_frame, after, onward}
 use Rattle.reference_machine.specs.BuiltIn.{Action, Construct, Write, Enter, Exit, Start, Join, action_of, line_of, enter, exit, with_thread, begin, start, join, thread_object, act}
 use Rattle.reference_machine.specs.Steps.{Answers, Stuck, instruction_at, effect_of, with_thread_at, ended_as, continues, charge, step_of, step, key_of, store_at, execute, jump, branch_if, birth, new_array, in_range, element, load_element, store_element, may_hold, store_reference, cast, frame_for, is_too_deep, run_method as run_found, operands, method_for, run_virtual, construct, push_and_advance_value, return_from, to_label, switch_on}
 use Rattle.reference_machine.specs.Faults.{faults_of_action, MayRaise, itself, member}
@@ -49,7 +49,7 @@ module _ (s : State) (F : Fault → Type 0) where
   pub on : (fs : List Frame) → Allowed s F (Goes fs s)
   on fs = goes fs s (follows_itself s)
 
-  pub given_ok : {X : Type 0} {go : X → Effect} (o : Option X) → ((x : X) → o ≡ Some x → Allowed s F (go x)) → Allowed s F (given o go)
+  pub given_ok : {X : Type 0} {go : X → Effect} (o : Option X) → ((x : X) → o ≡ Some x → Allowed s F (go x)) → Allowed s F (when_some o go)
   given_ok None each = sticks
   given_ok (Some x) each = each x refl
 
@@ -190,7 +190,7 @@ module _ (here : Setting) (s : State) (f : Frame) (below : List Frame) (F : Faul
   load_ok : (test : DeclaredType → Bool) → F NullReference → F IndexOutOfRange → Allowed s F (load_element here s f below test)
   load_ok test h k = two_ok s F f.stack (λ array index rest. element_ok test array index h k (λ n t i v. onward_ok (v ∷ rest)))
 
-  put_ok : (n : ObjectName) (i : ℕ) (v : Value) (rest : List Value) → Allowed s F (given (with_element s n i v) (λ s'. onward f below s' rest))
+  put_ok : (n : ObjectName) (i : ℕ) (v : Value) (rest : List Value) → Allowed s F (when_some (with_element s n i v) (λ s'. onward f below s' rest))
   put_ok n i v rest = given_ok s F (with_element s n i v) (λ s' e. goes _ s' (follows_element s n i v s' e))
 
   store_ok : (test : DeclaredType → Bool) → F NullReference → F IndexOutOfRange → Allowed s F (store_element here s f below test)

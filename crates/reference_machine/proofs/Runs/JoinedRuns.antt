@@ -9,7 +9,7 @@ use Rattle.cil_model.specs.declared.reports.Report.{Report}
 use Rattle.cil_model.specs.Assignable.{array_of, type_of_class}
 use Rattle.reference_machine.specs.Values.{ObjectName, Born, Literal}
 use Rattle.reference_machine.specs.States.{Contents, Instance, Array, HeapObject, State, type_of_contents, type_of, class_of_contents, class_of}
-use Rattle.reference_machine.specs.Steps.{Outcome, Answers, Stuck, step}
+use Rattle.reference_machine.specs.Steps.{StepOutcome, Answers, Stuck, step}
 use Rattle.reference_machine.specs.Growth.{Shape, OfInstance, OfArray, shape_of, shapes, Follows}
 use Rattle.reference_machine.specs.Runs.{StepRequest, Run, RunsTo, SticksAfter, preceded_by, followed_by, run}
 use Rattle.reference_machine.proofs.Runs.StateChanges.{follows_itself, follows_more}
@@ -52,7 +52,7 @@ module _ (tree : Tree) (limits : Limits) where
         subst P (sym (same_state [] reports s t e)) h ∙ ap end (same_reports [] reports s t e)
     goes_after (q ∷ qs) s t reports e h = by_outcome (step tree limits s q.0 q.1) e (λ u rs k. goes_after qs u t rs k h)
       where
-        by_outcome : (o : Outcome) → followed_by o (λ u. run tree limits u qs) ≡ RunsTo reports t → ((u : State) (rs : List Report) → run tree limits u qs ≡ RunsTo rs t → run tree limits u (qs ++ more) ≡ end rs) →
+        by_outcome : (o : StepOutcome) → followed_by o (λ u. run tree limits u qs) ≡ RunsTo reports t → ((u : State) (rs : List Report) → run tree limits u qs ≡ RunsTo rs t → run tree limits u (qs ++ more) ≡ end rs) →
             followed_by o (λ u. run tree limits u (qs ++ more)) ≡ end reports
         by_outcome Stuck k later = clash [] reports t k
         by_outcome (Answers r u) k later = after_run r reports t (run tree limits u qs) k (λ rs k' e'. ap (preceded_by r) (later u rs k') ∙ grows r rs ∙ ap end (sym e'))
@@ -69,7 +69,7 @@ module _ (tree : Tree) (limits : Limits) where
   stays_stuck [] more s reports e = clash reports [] s (sym e)
   stays_stuck (q ∷ qs) more s reports e = by_outcome (step tree limits s q.0 q.1) e (λ u rs k. stays_stuck qs more u rs k)
     where
-      by_outcome : (o : Outcome) → followed_by o (λ u. run tree limits u qs) ≡ SticksAfter reports → ((u : State) (rs : List Report) → run tree limits u qs ≡ SticksAfter rs → run tree limits u (qs ++ more) ≡ SticksAfter rs) →
+      by_outcome : (o : StepOutcome) → followed_by o (λ u. run tree limits u qs) ≡ SticksAfter reports → ((u : State) (rs : List Report) → run tree limits u qs ≡ SticksAfter rs → run tree limits u (qs ++ more) ≡ SticksAfter rs) →
           followed_by o (λ u. run tree limits u (qs ++ more)) ≡ SticksAfter reports
       by_outcome Stuck k later = k
       by_outcome (Answers r u) k later = after_stuck r reports (run tree limits u qs) k (λ rs k' e'. ap (preceded_by r) (later u rs k') ∙ ap SticksAfter (sym e'))
@@ -79,7 +79,7 @@ module _ (tree : Tree) (limits : Limits) where
   run_follows [] s t reports e = let P : State → Type 0 = λ x. Follows s x in subst P (same_state [] reports s t e) (follows_itself s)
   run_follows (q ∷ qs) s t reports e = by_outcome (step tree limits s q.0 q.1) refl e (λ u rs k. run_follows qs u t rs k)
     where
-      by_outcome : (o : Outcome) → step tree limits s q.0 q.1 ≡ o → followed_by o (λ u. run tree limits u qs) ≡ RunsTo reports t → ((u : State) (rs : List Report) → run tree limits u qs ≡ RunsTo rs t → Follows u t) → Follows s t
+      by_outcome : (o : StepOutcome) → step tree limits s q.0 q.1 ≡ o → followed_by o (λ u. run tree limits u qs) ≡ RunsTo reports t → ((u : State) (rs : List Report) → run tree limits u qs ≡ RunsTo rs t → Follows u t) → Follows s t
       by_outcome Stuck h k later = clash [] reports t k
       by_outcome (Answers r u) h k later = after_run r reports t (run tree limits u qs) k (λ rs k' e'. follows_more s u t (step_follows tree limits s q.0 q.1 r u h) (later u rs k'))
 
@@ -95,7 +95,7 @@ module _ (tree : Tree) (limits : Limits) where
   pub first_of : (s : State) (q : StepRequest) (qs : List StepRequest) (reports : List Report) (t : State) → run tree limits s (q ∷ qs) ≡ RunsTo reports t → IsFirst s q qs reports t
   first_of s q qs reports t e = by_outcome (step tree limits s q.0 q.1) refl e
     where
-      by_outcome : (o : Outcome) → step tree limits s q.0 q.1 ≡ o → followed_by o (λ x. run tree limits x qs) ≡ RunsTo reports t → IsFirst s q qs reports t
+      by_outcome : (o : StepOutcome) → step tree limits s q.0 q.1 ≡ o → followed_by o (λ x. run tree limits x qs) ≡ RunsTo reports t → IsFirst s q qs reports t
       by_outcome Stuck is k = clash [] reports t k
       by_outcome (Answers r u) is k = after_run r reports t (run tree limits u qs) k (λ rs k' e'. record { report = r; after = u; later = rs; answers = is; are = e'; runs = k' })
 

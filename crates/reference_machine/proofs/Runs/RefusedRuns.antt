@@ -10,7 +10,7 @@ use Rattle.cil_model.specs.declared.trees.Tree.{Tree}
 use Rattle.reference_machine.specs.Rooms.{RefusesBeyondRoom}
 use Rattle.reference_machine.specs.Runs.{IsStateAfter, StepRequest, RunsTo, followed_by, is_refusal, run, step_reports, thread_part}
 use Rattle.reference_machine.specs.States.{State}
-use Rattle.reference_machine.specs.Steps.{Outcome, Answers, step}
+use Rattle.reference_machine.specs.Steps.{StepOutcome, Answers, step}
 use Rattle.reference_machine.proofs.Runs.InstructionEffects.{same_after}
 use Rattle.reference_machine.proofs.Runs.JoinedRuns.{after_run, first_of, same_state}
 
@@ -33,18 +33,18 @@ module _ (tree : Tree) (limits : Limits) where
     where
       next : (r : Report) (u : State) → step tree limits s q.0 q.1 ≡ Answers r u → ((rs : List Report) → run tree limits u qs ≡ RunsTo rs t → RefusesBeyondRoom tree limits u (qs ++ more)) → RefusesBeyondRoom tree limits u (qs ++ more)
       next r u is later =
-          let P : Outcome → Type 0 = λ o. followed_by o (λ x. run tree limits x qs) ≡ RunsTo reports t in
+          let P : StepOutcome → Type 0 = λ o. followed_by o (λ x. run tree limits x qs) ≡ RunsTo reports t in
           after_run r reports t (run tree limits u qs) (subst P is e) (λ rs k' e'. later rs k')
 
   -- the outcome of a run from a state
-  abbrev ComesTo : State → List (Event × Report) → State → Type 0
-  ComesTo s events t = (run tree limits s (thread_part events) ≡ RunsTo (step_reports events) t) × RefusesBeyondRoom tree limits s (thread_part events)
+  abbrev RunsUpTo : State → List (Event × Report) → State → Type 0
+  RunsUpTo s events t = (run tree limits s (thread_part events) ≡ RunsTo (step_reports events) t) × RefusesBeyondRoom tree limits s (thread_part events)
 
   abbrev IsSame : List (Event × Report) → List (Event × Report) → State → State → Type 0
   IsSame events events' t t' = (step_reports events ≡ step_reports events') × (t ≡ t')
 
-  one_step : (s : State) (n : ℕ) (r r' : Report) (es es' : List (Event × Report)) (t t' : State) → ComesTo s ((Step n, r) ∷ es) t → ComesTo s ((Step n, r') ∷ es') t' →
-      ((u : State) → ComesTo u es t → ComesTo u es' t' → IsSame es es' t t') → IsSame ((Step n, r) ∷ es) ((Step n, r') ∷ es') t t'
+  one_step : (s : State) (n : ℕ) (r r' : Report) (es es' : List (Event × Report)) (t t' : State) → RunsUpTo s ((Step n, r) ∷ es) t → RunsUpTo s ((Step n, r') ∷ es') t' →
+      ((u : State) → RunsUpTo u es t → RunsUpTo u es' t' → IsSame es es' t t') → IsSame ((Step n, r) ∷ es) ((Step n, r') ∷ es') t t'
   one_step s n r r' es es' t t' h h' later =
       let refused : is_refusal r ≡ is_refusal r' = same_test (is_refusal r) (is_refusal r') h.1.0 h'.1.0 in
       let x = first_of tree limits s (n, is_refusal r) (thread_part es) (r ∷ step_reports es) t h.0 in
@@ -52,9 +52,9 @@ module _ (tree : Tree) (limits : Limits) where
       let both : Answers x.report x.after ≡ Answers x'.report x'.after = sym x.answers ∙ ap (step tree limits s n) refused ∙ x'.answers in
       let same : x.after ≡ x'.after = same_after x.report x'.report x.after x'.after both in
       let reports : r ≡ r' = same_head r x.report (step_reports es) x.later x.are ∙ same_report x.report x'.report x.after x'.after both ∙ sym (same_head r' x'.report (step_reports es') x'.later x'.are) in
-      let one : ComesTo x.after es t = (x.runs ∙ ap (λ l. RunsTo l t) (sym (same_tail r x.report (step_reports es) x.later x.are)), h.1.1 x.report x.after x.answers) in
-      let other : ComesTo x'.after es' t' = (x'.runs ∙ ap (λ l. RunsTo l t') (sym (same_tail r' x'.report (step_reports es') x'.later x'.are)), h'.1.1 x'.report x'.after x'.answers) in
-      let more = later x.after one (subst (λ u. ComesTo u es' t') (sym same) other) in
+      let one : RunsUpTo x.after es t = (x.runs ∙ ap (λ l. RunsTo l t) (sym (same_tail r x.report (step_reports es) x.later x.are)), h.1.1 x.report x.after x.answers) in
+      let other : RunsUpTo x'.after es' t' = (x'.runs ∙ ap (λ l. RunsTo l t') (sym (same_tail r' x'.report (step_reports es') x'.later x'.are)), h'.1.1 x'.report x'.after x'.answers) in
+      let more = later x.after one (subst (λ u. RunsUpTo u es' t') (sym same) other) in
       (ap (λ y. y ∷ step_reports es) reports ∙ ap (λ l. r' ∷ l) more.0, more.1)
     where
       same_head : (a b : Report) (as' bs : List Report) → a ∷ as' ≡ b ∷ bs → a ≡ b
@@ -65,7 +65,7 @@ module _ (tree : Tree) (limits : Limits) where
 
   -- the same events, from one state
   one_from : (events : List Event) (reports reports' : List Report) → length reports ≡ length events → length reports' ≡ length events → (s t t' : State) →
-      ComesTo s (zip events reports) t → ComesTo s (zip events reports') t' → IsSame (zip events reports) (zip events reports') t t'
+      RunsUpTo s (zip events reports) t → RunsUpTo s (zip events reports') t' → IsSame (zip events reports) (zip events reports') t t'
   one_from [] rs rs' each each' s t t' h h' = (refl, sym (same_state [] [] s t h.0) ∙ same_state [] [] s t' h'.0)
   one_from (e ∷ es) [] rs' each each' s t t' h h' = absurd (omega (arith, each))
   one_from (e ∷ es) (r ∷ rs) [] each each' s t t' h h' = absurd (omega (arith, each'))
@@ -79,4 +79,4 @@ module _ (tree : Tree) (limits : Limits) where
       IsStateAfter tree limits (zip events reports) s → IsStateAfter tree limits (zip events reports') s' → (step_reports (zip events reports) ≡ step_reports (zip events reports')) × (s ≡ s')
   runs_are_one events reports reports' each each' s s' h h' =
       let same : h'.first ≡ h.first = same_Some h'.first h.first (sym h'.begins ∙ h.begins) in
-      one_from events reports reports' each each' h.first s s' (h.comes, h.refuses) (subst (λ x. ComesTo x (zip events reports') s') same (h'.comes, h'.refuses))
+      one_from events reports reports' each each' h.first s s' (h.comes, h.refuses) (subst (λ x. RunsUpTo x (zip events reports') s') same (h'.comes, h'.refuses))

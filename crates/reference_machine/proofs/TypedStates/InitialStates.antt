@@ -122,8 +122,8 @@ module _ (tree : Tree) (limits : Limits) (accepted : IsAccepted tree) where
       threads (suc t) thread there live = none_is_some thread there
 
   module _ (e : ClassName × Method) (alone : entry_points tree ≡ e ∷ []) (is_entry : is_entry_method e.1 ≡ true) where
-    entry_stands : (k : ℕ) × (slice_get (source_methods tree) k ≡ Some e) × IsTrue (is_entry_point e.1)
-    entry_stands = kept_from (λ (found : ClassName × Method). is_entry_point found.1) (source_methods tree) 0 e (ap (λ es. slice_get es 0) alone)
+    entry_refines : (k : ℕ) × (slice_get (source_methods tree) k ≡ Some e) × IsTrue (is_entry_point e.1)
+    entry_refines = kept_from (λ (found : ClassName × Method). is_entry_point found.1) (source_methods tree) 0 e (ap (λ es. slice_get es 0) alone)
 
     -- what the initial state is
     initial_is : initial_state tree limits ≡ option_map (initial_state_at tree limits e) (code_of e.1.kind)
@@ -131,13 +131,13 @@ module _ (tree : Tree) (limits : Limits) (accepted : IsAccepted tree) where
 
     entry_opens : (o : Option Code) → code_of e.1.kind ≡ o → IsTrue (option_map_or (λ (code : Code). code.is_entry_point) o false) → (s : State) × (initial_state tree limits ≡ Some s) × IsTyped tree s
     entry_opens None is h = never h
-    entry_opens (Some code) is h = (initial_state_at tree limits e code, initial_is ∙ ap (option_map (initial_state_at tree limits e)) is, initial_at_typed e code entry_stands.0 entry_stands.1 is_entry is)
+    entry_opens (Some code) is h = (initial_state_at tree limits e code, initial_is ∙ ap (option_map (initial_state_at tree limits e)) is, initial_at_typed e code entry_refines.0 entry_refines.1 is_entry is)
 
   -- an accepted program has an initial state, which is typed
   pub opens : (s : State) × (initial_state tree limits ≡ Some s) × IsTyped tree s
   opens =
       let entry = entry_alone tree accepted.legal in
-      entry_opens entry.0 entry.1 entry.2 (code_of entry.0.1.kind) refl (entry_stands entry.0 entry.1 entry.2).2
+      entry_opens entry.0 entry.1 entry.2 (code_of entry.0.1.kind) refl (entry_refines entry.0 entry.1 entry.2).2
 
   -- so is any that it is said to have
   pub initial_typed : (s : State) → initial_state tree limits ≡ Some s → IsTyped tree s

@@ -12,7 +12,7 @@ use Rattle.cil_model.specs.TypeTree.{StackType}
 use Rattle.cil_model.specs.Typings.{Reaches, ReachesLabel, FlowsOn, IsAccepted}
 use Rattle.reference_machine.specs.Values.{Value}
 use Rattle.reference_machine.specs.States.{Frame, State}
-use Rattle.reference_machine.specs.Effects.{Setting, Effect, Goes, Blocks, Raises, Sticks, given, onward}
+use Rattle.reference_machine.specs.Effects.{Setting, Effect, Goes, Blocks, Raises, Sticks, when_some, onward}
 use Rattle.reference_machine.specs.Steps.{instruction_at, next, jump, branch_if}
 use Rattle.reference_machine.specs.Growth.{Follows}
 use Rattle.reference_machine.proofs.Runs.StateChanges.{follows_itself}
@@ -89,7 +89,7 @@ module _ (here : Setting) (s : State) (f : Frame) (below : List Frame) (i : Inst
   jump_typed label named rest values =
       by_index (pc_of label (lines_of f.method)) (subst (λ x. ReachesLabel here.tree running.frame.typing running.result (pc_of label x)) (sym own_lines) (running.on.branches label (subst (λ x. Contains (labels_of x) label) (sym running.is) named)))
     where
-      by_index : (o : Option ℕ) → ReachesLabel here.tree running.frame.typing running.result o → IsTypedEffect here.tree (given o (λ pc. Goes (record f { pc = pc; stack = rest } ∷ below) s))
+      by_index : (o : Option ℕ) → ReachesLabel here.tree running.frame.typing running.result o → IsTypedEffect here.tree (when_some o (λ pc. Goes (record f { pc = pc; stack = rest } ∷ below) s))
       by_index None reaches = elim reaches [ ]
       by_index (Some pc) reaches =
           moved s running.typed (follows_itself s) f.arguments f.locals rest pc running.result running.frame.arguments running.frame.locals values reaches

@@ -11,7 +11,7 @@ use Rattle.cil_model.specs.Assignable.{is_reference, is_assignable, is_assignabl
 use Rattle.cil_model.specs.Legality.{IsLegal}
 use Rattle.cil_model.specs.Stacks.{take_one, take_two, take_three}
 use Rattle.cil_model.specs.TypeTree.{StackType, Declared, NativeInt, Null as NullType, fits}
-use Rattle.cil_model.specs.FlowRules.{StackAfter, allowed, is_int32, is_int64, is_integer, is_any_reference, is_index, are_integers}
+use Rattle.cil_model.specs.FlowRules.{StackAfter, if_allowed, is_int32, is_int64, is_integer, is_any_reference, is_index, are_integers}
 use Rattle.cil_model.proofs.Lists.{none_is_some}
 use Rattle.cil_model.proofs.SameLaws.{never, both_first, both_second, either, same_type_equal}
 use Rattle.cil_model.proofs.BelowLaws.{element_is_reference, typed as typed_as}
@@ -250,6 +250,6 @@ module _ (tree : Tree) (s : State) where
   three_typed go flow_go (w ∷ v ∷ []) (c ∷ b ∷ a ∷ st) result h e each = elim h.1.1 [ ]
 
 -- a test that lets a stack through passed, and the stack is the result
-pub was_allowed : (b : Bool) (st result : List StackType) → allowed b st ≡ Some result → IsTrue b × (st ≡ result)
+pub was_allowed : (b : Bool) (st result : List StackType) → if_allowed b st ≡ Some result → IsTrue b × (st ≡ result)
 was_allowed true st result e = (refl, same_Some st result e)
 was_allowed false st result e = none_is_some result e

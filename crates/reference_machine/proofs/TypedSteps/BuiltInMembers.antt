@@ -18,7 +18,7 @@ use Rattle.cil_model.proofs.Lists.{none_is_some}
 use Rattle.cil_model.proofs.SameLaws.{never, both_first}
 use Rattle.reference_machine.specs.Values.{ObjectName, Born, Literal, Value, Int32, Int64, Native, Null, Reference}
 use Rattle.reference_machine.specs.States.{Monitor, Free, Held, HeapObject, Frame, Thread, State, object_at, with_object, class_of, monitor_of, with_monitor, is_live}
-use Rattle.reference_machine.specs.Effects.{Setting, Effect, Blocks, Raises, Sticks, given, new_frame, onward}
+use Rattle.reference_machine.specs.Effects.{Setting, Effect, Blocks, Raises, Sticks, when_some, new_frame, onward}
 use Rattle.reference_machine.specs.BuiltIn.{Action, Construct, Write, Enter, Exit, Start, Join, action_of, line_of, enter, exit, with_thread, begin, start, join, thread_object, act}
 use Rattle.reference_machine.specs.Growth.{Follows}
 use Rattle.reference_machine.proofs.Runs.StateChanges.{follows_monitor, follows_object_at, follows_more}
@@ -57,7 +57,7 @@ module _ (here : Setting) (s : State) (f : Frame) (below : List Frame) (i : Inst
   write_typed : (t : DeclaredType) → IsOperandOf Write t → (v : Value) → HasType here.tree s v t → IsTypedEffect here.tree (act here s f below Write (v ∷ []) rest)
   write_typed t operand v h =
       let line : (line : List ℕ) × (line_of v ≡ Some line) = line_is_there t operand v h in
-      subst (λ o. IsTypedEffect here.tree (given o (λ l. onward f below (record s { printed = s.printed ++ l }) rest))) (sym line.1)
+      subst (λ o. IsTypedEffect here.tree (when_some o (λ l. onward f below (record s { printed = s.printed ++ l }) rest))) (sym line.1)
       (onward_in (record s { printed = s.printed ++ line.0 }) (typed_printed here.tree s running.typed line.0) (follows_printed here.tree s running.typed line.0))
 
   -- ---- Enter and Exit
@@ -88,7 +88,7 @@ module _ (here : Setting) (s : State) (f : Frame) (below : List Frame) (i : Inst
       by_owner false = tt
 
   -- each object has a monitor
-  with_monitor_typed : (o : Option Monitor) (go : Monitor → Effect) → IsSome o → ((m : Monitor) → IsTypedEffect here.tree (go m)) → IsTypedEffect here.tree (given o go)
+  with_monitor_typed : (o : Option Monitor) (go : Monitor → Effect) → IsSome o → ((m : Monitor) → IsTypedEffect here.tree (go m)) → IsTypedEffect here.tree (when_some o go)
   with_monitor_typed None go there each = absurd cc
   with_monitor_typed (Some m) go there each = each m
 
@@ -100,9 +100,9 @@ module _ (here : Setting) (s : State) (f : Frame) (below : List Frame) (i : Inst
   thread_object_typed t operand n go h each =
       let thread : IsInstanceOf here.tree s n (plain (Class thread_name)) = instance_of here.tree s running.typed n (plain (Class thread_name)) (subst (IsObjectOf here.tree s n) operand h) (thread_is_neither here.tree) in
       let is : IsTrue (is_thread_class here.tree thread.own) = assignable_is_thread here.tree running.accepted.legal thread.own thread.fits in
-      subst (λ o. IsTypedEffect here.tree (given o (λ c. if is_thread_class here.tree c then given (object_at s n) go else Sticks))) (sym thread.is) (
-      subst (λ b. IsTypedEffect here.tree (if b then given (object_at s n) go else Sticks)) (sym is) (
-      subst (λ o. IsTypedEffect here.tree (given o go)) (sym thread.there) (each thread.object thread thread.there)))
+      subst (λ o. IsTypedEffect here.tree (when_some o (λ c. if is_thread_class here.tree c then when_some (object_at s n) go else Sticks))) (sym thread.is) (
+      subst (λ b. IsTypedEffect here.tree (if b then when_some (object_at s n) go else Sticks)) (sym is) (
+      subst (λ o. IsTypedEffect here.tree (when_some o go)) (sym thread.there) (each thread.object thread thread.there)))
 
   -- on once the thread has ended
   join_typed : (o : HeapObject) → IsTypedEffect here.tree (join here s f below rest o)
@@ -144,7 +144,7 @@ module _ (here : Setting) (s : State) (f : Frame) (below : List Frame) (i : Inst
       let frame : IsTypedFrame here.tree s None (new_frame k m run.2 (Reference n ∷ []) None) =
       new_frame_typed here.tree s k m run.2 (Reference n ∷ []) None declared run.4 (framed_has_typing here.tree running.accepted k declared.0 m declared.1 plain_method) arguments (λ name e. none_is_some name e) in
       subst (λ x. IsTypedEffect here.tree (begin here s f below n rest o x)) (sym run.3) (
-      subst (λ x. IsTypedEffect here.tree (given x (λ code. onward f below (with_thread here s f below n o (new_frame k m code (Reference n ∷ []) None)) rest))) (sym run.4)
+      subst (λ x. IsTypedEffect here.tree (when_some x (λ code. onward f below (with_thread here s f below n o (new_frame k m code (Reference n ∷ []) None)) rest))) (sym run.4)
       (started_typed n o (new_frame k m run.2 (Reference n ∷ []) None) there frame))
 
   -- a fault, or one thread more
@@ -152,10 +152,10 @@ module _ (here : Setting) (s : State) (f : Frame) (below : List Frame) (i : Inst
       IsTypedEffect here.tree (start here s f below n rest o)
   start_typed n o there thread = by_tests (is_some o.thread) (nat_le MOST_THREADS (length s.threads))
     where
-      begun : IsTypedEffect here.tree (given (class_of s n) (λ c. begin here s f below n rest o (target here.tree c thread_name run_method)))
-      begun = subst (λ x. IsTypedEffect here.tree (given x (λ c. begin here s f below n rest o (target here.tree c thread_name run_method)))) (sym thread.is) (begin_typed n o there thread)
+      begun : IsTypedEffect here.tree (when_some (class_of s n) (λ c. begin here s f below n rest o (target here.tree c thread_name run_method)))
+      begun = subst (λ x. IsTypedEffect here.tree (when_some x (λ c. begin here s f below n rest o (target here.tree c thread_name run_method)))) (sym thread.is) (begin_typed n o there thread)
 
-      by_tests : (a b : Bool) → IsTypedEffect here.tree (if a then Raises ThreadState else if b then Raises TooManyThreads else given (class_of s n) (λ c. begin here s f below n rest o (target here.tree c thread_name run_method)))
+      by_tests : (a b : Bool) → IsTypedEffect here.tree (if a then Raises ThreadState else if b then Raises TooManyThreads else when_some (class_of s n) (λ c. begin here s f below n rest o (target here.tree c thread_name run_method)))
       by_tests true b = tt
       by_tests false true = tt
       by_tests false false = begun

@@ -29,7 +29,7 @@ use Rattle.cil_model.proofs.CompleteLaws.{test_is_complete}
 use Rattle.cil_model.proofs.BelowLaws.{element_is_reference}
 use Rattle.reference_machine.specs.Values.{ObjectName, Value, Int32, Int64, Native, Null, Reference, is_of_kind}
 use Rattle.reference_machine.specs.States.{Frame, State, type_of, class_of}
-use Rattle.reference_machine.specs.Effects.{Setting, Goes, Raises, Sticks, given, new_frame, after, return_value}
+use Rattle.reference_machine.specs.Effects.{Setting, Goes, Raises, Sticks, when_some, new_frame, after, return_value}
 use Rattle.reference_machine.specs.BuiltIn.{Action, action_of, act}
 use Rattle.reference_machine.specs.Steps.{frame_for, is_too_deep, run_method, operands, run_virtual, push_and_advance, push_and_advance_value, execute}
 use Rattle.reference_machine.specs.Growth.{Follows}
@@ -100,15 +100,15 @@ module _ (here : Setting) (s : State) (f : Frame) (below : List Frame) where
     push_and_advance_value_typed : (t : DeclaredType) → gives s f ≡ Some t → (vs : List Value) (stack : List StackType) → HaveStackTypes here.tree s vs stack →
         nothing_below (take_operands here.tree (t ∷ []) stack) ≡ Some running.result →
         IsTypedEffect here.tree (take_one Sticks vs (λ v rest. if is_of_kind t v then push_and_advance here s f below (Some v) else Sticks))
-    push_and_advance_value_typed t given [] [] values flows = none_is_some running.result flows
-    push_and_advance_value_typed t given [] (a ∷ stack) values flows = elim values [ ]
-    push_and_advance_value_typed t given (v ∷ vs) [] values flows = elim values [ ]
-    push_and_advance_value_typed t given (v ∷ vs) (a ∷ stack) values flows = by_fit (fits here.tree a t) refl flows
+    push_and_advance_value_typed t when_some [] [] values flows = none_is_some running.result flows
+    push_and_advance_value_typed t when_some [] (a ∷ stack) values flows = elim values [ ]
+    push_and_advance_value_typed t when_some (v ∷ vs) [] values flows = elim values [ ]
+    push_and_advance_value_typed t when_some (v ∷ vs) (a ∷ stack) values flows = by_fit (fits here.tree a t) refl flows
       where
         with_value : HasType here.tree s v t → IsTypedEffect here.tree (if is_of_kind t v then push_and_advance here s f below (Some v) else Sticks)
         with_value h =
             subst (λ b. IsTypedEffect here.tree (if b then push_and_advance here s f below (Some v) else Sticks)) (sym (typed_is_of_kind here.tree running.accepted.legal s v t h))
-            (push_and_advance_typed (Some v) (subst (IsGiven here.tree s (Some v)) (sym given) h))
+            (push_and_advance_typed (Some v) (subst (IsGiven here.tree s (Some v)) (sym when_some) h))
 
         by_fit : (b : Bool) → fits here.tree a t ≡ b → nothing_below (if b then Some stack else None) ≡ Some running.result → IsTypedEffect here.tree (if is_of_kind t v then push_and_advance here s f below (Some v) else Sticks)
         by_fit false fit e = none_is_some running.result e
@@ -119,8 +119,8 @@ module _ (here : Setting) (s : State) (f : Frame) (below : List Frame) where
     return_typed = by_made f.constructed refl
       where
         by_type : (r : Option DeclaredType) → gives s f ≡ r → nothing_below (take_returned here.tree r running.stack) ≡ Some running.result → IsTypedEffect here.tree (option_map_or (push_and_advance_value here s f below) r (push_and_advance here s f below None))
-        by_type None given flows = push_and_advance_typed None (subst (IsGiven here.tree s None) (sym given) tt)
-        by_type (Some t) given flows = push_and_advance_value_typed t given f.stack running.stack running.values flows
+        by_type None when_some flows = push_and_advance_typed None (subst (IsGiven here.tree s None) (sym when_some) tt)
+        by_type (Some t) when_some flows = push_and_advance_value_typed t when_some f.stack running.stack running.values flows
 
         by_made : (o : Option ObjectName) → f.constructed ≡ o →
             IsTypedEffect here.tree (option_map_or (λ name. push_and_advance here s f below (Some (Reference name))) o (option_map_or (push_and_advance_value here s f below) f.method.signature.return_type (push_and_advance here s f below None)))
@@ -163,7 +163,7 @@ module _ (here : Setting) (s : State) (f : Frame) (below : List Frame) (i : Inst
   frame_typed s' typed follows c m declared plain_method code has_code arguments argument_values constructed constructs rest types values result =
       let frame : IsTypedFrame here.tree s' None (new_frame c m code arguments constructed) =
       new_frame_typed here.tree s' c m code arguments constructed declared has_code (framed_has_typing here.tree running.accepted c declared.0 m declared.1 plain_method) argument_values constructs in
-      subst (λ o. IsTypedEffect here.tree (given o (λ x. Goes (new_frame c m x arguments constructed ∷ after f rest ∷ below) s'))) (sym has_code)
+      subst (λ o. IsTypedEffect here.tree (when_some o (λ x. Goes (new_frame c m x arguments constructed ∷ after f rest ∷ below) s'))) (sym has_code)
       (typed, (frame, (caller_typed s' follows (type_given s' constructed m.signature.return_type) rest types values result, below_typed s' follows rest)))
 
   -- ---- calls
@@ -243,7 +243,7 @@ module _ (here : Setting) (s : State) (f : Frame) (below : List Frame) where
 
         by_found : (o : Option (ClassName × Method)) → find_method here.tree is_instance r ≡ o →
             option_and_then (λ (x : ClassName × Method). if is_abstract_method x.1.kind then None else option_map (give r.signature.return_type) taken) o ≡ Some running.result →
-            IsTypedEffect here.tree (given o (λ x. operands here s f below (reference_operands is_instance r) (run_method here s f below x)))
+            IsTypedEffect here.tree (when_some o (λ x. operands here s f below (reference_operands is_instance r) (run_method here s f below x)))
         by_found None e flows = none_is_some running.result flows
         by_found (Some (c, m)) e flows = by_kind c m e (is_abstract_method m.kind) refl flows
 
@@ -260,7 +260,7 @@ module _ (here : Setting) (s : State) (f : Frame) (below : List Frame) where
 
       -- on the object: one that isn't virtual runs itself, and otherwise the target for the object's class runs
       chosen_typed : (n : ObjectName) (arguments : List Value) → IsObjectOf here.tree s n (type_of_class owner) → HaveTypes here.tree s arguments signature.parameters →
-          (v : Bool) → is_virtual m.kind ≡ v → IsTypedEffect here.tree (given (if v then option_and_then (λ d. target here.tree d c m) (class_of s n) else Some (c, m)) (λ chosen. run_method here s f below chosen (Reference n ∷ arguments) rest))
+          (v : Bool) → is_virtual m.kind ≡ v → IsTypedEffect here.tree (when_some (if v then option_and_then (λ d. target here.tree d c m) (class_of s n) else Some (c, m)) (λ chosen. run_method here s f below chosen (Reference n ∷ arguments) rest))
       chosen_typed n arguments this others false kind =
           let code : (code : Code) × (code_of m.kind ≡ Some code) = has_code m.kind (plain_is_not_abstract m.kind kind) in
           run_typed here s f below (CallVirtual owner name signature) running refl c m is_found.declared code.0 code.1 (Reference n ∷ arguments) (operands_are_arguments here.tree running.accepted.legal s true reference c m is_found (Reference n ∷ arguments) (this, others)) rest types values
@@ -274,8 +274,8 @@ module _ (here : Setting) (s : State) (f : Frame) (below : List Frame) where
           let own_arguments : HaveTypes here.tree s (Reference n ∷ arguments) (argument_types x k) =
           arguments_of_instance here.tree running.accepted.legal s (Reference n) arguments (type_of_class object.own) k x runs.6 (instance_typed here.tree running.accepted.legal s n object) runs.7
           (subst (λ (y : Signature). HaveTypes here.tree s arguments y.parameters) (sym same) others) in
-          subst (λ o. IsTypedEffect here.tree (given (option_and_then (λ d. target here.tree d c m) o) (λ chosen. run_method here s f below chosen (Reference n ∷ arguments) rest))) (sym object.is) (
-          subst (λ o. IsTypedEffect here.tree (given o (λ chosen. run_method here s f below chosen (Reference n ∷ arguments) rest))) (sym runs.3)
+          subst (λ o. IsTypedEffect here.tree (when_some (option_and_then (λ d. target here.tree d c m) o) (λ chosen. run_method here s f below chosen (Reference n ∷ arguments) rest))) (sym object.is) (
+          subst (λ o. IsTypedEffect here.tree (when_some o (λ chosen. run_method here s f below chosen (Reference n ∷ arguments) rest))) (sym runs.3)
           (run_typed here s f below (CallVirtual owner name signature) running refl k x (target_is_declared here.tree object.own c m k x runs.3 is_found.declared) runs.2 runs.4 (Reference n ∷ arguments) own_arguments rest types values
           (gives_same x signature same running.result types result)))
 
@@ -297,7 +297,7 @@ module _ (here : Setting) (s : State) (f : Frame) (below : List Frame) where
 
         by_found : (o : Option (ClassName × Method)) → find_method here.tree true reference ≡ o →
             option_and_then (λ (x : ClassName × Method). option_map (give signature.return_type) (take_operands here.tree types running.stack)) o ≡ Some running.result →
-            IsTypedEffect here.tree (given o (λ x. operands here s f below types (run_virtual here s f below x)))
+            IsTypedEffect here.tree (when_some o (λ x. operands here s f below types (run_virtual here s f below x)))
         by_found None e flows = none_is_some running.result flows
         by_found (Some (c, m)) e flows = given_to signature.return_type (take_operands here.tree types running.stack) running.result flows (λ left taken result.
             operands_typed here s f below running.accepted.legal types (run_virtual here s f below (c, m)) running.stack left taken running.values (λ arguments rest h k. virtual_typed c m e rest left k result arguments h))

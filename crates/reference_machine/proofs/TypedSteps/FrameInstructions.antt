@@ -28,7 +28,7 @@ use Rattle.cil_model.proofs.SameLaws.{both_first, both_second, either, if_true}
 use Rattle.reference_machine.specs.Values.{Literal, Value, Int32, Int64, Native, Null, Reference, same_kind}
 use Rattle.reference_machine.specs.Arithmetic.{binary, unary, shift, binary_value, unary_value, shift_value, equal_values, ordered_values, compare_values, branch_values, is_set, not_option, convert_32, convert_64, one_or_zero, result_as}
 use Rattle.reference_machine.specs.States.{Frame, State, same_kind_or_none}
-use Rattle.reference_machine.specs.Effects.{Setting, Effect, Sticks, given, unless_fault}
+use Rattle.reference_machine.specs.Effects.{Setting, Effect, Sticks, when_some, unless_fault}
 use Rattle.reference_machine.specs.Steps.{next, branch_if, store_at, to_label, switch_on, execute}
 use Rattle.reference_machine.proofs.Runs.StateChanges.{follows_itself}
 use Rattle.reference_machine.specs.TypedStates.{HasType, HasStackType, HaveTypes, HaveStackTypes}
@@ -61,15 +61,15 @@ module _ (here : Setting) (s : State) (f : Frame) (below : List Frame) where
 
     -- with a value that is there
     at_value : (vs : List Value) (ts : List DeclaredType) → HaveTypes here.tree s vs ts → (n : ℤ) (st : List StackType) → HaveStackTypes here.tree s f.stack st → load (at_index ts n) st ≡ Some running.result →
-        Fine (given (at_index vs n) (λ v. next here s f below (v ∷ f.stack)))
+        Fine (when_some (at_index vs n) (λ v. next here s f below (v ∷ f.stack)))
     at_value vs ts values (negsuc n) st h e = none_is_some running.result e
     at_value vs ts values (pos n) st h e = by_type (slice_get ts n) refl e
       where
-        by_value : (t : DeclaredType) → Declared t ∷ st ≡ running.result → (v : Value) → HasType here.tree s v t → (o : Option Value) → o ≡ Some v → Fine (given o (λ w. next here s f below (w ∷ f.stack)))
+        by_value : (t : DeclaredType) → Declared t ∷ st ≡ running.result → (v : Value) → HasType here.tree s v t → (o : Option Value) → o ≡ Some v → Fine (when_some o (λ w. next here s f below (w ∷ f.stack)))
         by_value t e' v k None is = none_is_some v is
         by_value t e' v k (Some w) is = on (w ∷ f.stack) (Declared t ∷ st) (subst (λ x. HasType here.tree s x t) (sym (same_Some w v is)) k, h) e'
 
-        by_type : (o : Option DeclaredType) → slice_get ts n ≡ o → load o st ≡ Some running.result → Fine (given (slice_get vs n) (λ v. next here s f below (v ∷ f.stack)))
+        by_type : (o : Option DeclaredType) → slice_get ts n ≡ o → load o st ≡ Some running.result → Fine (when_some (slice_get vs n) (λ v. next here s f below (v ∷ f.stack)))
         by_type None is e' = none_is_some running.result e'
         by_type (Some t) is e' =
             let found = value_at here.tree s vs ts values n t is in
@@ -77,12 +77,12 @@ module _ (here : Setting) (s : State) (f : Frame) (below : List Frame) where
 
     -- another value in place of one; `go` continues with the values after it
     put : (go : List Value → Effect) (vs : List Value) (ts : List DeclaredType) → HaveTypes here.tree s vs ts → (n : ℤ) (t : DeclaredType) → at_index ts n ≡ Some t → (v : Value) → HasType here.tree s v t →
-        ((vs' : List Value) → HaveTypes here.tree s vs' ts → Fine (go vs')) → Fine (given (store_at here s f below n v vs) go)
+        ((vs' : List Value) → HaveTypes here.tree s vs' ts → Fine (go vs')) → Fine (when_some (store_at here s f below n v vs) go)
     put go vs ts values (negsuc n) t is v h each = none_is_some t is
     put go vs ts values (pos n) t is v h each =
         let old = value_at here.tree s vs ts values n t is in
-        let P : Option Value → Type 0 = λ o. Fine (given (same_kind_or_none o v (slice_set vs n v)) go) in
-        let Q : Option (List Value) → Type 0 = λ o. Fine (given o go) in
+        let P : Option Value → Type 0 = λ o. Fine (when_some (same_kind_or_none o v (slice_set vs n v)) go) in
+        let Q : Option (List Value) → Type 0 = λ o. Fine (when_some o go) in
         subst P (sym old.1) (subst Q (sym (if_true (same_kind old.0 v) (Some (slice_set vs n v)) None (kinds_agree here.tree running.accepted.legal s old.0 v t old.2 h)))
         (each (slice_set vs n v) (values_with here.tree s vs ts values n t is v h)))
 
@@ -159,28 +159,28 @@ module _ (here : Setting) (s : State) (f : Frame) (below : List Frame) where
   pub binary_typed : (op : BinaryOperation) → At (Binary op) → Fine (execute here s f below (Binary op))
   binary_typed op running = two_typed here.tree s _ _ f.stack running.stack running.result running.values running.flows (λ v w a b rest types h k rest_typed e.
       let passed = was_allowed (are_integers a b) (a ∷ types) running.result e in
-      from_integers here.tree running.accepted.legal s (λ x y. Fine (given (binary_value op x y) (λ result. unless_fault result (λ u. next here s f below (u ∷ rest))))) v w a b passed.0 h k
+      from_integers here.tree running.accepted.legal s (λ x y. Fine (when_some (binary_value op x y) (λ result. unless_fault result (λ u. next here s f below (u ∷ rest))))) v w a b passed.0 h k
       (λ is x y. by_result rest (binary w32 op x y) Int32 (λ z. on (Binary op) running refl (Int32 z ∷ rest) (a ∷ types) (int32_typed here.tree running.accepted.legal s z a is, rest_typed) passed.1))
       (λ is x y. by_result rest (binary w64 op x y) Int64 (λ z. on (Binary op) running refl (Int64 z ∷ rest) (a ∷ types) (int64_typed here.tree running.accepted.legal s z a is, rest_typed) passed.1)))
     where
-      by_result : (rest : List Value) (r : Result ℤ Fault) (kind : ℤ → Value) → ((z : ℤ) → Fine (next here s f below (kind z ∷ rest))) → Fine (given (Some (result_as kind r)) (λ result. unless_fault result (λ u. next here s f below (u ∷ rest))))
+      by_result : (rest : List Value) (r : Result ℤ Fault) (kind : ℤ → Value) → ((z : ℤ) → Fine (next here s f below (kind z ∷ rest))) → Fine (when_some (Some (result_as kind r)) (λ result. unless_fault result (λ u. next here s f below (u ∷ rest))))
       by_result rest (Ok z) kind each = each z
       by_result rest (Err x) kind each = tt
 
   pub unary_typed : (op : UnaryOperation) → At (Unary op) → Fine (execute here s f below (Unary op))
   unary_typed op running = one_typed here.tree s _ _ f.stack running.stack running.result running.values running.flows (λ v a rest types h rest_typed e.
       let passed = was_allowed (is_integer a) (a ∷ types) running.result e in
-      from_integer here.tree running.accepted.legal s (λ x. Fine (given (unary_value op x) (λ u. next here s f below (u ∷ rest)))) v a passed.0 h
+      from_integer here.tree running.accepted.legal s (λ x. Fine (when_some (unary_value op x) (λ u. next here s f below (u ∷ rest)))) v a passed.0 h
       (λ is x. on (Unary op) running refl (Int32 (unary w32 op x) ∷ rest) (a ∷ types) (int32_typed here.tree running.accepted.legal s (unary w32 op x) a is, rest_typed) passed.1)
       (λ is x. on (Unary op) running refl (Int64 (unary w64 op x) ∷ rest) (a ∷ types) (int64_typed here.tree running.accepted.legal s (unary w64 op x) a is, rest_typed) passed.1))
 
   pub shift_typed : (op : ShiftOperation) → At (Shift op) → Fine (execute here s f below (Shift op))
   shift_typed op running = two_typed here.tree s _ _ f.stack running.stack running.result running.values running.flows (λ v w a b rest types h k rest_typed e.
       let passed = was_allowed (is_integer a && is_int32 b) (a ∷ types) running.result e in
-      from_integer here.tree running.accepted.legal s (λ x. Fine (given (shift_value op x w) (λ u. next here s f below (u ∷ rest)))) v a (both_first _ _ passed.0) h
-      (λ is x. from_int32 here.tree running.accepted.legal s (λ y. Fine (given (shift_value op (Int32 x) y) (λ u. next here s f below (u ∷ rest)))) w b (both_second (is_integer a) _ passed.0) k
+      from_integer here.tree running.accepted.legal s (λ x. Fine (when_some (shift_value op x w) (λ u. next here s f below (u ∷ rest)))) v a (both_first _ _ passed.0) h
+      (λ is x. from_int32 here.tree running.accepted.legal s (λ y. Fine (when_some (shift_value op (Int32 x) y) (λ u. next here s f below (u ∷ rest)))) w b (both_second (is_integer a) _ passed.0) k
       (λ y. on (Shift op) running refl (Int32 (shift w32 op x y) ∷ rest) (a ∷ types) (int32_typed here.tree running.accepted.legal s (shift w32 op x y) a is, rest_typed) passed.1))
-      (λ is x. from_int32 here.tree running.accepted.legal s (λ y. Fine (given (shift_value op (Int64 x) y) (λ u. next here s f below (u ∷ rest)))) w b (both_second (is_integer a) _ passed.0) k
+      (λ is x. from_int32 here.tree running.accepted.legal s (λ y. Fine (when_some (shift_value op (Int64 x) y) (λ u. next here s f below (u ∷ rest)))) w b (both_second (is_integer a) _ passed.0) k
       (λ y. on (Shift op) running refl (Int64 (shift w64 op x y) ∷ rest) (a ∷ types) (int64_typed here.tree running.accepted.legal s (shift w64 op x y) a is, rest_typed) passed.1)))
 
   -- a conversion takes an integer of any size, here with what is to hold of each
@@ -195,45 +195,45 @@ module _ (here : Setting) (s : State) (f : Frame) (below : List Frame) where
   convert_int32_typed running = one_typed here.tree s _ _ f.stack running.stack running.result running.values running.flows (λ v a rest types h rest_typed e.
       let passed = was_allowed (is_integer a || is_index a) (i4 ∷ types) running.result e in
       let onto : (z : ℤ) → Fine (next here s f below (Int32 z ∷ rest)) = λ z. on ConvertInt32 running refl (Int32 z ∷ rest) (i4 ∷ types) (refl, rest_typed) passed.1 in
-      from_any_integer running.accepted.legal (λ x. Fine (given (convert_32 x) (λ u. next here s f below (u ∷ rest)))) v a passed.0 h (λ z. onto _) (λ z. onto _) (λ z. onto _))
+      from_any_integer running.accepted.legal (λ x. Fine (when_some (convert_32 x) (λ u. next here s f below (u ∷ rest)))) v a passed.0 h (λ z. onto _) (λ z. onto _) (λ z. onto _))
 
   pub convert_int64_typed : At ConvertInt64 → Fine (execute here s f below ConvertInt64)
   convert_int64_typed running = one_typed here.tree s _ _ f.stack running.stack running.result running.values running.flows (λ v a rest types h rest_typed e.
       let passed = was_allowed (is_integer a || is_index a) (i8 ∷ types) running.result e in
       let onto : (z : ℤ) → Fine (next here s f below (Int64 z ∷ rest)) = λ z. on ConvertInt64 running refl (Int64 z ∷ rest) (i8 ∷ types) (refl, rest_typed) passed.1 in
-      from_any_integer running.accepted.legal (λ x. Fine (given (convert_64 x) (λ u. next here s f below (u ∷ rest)))) v a passed.0 h (λ z. onto _) (λ z. onto _) (λ z. onto _))
+      from_any_integer running.accepted.legal (λ x. Fine (when_some (convert_64 x) (λ u. next here s f below (u ∷ rest)))) v a passed.0 h (λ z. onto _) (λ z. onto _) (λ z. onto _))
 
   -- ---- comparisons
 
   -- execution continues with the result of a test, or with what `transition` makes of it
-  answered : (transition : Option Bool → Option Bool) → ((o : Bool) → (p : Bool) × (transition (Some o) ≡ Some p)) → (go : Bool → Effect) → ((holds : Bool) → Fine (go holds)) → (o : Bool) → Fine (given (transition (Some o)) go)
-  answered transition turned go each o = let p = turned o in let P : Option Bool → Type 0 = λ x. Fine (given x go) in subst P (sym p.1) (each p.0)
+  answered : (transition : Option Bool → Option Bool) → ((o : Bool) → (p : Bool) × (transition (Some o) ≡ Some p)) → (go : Bool → Effect) → ((holds : Bool) → Fine (go holds)) → (o : Bool) → Fine (when_some (transition (Some o)) go)
+  answered transition turned go each o = let p = turned o in let P : Option Bool → Type 0 = λ x. Fine (when_some x go) in subst P (sym p.1) (each p.0)
 
   module _ (legal : IsLegal here.tree) (v w : Value) (a b : StackType) (h : HasStackType here.tree s v a) (k : HasStackType here.tree s w b) (go : Bool → Effect) (each : (holds : Bool) → Fine (go holds)) where
     -- two integers of one size have an order
-    ordered_typed : (test : ℤ → ℤ → Bool) → IsTrue (are_integers a b) → Fine (given (ordered_values test v w) go)
-    ordered_typed test is = from_integers here.tree legal s (λ x y. Fine (given (ordered_values test x y) go)) v w a b is h k (λ j x y. each (test x y)) (λ j x y. each (test x y))
+    ordered_typed : (test : ℤ → ℤ → Bool) → IsTrue (are_integers a b) → Fine (when_some (ordered_values test v w) go)
+    ordered_typed test is = from_integers here.tree legal s (λ x y. Fine (when_some (ordered_values test x y) go)) v w a b is h k (λ j x y. each (test x y)) (λ j x y. each (test x y))
 
     -- these, and two references, have a result of the test for equality; `transition` may negate it
-    equal_typed : (transition : Option Bool → Option Bool) → ((o : Bool) → (p : Bool) × (transition (Some o) ≡ Some p)) → IsTrue (are_comparable a b) → Fine (given (transition (equal_values v w)) go)
+    equal_typed : (transition : Option Bool → Option Bool) → ((o : Bool) → (p : Bool) × (transition (Some o) ≡ Some p)) → IsTrue (are_comparable a b) → Fine (when_some (transition (equal_values v w)) go)
     equal_typed transition turned is = by_case (either (are_integers a b) (is_any_reference a && is_any_reference b) is)
       where
-        reported : (o : Bool) → Fine (given (transition (Some o)) go)
+        reported : (o : Bool) → Fine (when_some (transition (Some o)) go)
         reported = answered transition turned go each
 
-        by_case : IsTrue (are_integers a b) ⊎ IsTrue (is_any_reference a && is_any_reference b) → Fine (given (transition (equal_values v w)) go)
-        by_case (inl j) = from_integers here.tree legal s (λ x y. Fine (given (transition (equal_values x y)) go)) v w a b j h k (λ i x y. reported _) (λ i x y. reported _)
+        by_case : IsTrue (are_integers a b) ⊎ IsTrue (is_any_reference a && is_any_reference b) → Fine (when_some (transition (equal_values v w)) go)
+        by_case (inl j) = from_integers here.tree legal s (λ x y. Fine (when_some (transition (equal_values x y)) go)) v w a b j h k (λ i x y. reported _) (λ i x y. reported _)
         by_case (inr j) =
-            from_reference here.tree legal s (λ x. Fine (given (transition (equal_values x w)) go)) v a (both_first _ _ j) h
-            (from_reference here.tree legal s (λ y. Fine (given (transition (equal_values Null y)) go)) w b (both_second (is_any_reference a) _ j) k (reported _) (λ n. reported _))
-            (λ m. from_reference here.tree legal s (λ y. Fine (given (transition (equal_values (Reference m) y)) go)) w b (both_second (is_any_reference a) _ j) k (reported _) (λ n. reported _))
+            from_reference here.tree legal s (λ x. Fine (when_some (transition (equal_values x w)) go)) v a (both_first _ _ j) h
+            (from_reference here.tree legal s (λ y. Fine (when_some (transition (equal_values Null y)) go)) w b (both_second (is_any_reference a) _ j) k (reported _) (λ n. reported _))
+            (λ m. from_reference here.tree legal s (λ y. Fine (when_some (transition (equal_values (Reference m) y)) go)) w b (both_second (is_any_reference a) _ j) k (reported _) (λ n. reported _))
 
-    compare_answers : (op : Comparison) → IsTrue (may_compare op a b) → Fine (given (compare_values op v w) go)
+    compare_answers : (op : Comparison) → IsTrue (may_compare op a b) → Fine (when_some (compare_values op v w) go)
     compare_answers Equal is = equal_typed (λ o. o) (λ o. (o, refl)) is
     compare_answers Greater is = ordered_typed _ is
     compare_answers Less is = ordered_typed _ is
 
-    branch_answers : (op : BranchComparison) → IsTrue (may_branch op a b) → Fine (given (branch_values op v w) go)
+    branch_answers : (op : BranchComparison) → IsTrue (may_branch op a b) → Fine (when_some (branch_values op v w) go)
     branch_answers BranchEqual is = equal_typed (λ o. o) (λ o. (o, refl)) is
     branch_answers NotEqual is = equal_typed not_option (λ o. (not o, refl)) is
     branch_answers GreaterOrEqual is = ordered_typed _ is
@@ -258,15 +258,15 @@ module _ (here : Setting) (s : State) (f : Frame) (below : List Frame) where
 
   -- a test whether a value is set has a result
   set_answers : (legal : IsLegal here.tree) (transition : Option Bool → Option Bool) → ((o : Bool) → (p : Bool) × (transition (Some o) ≡ Some p)) → (v : Value) (a : StackType) → HasStackType here.tree s v a → IsTrue (is_integer a || is_any_reference a) →
-      (go : Bool → Effect) → ((holds : Bool) → Fine (go holds)) → Fine (given (transition (is_set v)) go)
+      (go : Bool → Effect) → ((holds : Bool) → Fine (go holds)) → Fine (when_some (transition (is_set v)) go)
   set_answers legal transition turned v a h is go each = by_case (either (is_integer a) (is_any_reference a) is)
     where
-      reported : (o : Bool) → Fine (given (transition (Some o)) go)
+      reported : (o : Bool) → Fine (when_some (transition (Some o)) go)
       reported = answered transition turned go each
 
-      by_case : IsTrue (is_integer a) ⊎ IsTrue (is_any_reference a) → Fine (given (transition (is_set v)) go)
-      by_case (inl j) = from_integer here.tree legal s (λ x. Fine (given (transition (is_set x)) go)) v a j h (λ i z. reported _) (λ i z. reported _)
-      by_case (inr j) = from_reference here.tree legal s (λ x. Fine (given (transition (is_set x)) go)) v a j h (reported _) (λ n. reported _)
+      by_case : IsTrue (is_integer a) ⊎ IsTrue (is_any_reference a) → Fine (when_some (transition (is_set v)) go)
+      by_case (inl j) = from_integer here.tree legal s (λ x. Fine (when_some (transition (is_set x)) go)) v a j h (λ i z. reported _) (λ i z. reported _)
+      by_case (inr j) = from_reference here.tree legal s (λ x. Fine (when_some (transition (is_set x)) go)) v a j h (reported _) (λ n. reported _)
 
   pub branch_true_typed : (label : List ℕ) → At (BranchTrue label) → Fine (execute here s f below (BranchTrue label))
   branch_true_typed label running = one_typed here.tree s _ _ f.stack running.stack running.result running.values running.flows (λ v a rest types h rest_typed e.

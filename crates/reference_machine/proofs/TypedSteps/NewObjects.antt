@@ -28,7 +28,7 @@ use Rattle.cil_model.proofs.Lists.{none_is_some, passes_not}
 use Rattle.cil_model.proofs.SameLaws.{never, both_first, either, is_not, same_class_equal}
 use Rattle.reference_machine.specs.Values.{ObjectName, Value, Reference}
 use Rattle.reference_machine.specs.States.{Contents, Frame, State, next_name, with_birth, new_instance}
-use Rattle.reference_machine.specs.Effects.{Setting, Effect, Raises, given, new_frame, onward}
+use Rattle.reference_machine.specs.Effects.{Setting, Effect, Raises, when_some, new_frame, onward}
 use Rattle.reference_machine.specs.BuiltIn.{Action, action_of}
 use Rattle.reference_machine.specs.Steps.{birth, frame_for, is_too_deep, operands, construct, execute}
 use Rattle.reference_machine.specs.Growth.{Follows}
@@ -204,7 +204,7 @@ module _ (here : Setting) (s : State) (f : Frame) (below : List Frame) where
 
         by_found : (o : Option (ClassName × Method)) → find_method here.tree true (constructor_reference c parameters) ≡ o →
             option_and_then (λ (x : ClassName × Method). if is_concrete here.tree c then option_map (λ rest. Declared (type_of_class c) ∷ rest) taken else None) o ≡ Some running.result →
-            IsTypedEffect here.tree (given o (λ x. operands here s f below parameters (construct here s f below c x)))
+            IsTypedEffect here.tree (when_some o (λ x. operands here s f below parameters (construct here s f below c x)))
         by_found None e flows = none_is_some running.result flows
         by_found (Some (k, m)) e flows =
             let own : c ≡ k = constructor_is_own here.tree c k parameters m e in

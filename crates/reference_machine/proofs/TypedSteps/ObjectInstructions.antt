@@ -20,7 +20,7 @@ use Rattle.cil_model.specs.Fields.{same_key}
 use Rattle.cil_model.specs.Bodies.{falls_through}
 use Rattle.cil_model.specs.Stacks.{take_one, take_two, take_three}
 use Rattle.cil_model.specs.TypeTree.{StackType, Declared, NativeInt, Null as NullType, fits}
-use Rattle.cil_model.specs.FlowRules.{allowed, is_int32, is_int64, is_any_reference, is_index, any_type, passes, is_array_of, held_type_of, element_on_stack, take_operands}
+use Rattle.cil_model.specs.FlowRules.{if_allowed, is_int32, is_int64, is_any_reference, is_index, any_type, passes, is_array_of, held_type_of, element_on_stack, take_operands}
 use Rattle.cil_model.proofs.Lists.{none_is_some}
 use Rattle.cil_model.proofs.SameLaws.{never, both_first, both_second, either, if_true, same_type_equal, same_type_itself}
 use Rattle.cil_model.specs.Legality.{IsLegal}
@@ -30,7 +30,7 @@ use Rattle.reference_machine.specs.Growth.{Follows}
 use Rattle.reference_machine.specs.Values.{ObjectName, Born, Literal, Value, Int32, Int64, Native, Null, Reference, zero_of}
 use Rattle.reference_machine.specs.Arithmetic.{as_index}
 use Rattle.reference_machine.specs.States.{Contents, Instance, Array, HeapObject, Frame, State, entry_at, replaced_entry, type_of_contents, type_of, elements_of_contents, field_value, with_field, array_at, with_element, next_name, with_birth}
-use Rattle.reference_machine.specs.Effects.{Setting, Effect, Raises, Sticks, given, not_null, onward}
+use Rattle.reference_machine.specs.Effects.{Setting, Effect, Raises, Sticks, when_some, not_null, onward}
 use Rattle.reference_machine.specs.Steps.{key_of, next, new_array, in_range, element, load_element, store_element, may_hold, store_reference, execute}
 use Rattle.reference_machine.proofs.Runs.StateChanges.{follows_birth, follows_field, follows_statics, follows_element}
 use Rattle.reference_machine.specs.TypedStates.{IsObjectOf, HasType, HasStackType, HaveStackTypes, IsTyped}
@@ -137,8 +137,8 @@ module _ (here : Setting) (s : State) (f : Frame) (below : List Frame) where
   -- ---- parts of an instruction
 
   -- on with what is there
-  from_given : {X : Type 0} (go : X → Effect) (o : Option X) (x : X) → o ≡ Some x → Fine (go x) → Fine (given o go)
-  from_given go o x is h = subst (λ y. Fine (given y go)) (sym is) h
+  from_given : {X : Type 0} (go : X → Effect) (o : Option X) (x : X) → o ≡ Some x → Fine (go x) → Fine (when_some o go)
+  from_given go o x is h = subst (λ y. Fine (when_some y go)) (sym is) h
 
   -- one way where a test holds, and otherwise another way
   from_test : (b : Bool) (x y : Effect) → (IsTrue b → Fine x) → Fine y → Fine (if b then x else y)
@@ -163,9 +163,9 @@ module _ (here : Setting) (s : State) (f : Frame) (below : List Frame) where
     -- an object of another class goes another way
     cast_typed : (t : DeclaredType) → IsTrue (is_reference t) → (otherwise : List Value → Effect) (v : Value) (a : StackType) (rest : List Value) (types : List StackType) → IsTrue (is_any_reference a) → HasStackType here.tree s v a →
         HaveStackTypes here.tree s rest types → Declared t ∷ types ≡ running.result → Fine (otherwise rest) →
-        Fine (given (may_hold here s f below t v) (λ holds. if holds then next here s f below (v ∷ rest) else otherwise rest))
+        Fine (when_some (may_hold here s f below t v) (λ holds. if holds then next here s f below (v ∷ rest) else otherwise rest))
     cast_typed t reference otherwise v a rest types any h rest_typed e other =
-        from_object here.tree running.accepted.legal s (λ w. Fine (given (may_hold here s f below t w) (λ holds. if holds then next here s f below (w ∷ rest) else otherwise rest))) v a any h
+        from_object here.tree running.accepted.legal s (λ w. Fine (when_some (may_hold here s f below t w) (λ holds. if holds then next here s f below (w ∷ rest) else otherwise rest))) v a any h
         (on (Null ∷ rest) (Declared t ∷ types) (reference, rest_typed) e) (λ n u k.
         from_given (λ holds. if holds then next here s f below (Reference n ∷ rest) else otherwise rest) (may_hold here s f below t (Reference n)) (is_assignable here.tree k.own t) (ap (option_map (λ own. is_assignable here.tree own t)) k.is)
         (from_test (is_assignable here.tree k.own t) (next here s f below (Reference n ∷ rest)) (otherwise rest)
@@ -194,7 +194,7 @@ module _ (here : Setting) (s : State) (f : Frame) (below : List Frame) where
     array_element test own_test tests go array index a b is_array is_index' h k each =
         from_array here.tree running.accepted.legal s (λ x. Fine (element here s f below own_test x index go)) test array a is_array h tt (λ n t w elements there held_type_of passed on_stack.
         let at = index_there index b is_index' k in
-        from_given (λ z. given (array_at s n) (λ (x : DeclaredType × List Value). if own_test x.0 then in_range here s f below (slice_get x.1) (go n x.0) z else Sticks)) (as_index index) at.0 at.1
+        from_given (λ z. when_some (array_at s n) (λ (x : DeclaredType × List Value). if own_test x.0 then in_range here s f below (slice_get x.1) (go n x.0) z else Sticks)) (as_index index) at.0 at.1
         (from_given (λ (x : DeclaredType × List Value). if own_test x.0 then in_range here s f below (slice_get x.1) (go n x.0) at.0 else Sticks) (array_at s n) (t, elements) there
         (from_passed (own_test t) (in_range here s f below (slice_get elements) (go n t) at.0) Sticks (tests t w held_type_of passed)
         (in_range_typed (slice_get elements) (go n t) at.0 (λ m v is. each n t w elements m v there held_type_of passed on_stack is)))))
@@ -244,18 +244,18 @@ module _ (here : Setting) (s : State) (f : Frame) (below : List Frame) where
 
     -- the value of the field that is found, of the object on the stack
     load_of_object : (r : FieldReference) (d : ClassName) (g : Field) → find_field here.tree false r ≡ Some (d, g) → (v : Value) (rest : List Value) (types : List StackType) → HasType here.tree s v (type_of_class r.owner) →
-        HaveStackTypes here.tree s rest types → Declared r.field_type ∷ types ≡ running.result → Fine (not_null v NullReference (λ n. given (field_value s n (key_of (d, g))) (λ w. next here s f below (w ∷ rest))))
+        HaveStackTypes here.tree s rest types → Declared r.field_type ∷ types ≡ running.result → Fine (not_null v NullReference (λ n. when_some (field_value s n (key_of (d, g))) (λ w. next here s f below (w ∷ rest))))
     load_of_object r d g found v rest types h rest_typed e =
-        from_instance (λ x. Fine (not_null x NullReference (λ n. given (field_value s n (key_of (d, g))) (λ w. next here s f below (w ∷ rest))))) r.owner v h tt (λ n k.
+        from_instance (λ x. Fine (not_null x NullReference (λ n. when_some (field_value s n (key_of (d, g))) (λ w. next here s f below (w ∷ rest))))) r.owner v h tt (λ n k.
         let at : HasField here.tree s n (key_of (d, g)) r.field_type = field_there here.tree running.accepted.legal s r d g found n k in
         let loaded = loaded_field here.tree running.accepted.legal s running.typed n at.object at.class_name at.fields (key_of (d, g)) r.field_type at.there at.holds at.entry in
         from_given (λ w. next here s f below (w ∷ rest)) (field_value s n (key_of (d, g))) loaded.0 loaded.1 (on (loaded.0 ∷ rest) (Declared r.field_type ∷ types) (loaded.2, rest_typed) e))
 
     -- a value of its type put there
     store_in_object : (r : FieldReference) (d : ClassName) (g : Field) → find_field here.tree false r ≡ Some (d, g) → (v w : Value) (rest : List Value) (types : List StackType) → HasType here.tree s v (type_of_class r.owner) → HasType here.tree s w r.field_type →
-        HaveStackTypes here.tree s rest types → types ≡ running.result → Fine (not_null v NullReference (λ n. given (with_field s n (key_of (d, g)) w) (λ s'. onward f below s' rest)))
+        HaveStackTypes here.tree s rest types → types ≡ running.result → Fine (not_null v NullReference (λ n. when_some (with_field s n (key_of (d, g)) w) (λ s'. onward f below s' rest)))
     store_in_object r d g found v w rest types h value rest_typed e =
-        from_instance (λ x. Fine (not_null x NullReference (λ n. given (with_field s n (key_of (d, g)) w) (λ s'. onward f below s' rest)))) r.owner v h tt (λ n k.
+        from_instance (λ x. Fine (not_null x NullReference (λ n. when_some (with_field s n (key_of (d, g)) w) (λ s'. onward f below s' rest)))) r.owner v h tt (λ n k.
         let at : HasField here.tree s n (key_of (d, g)) r.field_type = field_there here.tree running.accepted.legal s r d g found n k in
         let stored = stored_field here.tree running.accepted.legal s running.typed n at.object at.class_name at.fields (key_of (d, g)) r.field_type at.there at.holds at.entry w value in
         let follows : Follows s stored.0 = follows_field s n (key_of (d, g)) w stored.0 stored.1 in
@@ -269,7 +269,7 @@ module _ (here : Setting) (s : State) (f : Frame) (below : List Frame) where
         subst (λ x. IsTrue (same_type integer x)) (sym (held_alone here.tree running.accepted.legal s t w integer no_reference held_type_of passed)) (same_type_itself integer)
 
     -- an element of an array of that integer is that integer
-    load_integer : (integer : DeclaredType) → is_reference integer ≡ false → take_two None running.stack (λ a b rest. allowed (is_array_of (λ t. same_type t integer) a && is_index b) (Declared integer ∷ rest)) ≡ Some running.result →
+    load_integer : (integer : DeclaredType) → is_reference integer ≡ false → take_two None running.stack (λ a b rest. if_allowed (is_array_of (λ t. same_type t integer) a && is_index b) (Declared integer ∷ rest)) ≡ Some running.result →
         Fine (load_element here s f below (same_type integer))
     load_integer integer no_reference flows = two_typed here.tree s _ _ f.stack running.stack running.result running.values flows (λ array index a b rest types h k rest_typed e.
         let passed = was_allowed (is_array_of (λ t. same_type t integer) a && is_index b) (Declared integer ∷ types) running.result e in
@@ -279,7 +279,7 @@ module _ (here : Setting) (s : State) (f : Frame) (below : List Frame) where
 
     -- on after a store of a value of the elements' own type
     stored_on : (rest : List Value) (types : List StackType) → HaveStackTypes here.tree s rest types → types ≡ running.result → (n : ObjectName) (t : DeclaredType) (elements : List Value) (m : ℕ) (v old : Value) →
-        array_at s n ≡ Some (t, elements) → slice_get elements m ≡ Some old → HasType here.tree s v t → Fine (given (with_element s n m v) (λ s'. onward f below s' rest))
+        array_at s n ≡ Some (t, elements) → slice_get elements m ≡ Some old → HasType here.tree s v t → Fine (when_some (with_element s n m v) (λ s'. onward f below s' rest))
     stored_on rest types rest_typed e n t elements m v old there is own =
         let stored = stored_element here.tree running.accepted.legal s running.typed n t elements m v old there is own in
         let follows : Follows s stored.0 = follows_element s n m v stored.0 stored.1 in
@@ -287,42 +287,42 @@ module _ (here : Setting) (s : State) (f : Frame) (below : List Frame) where
 
     -- and only that integer is stored in it
     store_integer : (integer : DeclaredType) → is_reference integer ≡ false → (known : StackType → Bool) → ((v : Value) (c : StackType) → IsTrue (known c) → HasStackType here.tree s v c → HasType here.tree s v integer) →
-        take_three None running.stack (λ a b c rest. allowed (is_array_of (λ t. same_type t integer) a && is_index b && known c) rest) ≡ Some running.result → Fine (store_element here s f below (same_type integer))
+        take_three None running.stack (λ a b c rest. if_allowed (is_array_of (λ t. same_type t integer) a && is_index b && known c) rest) ≡ Some running.result → Fine (store_element here s f below (same_type integer))
     store_integer integer no_reference known known_typed flows = three_typed here.tree s _ _ f.stack running.stack running.result running.values flows (λ array index value a b c rest types h k l rest_typed e.
         let passed = was_allowed (is_array_of (λ t. same_type t integer) a && is_index b && known c) types running.result e in
         let first : IsTrue (is_array_of (λ t. same_type t integer) a && is_index b) = both_first _ (known c) passed.0 in
-        array_element (λ t. same_type t integer) (same_type integer) (integer_tests integer no_reference) (λ n t m old. given (with_element s n m value) (λ s'. onward f below s' rest)) array index a b (both_first _ _ first) (both_second (is_array_of (λ t. same_type t integer) a) _ first) h k (λ n t w elements m old there held_type_of same on_stack is.
+        array_element (λ t. same_type t integer) (same_type integer) (integer_tests integer no_reference) (λ n t m old. when_some (with_element s n m value) (λ s'. onward f below s' rest)) array index a b (both_first _ _ first) (both_second (is_array_of (λ t. same_type t integer) a) _ first) h k (λ n t w elements m old there held_type_of same on_stack is.
         let own : HasType here.tree s value t = subst (λ x. HasType here.tree s value x) (sym (held_alone here.tree running.accepted.legal s t w integer no_reference held_type_of same)) (known_typed value c (both_second (is_array_of (λ t. same_type t integer) a && is_index b) _ passed.0) l) in
         stored_on rest types rest_typed passed.1 n t elements m value old there is own))
 
     -- an element of an array of references is of the type that the verifier takes for its own
-    load_reference : take_two None running.stack (λ a b rest. allowed (is_array_of is_reference a && is_index b) (element_on_stack a ∷ rest)) ≡ Some running.result → Fine (load_element here s f below is_reference)
+    load_reference : take_two None running.stack (λ a b rest. if_allowed (is_array_of is_reference a && is_index b) (element_on_stack a ∷ rest)) ≡ Some running.result → Fine (load_element here s f below is_reference)
     load_reference flows = two_typed here.tree s _ _ f.stack running.stack running.result running.values flows (λ array index a b rest types h k rest_typed e.
         let passed = was_allowed (is_array_of is_reference a && is_index b) (element_on_stack a ∷ types) running.result e in
         array_element is_reference is_reference (held_reference here.tree running.accepted.legal s) (λ n t m v. next here s f below (v ∷ rest)) array index a b (both_first _ _ passed.0) (both_second (is_array_of is_reference a) _ passed.0) h k (λ n t w elements m v there held_type_of same on_stack is.
         let own : HasType here.tree s v t = element_typed here.tree running.accepted.legal s t elements m v (array_typed here.tree running.accepted.legal s running.typed n t elements there) is in
-        let wanted : HasType here.tree s v w = value_fits here.tree running.accepted.legal s v (Declared t) w (held_fits here.tree running.accepted.legal s t w held_type_of) own in
-        on (v ∷ rest) (element_on_stack a ∷ types) (subst (λ x. HasStackType here.tree s v x) (sym on_stack) wanted, rest_typed) passed.1))
+        let required : HasType here.tree s v w = value_fits here.tree running.accepted.legal s v (Declared t) w (held_fits here.tree running.accepted.legal s t w held_type_of) own in
+        on (v ∷ rest) (element_on_stack a ∷ types) (subst (λ x. HasStackType here.tree s v x) (sym on_stack) required, rest_typed) passed.1))
 
     -- a value that an array may hold, by its own class, is stored; otherwise the instruction faults
     held_or_fault : (rest : List Value) (types : List StackType) → HaveStackTypes here.tree s rest types → types ≡ running.result → (n : ObjectName) (t : DeclaredType) (elements : List Value) (m : ℕ) (v old : Value) (c : StackType) →
         array_at s n ≡ Some (t, elements) → slice_get elements m ≡ Some old → IsTrue (is_reference t) → IsTrue (is_any_reference c) → HasStackType here.tree s v c →
-        Fine (given (may_hold here s f below t v) (λ holds. if holds then given (with_element s n m v) (λ s'. onward f below s' rest) else Raises ArrayTypeMismatch))
+        Fine (when_some (may_hold here s f below t v) (λ holds. if holds then when_some (with_element s n m v) (λ s'. onward f below s' rest) else Raises ArrayTypeMismatch))
     held_or_fault rest types rest_typed e n t elements m v old c there is reference any h =
-        from_object here.tree running.accepted.legal s (λ x. Fine (given (may_hold here s f below t x) (λ holds. if holds then given (with_element s n m x) (λ s'. onward f below s' rest) else Raises ArrayTypeMismatch))) v c any h
+        from_object here.tree running.accepted.legal s (λ x. Fine (when_some (may_hold here s f below t x) (λ holds. if holds then when_some (with_element s n m x) (λ s'. onward f below s' rest) else Raises ArrayTypeMismatch))) v c any h
         (stored_on rest types rest_typed e n t elements m Null old there is reference) (λ o u k.
-        from_given (λ holds. if holds then given (with_element s n m (Reference o)) (λ s'. onward f below s' rest) else Raises ArrayTypeMismatch) (may_hold here s f below t (Reference o)) (is_assignable here.tree k.own t) (ap (option_map (λ own. is_assignable here.tree own t)) k.is)
-        (from_test (is_assignable here.tree k.own t) (given (with_element s n m (Reference o)) (λ s'. onward f below s' rest)) (Raises ArrayTypeMismatch)
+        from_given (λ holds. if holds then when_some (with_element s n m (Reference o)) (λ s'. onward f below s' rest) else Raises ArrayTypeMismatch) (may_hold here s f below t (Reference o)) (is_assignable here.tree k.own t) (ap (option_map (λ own. is_assignable here.tree own t)) k.is)
+        (from_test (is_assignable here.tree k.own t) (when_some (with_element s n m (Reference o)) (λ s'. onward f below s' rest)) (Raises ArrayTypeMismatch)
         (λ fits. stored_on rest types rest_typed e n t elements m (Reference o) old there is (record { own = k.own; is = k.is; fits = fits; monitor = k.monitor })) tt))
 
     -- the elements' own type says what is stored
-    store_reference_typed : take_three None running.stack (λ a b c rest. allowed (is_array_of is_reference a && is_index b && is_any_reference c) rest) ≡ Some running.result → Fine (store_reference here s f below)
+    store_reference_typed : take_three None running.stack (λ a b c rest. if_allowed (is_array_of is_reference a && is_index b && is_any_reference c) rest) ≡ Some running.result → Fine (store_reference here s f below)
     store_reference_typed flows = three_typed here.tree s _ _ f.stack running.stack running.result running.values flows (λ array index value a b c rest types h k l rest_typed e.
         let passed = was_allowed (is_array_of is_reference a && is_index b && is_any_reference c) types running.result e in
         let first : IsTrue (is_array_of is_reference a && is_index b) = both_first _ (is_any_reference c) passed.0 in
         let any : IsTrue (is_any_reference c) = both_second (is_array_of is_reference a && is_index b) _ passed.0 in
         array_element is_reference is_reference (held_reference here.tree running.accepted.legal s)
-        (λ n t m old. given (may_hold here s f below t value) (λ holds. if holds then given (with_element s n m value) (λ s'. onward f below s' rest) else Raises ArrayTypeMismatch)) array index a b (both_first _ _ first) (both_second (is_array_of is_reference a) _ first) h k (λ n t w elements m old there held_type_of passes on_stack is.
+        (λ n t m old. when_some (may_hold here s f below t value) (λ holds. if holds then when_some (with_element s n m value) (λ s'. onward f below s' rest) else Raises ArrayTypeMismatch)) array index a b (both_first _ _ first) (both_second (is_array_of is_reference a) _ first) h k (λ n t w elements m old there held_type_of passes on_stack is.
         held_or_fault rest types rest_typed passed.1 n t elements m value old c there is (held_reference here.tree running.accepted.legal s t w held_type_of passes) any l))
 
   -- ---- arrays
@@ -353,7 +353,7 @@ module _ (here : Setting) (s : State) (f : Frame) (below : List Frame) where
   load_length_typed running = one_typed here.tree s _ _ f.stack running.stack running.result running.values running.flows (λ v a rest types h rest_typed e.
       let passed = was_allowed (is_array_of any_type a) (NativeInt ∷ types) running.result e in
       let go : DeclaredType × List Value → Effect = λ x. next here s f below (Native (pos (length x.1)) ∷ rest) in
-      from_array here.tree running.accepted.legal s (λ x. Fine (not_null x NullReference (λ n. given (array_at s n) go))) any_type v a passed.0 h tt (λ n t w elements there held_type_of any on_stack.
+      from_array here.tree running.accepted.legal s (λ x. Fine (not_null x NullReference (λ n. when_some (array_at s n) go))) any_type v a passed.0 h tt (λ n t w elements there held_type_of any on_stack.
       from_given go (array_at s n) (t, elements) there (on LoadLength running refl (Native (pos (length elements)) ∷ rest) (NativeInt ∷ types) (tt, rest_typed) passed.1)))
 
   pub load_element_int32_typed : At LoadElementInt32 → Fine (execute here s f below LoadElementInt32)
@@ -393,24 +393,24 @@ module _ (here : Setting) (s : State) (f : Frame) (below : List Frame) where
   pub load_field_typed : (r : FieldReference) → At (LoadField r) → Fine (execute here s f below (LoadField r))
   load_field_typed r running =
       let t : DeclaredType = type_of_class r.owner in
-      let go : Value → List Value → ClassName × Field → Effect = λ v rest found. not_null v NullReference (λ n. given (field_value s n (key_of found)) (λ w. next here s f below (w ∷ rest))) in
+      let go : Value → List Value → ClassName × Field → Effect = λ v rest found. not_null v NullReference (λ n. when_some (field_value s n (key_of found)) (λ w. next here s f below (w ∷ rest))) in
       option_and_then_some _ (find_field here.tree false r) running.result running.flows (λ found is flows.
       mapped_some _ (take_operands here.tree (t ∷ []) running.stack) running.result flows (λ taken is_taken e.
-      one_fitting (LoadField r) running refl (λ v rest. given (find_field here.tree false r) (go v rest)) t f.stack running.stack taken running.values is_taken (λ v rest types h rest_typed same.
+      one_fitting (LoadField r) running refl (λ v rest. when_some (find_field here.tree false r) (go v rest)) t f.stack running.stack taken running.values is_taken (λ v rest types h rest_typed same.
       from_given (go v rest) (find_field here.tree false r) found is
       (load_of_object (LoadField r) running refl r found.0 found.1 is v rest types h rest_typed (ap (λ ts. Declared r.field_type ∷ ts) same ∙ e)))))
 
   pub store_field_typed : (r : FieldReference) → At (StoreField r) → Fine (execute here s f below (StoreField r))
   store_field_typed r running =
       let t : DeclaredType = type_of_class r.owner in
-      let go : Value → Value → List Value → ClassName × Field → Effect = λ v w rest found. not_null v NullReference (λ n. given (with_field s n (key_of found) w) (λ s'. onward f below s' rest)) in
+      let go : Value → Value → List Value → ClassName × Field → Effect = λ v w rest found. not_null v NullReference (λ n. when_some (with_field s n (key_of found) w) (λ s'. onward f below s' rest)) in
       option_and_then_some _ (find_field here.tree false r) running.result running.flows (λ found is flows.
-      two_fitting (StoreField r) running refl (λ v w rest. given (find_field here.tree false r) (go v w rest)) t r.field_type f.stack running.stack running.result running.values flows (λ v w rest types h value rest_typed e.
+      two_fitting (StoreField r) running refl (λ v w rest. when_some (find_field here.tree false r) (go v w rest)) t r.field_type f.stack running.stack running.result running.values flows (λ v w rest types h value rest_typed e.
       from_given (go v w rest) (find_field here.tree false r) found is (store_in_object (StoreField r) running refl r found.0 found.1 is v w rest types h value rest_typed e)))
 
   pub load_static_field_typed : (r : FieldReference) → At (LoadStaticField r) → Fine (execute here s f below (LoadStaticField r))
   load_static_field_typed r running =
-      let go : ClassName × Field → Effect = λ found. given (entry_at same_key (key_of found) s.statics) (λ v. next here s f below (v ∷ f.stack)) in
+      let go : ClassName × Field → Effect = λ found. when_some (entry_at same_key (key_of found) s.statics) (λ v. next here s f below (v ∷ f.stack)) in
       mapped_some _ (find_field here.tree true r) running.result running.flows (λ found is e.
       let loaded = loaded_static here.tree running.accepted.legal s running.typed (key_of found) r.field_type (static_field_there here.tree running.accepted.legal r found.0 found.1 is) in
       from_given go (find_field here.tree true r) found is
@@ -419,9 +419,9 @@ module _ (here : Setting) (s : State) (f : Frame) (below : List Frame) where
 
   pub store_static_field_typed : (r : FieldReference) → At (StoreStaticField r) → Fine (execute here s f below (StoreStaticField r))
   store_static_field_typed r running =
-      let go : Value → List Value → ClassName × Field → Effect = λ v rest found. given (replaced_entry (key_of found) v s.statics) (λ statics. onward f below (record s { statics = statics }) rest) in
+      let go : Value → List Value → ClassName × Field → Effect = λ v rest found. when_some (replaced_entry (key_of found) v s.statics) (λ statics. onward f below (record s { statics = statics }) rest) in
       option_and_then_some _ (find_field here.tree true r) running.result running.flows (λ found is flows.
-      one_fitting (StoreStaticField r) running refl (λ v rest. given (find_field here.tree true r) (go v rest)) r.field_type f.stack running.stack running.result running.values flows (λ v rest types h rest_typed e.
+      one_fitting (StoreStaticField r) running refl (λ v rest. when_some (find_field here.tree true r) (go v rest)) r.field_type f.stack running.stack running.result running.values flows (λ v rest types h rest_typed e.
       let stored = stored_static here.tree running.accepted.legal s running.typed (key_of found) v r.field_type (static_field_there here.tree running.accepted.legal r found.0 found.1 is) h in
       let s' : State = record s { statics = stored.0 } in
       let follows : Follows s s' = follows_statics s (key_of found) v stored.0 stored.1 in

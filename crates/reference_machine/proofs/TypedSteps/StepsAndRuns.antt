@@ -10,8 +10,8 @@ use Rattle.cil_model.specs.declared.reports.Report.{Report}
 use Rattle.cil_model.specs.declared.reports.Report.TheVariants.{Ran, Blocked, Ended, Absent}
 use Rattle.cil_model.specs.Typings.{IsAccepted}
 use Rattle.reference_machine.specs.States.{Frame, Thread, State}
-use Rattle.reference_machine.specs.Effects.{Setting, Effect, Goes, Blocks, Raises, Sticks, given}
-use Rattle.reference_machine.specs.Steps.{Outcome, Answers, execute, effect_of, with_thread_at, ended_as, continues, charge, step_of, step}
+use Rattle.reference_machine.specs.Effects.{Setting, Effect, Goes, Blocks, Raises, Sticks, when_some}
+use Rattle.reference_machine.specs.Steps.{StepOutcome, Answers, execute, effect_of, with_thread_at, ended_as, continues, charge, step_of, step}
 use Rattle.reference_machine.specs.Runs.{StepRequest, RunsTo, preceded_by, followed_by, initial_state, run}
 use Rattle.reference_machine.specs.TypedStates.{AreTypedFrames, IsTyped}
 use Rattle.reference_machine.proofs.TypedStates.RunningFrames.{IsTypedEffect, IsRunning, runs_at}
@@ -23,7 +23,7 @@ module _ (tree : Tree) where
   -- ---- one step
 
   -- what isn't stuck, and leaves a typed state
-  abbrev pub AnswersTyped : Outcome → Type 0
+  abbrev pub AnswersTyped : StepOutcome → Type 0
   AnswersTyped o = (r : Report) × (s' : State) × (o ≡ Answers r s') × IsTyped tree s'
 
   ended_typed : (s : State) → IsTyped tree s → (t left : ℕ) (e : End) → AnswersTyped (ended_as s t left e)
@@ -57,7 +57,7 @@ module _ (instruction_typed : InstructionsAreTyped) (tree : Tree) (limits : Limi
     effect_typed s typed [] h = elim h [ ]
     effect_typed s typed (f ∷ below) h =
         let at = runs_at here accepted s typed f below h in
-        subst (λ (o : Option Instruction). IsTypedEffect tree (given o (execute here s f below))) (sym at.1) (instruction_typed here s f below at.0 at.2)
+        subst (λ (o : Option Instruction). IsTypedEffect tree (when_some o (execute here s f below))) (sym at.1) (instruction_typed here s f below at.0 at.2)
 
     -- a live thread's step; one that has ended is absent
     thread_typed : (s : State) → IsTyped tree s → (thread : Thread) → (thread.ended ≡ None → AreTypedFrames tree s thread.frames) → AnswersTyped tree (step_of here s thread)

@@ -14,7 +14,7 @@ use Rattle.resolved_code.specs.declared.types.ResolvedElement.TheVariants.{Int32
 use Rattle.resolved_code.specs.declared.types.ResolvedType.{ResolvedType}
 use Rattle.resolved_code.specs.Numbered.{class_name, element_at, type_at}
 use Rattle.resolved_code.specs.declared.type_tests.TypeTest.TheVariants.{Answered}
-use Rattle.resolved_code.specs.TypeTests.{is_object, element_test, type_test, ComesTo}
+use Rattle.resolved_code.specs.TypeTests.{is_object, element_test, type_test, IsResultOf}
 use Rattle.resolved_code.proofs.InstructionOperations.ArrayTypes.{with_same_count, with_fewer, with_more}
 
 module _ (tree : Tree) where
@@ -37,7 +37,7 @@ module _ (tree : Tree) where
       by_name None p = absurd (none_is_some e (sym (ap (option_map ClassElement) p) ∙ h))
       by_name (Some c) p = let both : Some (ClassElement c) ≡ Some e = sym (ap (option_map ClassElement) p) ∙ h in let q : ClassElement c ≡ e = cc in subst (Refines (Class n)) q (a_class n c p)
 
-  element_results_in : (n m : ResolvedElement) (e f : Element) → Refines n e → Refines m f → ComesTo tree (element_test n m) (is_element_assignable tree e f)
+  element_results_in : (n m : ResolvedElement) (e f : Element) → Refines n e → Refines m f → IsResultOf tree (element_test n m) (is_element_assignable tree e f)
   element_results_in _ _ _ _ an_int32 an_int32 = refl
   element_results_in _ _ _ _ an_int32 an_int64 = refl
   element_results_in _ _ _ _ an_int32 an_object = refl
@@ -85,7 +85,7 @@ module _ (tree : Tree) where
 
   -- the test, for the types with their brackets apart
   at_brackets : (n : ResolvedElement) (e : Element) (i : ℕ) (m : ResolvedElement) (f : Element) (j : ℕ) → Refines n e → Refines m f →
-      ComesTo tree (cond (i == j) (element_test n m) (Answered (nat_lt j i && is_object m))) (is_assignable_at tree e i f j)
+      IsResultOf tree (cond (i == j) (element_test n m) (Answered (nat_lt j i && is_object m))) (is_assignable_at tree e i f j)
   at_brackets n e i m f j h k = by_equal (i == j) refl
     where
       by_order : (b : Bool) → nat_lt j i ≡ b → (i == j) ≡ false → b && is_object m ≡ is_assignable_at tree e i f j
@@ -95,16 +95,16 @@ module _ (tree : Tree) where
           less : i ≤ j → (i ≡ j → ⊥) → i < j
           less p q = grind (arith, p, q)
 
-      by_equal : (b : Bool) → (i == j) ≡ b → ComesTo tree (cond b (element_test n m) (Answered (nat_lt j i && is_object m))) (is_assignable_at tree e i f j)
+      by_equal : (b : Bool) → (i == j) ≡ b → IsResultOf tree (cond b (element_test n m) (Answered (nat_lt j i && is_object m))) (is_assignable_at tree e i f j)
       by_equal true same =
-          let P : Bool → Type 0 = ComesTo tree (element_test n m) in
+          let P : Bool → Type 0 = IsResultOf tree (element_test n m) in
           subst P (sym (with_same_count tree e f i) ∙ ap (is_assignable_at tree e i f) (eqb-true i j same)) (element_results_in n m e f h k)
       by_equal false apart = by_order (nat_lt j i) refl apart
 
-  pub type_results_in : (n m : ResolvedType) (a b : DeclaredType) → type_at tree n ≡ Some a → type_at tree m ≡ Some b → ComesTo tree (type_test n m) (is_assignable tree a b)
+  pub type_results_in : (n m : ResolvedType) (a b : DeclaredType) → type_at tree n ≡ Some a → type_at tree m ≡ Some b → IsResultOf tree (type_test n m) (is_assignable tree a b)
   type_results_in n m a b h k =
       let from : Refines n.element a.element × (n.brackets ≡ a.brackets) = parts n a h in
       let to : Refines m.element b.element × (m.brackets ≡ b.brackets) = parts m b k in
-      let P : Bool → Type 0 = ComesTo tree (type_test n m) in
+      let P : Bool → Type 0 = IsResultOf tree (type_test n m) in
       subst P (ap (λ i. is_assignable_at tree a.element i b.element m.brackets) from.1 ∙ ap (λ j. is_assignable_at tree a.element a.brackets b.element j) to.1)
       (at_brackets n.element a.element n.brackets m.element b.element m.brackets from.0 to.0)

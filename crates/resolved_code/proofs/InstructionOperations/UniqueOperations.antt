@@ -65,10 +65,10 @@ none_left {X} test (x ∷ xs) = by_test (test x) refl (none_left test xs)
     by_test true is rest = rest
     by_test false is rest = or_from _ _ is rest
 
-each_stands_once : {X : Type 0} (same : X → X → Bool) (xs : List X) → has_repeat same (each_once same xs) ≡ false
-each_stands_once same [] = refl
-each_stands_once same (x ∷ xs) =
-    or_from _ _ (none_left (same x) (each_once same xs)) (once_kept same (λ y. not (same x y)) (each_once same xs) (each_stands_once same xs))
+each_occurs_once : {X : Type 0} (same : X → X → Bool) (xs : List X) → has_repeat same (each_once same xs) ≡ false
+each_occurs_once same [] = refl
+each_occurs_once same (x ∷ xs) =
+    or_from _ _ (none_left (same x) (each_once same xs)) (once_kept same (λ y. not (same x y)) (each_once same xs) (each_occurs_once same xs))
 
 module _ (tree : Tree) (legal : IsLegal tree) where
   -- ---- classes and types
@@ -163,12 +163,12 @@ module _ (tree : Tree) (legal : IsLegal tree) where
   field_is : (is_static : Bool) (r : FieldReference) (m : MemberNumber) → IsField tree is_static r m → field_rule tree is_static r ≡ Some m
   field_is is_static r m f =
       found_is (λ d. d.fields) same_name (λ x. same_text_itself x.name) (λ n e there. (or_parts _ _ (passes_not duplicates (declarations tree) n e all_once there)).0)
-      (field_number tree is_static r) (find_field tree is_static r) (field_is_numbered tree is_static r) (f.declared_in, f.found) f.finds m f.numbered
+      (field_number tree is_static r) (find_field tree is_static r) (field_is_numbered tree is_static r) (f.declared_in, f.found) f.finds m f.has_id
 
   method_is : (is_instance : Bool) (r : MethodReference) (m : MemberNumber) → IsMethod tree is_instance r m → method_rule tree is_instance r ≡ Some m
   method_is is_instance r m f =
       found_is (λ d. d.methods) same_method (λ x. and_from _ _ (same_method_name_itself x.name) (same_signature_itself x.signature)) (λ n e there. (or_parts _ _ (passes_not duplicates (declarations tree) n e all_once there)).1)
-      (method_number tree is_instance r) (find_method tree is_instance r) (method_is_numbered tree is_instance r) (f.declared_in, f.found) f.finds m f.numbered
+      (method_number tree is_instance r) (find_method tree is_instance r) (method_is_numbered tree is_instance r) (f.declared_in, f.found) f.finds m f.has_id
 
   with_owner_is : (c : ClassName) (make : ℕ → MemberNumber → Operation) (o : Option MemberNumber) (owner : ℕ) (m : MemberNumber) → class_name tree owner ≡ Some c → o ≡ Some m → with_owner tree c make o ≡ Some (make owner m)
   with_owner_is c make o owner m named is =
@@ -177,7 +177,7 @@ module _ (tree : Tree) (legal : IsLegal tree) where
   -- ---- instructions
 
   literal_is : (s : List ℕ) (n : ℕ) → slice_get (literals_of tree) n ≡ Some s → position_from (same_text s) 0 (literals_of tree) ≡ Some n
-  literal_is s n there = first_index same_text same_text_itself text_equivalence.symm (literals_of tree) n s (each_stands_once same_text (filter_map literal_of (instructions_of_tree tree))) there
+  literal_is s n there = first_index same_text same_text_itself text_equivalence.symm (literals_of tree) n s (each_occurs_once same_text (filter_map literal_of (instructions_of_tree tree))) there
 
   module _ (lines : List Line) where
     operation_is : (i : Instruction) (o : Operation) → IsOperation tree lines i o → operation_rule tree lines i ≡ Some o

@@ -13,7 +13,7 @@ use Rattle.cil_model.proofs.SameLaws.{same_class_equal, same_class_itself, class
 use Rattle.cil_model.proofs.Legal.{unbroken}
 use Rattle.cil_model.proofs.Lists.{passes_not, has_repeat-map}
 use Rattle.name_tables.specs.Numbers.{class_number, declarations, source_entry}
-use Rattle.name_tables.proofs.NumberLaws.{HasId, numbered, none_is_some, position_from-suc}
+use Rattle.name_tables.proofs.NumberLaws.{HasId, has_id, none_is_some, position_from-suc}
 
 -- where no item occurs twice, each is found at its own index
 pub first_index : {X : Type 0} (same : X → X → Bool) → ((x : X) → IsTrue (same x x)) → ((x y : X) → same x y ≡ same y x) → (xs : List X) (n : ℕ) (x : X) →
@@ -36,14 +36,14 @@ module _ (tree : Tree) where
   none_in_source a n [] = refl
   none_in_source a n (c ∷ cs) = none_in_source a n cs
 
-  names_stand_once : IsLegal tree → has_repeat (λ (a b : Class). same_text a.name b.name) tree.classes ≡ false
-  names_stand_once legal =
+  names_occur_once : IsLegal tree → has_repeat (λ (a b : Class). same_text a.name b.name) tree.classes ≡ false
+  names_occur_once legal =
       let h : doubles_name tree ≡ false = (unbroken _ 201 _ legal).0 in
       (or_parts _ _ (or_parts _ _ h).0).1
 
-  pub entries_stand_once : IsLegal tree → has_repeat same_entry (declarations tree) ≡ false
-  entries_stand_once legal =
-      let among : has_repeat same_entry (map source_entry tree.classes) ≡ false = has_repeat-map source_entry same_entry tree.classes ∙ names_stand_once legal in
+  pub entries_occur_once : IsLegal tree → has_repeat same_entry (declarations tree) ≡ false
+  entries_occur_once legal =
+      let among : has_repeat same_entry (map source_entry tree.classes) ≡ false = has_repeat-map source_entry same_entry tree.classes ∙ names_occur_once legal in
       or_from _ _ (none_in_source mscorlib (codes "System.Object") tree.classes) (
       or_from _ _ (none_in_source mscorlib (codes "System.String") tree.classes) (
       or_from _ _ (none_in_source mscorlib (codes "System.Console") tree.classes) (
@@ -52,7 +52,7 @@ module _ (tree : Tree) where
 
   -- a class's index is the number of its name
   pub number_of_index : IsLegal tree → (n : ℕ) (e : ClassName × Declaration) → slice_get (declarations tree) n ≡ Some e → class_number tree e.0 ≡ Some n
-  number_of_index legal n e h = first_index same_entry (λ x. same_class_itself x.0) (λ x y. class_equivalence.symm x.0 y.0) (declarations tree) n e (entries_stand_once legal) h
+  number_of_index legal n e h = first_index same_entry (λ x. same_class_itself x.0) (λ x y. class_equivalence.symm x.0 y.0) (declarations tree) n e (entries_occur_once legal) h
 
   -- ---- two names have one number only where they are the same
 
@@ -60,10 +60,10 @@ module _ (tree : Tree) where
   FoundAt c n = (d : Declaration) × (declaration_of tree c ≡ Some d) × (slice_get (declarations tree) n ≡ Some (c, d))
 
   pub found_at : (c : ClassName) (n : ℕ) → class_number tree c ≡ Some n → FoundAt c n
-  found_at c n e = subst (HasId tree c) e (numbered tree c)
+  found_at c n e = subst (HasId tree c) e (has_id tree c)
 
   pub not_declared : (c : ClassName) → class_number tree c ≡ None → declaration_of tree c ≡ None
-  not_declared c e = subst (HasId tree c) e (numbered tree c)
+  not_declared c e = subst (HasId tree c) e (has_id tree c)
 
   pub known_apart : (c x : ClassName) (n : ℕ) → class_number tree c ≡ Some n → class_number tree x ≡ None → same_class c x ≡ false
   known_apart c x n e p = by_test (same_class c x) refl

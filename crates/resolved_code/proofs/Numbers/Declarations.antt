@@ -7,12 +7,12 @@ use Rattle.cil_model.specs.declared.trees.Method.{Method}
 use Rattle.cil_model.specs.Chains.{listed_by, fields_declared, methods_declared}
 use Rattle.cil_model.specs.Declarations.{Declaration, declaration_of}
 use Rattle.name_tables.specs.Numbers.{class_number, member_at, field_at, method_at}
-use Rattle.name_tables.proofs.NumberLaws.{HasId, numbered, none_is_some}
+use Rattle.name_tables.proofs.NumberLaws.{HasId, has_id, none_is_some}
 use Rattle.resolved_code.specs.Numbered.{class_name}
 
 module _ (tree : Tree) (c : ClassName) where
   pub class_has_number : (d : Declaration) → declaration_of tree c ≡ Some d → (n : ℕ) × (class_number tree c ≡ Some n) × (class_name tree n ≡ Some c)
-  class_has_number d declared = by_number (class_number tree c) refl (numbered tree c)
+  class_has_number d declared = by_number (class_number tree c) refl (has_id tree c)
     where
       by_number : (o : Option ℕ) → class_number tree c ≡ o → HasId tree c o → (n : ℕ) × (class_number tree c ≡ Some n) × (class_name tree n ≡ Some c)
       by_number None is none = absurd (none_is_some d (sym none ∙ declared))
@@ -21,7 +21,7 @@ module _ (tree : Tree) (c : ClassName) where
   -- a member of one kind is at the class's number and its own index
   member_has_number : {X : Type 0} (part : Declaration → List X) (p : ℕ) (x : X) → slice_get (listed_by part (declaration_of tree c)) p ≡ Some x →
       (n : ℕ) × (class_number tree c ≡ Some n) × (member_at part tree (n, p) ≡ Some (c, x))
-  member_has_number {X} part p x listed = by_number (class_number tree c) refl (numbered tree c)
+  member_has_number {X} part p x listed = by_number (class_number tree c) refl (has_id tree c)
     where
       by_number : (o : Option ℕ) → class_number tree c ≡ o → HasId tree c o → (n : ℕ) × (class_number tree c ≡ Some n) × (member_at part tree (n, p) ≡ Some (c, x))
       by_number None is none = absurd (none_is_some x (sym (ap (λ o. slice_get (listed_by part o) p) none) ∙ listed))

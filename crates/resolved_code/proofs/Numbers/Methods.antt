@@ -12,14 +12,14 @@ use Rattle.cil_model.specs.Slots.{virtual_in}
 use Rattle.name_tables.specs.Sameness.{MethodIdentity, same_identity, identity_of}
 use Rattle.name_tables.specs.SamenessLaws.{identity_equivalence}
 use Rattle.name_tables.specs.Numbers.{declarations, class_number, method_found}
-use Rattle.name_tables.proofs.NumberLaws.{HasId, numbered, find_congr, declared_at_none}
+use Rattle.name_tables.proofs.NumberLaws.{HasId, has_id, find_congr, declared_at_none}
 use Rattle.resolved_code.specs.Found.{is_virtual_found}
 
 module _ (tree : Tree) where
   -- what a class's number finds
   pub found_by_number : (k : MethodIdentity) (c : ClassName) (n : ℕ) → class_number tree c ≡ Some n → method_found tree k n ≡ method_declared tree k.name k.signature c
   found_by_number k c n e =
-      let found : (d : Declaration) × (declaration_of tree c ≡ Some d) × (slice_get (declarations tree) n ≡ Some (c, d)) = subst (HasId tree c) e (numbered tree c) in
+      let found : (d : Declaration) × (declaration_of tree c ≡ Some d) × (slice_get (declarations tree) n ≡ Some (c, d)) = subst (HasId tree c) e (has_id tree c) in
       ap (option_and_then (λ (y : ClassName × Declaration). find (λ (m : Method). same_identity k (identity_of m)) y.1.methods)) found.2 ∙
       find_congr (λ (m : Method). same_identity k (identity_of m)) (λ (m : Method). same_identity (identity_of m) k) (λ m. identity_equivalence.symm k (identity_of m)) found.0.methods ∙
       sym (ap (λ z. find (λ (m : Method). same_identity (identity_of m) k) (listed_by (λ d. d.methods) z)) found.1)

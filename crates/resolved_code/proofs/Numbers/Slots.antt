@@ -15,7 +15,7 @@ use Rattle.cil_model.proofs.Lists.{list_any_congr}
 use Rattle.cil_model.proofs.SameLaws.{class_equivalence}
 use Rattle.name_tables.specs.Sameness.{MethodIdentity, identity_of}
 use Rattle.name_tables.specs.Numbers.{declarations, class_number, chain_numbers, method_found}
-use Rattle.name_tables.proofs.NumberLaws.{HasId, numbered, declared_at_none}
+use Rattle.name_tables.proofs.NumberLaws.{HasId, has_id, declared_at_none}
 use Rattle.resolved_code.proofs.Numbers.Classes.{number_equal}
 use Rattle.resolved_code.specs.Found.{slot_filled_at, slot_over, slot_by_id, open_over, open_by_id, is_left_open, class_leaves_open, concrete_by_id}
 use Rattle.resolved_code.proofs.Numbers.Methods.{found_by_number, nothing_found}
@@ -148,7 +148,7 @@ module _ (tree : Tree) where
       by_number None e further =
           ap (λ z. list_any (leaves d c) (listed_by (λ x. x.methods) z) || list_any (λ x. list_any (leaves d x) (methods_declared tree x)) cs) (declared_at_none tree c e) ∙ further
       by_number (Some n) e further =
-          let found : (x : Declaration) × (declaration_of tree c ≡ Some x) × (slice_get (declarations tree) n ≡ Some (c, x)) = subst (HasId tree c) e (numbered tree c) in
+          let found : (x : Declaration) × (declaration_of tree c ≡ Some x) × (slice_get (declarations tree) n ≡ Some (c, x)) = subst (HasId tree c) e (has_id tree c) in
           let here : list_any (leaves d c) (methods_declared tree c) ≡ class_leaves_open tree (chain_numbers tree d) n =
           leaves_numbered d c (methods_declared tree c) ∙ ap (λ z. list_any (λ (m : Method). is_virtual m.kind && is_left_open tree (identity_of m) (chain_numbers tree d) (chain_numbers tree c)) (listed_by (λ x. x.methods) z)) found.1 ∙
           sym (ap (λ z. option_map_or (λ (y : ClassName × Declaration). list_any (λ (m : Method). is_virtual m.kind && is_left_open tree (identity_of m) (chain_numbers tree d) (chain_numbers tree y.0)) y.1.methods) z false) found.2) in

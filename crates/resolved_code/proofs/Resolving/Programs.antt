@@ -9,12 +9,12 @@ use Rattle.resolved_code.specs.declared.errors.ResolveError.TheVariants.{Unresol
 use Rattle.resolved_code.specs.Outcomes.{Gives}
 use Rattle.resolved_code.specs.Resolved.{AreResolved}
 use Rattle.resolved_code.specs.Rules.{classes_rule}
-use Rattle.resolved_code.proofs.InstructionOperations.ResolvedNames.{classes_stand}
+use Rattle.resolved_code.proofs.InstructionOperations.ResolvedNames.{classes_refine}
 use Rattle.resolved_code.proofs.LegalPrograms.FoundNames.{classes_found}
 
 module _ (tree : Tree) where
   pub all_resolved : (r : Result (List ResolvedClass) ResolveError) → Gives r (classes_rule tree) → IfOk r (AreResolved tree)
-  all_resolved (Ok classes) e = classes_stand tree classes e
+  all_resolved (Ok classes) e = classes_refine tree classes e
   all_resolved (Err error) e = tt
 
   pub all_found : (r : Result (List ResolvedClass) ResolveError) → Gives r (classes_rule tree) → IsLegal tree → r ≢ Err Unresolved

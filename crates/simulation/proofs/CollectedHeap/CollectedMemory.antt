@@ -45,21 +45,21 @@ collected tree legal words h p seat close rounds first time all = record {
   same_null = λ name o ss s fits. collected_same_null tree words h p seat close first all name o ss s fits;
   null_name = λ name o ss s fits b k is. collected_null_name tree words h p seat close first all name o ss s fits b k is;
   name_null = λ name o ss s fits a n is. collected_name_null tree words h p seat close first all name o ss s fits a n is;
-  storable = λ name o ss s fits a n is cell lies slot v u inside stands. collected_storable tree legal words h p seat close first time all name o ss s fits a n is cell lies slot inside v u stands;
-  slots = λ name o ss s fits typed a n is cell lies slot v u inside sort stands object linked after.
-      collected_slots tree legal words h p seat close first time all name o ss s fits a n is cell lies typed object linked slot v u inside sort stands after;
+  storable = λ name o ss s fits a n is cell lies slot v u inside refines. collected_storable tree legal words h p seat close first time all name o ss s fits a n is cell lies slot inside v u refines;
+  slots = λ name o ss s fits typed a n is cell lies slot v u inside sort refines object linked after.
+      collected_slots tree legal words h p seat close first time all name o ss s fits a n is cell lies typed object linked slot v u inside sort refines after;
   word_storable = λ name o ss s fits a n is cell lies slot inside. collected_word_storable tree legal words h p seat close first time all name o ss s fits a n is cell lies slot inside;
   hidden = λ name o ss s fits typed a n is cell lies slot w inside none object linked after.
       collected_hidden tree legal words h p seat close first time all name o ss s fits a n is cell lies typed object linked slot w none after;
   monitor_storable = λ name o ss s fits a n is. monitor_is_storable tree h.posted h.has_round words p o seat.phase a fits.sound;
   monitors = λ name o ss s fits typed a n is cell lies monitor object linked after.
       collected_monitors tree legal words h p seat close first time all name o ss s fits a n is cell lies typed object linked monitor after;
-  literals = λ name o ss s fits a characters is monitor u stands. collected_literals tree words h p seat first all name o ss s fits a characters is monitor u stands;
-  static_storable = λ name o ss s fits v u stands. collected_static_storable tree words h p seat close first time all name o ss s fits v u stands;
-  static_stores = λ name o ss s fits n v u inside stands entries fields. collected_static_stores tree words h p seat first all name n v ss s entries fields close time o fits u stands;
+  literals = λ name o ss s fits a characters is monitor u refines. collected_literals tree words h p seat first all name o ss s fits a characters is monitor u refines;
+  static_storable = λ name o ss s fits v u refines. collected_static_storable tree words h p seat close first time all name o ss s fits v u refines;
+  static_stores = λ name o ss s fits n v u inside refines entries fields. collected_static_stores tree words h p seat first all name n v ss s entries fields close time o fits u refines;
   bears = λ name o ss s fits. collected_bears tree words h p seat close first time all name o ss s fits;
   refusals = λ name o ss s fits k count born e. collected_refusals seat.phase o k count born e;
-  births = λ name o ss s fits k count contents stands born a e. collected_births tree words h p seat close first time all name o ss s fits k count contents stands born a e;
+  births = λ name o ss s fits k count contents refines born a e. collected_births tree words h p seat close first time all name o ss s fits k count contents refines born a e;
 }
 
 -- ---- frames
@@ -68,12 +68,12 @@ module _ (tree : Tree) (words : ℕ) (h : Handshakes) (p : Progress) (seat : Sea
     (limits : Limits) (m : Frames) (gs : List StateFrame) where
   -- frames that hold what the thread may hold stand under its own names,
   pub frames_cut : AreFrames tree limits fits.whole m gs → ((a : Addr) → IsListed (roots m) a → passes (first_hold h seat first) h.posted o.spaces a ≡ true) → AreFrames tree limits name m gs
-  frames_cut stands pass = thread_cut (passes (first_hold h seat first) h.posted o.spaces) fits.whole name fits.is_cut tree limits m gs stands pass
+  frames_cut refines pass = thread_cut (passes (first_hold h seat first) h.posted o.spaces) fits.whole name fits.is_cut tree limits m gs refines pass
 
   -- and frames that stand under them hold what it may hold
   pub frames_are_held : AreFrames tree limits name m gs → (a : Addr) → IsListed (roots m) a → passes (first_hold h seat first) h.posted o.spaces a ≡ true
-  frames_are_held stands a listed =
-      roots_pass name (passes (first_hold h seat first) h.posted o.spaces) (permanent_passes (first_hold h seat first) h.posted o.spaces null refl) (λ b n is. named_passes tree words h p seat first all name o ss s fits b n is) tree m gs stands.frames a listed
+  frames_are_held refines a listed =
+      roots_pass name (passes (first_hold h seat first) h.posted o.spaces) (permanent_passes (first_hold h seat first) h.posted o.spaces null refl) (λ b n is. named_passes tree words h p seat first all name o ss s fits b n is) tree m gs refines.frames a listed
 
 -- ---- the end of a step
 

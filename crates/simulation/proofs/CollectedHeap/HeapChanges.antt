@@ -70,9 +70,9 @@ module _ (tree : Tree) (words : ℕ) (h : Handshakes) (p : Progress) (seat : Sea
   -- what a thread loads from static fields stands under its own names
   pub collected_statics : (h.posted ≡ Mark → h.has_round ≡ true → p.scanned_statics ≡ true) → AreStatics name ss s.statics
   collected_statics rounds =
-      agree_from (λ v (f : FieldKey × StateValue). IsValue name v f.1) ss s.statics (agree_length (λ v (f : FieldKey × StateValue). IsValue fits.whole v f.1) ss s.statics fits.stands)
+      agree_from (λ v (f : FieldKey × StateValue). IsValue name v f.1) ss s.statics (agree_length (λ v (f : FieldKey × StateValue). IsValue fits.whole v f.1) ss s.statics fits.refines)
       (λ n v f is is'.
-      let old = agree_get (λ w (g : FieldKey × StateValue). IsValue fits.whole w g.1) ss s.statics fits.stands n f is' in
+      let old = agree_get (λ w (g : FieldKey × StateValue). IsValue fits.whole w g.1) ss s.statics fits.refines n f is' in
       let same : old.0 ≡ v = same_Some old.0 v (sym old.1 ∙ is) in
       value_is_cut v f.1 (loaded n v is) (subst (λ w. IsValue fits.whole w f.1) same old.2))
     where
@@ -95,7 +95,7 @@ module _ (tree : Tree) (words : ℕ) (h : Handshakes) (p : Progress) (seat : Sea
     filled = fits.filled;
     cut = fits.cut;
     is_cut = fits.is_cut;
-    stands = subst (λ es. AreStatics fits.whole ss es) (sym same.statics) fits.stands;
+    refines = subst (λ es. AreStatics fits.whole ss es) (sym same.statics) fits.refines;
     static_holds = fits.static_holds;
   }
 
@@ -152,7 +152,7 @@ module _ (tree : Tree) (words : ℕ) (h : Handshakes) (p : Progress) (seat : Sea
   -- all of it fits where the heap and the static fields represent a state
   pub change_fits : (ss' : List Value) (s' : State) → IsHeap tree fits.whole o' s' → AreStatics fits.whole ss' s'.statics → ((number : ℕ) (v : Value) → slice_get ss' number ≡ Some v → ValuePasses (static_may_hold h.posted o'.spaces p number) v) →
       FitsCollected tree words h p seat first all name o' ss' s'
-  change_fits ss' s' heap stands static_holds = record {
+  change_fits ss' s' heap refines static_holds = record {
     sound = change.sound;
     on_time = λ own time late. change.begun (fits.on_time own time late);
     grows = grows_then first.spaces o.spaces o'.spaces fits.grows change.grows;
@@ -164,7 +164,7 @@ module _ (tree : Tree) (words : ℕ) (h : Handshakes) (p : Progress) (seat : Sea
     filled = λ a b n is other live. fits.filled a b n is (copy_before a b other) (change.live_back (record { number = b }) live);
     cut = λ a n is. let c = fits.cut a n is in (c.0, passes_then o.spaces o'.spaces change.grows (first_hold h seat first) h.posted (record { number = a }) c.1);
     is_cut = λ a n is pass. fits.is_cut a n is (change.pass_back (record { number = a }) pass);
-    stands = stands;
+    refines = refines;
     static_holds = static_holds;
   }
 
@@ -185,22 +185,22 @@ module _ (tree : Tree) (words : ℕ) (h : Handshakes) (p : Progress) (seat : Sea
       let l = fits.heap.literals a characters is in
       record {
         number = l.number;
-        numbered = l.numbered;
+        has_id = l.has_id;
         is = l.is;
         monitor = l.monitor;
         held = ap (λ (ms : List Monitor). slice_get ms l.number) same ∙ l.held;
         state_monitor = l.state_monitor;
         state_held = ap (λ (es : List (List ℕ × StateMonitor)). entry_at same_text characters es) same' ∙ l.state_held;
-        stands = l.stands;
+        refines = l.refines;
       }
 
 -- ---- marks
 
 -- a cell that was marked represents what it represented
-pub marked_stands : (tree : Tree) (name : Names) (c d : Cell) (object : _) → IsButMarked c d → IsCell tree name c object → IsCell tree name d object
-marked_stands tree name c d object (inl same) stands = subst (λ (x : Cell). IsCell tree name x object) (sym same) stands
-marked_stands tree name c d object (inr same) stands =
-    let marked : IsCell tree name (set_mark c) object = record { contents = stands.contents; monitor = stands.monitor } in
+pub marked_refines : (tree : Tree) (name : Names) (c d : Cell) (object : _) → IsButMarked c d → IsCell tree name c object → IsCell tree name d object
+marked_refines tree name c d object (inl same) refines = subst (λ (x : Cell). IsCell tree name x object) (sym same) refines
+marked_refines tree name c d object (inr same) refines =
+    let marked : IsCell tree name (set_mark c) object = record { contents = refines.contents; monitor = refines.monitor } in
     subst (λ (x : Cell). IsCell tree name x object) (sym same) marked
 
 module _ (m : Spaces) (q x : Addr) where
@@ -277,13 +277,13 @@ module _ (tree : Tree) (words : ℕ) (h : Handshakes) (p : Progress) (seat : Sea
     born_then a n named =
         let b = fits.heap.born a n named in
         let after = value_mark_leaves o v (record { number = a }) b.cell b.lies in
-        record { no_literal = b.no_literal; cell = after.0; lies = after.1; object = b.object; is = b.is; stands = marked_stands tree fits.whole b.cell after.0 b.object after.2 b.stands }
+        record { no_literal = b.no_literal; cell = after.0; lies = after.1; object = b.object; is = b.is; refines = marked_refines tree fits.whole b.cell after.0 b.object after.2 b.refines }
 
     marks_fit : FitsStill (with_marked o v)
     marks_fit =
         change_fits tree words h p seat first all name o ss s fits (with_marked o v) mark_change ss s
         (heap_then tree words h p seat first all name o ss s fits (with_marked o v) mark_change s born_then (literals_stay tree words h p seat first all name o ss s fits (with_marked o v) mark_change s (static_literals Mark o [] 0 v) refl))
-        fits.stands
+        fits.refines
         (statics_still tree words h p seat first all name o ss s fits (with_marked o v) mark_change)
 
   -- by what the thread may hold

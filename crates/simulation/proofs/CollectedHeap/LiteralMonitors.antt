@@ -53,7 +53,7 @@ entry_stays {V} j k v apart (x ∷ xs) = by_head (same_text x.0 k) refl (entry_s
 -- ---- the monitor
 
 module _ (tree : Tree) (words : ℕ) (h : Handshakes) (p : Progress) (seat : Seat) (first : Objects) (all : Names) (name : Names) (o : Objects) (ss : List Value) (s : State) (fits : FitsCollected tree words h p seat first all name o ss s)
-    (a : Addr) (characters : List ℕ) (named : name a.number ≡ Some (Literal characters)) (m : Monitor) (u : StateMonitor) (stands : IsMonitor m u) where
+    (a : Addr) (characters : List ℕ) (named : name a.number ≡ Some (Literal characters)) (m : Monitor) (u : StateMonitor) (refines : IsMonitor m u) where
   abbrev spaces : AreSpaces o.spaces
   spaces = fits.sound.blocks.spaces
 
@@ -66,8 +66,8 @@ module _ (tree : Tree) (words : ℕ) (h : Handshakes) (p : Progress) (seat : Sea
   -- no literal is a copy
   no_twin : {A : Type 0} → (b : ℕ) → AreTwins o.spaces a.number b → A
   no_twin b twins = elim (twins_either tree h.posted h.has_round words p o.spaces fits.sound a.number b twins) [
-    | inl copies ↦ none_is_some own.number (sym (no_literal o.spaces spaces a copies.from (old_is_cell o.spaces a copies.from copies.old)) ∙ own.numbered)
-    | inr copies ↦ none_is_some own.number (sym (no_literal o.spaces spaces a copies.to (new_is_cell o.spaces spaces a copies.to copies.new)) ∙ own.numbered)
+    | inl copies ↦ none_is_some own.number (sym (no_literal o.spaces spaces a copies.from (old_is_cell o.spaces a copies.from copies.old)) ∙ own.has_id)
+    | inr copies ↦ none_is_some own.number (sym (no_literal o.spaces spaces a copies.to (new_is_cell o.spaces spaces a copies.to copies.new)) ∙ own.has_id)
   ]
 
   -- the objects and the state with the other monitor
@@ -84,13 +84,13 @@ module _ (tree : Tree) (words : ℕ) (h : Handshakes) (p : Progress) (seat : Sea
   other_literal : (b : ℕ) (characters' : List ℕ) → IsLiteralAt tree o s b characters' → same_text characters characters' ≡ false → LiteralThen b characters'
   other_literal b characters' l apart = record {
     number = l.number;
-    numbered = l.numbered;
+    has_id = l.has_id;
     is = l.is;
     monitor = l.monitor;
     held = by_index (set_or_stays o.literals own.number l.number m l.monitor l.held);
     state_monitor = l.state_monitor;
     state_held = entry_stays characters' characters u apart s.literal_monitors ∙ l.state_held;
-    stands = l.stands;
+    refines = l.refines;
   }
     where
       clash : {A : Type 0} → characters ≡ characters' → A
@@ -103,13 +103,13 @@ module _ (tree : Tree) (words : ℕ) (h : Handshakes) (p : Progress) (seat : Sea
   own_then : LiteralThen a.number characters
   own_then = record {
     number = own.number;
-    numbered = own.numbered;
+    has_id = own.has_id;
     is = own.is;
     monitor = m;
     held = set_is_there o.literals own.number m own.monitor own.held;
     state_monitor = u;
     state_held = entry_is_there characters u own.state_monitor s.literal_monitors own.state_held;
-    stands = stands;
+    refines = refines;
   }
 
   -- each literal has its monitor
@@ -130,7 +130,7 @@ module _ (tree : Tree) (words : ℕ) (h : Handshakes) (p : Progress) (seat : Sea
 
   -- each object stays
   born_then : (b n : ℕ) → fits.whole b ≡ Some (Born n) → IsBornAt tree fits.whole after next b n
-  born_then b n is = let l = fits.heap.born b n is in record { no_literal = l.no_literal; cell = l.cell; lies = l.lies; object = l.object; is = l.is; stands = l.stands }
+  born_then b n is = let l = fits.heap.born b n is in record { no_literal = l.no_literal; cell = l.cell; lies = l.lies; object = l.object; is = l.is; refines = l.refines }
 
   change : IsChange tree words h p seat (first_hold h seat first) o after
   change = alike_change tree words h p seat (first_hold h seat first) o after (alike_itself o.spaces) fits.sound
@@ -138,5 +138,5 @@ module _ (tree : Tree) (words : ℕ) (h : Handshakes) (p : Progress) (seat : Sea
   -- all fits with the monitor
   pub collected_literals : FitsCollected tree words h p seat first all name (stored_monitor seat.phase o a m) ss (with_state_monitor s (Literal characters) u)
   collected_literals =
-      subst (λ (q : Objects). FitsCollected tree words h p seat first all name q ss next) (sym (literal_monitor_is seat.phase o a m own.number own.numbered))
-      (change_fits tree words h p seat first all name o ss s fits after change ss next (heap_then tree words h p seat first all name o ss s fits after change next born_then literal_then) fits.stands fits.static_holds)
+      subst (λ (q : Objects). FitsCollected tree words h p seat first all name q ss next) (sym (literal_monitor_is seat.phase o a m own.number own.has_id))
+      (change_fits tree words h p seat first all name o ss s fits after change ss next (heap_then tree words h p seat first all name o ss s fits after change next born_then literal_then) fits.refines fits.static_holds)

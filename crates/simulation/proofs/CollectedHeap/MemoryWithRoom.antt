@@ -72,24 +72,24 @@ module _ (tree : Tree) (base : MemoryModel tree) (start : Objects) (first : List
 
   -- an object whose cell keeps its size has the number of words of the one before
   module _ (name : Names) (o : Objects) (ss : List Value) (s : State) (h : FitsInRoom name o ss s) (typed : IsTyped tree s) (a : Addr) (n : ℕ) (named : name a.number ≡ Some (Born n)) (cell : Cell) (lies : object_cell o a ≡ Some cell)
-      (changed : Cell) (keeps : size changed ≡ size cell) (object : HeapObject) (stands : IsCell tree name changed object) where
+      (changed : Cell) (keeps : size changed ≡ size cell) (object : HeapObject) (refines : IsCell tree name changed object) where
     pub words_then : words_of_all tree (with_object s (Born n) object).objects ≡ words_of_all tree s.objects
     words_then =
         let before = (base.reads name o ss s h.fits typed).born a.number n named in
         let same : before.cell ≡ cell = same_Some before.cell cell (sym before.lies ∙ lies) in
         let own : cell_words tree object.contents ≡ cell_words tree before.object.contents =
-        sym (cell_size tree name changed object stands) ∙ keeps ∙ ap size (sym same) ∙ cell_size tree name before.cell before.object before.stands in
+        sym (cell_size tree name changed object refines) ∙ keeps ∙ ap size (sym same) ∙ cell_size tree name before.cell before.object before.refines in
         words_stay tree s.objects n before.object object before.is own
 
   -- births
   pub born_in_room : (name : Names) (o : Objects) (ss : List Value) (s : State) → FitsInRoom name o ss s → (k : Kind) (count : ℕ) (contents : Contents) → ((names : Names) → IsOfContents tree names k (replicate count 0) contents None) →
       (born : Objects) (a : Addr) → ◌≡◌ {A = Objects × Option Addr} (object_born base.phase o k count) (born, Some a) → IsBirth FitsInRoom name ss s contents born a
-  born_in_room name o ss s h k count contents stands born a e =
-      let b = base.births name o ss s h.fits k count contents stands born a e in
+  born_in_room name o ss s h k count contents refines born a e =
+      let b = base.births name o ss s h.fits k count contents refines born a e in
       record { names = b.names; extends = b.extends; named = b.named; fits = record { fits = b.fits; room = record { together = together; marking = marking; large = large_then start.spaces o.spaces born.spaces h.room.large (birth_large base.phase o k count born a e); used = used } } }
     where
       own : 3 + count ≡ cell_words tree contents
-      own = ap (λ n. 3 + n) (sym (length-replicate {A = ℕ} count 0)) ∙ contents_size tree name k (replicate count 0) contents None (stands name)
+      own = ap (λ n. 3 + n) (sym (length-replicate {A = ℕ} count 0)) ∙ contents_size tree name k (replicate count 0) contents None (refines name)
 
       all : words_of_all tree (with_state_birth s contents).objects ≡ words_of_all tree s.objects + cell_words tree contents
       all = sum_by_push (λ (x : HeapObject). cell_words tree x.contents) s.objects (record { contents = contents; monitor = IsFree; thread = None })
@@ -129,9 +129,9 @@ module _ (tree : Tree) (base : MemoryModel tree) (start : Objects) (first : List
     same_null = λ name o ss s h. base.same_null name o ss s h.fits;
     null_name = λ name o ss s h b k is. base.null_name name o ss s h.fits b k is;
     name_null = λ name o ss s h a n is. base.name_null name o ss s h.fits a n is;
-    storable = λ name o ss s h a n is cell lies slot v u inside stands. base.storable name o ss s h.fits a n is cell lies slot v u inside stands;
-    slots = λ name o ss s h typed a n is cell lies slot v u inside sort stands object linked after. record {
-      fits = base.slots name o ss s h.fits typed a n is cell lies slot v u inside sort stands object linked after;
+    storable = λ name o ss s h a n is cell lies slot v u inside refines. base.storable name o ss s h.fits a n is cell lies slot v u inside refines;
+    slots = λ name o ss s h typed a n is cell lies slot v u inside sort refines object linked after. record {
+      fits = base.slots name o ss s h.fits typed a n is cell lies slot v u inside sort refines object linked after;
       room = keeps_more tree base.phase start first o (stored_value base.phase o a slot v) s.objects (with_object s (Born n) object).objects (value_uses base.phase o a slot v) (λ early. value_leaves base.phase early o a slot v)
           (words_then name o ss s h typed a n is cell lies (store_slot slot (value_word v) cell) (slot_keeps slot (value_word v) cell) object after) h.room;
     };
@@ -147,13 +147,13 @@ module _ (tree : Tree) (base : MemoryModel tree) (start : Objects) (first : List
       room = keeps_more tree base.phase start first o (stored_monitor base.phase o a monitor) s.objects (with_object s (Born n) object).objects (monitor_uses base.phase o a monitor) (λ early. monitor_leaves base.phase early o a monitor)
           (words_then name o ss s h typed a n is cell lies (store_monitor monitor cell) refl object after) h.room;
     };
-    literals = λ name o ss s h a characters is monitor u stands. record {
-      fits = base.literals name o ss s h.fits a characters is monitor u stands;
+    literals = λ name o ss s h a characters is monitor u refines. record {
+      fits = base.literals name o ss s h.fits a characters is monitor u refines;
       room = keeps_more tree base.phase start first o (stored_monitor base.phase o a monitor) s.objects s.objects (monitor_uses base.phase o a monitor) (λ early. monitor_leaves base.phase early o a monitor) refl h.room;
     };
-    static_storable = λ name o ss s h v u stands. base.static_storable name o ss s h.fits v u stands;
-    static_stores = λ name o ss s h n v u inside stands entries fields. record {
-      fits = base.static_stores name o ss s h.fits n v u inside stands entries fields;
+    static_storable = λ name o ss s h v u refines. base.static_storable name o ss s h.fits v u refines;
+    static_stores = λ name o ss s h n v u inside refines entries fields. record {
+      fits = base.static_stores name o ss s h.fits n v u inside refines entries fields;
       room = keeps_more tree base.phase start first o (stored_static base.phase o ss n v).0 s.objects s.objects (static_uses base.phase o ss n v) (λ early. static_leaves base.phase early o ss n v) refl h.room;
     };
     bears = λ name o ss s h. base.bears name o ss s h.fits;

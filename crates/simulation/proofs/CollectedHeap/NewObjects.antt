@@ -73,7 +73,7 @@ module _ (tree : Tree) (words : ℕ) (h : Handshakes) (p : Progress) (seat : Sea
   pub collected_bears : can_bear seat.phase o ≡ true
   collected_bears = can_bear_near tree seat.phase h.posted near h.has_round words p o time_now fits.sound
 
-  module _ (k : Kind) (count : ℕ) (contents : Contents) (contents_stand : (names : Names) → IsOfContents tree names k (replicate count 0) contents None)
+  module _ (k : Kind) (count : ℕ) (contents : Contents) (contents_refine : (names : Names) → IsOfContents tree names k (replicate count 0) contents None)
       (o' : Objects) (a : Addr) (e : ◌≡◌ {A = Objects × Option Addr} (object_born seat.phase o k count) (o', Some a)) where
     abbrev m : Spaces
     m = o.spaces
@@ -142,7 +142,7 @@ module _ (tree : Tree) (words : ℕ) (h : Handshakes) (p : Progress) (seat : Sea
     unnamed x (Literal characters) new is =
         let l = fits.heap.literals x characters is in
         let r = newly_empty x new in
-        none_is_some l.number (sym (no_literal o'.spaces sound.blocks.spaces (record { number = x }) r.0 r.1) ∙ l.numbered)
+        none_is_some l.number (sym (no_literal o'.spaces sound.blocks.spaces (record { number = x }) r.0 r.1) ∙ l.has_id)
 
     -- ---- the names
 
@@ -310,11 +310,11 @@ module _ (tree : Tree) (words : ℕ) (h : Handshakes) (p : Progress) (seat : Sea
     new_object = record { contents = contents; monitor = IsFree; thread = None }
 
     -- an empty object represents the new one
-    empty_stands : (c : Cell) → IsEmpty k count c → IsCell tree whole c new_object
-    empty_stands c empty = record {
+    empty_refines : (c : Cell) → IsEmpty k count c → IsCell tree whole c new_object
+    empty_refines c empty = record {
       contents =
           subst (λ x. IsOfContents tree whole x c.slots contents None) (sym empty.kind)
-          (subst (λ (ws : List ℕ). IsOfContents tree whole k ws contents None) (sym empty.zeros) (contents_stand whole));
+          (subst (λ (ws : List ℕ). IsOfContents tree whole k ws contents None) (sym empty.zeros) (contents_refine whole));
       monitor = subst (λ (x : Monitor). IsMonitor x IsFree) (sym empty.free) tt;
     }
 
@@ -327,7 +327,7 @@ module _ (tree : Tree) (words : ℕ) (h : Handshakes) (p : Progress) (seat : Sea
           lies = r.1;
           object = new_object;
           is = last_is_there s.objects new_object;
-          stands = empty_stands r.0 r.2;
+          refines = empty_refines r.0 r.2;
         }
 
     born_before : (x n : ℕ) → fits.whole x ≡ Some (Born n) → IsBornAt tree whole o' s' x n
@@ -339,7 +339,7 @@ module _ (tree : Tree) (words : ℕ) (h : Handshakes) (p : Progress) (seat : Sea
           lies = birth.others (record { number = x }) b.cell b.lies;
           object = b.object;
           is = get_stays s.objects new_object n b.object b.is;
-          stands = cell_extends fits.whole whole kept tree b.cell b.object b.stands;
+          refines = cell_extends fits.whole whole kept tree b.cell b.object b.refines;
         }
 
     born_then : (x n : ℕ) → whole x ≡ Some (Born n) → IsBornAt tree whole o' s' x n
@@ -353,13 +353,13 @@ module _ (tree : Tree) (words : ℕ) (h : Handshakes) (p : Progress) (seat : Sea
         let l = fits.heap.literals x characters is in
         record {
           number = l.number;
-          numbered = l.numbered;
+          has_id = l.has_id;
           is = l.is;
           monitor = l.monitor;
           held = ap (λ (ms : List Monitor). slice_get ms l.number) birth.literals ∙ l.held;
           state_monitor = l.state_monitor;
           state_held = l.state_held;
-          stands = l.stands;
+          refines = l.refines;
         }
 
     small_then : (x : ℕ) (n : ObjectName) → whole x ≡ Some n → x < ADDRESSES
@@ -415,7 +415,7 @@ module _ (tree : Tree) (words : ℕ) (h : Handshakes) (p : Progress) (seat : Sea
       filled = filled_then;
       cut = λ x n is. cut_is (first_hold h seat first) h.posted o'.spaces whole x n is;
       is_cut = λ x n is pass. is_cut_name (first_hold h seat first) h.posted o'.spaces whole x n is pass;
-      stands = agree_weaken (λ v (f : FieldKey × StateValue). IsValue fits.whole v f.1) (λ v (f : FieldKey × StateValue). IsValue whole v f.1) (λ v f is. value_extends fits.whole whole kept v f.1 is) ss s.statics fits.stands;
+      refines = agree_weaken (λ v (f : FieldKey × StateValue). IsValue fits.whole v f.1) (λ v (f : FieldKey × StateValue). IsValue whole v f.1) (λ v f is. value_extends fits.whole whole kept v f.1 is) ss s.statics fits.refines;
       static_holds = λ number v there.
           value_weakens (static_may_hold h.posted o.spaces p number) (static_may_hold h.posted o'.spaces p number)
           (λ b pass. passes_then o.spaces o'.spaces grows (static_hold_of h.posted p number) h.posted b pass) v (fits.static_holds number v there);

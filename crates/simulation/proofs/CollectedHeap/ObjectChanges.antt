@@ -27,7 +27,7 @@ use Rattle.collector.proofs.Addresses.Tests.{old_is}
 use Rattle.simulation.specs.Refines.{AreTwins, IsBornAt, IsCell, Names}
 use Rattle.simulation.proofs.ListLaws.ChangedItems.{set_or_stays}
 use Rattle.simulation.proofs.Memory.ReferenceSlots.{IsLinked}
-use Rattle.simulation.proofs.CollectedHeap.TwoCopies.{AreOldAndNew, HasNamedWords, copies_apart, copies_show, new_copy_stands, noted_twin, old_copy_stands, twin_noted, twins_either, twins_late}
+use Rattle.simulation.proofs.CollectedHeap.TwoCopies.{AreOldAndNew, HasNamedWords, copies_apart, copies_show, new_copy_refines, noted_twin, old_copy_refines, twin_noted, twins_either, twins_late}
 use Rattle.simulation.proofs.CollectedHeap.VisibleNames.{FitsCollected, first_hold}
 use Rattle.simulation.proofs.CollectedHeap.HeapChanges.{IsChange, alike_change, change_fits, heap_then, literals_stay, statics_still, copy_before, twins_then}
 
@@ -38,7 +38,7 @@ born_number k n e = cc
 module _ (tree : Tree) (words : ℕ) (h : Handshakes) (p : Progress) (seat : Seat) (first : Objects) (all : Names) (name : Names) (o : Objects) (ss : List Value) (s : State) (fits : FitsCollected tree words h p seat first all name o ss s)
     (both : Bool) (a : Addr) (n : ℕ) (named : fits.whole a.number ≡ Some (Born n)) (c : Cell) (lies : object_cell o a ≡ Some c) (f g : Cell → Cell) (keeps : KeepsTags f) (keeps' : KeepsTags g)
     (sound : IsSoundHeap tree h.posted h.has_round words p (changed_by both f g o a).spaces)
-    (object : HeapObject) (linked : IsLinked tree c.kind object.contents) (stands : IsCell tree fits.whole (change_for both f g o a c) object)
+    (object : HeapObject) (linked : IsLinked tree c.kind object.contents) (refines : IsCell tree fits.whole (change_for both f g o a c) object)
     (named_before : (x : Addr) (d : Cell) → fits.whole x.number ≡ Some (Born n) → object_cell o x ≡ Some d → HasNamedWords tree fits.whole d)
     (keeps_named : (d : Cell) → d.kind ≡ c.kind → HasNamedWords tree fits.whole d → HasNamedWords tree fits.whole (f d)) where
   abbrev m : Spaces
@@ -83,7 +83,7 @@ module _ (tree : Tree) (words : ℕ) (h : Handshakes) (p : Progress) (seat : Sea
   object_then = let was = fits.heap.born a.number n named in set_is_there s.objects n object was.object was.is
 
   own_then : BornThen a.number n
-  own_then = record { no_literal = (fits.heap.born a.number n named).no_literal; cell = change_for both f g o a c; lies = own_lies; object = object; is = object_then; stands = stands }
+  own_then = record { no_literal = (fits.heap.born a.number n named).no_literal; cell = change_for both f g o a c; lies = own_lies; object = object; is = object_then; refines = refines }
 
   -- ---- the other copy
 
@@ -107,10 +107,10 @@ module _ (tree : Tree) (words : ℕ) (h : Handshakes) (p : Progress) (seat : Sea
           lies = new_is_cell m' sound.blocks.spaces b copies.to copies.new;
           object = object;
           is = object_then;
-          stands =
-              new_copy_stands tree h.posted h.has_round words p m' sound late fits.whole fits.heap.small filled a b copies object
+          refines =
+              new_copy_refines tree h.posted h.has_round words p m' sound late fits.whole fits.heap.small filled a b copies object
               (subst (λ k. IsLinked tree k object.contents) (sym (ap (λ (d : Cell). d.kind) same ∙ own_kind)) linked)
-              (subst (λ (d : Cell). IsCell tree fits.whole d object) (sym same) stands);
+              (subst (λ (d : Cell). IsCell tree fits.whole d object) (sym same) refines);
         }
 
     -- where it is the old one
@@ -156,10 +156,10 @@ module _ (tree : Tree) (words : ℕ) (h : Handshakes) (p : Progress) (seat : Sea
         lies = old_lies;
         object = object;
         is = object_then;
-        stands =
-            old_copy_stands tree h.posted h.has_round words p m' sound late fits.whole fits.heap.small filled b a copies object
+        refines =
+            old_copy_refines tree h.posted h.has_round words p m' sound late fits.whole fits.heap.small filled b a copies object
             (subst (λ k. IsLinked tree k object.contents) (sym kind_is) linked) named_then
-            (subst (λ (d : Cell). IsCell tree fits.whole d object) (sym same_new) stands);
+            (subst (λ (d : Cell). IsCell tree fits.whole d object) (sym same_new) refines);
       }
 
     twin_then : BornThen x n
@@ -186,7 +186,7 @@ module _ (tree : Tree) (words : ℕ) (h : Handshakes) (p : Progress) (seat : Sea
           lies = unreached_stays tree h.posted h.has_round words p o fits.sound a c lies f g keeps keeps' both (record { number = x }) unreached ∙ was.lies;
           object = was.object;
           is = elim (set_or_stays s.objects n k object was.object was.is) [ inl same ↦ absurd (apart same) | inr stays ↦ stays ];
-          stands = was.stands;
+          refines = was.refines;
         }
 
   -- ---- all
@@ -218,5 +218,5 @@ module _ (tree : Tree) (words : ℕ) (h : Handshakes) (p : Progress) (seat : Sea
   object_changes =
       change_fits tree words h p seat first all name o ss s fits o' change ss s'
       (heap_then tree words h p seat first all name o ss s fits o' change s' born_then (literals_stay tree words h p seat first all name o ss s fits o' change s' literals_are refl))
-      fits.stands
+      fits.refines
       (statics_still tree words h p seat first all name o ss s fits o' change)

@@ -49,7 +49,7 @@ use Rattle.simulation.proofs.Memory.ReferenceSlots.{IsLinked, is_reference_state
 use Rattle.simulation.proofs.CollectedHeap.RewrittenCells.{AreRewritten, IsNamedWord, contents_named, contents_rewritten}
 use Rattle.simulation.proofs.CollectedHeap.TwoCopies.{HasNamedWords, word_forwarded}
 use Rattle.simulation.proofs.CollectedHeap.VisibleNames.{FitsCollected, named_held, named_small, named_whole, own_extends}
-use Rattle.simulation.proofs.CollectedHeap.HeapChanges.{first_fits, marked_stands}
+use Rattle.simulation.proofs.CollectedHeap.HeapChanges.{first_fits, marked_refines}
 use Rattle.simulation.proofs.CollectedHeap.ReferenceComparisons.{both_true, early_beside}
 use Rattle.simulation.proofs.CollectedHeap.ObjectChanges.{object_changes}
 use Rattle.simulation.proofs.CollectedHeap.StaticStores.{beside_heap, value_held}
@@ -63,12 +63,12 @@ same_sort (Int64 z) = refl
 same_sort (Native z) = refl
 
 -- a value that stands under names of short addresses is short
-stands_short : (name : Names) → ((a : ℕ) (n : ObjectName) → name a ≡ Some n → a < ADDRESSES) → (v : Value) (u : StateValue) → IsValue name v u → IsShort v
-stands_short name small v u (int32 z fits) = tt
-stands_short name small v u (int64 z fits) = tt
-stands_short name small v u (native z fits) = tt
-stands_short name small v u null_reference = omega arith
-stands_short name small v u (reference a n is) = small a.number n is
+refines_short : (name : Names) → ((a : ℕ) (n : ObjectName) → name a ≡ Some n → a < ADDRESSES) → (v : Value) (u : StateValue) → IsValue name v u → IsShort v
+refines_short name small v u (int32 z fits) = tt
+refines_short name small v u (int64 z fits) = tt
+refines_short name small v u (native z fits) = tt
+refines_short name small v u null_reference = omega arith
+refines_short name small v u (reference a n is) = small a.number n is
 
 -- an integer is its own forward
 integer_forward : (o : Objects) (v : Value) → is_reference_value v ≡ false → forward_value o v ≡ v
@@ -169,8 +169,8 @@ module _ (tree : Tree) (words : ℕ) (h : Handshakes) (p : Progress) (seat : Sea
   named_words legal typed n x d is lies =
       let b = fits.heap.born x.number n is in
       let same : b.cell ≡ d = same_Some b.cell d (sym b.lies ∙ lies) in
-      let linked = typed_is_linked tree legal s fits.whole b.cell.kind b.cell.slots b.object.contents b.object.thread (typed.objects n b.object b.is) b.stands.contents in
-      subst (HasNamedWords tree fits.whole) same (contents_named tree fits.whole b.cell.kind b.cell.slots b.object.contents b.object.thread linked b.stands.contents)
+      let linked = typed_is_linked tree legal s fits.whole b.cell.kind b.cell.slots b.object.contents b.object.thread (typed.objects n b.object b.is) b.refines.contents in
+      subst (HasNamedWords tree fits.whole) same (contents_named tree fits.whole b.cell.kind b.cell.slots b.object.contents b.object.thread linked b.refines.contents)
 
   module _ (late : has_words h.posted ≡ true) (slot : ℕ) (v : Value) (short : IsShort v) (c : Cell) (inside : slot < length c.slots) (sort : is_reference_value v ≡ holds_reference tree c.kind slot) where
     abbrev before : List ℕ
@@ -180,13 +180,13 @@ module _ (tree : Tree) (words : ℕ) (h : Handshakes) (p : Progress) (seat : Sea
     after = slice_set c.slots slot (value_word (forward_value o v))
 
     -- the forward's word represents the same
-    forward_stands : (x : Value) → IsShort x → is_reference_value x ≡ true → (u : StateValue) → is_reference_state u ≡ true → IsWord fits.whole (value_word x) u → IsWord fits.whole (value_word (forward_value o x)) u
-    forward_stands (Ref a) low holds u is stands =
+    forward_refines : (x : Value) → IsShort x → is_reference_value x ≡ true → (u : StateValue) → is_reference_state u ≡ true → IsWord fits.whole (value_word x) u → IsWord fits.whole (value_word (forward_value o x)) u
+    forward_refines (Ref a) low holds u is refines =
         subst (λ (y : Addr). IsWord fits.whole (forward o.spaces y).number u) (reference_again a low)
-        (word_forwarded tree h.posted h.has_round words p o.spaces fits.sound late fits.whole fits.heap.small fits.filled a.number u is stands)
-    forward_stands (Int32 z) low holds u is stands = never holds
-    forward_stands (Int64 z) low holds u is stands = never holds
-    forward_stands (Native z) low holds u is stands = never holds
+        (word_forwarded tree h.posted h.has_round words p o.spaces fits.sound late fits.whole fits.heap.small fits.filled a.number u is refines)
+    forward_refines (Int32 z) low holds u is refines = never holds
+    forward_refines (Int64 z) low holds u is refines = never holds
+    forward_refines (Native z) low holds u is refines = never holds
 
     -- the slot's value
     after_there : slice_get after slot ≡ Some (value_word (forward_value o v))
@@ -205,21 +205,21 @@ module _ (tree : Tree) (words : ℕ) (h : Handshakes) (p : Progress) (seat : Sea
             subst (λ j. slice_get after j ≡ Some w) (sym here.0) (after_there ∙ ap (λ x. Some (value_word x)) (integer_forward o v integer) ∙ ap Some (sym here.1))
         | inr still ↦ else_there i w still.0 still.1
       ];
-      references = λ i w is holds u link stands. elim (set_here_or_there c.slots slot i (value_word v) w is) [
+      references = λ i w is holds u link refines. elim (set_here_or_there c.slots slot i (value_word v) w is) [
         | inl here ↦ (
           value_word (forward_value o v),
           subst (λ j. slice_get after j ≡ Some (value_word (forward_value o v))) (sym here.0) after_there,
-          forward_stands v short (sort ∙ subst (λ j. holds_reference tree c.kind j ≡ true) here.0 holds) u link (subst (λ y. IsWord fits.whole y u) here.1 stands),
+          forward_refines v short (sort ∙ subst (λ j. holds_reference tree c.kind j ≡ true) here.0 holds) u link (subst (λ y. IsWord fits.whole y u) here.1 refines),
         )
-        | inr still ↦ (w, else_there i w still.0 still.1, stands)
+        | inr still ↦ (w, else_there i w still.0 still.1, refines)
       ];
     }
 
     -- a cell with the forward represents what one with the value represents
     forward_cell : (object : HeapObject) → IsLinked tree c.kind object.contents → IsCell tree fits.whole (store_slot slot (value_word v) c) object → IsCell tree fits.whole (store_slot slot (value_word (forward_value o v)) c) object
-    forward_cell object linked stands = record {
-      contents = contents_rewritten tree fits.whole fits.whole c.kind before after forward_rewritten object.contents object.thread linked stands.contents;
-      monitor = stands.monitor;
+    forward_cell object linked refines = record {
+      contents = contents_rewritten tree fits.whole fits.whole c.kind before after forward_rewritten object.contents object.thread linked refines.contents;
+      monitor = refines.monitor;
     }
 
 -- ---- stores
@@ -270,7 +270,7 @@ module _ (tree : Tree) (legal : IsLegal tree) (words : ℕ) (h : Handshakes) (p 
   -- ---- values
 
   module _ (typed : IsTyped tree s) (object : HeapObject) (linked : IsLinked tree c.kind object.contents) where
-    module _ (slot : ℕ) (v : Value) (u : StateValue) (inside : slot < length c.slots) (sort : is_reference_value v ≡ holds_reference tree c.kind slot) (is : IsValue name v u) (stands : IsCell tree name (store_slot slot (value_word v) c) object) where
+    module _ (slot : ℕ) (v : Value) (u : StateValue) (inside : slot < length c.slots) (sort : is_reference_value v ≡ holds_reference tree c.kind slot) (is : IsValue name v u) (refines : IsCell tree name (store_slot slot (value_word v) c) object) where
       -- the objects once the value is marked
       abbrev q : Objects
       q = marked_first seat.phase o v
@@ -279,7 +279,7 @@ module _ (tree : Tree) (legal : IsLegal tree) (words : ℕ) (h : Handshakes) (p 
       marked = first_fits tree words h p seat close first all name o ss s fits v u is
 
       short : IsShort v
-      short = stands_short name (named_small tree words h p seat first all name o ss s fits) v u is
+      short = refines_short name (named_small tree words h p seat first all name o ss s fits) v u is
 
       value : IsHeldValue tree seat.phase h.posted o c.kind slot v
       value = record { short = short; reference = same_sort v ∙ sort; held = value_held tree words h p seat close first time all name o ss s fits v u is }
@@ -308,10 +308,10 @@ module _ (tree : Tree) (legal : IsLegal tree) (words : ℕ) (h : Handshakes) (p 
       whole_value : IsValue marked.whole v u
       whole_value = value_extends name marked.whole (own_extends tree words h p seat first all name q ss s marked) v u is
 
-      old_stands : IsCell tree marked.whole (f here.0) object
-      old_stands =
-          marked_stands tree marked.whole (f c) (f here.0) object (slot_but_marked slot (value_word v) c here.0 here.2)
-          (cell_extends name marked.whole (own_extends tree words h p seat first all name q ss s marked) tree (f c) object stands)
+      old_refines : IsCell tree marked.whole (f here.0) object
+      old_refines =
+          marked_refines tree marked.whole (f c) (f here.0) object (slot_but_marked slot (value_word v) c here.0 here.2)
+          (cell_extends name marked.whole (own_extends tree words h p seat first all name q ss s marked) tree (f c) object refines)
 
       kind_is : here.0.kind ≡ c.kind
       kind_is = but_marked_kind c here.0 here.2
@@ -320,34 +320,34 @@ module _ (tree : Tree) (legal : IsLegal tree) (words : ℕ) (h : Handshakes) (p 
       linked_here = subst (λ k. IsLinked tree k object.contents) (sym kind_is) linked
 
       -- a new copy shows the same with its own value
-      new_stands : cell_in q.spaces.new a ≡ Some here.0 → IsCell tree marked.whole (g here.0) object
-      new_stands new = elim (new_gets seat.phase q v) [
-        | inl same ↦ subst (λ x. IsCell tree marked.whole (store_slot slot (value_word x) here.0) object) (sym same) old_stands
+      new_refines : cell_in q.spaces.new a ≡ Some here.0 → IsCell tree marked.whole (g here.0) object
+      new_refines new = elim (new_gets seat.phase q v) [
+        | inl same ↦ subst (λ x. IsCell tree marked.whole (store_slot slot (value_word x) here.0) object) (sym same) old_refines
         | inr forward ↦
             let live = marked.live a.number (Born n) whole_named in
             let late = late_early h.posted (live_is_late q.spaces marked.sound.blocks.spaces a here.0 h.posted new live) (early_beside seat.phase h.posted (close_is_beside h seat close) forward.0) in
             let inside' : slot < length here.0.slots = subst (λ ws. slot < length ws) (sym (but_marked_slots c here.0 here.2)) inside in
             let sort' : is_reference_value v ≡ holds_reference tree here.0.kind slot = sort ∙ ap (λ k. holds_reference tree k slot) (sym kind_is) in
             subst (λ x. IsCell tree marked.whole (store_slot slot (value_word x) here.0) object) (sym forward.1)
-            (forward_cell tree words h p seat first all name q ss s marked late slot v short here.0 inside' sort' object linked_here old_stands)
+            (forward_cell tree words h p seat first all name q ss s marked late slot v short here.0 inside' sort' object linked_here old_refines)
       ]
 
-      own_stands : IsCell tree marked.whole (change_for (reaches_both seat.phase) f g q a here.0) object
-      own_stands = by_both (reaches_both seat.phase)
+      own_refines : IsCell tree marked.whole (change_for (reaches_both seat.phase) f g q a here.0) object
+      own_refines = by_both (reaches_both seat.phase)
         where
           by_old : (t : Bool) → is_old q.spaces a ≡ t → IsCell tree marked.whole (if t then f here.0 else g here.0) object
-          by_old true e = old_stands
-          by_old false e = new_stands (elim (either q.spaces a here.0 here.1) [ inl old ↦ never (sym e ∙ old_is q.spaces a here.0 old) | inr new ↦ new ])
+          by_old true e = old_refines
+          by_old false e = new_refines (elim (either q.spaces a here.0 here.1) [ inl old ↦ never (sym e ∙ old_is q.spaces a here.0 old) | inr new ↦ new ])
 
           by_both : (t : Bool) → IsCell tree marked.whole (if t then (if is_old q.spaces a then f here.0 else g here.0) else f here.0) object
           by_both true = by_old (is_old q.spaces a) refl
-          by_both false = old_stands
+          by_both false = old_refines
 
       -- a value is stored
       pub collected_slots : FitsThen (stored_value seat.phase o a slot v) (with_object s (Born n) object)
       collected_slots =
           subst (λ (x : Objects). FitsThen x (with_object s (Born n) object)) (sym (value_stored_is seat.phase o a slot v))
-          (object_changes tree words h p seat first all name q ss s marked (reaches_both seat.phase) a n whole_named here.0 here.1 f g (slot_keeps_tags slot (value_word v)) (slot_keeps_tags slot (value_word new_value)) sound object linked_here own_stands
+          (object_changes tree words h p seat first all name q ss s marked (reaches_both seat.phase) a n whole_named here.0 here.1 f g (slot_keeps_tags slot (value_word v)) (slot_keeps_tags slot (value_word new_value)) sound object linked_here own_refines
           (named_words tree words h p seat first all name q ss s marked legal typed n)
           (λ d kind before. slot_named tree marked.whole slot (value_word v) d (λ holds. value_named marked.whole v u whole_value (holds_reference tree d.kind slot) (sort ∙ ap (λ k. holds_reference tree k slot) (sym (kind ∙ kind_is))) holds) before))
 
@@ -357,28 +357,28 @@ module _ (tree : Tree) (legal : IsLegal tree) (words : ℕ) (h : Handshakes) (p 
     own_whole = named_whole tree words h p seat first all name o ss s fits a.number (Born n) named
 
     -- what a change of both copies in one way leaves there
-    all_stands : (f : Cell → Cell) → IsCell tree name (f c) object → IsCell tree fits.whole (change_for (reaches_both seat.phase) f f o a c) object
-    all_stands f stands =
+    all_refines : (f : Cell → Cell) → IsCell tree name (f c) object → IsCell tree fits.whole (change_for (reaches_both seat.phase) f f o a c) object
+    all_refines f refines =
         subst (λ (d : Cell). IsCell tree fits.whole d object) (sym (alike_for (reaches_both seat.phase) f o a c))
-        (cell_extends name fits.whole (own_extends tree words h p seat first all name o ss s fits) tree (f c) object stands)
+        (cell_extends name fits.whole (own_extends tree words h p seat first all name o ss s fits) tree (f c) object refines)
 
     -- a word that is no reference is stored
     pub collected_hidden : (slot w : ℕ) → holds_reference tree c.kind slot ≡ false → IsCell tree name (store_slot slot w c) object → FitsThen (stored_int seat.phase o a slot w) (with_object s (Born n) object)
-    collected_hidden slot w none stands =
+    collected_hidden slot w none refines =
         object_changes tree words h p seat first all name o ss s fits (reaches_both seat.phase) a n own_whole c lies (store_slot slot w) (store_slot slot w) (slot_keeps_tags slot w) (slot_keeps_tags slot w)
         (word_keeps tree seat.phase h.posted h.has_round words p o a c (beside_heap tree words h p seat close first time all name o ss s fits) held slot w none)
-        object linked (all_stands (store_slot slot w) stands)
+        object linked (all_refines (store_slot slot w) refines)
         (named_words tree words h p seat first all name o ss s fits legal typed n)
         (λ d kind before. slot_named tree fits.whole slot w d (λ holds. never (sym (ap (λ k. holds_reference tree k slot) kind ∙ none) ∙ holds)) before)
 
     -- a monitor is stored
     pub collected_monitors : (monitor : Monitor) → IsCell tree name (store_monitor monitor c) object → FitsThen (stored_monitor seat.phase o a monitor) (with_object s (Born n) object)
-    collected_monitors monitor stands =
+    collected_monitors monitor refines =
         let is = object_monitor_is seat.phase o a monitor (no_literal o.spaces fits.sound.blocks.spaces a c lies) in
         subst (λ (x : Objects). FitsThen x (with_object s (Born n) object)) (sym is)
         (object_changes tree words h p seat first all name o ss s fits (reaches_both seat.phase) a n own_whole c lies (store_monitor monitor) (store_monitor monitor) (monitor_keeps_tags monitor) (monitor_keeps_tags monitor)
         (subst (λ (x : Objects). IsSoundHeap tree h.posted h.has_round words p x.spaces) is
         (monitor_keeps tree seat.phase h.posted h.has_round words p o a c (beside_heap tree words h p seat close first time all name o ss s fits) held monitor))
-        object linked (all_stands (store_monitor monitor) stands)
+        object linked (all_refines (store_monitor monitor) refines)
         (named_words tree words h p seat first all name o ss s fits legal typed n)
         (λ d kind before. before))

@@ -21,8 +21,8 @@ use Rattle.simulation.proofs.Memory.ReferenceSlots.{IsLinked, hidden_says, is_re
 -- ---- values under other names
 
 -- an integer stands under any names
-pub integer_stands : (name names : Names) (w : ℕ) (u : StateValue) → is_reference_state u ≡ false → IsWord name w u → IsWord names w u
-integer_stands name names w u sort h = record { value = h.value; stands = by_value h.value u sort h.stands; is = h.is }
+pub integer_refines : (name names : Names) (w : ℕ) (u : StateValue) → is_reference_state u ≡ false → IsWord name w u → IsWord names w u
+integer_refines name names w u sort h = record { value = h.value; refines = by_value h.value u sort h.refines; is = h.is }
   where
     by_value : (v : _) (u : StateValue) → is_reference_state u ≡ false → IsValue name v u → IsValue names v u
     by_value v u sort (int32 z fits) = int32 z fits
@@ -58,7 +58,7 @@ module _ (tree : Tree) (name names : Names) (k : Kind) (slots slots' : List ℕ)
           subst (λ x. IsWord names x u) (same_Some new.0 w' (sym new.1 ∙ is')) new.2
       by_sort false none =
           let same : w ≡ w' = same_Some w w' (sym (rewritten.integers slot w is none) ∙ is') in
-          subst (λ x. IsWord names x u) same (integer_stands name names w u (sym sort ∙ none) h)
+          subst (λ x. IsWord names x u) same (integer_refines name names w u (sym sort ∙ none) h)
 
 -- the elements of an array
 elements_rewritten : (tree : Tree) (name names : Names) (k : Kind) (slots slots' : List ℕ) → AreRewritten tree name names k slots slots' → (elements : List StateValue) →
@@ -71,27 +71,27 @@ elements_rewritten tree name names k slots slots' rewritten elements linked agre
 
 -- the fields of an object of a class
 module _ (tree : Tree) (name names : Names) (class : ℕ) (c : ClassName) (fields : List (FieldKey × StateValue)) (thread : Option ℕ) where
-  abbrev FieldStands : Names → ℕ → FieldKey × StateValue → Type 0
-  FieldStands names w f = IsWord names w f.1
+  abbrev FieldRefines : Names → ℕ → FieldKey × StateValue → Type 0
+  FieldRefines names w f = IsWord names w f.1
 
   -- without a hidden slot
   plain_fields : (slots slots' : List ℕ) → AreRewritten tree name names (Instance class) slots slots' →
       ((index : ℕ) (e : FieldKey × StateValue) → slice_get fields index ≡ Some e → holds_reference tree (Instance class) index ≡ is_reference_state e.1) →
-      Agree (FieldStands name) slots fields → Agree (FieldStands names) slots' fields
+      Agree (FieldRefines name) slots fields → Agree (FieldRefines names) slots' fields
   plain_fields slots slots' rewritten linked agree =
-      agree_from (FieldStands names) slots' fields (rewritten.count ∙ agree_length (FieldStands name) slots fields agree)
+      agree_from (FieldRefines names) slots' fields (rewritten.count ∙ agree_length (FieldRefines name) slots fields agree)
       (λ n w' e is is'.
-      let old = agree_get (FieldStands name) slots fields agree n e is' in
+      let old = agree_get (FieldRefines name) slots fields agree n e is' in
       word_rewritten tree name names (Instance class) slots slots' rewritten n old.0 w' e.1 old.1 is (linked n e is') old.2)
 
   -- after one
   hidden_fields : (x : ℕ) (words words' : List ℕ) → AreRewritten tree name names (Instance class) (x ∷ words) (x ∷ words') →
       ((index : ℕ) (e : FieldKey × StateValue) → slice_get fields index ≡ Some e → holds_reference tree (Instance class) (suc index) ≡ is_reference_state e.1) →
-      Agree (FieldStands name) words fields → Agree (FieldStands names) words' fields
+      Agree (FieldRefines name) words fields → Agree (FieldRefines names) words' fields
   hidden_fields x words words' rewritten linked agree =
-      agree_from (FieldStands names) words' fields (let count : length words' ≡ length words = omega (arith, rewritten.count) in count ∙ agree_length (FieldStands name) words fields agree)
+      agree_from (FieldRefines names) words' fields (let count : length words' ≡ length words = omega (arith, rewritten.count) in count ∙ agree_length (FieldRefines name) words fields agree)
       (λ n w' e is is'.
-      let old = agree_get (FieldStands name) words fields agree n e is' in
+      let old = agree_get (FieldRefines name) words fields agree n e is' in
       word_rewritten tree name names (Instance class) (x ∷ words) (x ∷ words') rewritten (suc n) old.0 w' e.1 old.1 is (linked n e is') old.2)
 
   -- an object of a class
@@ -140,7 +140,7 @@ IsNamedWord name w = (w ≡ 0) ⊎ ((n : ObjectName) × (name w ≡ Some n))
 -- so is the word of a reference of what stands
 module _ (tree : Tree) (name : Names) where
   word_is_named : (w : ℕ) (u : StateValue) → is_reference_state u ≡ true → IsWord name w u → IsNamedWord name w
-  word_is_named w u sort h = by_value h.value u sort h.stands h.is
+  word_is_named w u sort h = by_value h.value u sort h.refines h.is
     where
       by_value : (v : Value) (u : StateValue) → is_reference_state u ≡ true → IsValue name v u → value_word v ≡ w → IsNamedWord name w
       by_value v u sort (int32 z fits) is = never sort

@@ -49,13 +49,13 @@ agree_again R x z f (w ∷ ws) (y ∷ ys) (suc n) h = (h.0, agree_again R x z f 
 -- ---- forwards
 
 -- the forward of a value represents the same, once the new copies have all words
-pub forwarded_stands : (tree : Tree) (words : ℕ) (h : Handshakes) (p : Progress) (seat : Seat) (first : Objects) (all : Names) (name : Names) (o : Objects) (ss : List Value) (s : State) (fits : FitsCollected tree words h p seat first all name o ss s) →
+pub forwarded_refines : (tree : Tree) (words : ℕ) (h : Handshakes) (p : Progress) (seat : Seat) (first : Objects) (all : Names) (name : Names) (o : Objects) (ss : List Value) (s : State) (fits : FitsCollected tree words h p seat first all name o ss s) →
     has_words h.posted ≡ true → (v : Value) (u : StateValue) → IsValue fits.whole v u → IsValue fits.whole (forward_value o v) u
-forwarded_stands tree words h p seat first all name o ss s fits late v u (int32 z is) = int32 z is
-forwarded_stands tree words h p seat first all name o ss s fits late v u (int64 z is) = int64 z is
-forwarded_stands tree words h p seat first all name o ss s fits late v u (native z is) = native z is
-forwarded_stands tree words h p seat first all name o ss s fits late v u null_reference = subst (λ x. IsValue fits.whole (Ref x) u) (sym (forward_null o.spaces fits.sound.blocks.spaces)) null_reference
-forwarded_stands tree words h p seat first all name o ss s fits late v u (reference a n is) =
+forwarded_refines tree words h p seat first all name o ss s fits late v u (int32 z is) = int32 z is
+forwarded_refines tree words h p seat first all name o ss s fits late v u (int64 z is) = int64 z is
+forwarded_refines tree words h p seat first all name o ss s fits late v u (native z is) = native z is
+forwarded_refines tree words h p seat first all name o ss s fits late v u null_reference = subst (λ x. IsValue fits.whole (Ref x) u) (sym (forward_null o.spaces fits.sound.blocks.spaces)) null_reference
+forwarded_refines tree words h p seat first all name o ss s fits late v u (reference a n is) =
     reference (forward o.spaces a) n (forward_named tree h.posted h.has_round words p o.spaces fits.sound late fits.whole fits.heap.small fits.filled a n is)
 
 -- they have them beside a thread in PreFlip, and one in HeapFlip
@@ -89,7 +89,7 @@ module _ (tree : Tree) (words : ℕ) (h : Handshakes) (p : Progress) (seat : Sea
 -- ---- the store
 
 module _ (tree : Tree) (words : ℕ) (h : Handshakes) (p : Progress) (seat : Seat) (first : Objects) (all : Names) (name : Names) (n : ℕ) (v : Value) (ss : List Value) (s : State) (entries : List (FieldKey × StateValue))
-    (stands : AreStatics name (slice_set ss n v) entries) where
+    (refines : AreStatics name (slice_set ss n v) entries) where
   -- a field gets a value that represents the same
   static_set : (q : Objects) (fits : FitsCollected tree words h p seat first all name q ss s) (w : Value) → ((u : StateValue) → IsValue fits.whole v u → IsValue fits.whole w u) → ValuePasses (static_may_hold h.posted q.spaces p n) w →
       FitsCollected tree words h p seat first all name q (slice_set ss n w) (record s { statics = entries })
@@ -105,10 +105,10 @@ module _ (tree : Tree) (words : ℕ) (h : Handshakes) (p : Progress) (seat : Sea
     filled = fits.filled;
     cut = fits.cut;
     is_cut = fits.is_cut;
-    stands =
+    refines =
         agree_again (λ x (f : FieldKey × StateValue). IsValue fits.whole x f.1) v w (λ f. same f.1) ss entries n
         (agree_weaken (λ x (f : FieldKey × StateValue). IsValue name x f.1) (λ x (f : FieldKey × StateValue). IsValue fits.whole x f.1)
-        (λ x f is. value_extends name fits.whole (own_extends tree words h p seat first all name q ss s fits) x f.1 is) (slice_set ss n v) entries stands);
+        (λ x f is. value_extends name fits.whole (own_extends tree words h p seat first all name q ss s fits) x f.1 is) (slice_set ss n v) entries refines);
     static_holds = λ number x there. elim (set_here_or_there ss n number w x there) [
       | inl here ↦
           subst (λ k. ValuePasses (static_may_hold h.posted q.spaces p k) x) (sym here.0)
@@ -135,7 +135,7 @@ module _ (tree : Tree) (words : ℕ) (h : Handshakes) (p : Progress) (seat : Sea
     plain pass = static_set o fits v (λ x same. same) pass
 
     flipped : has_words h.posted ≡ true → ValuePasses (static_may_hold h.posted o.spaces p n) (forward_value o v) → FitsCollected tree words h p seat first all name o (slice_set ss n (forward_value o v)) (record s { statics = entries })
-    flipped late pass = static_set o fits (forward_value o v) (λ x same. forwarded_stands tree words h p seat first all name o ss s fits late v x same) pass
+    flipped late pass = static_set o fits (forward_value o v) (λ x same. forwarded_refines tree words h p seat first all name o ss s fits late v x same) pass
 
     marked : seat.phase ≡ Mark → ValuePasses (static_may_hold h.posted (with_marked o v).spaces p n) v → FitsCollected tree words h p seat first all name (with_marked o v) (slice_set ss n v) (record s { statics = entries })
     marked e pass =

@@ -206,7 +206,7 @@ HasNamedWords tree name c = (slot word : ℕ) → slice_get c.slots slot ≡ Som
 -- what a reference's word is of: null, or an address with the name
 pub by_reference : (name : Names) (w : ℕ) (u : StateValue) (P : StateValue → Type 0) → is_reference_state u ≡ true → IsWord name w u → (w ≡ 0 → ((names : Names) → IsValue names (Ref null) u) → P u) →
     ((a : Addr) (n : ObjectName) → a.number ≡ w → name a.number ≡ Some n → ((names : Names) (b : Addr) → names b.number ≡ Some n → IsValue names (Ref b) u) → P u) → P u
-by_reference name w u P sort h none some = by_value h.value u sort h.stands h.is none some
+by_reference name w u P sort h none some = by_value h.value u sort h.refines h.is none some
   where
     by_value : (v : Value) (u : StateValue) → is_reference_state u ≡ true → IsValue name v u → value_word v ≡ w → (w ≡ 0 → ((names : Names) → IsValue names (Ref null) u) → P u) →
         ((a : Addr) (n : ObjectName) → a.number ≡ w → name a.number ≡ Some n → ((names : Names) (b : Addr) → names b.number ≡ Some n → IsValue names (Ref b) u) → P u) → P u
@@ -231,10 +231,10 @@ module _ (tree : Tree) (posted : Phase) (has_round : Bool) (words : ℕ) (p : Pr
   -- the forward of a reference represents the same,
   pub word_forwarded : (w : ℕ) (u : StateValue) → is_reference_state u ≡ true → IsWord name w u → IsWord name (forward_word m w) u
   word_forwarded w u sort h = by_reference name w u (λ x. IsWord name (forward_word m w) x) sort h
-      (λ zero stands. record { value = Ref null; stands = stands name; is = sym (ap (forward_word m) zero ∙ ap (λ (a : Addr). a.number) (forward_null m sound.blocks.spaces)) })
-      (λ a n is named stands. record {
+      (λ zero refines. record { value = Ref null; refines = refines name; is = sym (ap (forward_word m) zero ∙ ap (λ (a : Addr). a.number) (forward_null m sound.blocks.spaces)) })
+      (λ a n is named refines. record {
         value = Ref (forward m a);
-        stands = stands name (forward m a) (forward_named a n named);
+        refines = refines name (forward m a) (forward_named a n named);
         is = ap (λ (x : Addr). (forward m x).number) (sym (reference_again a (small a.number n named))) ∙ ap (forward_word m) is;
       })
 
@@ -252,12 +252,12 @@ module _ (tree : Tree) (posted : Phase) (has_round : Bool) (words : ℕ) (p : Pr
       there = is ∙ ap (λ (x : Addr). (forward m x).number) again
 
       of_null : w ≡ 0 → ((names : Names) → IsValue names (Ref null) u) → IsWord name was u
-      of_null zero stands =
+      of_null zero refines =
           let forward_null_is : forward m (record { number = was }) ≡ null = ap (λ (k : ℕ). record { number = k }) (sym there ∙ zero) in
-          record { value = Ref null; stands = stands name; is = sym (ap (λ (x : Addr). x.number) (forward_is_null tree posted has_round words p m sound (record { number = was }) forward_null_is)) }
+          record { value = Ref null; refines = refines name; is = sym (ap (λ (x : Addr). x.number) (forward_is_null tree posted has_round words p m sound (record { number = was }) forward_null_is)) }
 
       of_object : (a : Addr) (n : ObjectName) → a.number ≡ w → name a.number ≡ Some n → ((names : Names) (b : Addr) → names b.number ≡ Some n → IsValue names (Ref b) u) → IsWord name was u
-      of_object a n same named stands =
+      of_object a n same named refines =
           let forward_is : forward m (record { number = was }) ≡ a = ap (λ (k : ℕ). record { number = k }) (sym there ∙ sym same) in
           let named' : name was ≡ Some n = elim has [
             | inl zero ↦
@@ -266,7 +266,7 @@ module _ (tree : Tree) (posted : Phase) (has_round : Bool) (words : ℕ) (p : Pr
             | inr k ↦ k.1 ∙ sym (forward_named (record { number = was }) k.0 k.1) ∙ ap (λ (x : Addr). name x.number) forward_is ∙ named
           ]
           in
-          record { value = Ref (record { number = was }); stands = stands name (record { number = was }) named'; is = refl }
+          record { value = Ref (record { number = was }); refines = refines name (record { number = was }) named'; is = refl }
 
   module _ (a b : Addr) (copies : AreOldAndNew m a b) where
     show : ShowSame tree m copies.from copies.to
@@ -276,7 +276,7 @@ module _ (tree : Tree) (posted : Phase) (has_round : Bool) (words : ℕ) (p : Pr
     to_new = record {
       count = show.count;
       integers = λ slot w is none. show.slots slot w is ∙ ap (λ t. Some (if t then forward_word m w else w)) none;
-      references = λ slot w is holds u sort stands. (forward_word m w, show.slots slot w is ∙ ap (λ t. Some (if t then forward_word m w else w)) holds, word_forwarded w u sort stands);
+      references = λ slot w is holds u sort refines. (forward_word m w, show.slots slot w is ∙ ap (λ t. Some (if t then forward_word m w else w)) holds, word_forwarded w u sort refines);
     }
 
     to_old : HasNamedWords tree name copies.from → AreRewritten tree name name copies.from.kind copies.to.slots copies.from.slots
@@ -285,25 +285,25 @@ module _ (tree : Tree) (posted : Phase) (has_round : Bool) (words : ℕ) (p : Pr
       integers = λ slot w is none.
           let r = word_shown tree m copies.from copies.to show slot w is in
           r.1 ∙ ap Some (sym (r.2 ∙ ap (λ t. if t then forward_word m r.0 else r.0) none));
-      references = λ slot w is holds u sort stands.
+      references = λ slot w is holds u sort refines.
           let r = word_shown tree m copies.from copies.to show slot w is in
-          (r.0, r.1, word_back r.0 w u (has slot r.0 r.1 holds) (r.2 ∙ ap (λ t. if t then forward_word m r.0 else r.0) holds) sort stands);
+          (r.0, r.1, word_back r.0 w u (has slot r.0 r.1 holds) (r.2 ∙ ap (λ t. if t then forward_word m r.0 else r.0) holds) sort refines);
     }
 
     -- the new copy shows what the old one shows,
-    pub new_copy_stands : (object : HeapObject) → IsLinked tree copies.from.kind object.contents → IsCell tree name copies.from object → IsCell tree name copies.to object
-    new_copy_stands object linked stands = record {
+    pub new_copy_refines : (object : HeapObject) → IsLinked tree copies.from.kind object.contents → IsCell tree name copies.from object → IsCell tree name copies.to object
+    new_copy_refines object linked refines = record {
       contents =
           subst (λ k. IsOfContents tree name k copies.to.slots object.contents object.thread) (sym show.kind)
-          (contents_rewritten tree name name copies.from.kind copies.from.slots copies.to.slots to_new object.contents object.thread linked stands.contents);
-      monitor = subst (λ x. IsMonitor x object.monitor) (sym show.monitor) stands.monitor;
+          (contents_rewritten tree name name copies.from.kind copies.from.slots copies.to.slots to_new object.contents object.thread linked refines.contents);
+      monitor = subst (λ x. IsMonitor x object.monitor) (sym show.monitor) refines.monitor;
     }
 
     -- and the old one what the new one shows
-    pub old_copy_stands : (object : HeapObject) → IsLinked tree copies.from.kind object.contents → HasNamedWords tree name copies.from → IsCell tree name copies.to object → IsCell tree name copies.from object
-    old_copy_stands object linked has stands = record {
+    pub old_copy_refines : (object : HeapObject) → IsLinked tree copies.from.kind object.contents → HasNamedWords tree name copies.from → IsCell tree name copies.to object → IsCell tree name copies.from object
+    old_copy_refines object linked has refines = record {
       contents =
           contents_rewritten tree name name copies.from.kind copies.to.slots copies.from.slots (to_old has) object.contents object.thread linked
-          (subst (λ k. IsOfContents tree name k copies.to.slots object.contents object.thread) show.kind stands.contents);
-      monitor = subst (λ x. IsMonitor x object.monitor) show.monitor stands.monitor;
+          (subst (λ k. IsOfContents tree name k copies.to.slots object.contents object.thread) show.kind refines.contents);
+      monitor = subst (λ x. IsMonitor x object.monitor) show.monitor refines.monitor;
     }

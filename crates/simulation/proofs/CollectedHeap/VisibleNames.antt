@@ -54,7 +54,7 @@ pub record FitsCollected (tree : Tree) (words : ℕ) (h : Handshakes) (p : Progr
   pub filled : (a b : ℕ) (n : ObjectName) → whole a ≡ Some n → other_of (cell_in o.spaces.old (record { number = a })) ≡ Some (record { number = b }) → is_live h.posted o.spaces (record { number = b }) ≡ true → whole b ≡ Some n
   pub cut : (a : ℕ) (n : ObjectName) → name a ≡ Some n → (whole a ≡ Some n) × (passes (first_hold h seat first) h.posted o.spaces (record { number = a }) ≡ true)
   pub is_cut : (a : ℕ) (n : ObjectName) → whole a ≡ Some n → passes (first_hold h seat first) h.posted o.spaces (record { number = a }) ≡ true → name a ≡ Some n
-  pub stands : AreStatics whole ss s.statics
+  pub refines : AreStatics whole ss s.statics
   pub static_holds : (number : ℕ) (v : Value) → slice_get ss number ≡ Some v → ValuePasses (static_may_hold h.posted o.spaces p number) v
 
 -- ---- null and literals
@@ -95,7 +95,7 @@ pub begins : (tree : Tree) (words : ℕ) (h : Handshakes) (p : Progress) (seat :
     ((a b : ℕ) (n : ObjectName) → whole a ≡ Some n → other_of (cell_in first.spaces.old (record { number = a })) ≡ Some (record { number = b }) → is_live h.posted first.spaces (record { number = b }) ≡ true → whole b ≡ Some n) →
     AreStatics whole ss s.statics → ((number : ℕ) (v : Value) → slice_get ss number ≡ Some v → ValuePasses (static_may_hold h.posted first.spaces p number) v) →
     FitsCollected tree words h p seat first whole (cut_names (first_hold h seat first) h.posted first.spaces whole) first ss s
-begins tree words h p seat first whole ss s sound heap live filled stands static_holds = record {
+begins tree words h p seat first whole ss s sound heap live filled refines static_holds = record {
   sound = sound;
   on_time = λ own time. time;
   grows = grows_itself first.spaces;
@@ -107,7 +107,7 @@ begins tree words h p seat first whole ss s sound heap live filled stands static
   filled = filled;
   cut = λ a n is. cut_is (first_hold h seat first) h.posted first.spaces whole a n is;
   is_cut = λ a n is pass. is_cut_name (first_hold h seat first) h.posted first.spaces whole a n is pass;
-  stands = stands;
+  refines = refines;
   static_holds = static_holds;
 }
 
@@ -158,11 +158,11 @@ module _ (tree : Tree) (words : ℕ) (h : Handshakes) (p : Progress) (seat : Sea
 
   -- a word of what may be held stands under the own names
   word_is_cut : (w : ℕ) (u : StateValue) → passes hold h.posted o.spaces (reference_in w) ≡ true → is_reference_state u ≡ true → IsWord fits.whole w u → IsWord name w u
-  word_is_cut w u pass sort stands = by_reference fits.whole w u (λ x. IsWord name w x) sort stands
-      (λ zero value. record { value = Ref (record { number = 0 }); stands = value name; is = sym zero })
+  word_is_cut w u pass sort refines = by_reference fits.whole w u (λ x. IsWord name w x) sort refines
+      (λ zero value. record { value = Ref (record { number = 0 }); refines = value name; is = sym zero })
       (λ a n is named value.
       let again : reference_in w ≡ a = ap reference_in (sym is) ∙ reference_again a (fits.heap.small a.number n named) in
-      record { value = Ref a; stands = value name a (fits.is_cut a.number n named (subst (λ (x : Addr). passes hold h.posted o.spaces x ≡ true) again pass)); is = is })
+      record { value = Ref a; refines = value name a (fits.is_cut a.number n named (subst (λ (x : Addr). passes hold h.posted o.spaces x ≡ true) again pass)); is = is })
 
   -- an object that may be held refers to what may be held
   cell_is_cut : IsLegal tree → IsTyped tree s → (a n : ℕ) → name a ≡ Some (Born n) → IsBornAt tree fits.whole o s a n → IsBornAt tree name o s a n
@@ -172,20 +172,20 @@ module _ (tree : Tree) (words : ℕ) (h : Handshakes) (p : Progress) (seat : Sea
     lies = b.lies;
     object = b.object;
     is = b.is;
-    stands = record { contents = contents_rewritten tree fits.whole name b.cell.kind b.cell.slots b.cell.slots same b.object.contents b.object.thread linked b.stands.contents; monitor = b.stands.monitor };
+    refines = record { contents = contents_rewritten tree fits.whole name b.cell.kind b.cell.slots b.cell.slots same b.object.contents b.object.thread linked b.refines.contents; monitor = b.refines.monitor };
   }
     where
       pass : SlotsPass tree (passes hold h.posted o.spaces) b.cell
       pass = loads_may_be_held tree h.posted h.has_round words p o.spaces fits.sound hold means (record { number = a }) b.cell (named_passes a (Born n) is) b.lies
 
       linked : IsLinked tree b.cell.kind b.object.contents
-      linked = typed_is_linked tree legal s fits.whole b.cell.kind b.cell.slots b.object.contents b.object.thread (typed.objects n b.object b.is) b.stands.contents
+      linked = typed_is_linked tree legal s fits.whole b.cell.kind b.cell.slots b.object.contents b.object.thread (typed.objects n b.object b.is) b.refines.contents
 
       same : AreRewritten tree fits.whole name b.cell.kind b.cell.slots b.cell.slots
       same = record {
         count = refl;
         integers = λ slot w there none. there;
-        references = λ slot w there link u sort stands. (w, there, word_is_cut w u (pass slot w there link) sort stands);
+        references = λ slot w there link u sort refines. (w, there, word_is_cut w u (pass slot w there link) sort refines);
       }
 
   -- what loads find

@@ -31,7 +31,7 @@ use Rattle.simulation.specs.Agreement.{Agree}
 use Rattle.simulation.specs.Collecting.{status_flipped, thread_flipped, with_acknowledgement, with_flipped, with_thread_marked}
 use Rattle.simulation.specs.MachineStates.{MachineState}
 use Rattle.simulation.specs.Sound.{IsSound}
-use Rattle.simulation.specs.Refines.{Names, AreTwins, IsValue, int32, int64, native, null_reference, reference, IsOfContents, IsMonitor, IsCell, IsBornAt, IsHeap, IsObject, IsFrame, AreFrames, StandsAlike, IsThread, Represents, StandsBy}
+use Rattle.simulation.specs.Refines.{Names, AreTwins, IsValue, int32, int64, native, null_reference, reference, IsOfContents, IsMonitor, IsCell, IsBornAt, IsHeap, IsObject, IsFrame, AreFrames, StatusRefines, IsThread, Represents, RefinesUnder}
 use Rattle.simulation.proofs.ListLaws.AgreeingLists.{agree_changed}
 use Rattle.simulation.proofs.CollectorEvents.AcknowledgementCases.{after_acknowledgement, posts_after}
 use Rattle.simulation.proofs.CollectorEvents.AcknowledgementSoundness.{acknowledgement_sound}
@@ -64,7 +64,7 @@ module _ (tree : Tree) (name : Names) (o after : Objects) (s : State) (spaces : 
   born_then : (a n : ℕ) → IsBornAt tree name o s a n → IsBornAt tree name after s a n
   born_then a n h =
       let d = stays_there o.spaces after.spaces darker spaces (record { number = a }) h.cell h.lies in
-      record { no_literal = h.no_literal; cell = d.0; lies = d.1; object = h.object; is = h.is; stands = cell_then h.cell d.0 d.2 h.object h.stands }
+      record { no_literal = h.no_literal; cell = d.0; lies = d.1; object = h.object; is = h.is; refines = cell_then h.cell d.0 d.2 h.object h.refines }
     where
       cell_then : (c d : Cell) → IsDarker c d → (object : HeapObject) → IsCell tree name c object → IsCell tree name d object
       cell_then c d dark object k = record {
@@ -81,13 +81,13 @@ module _ (tree : Tree) (name : Names) (o after : Objects) (s : State) (spaces : 
     born = λ a n named. born_then a n (h.born a n named);
     literals = λ a characters named. let l = h.literals a characters named in record {
       number = l.number;
-      numbered = l.numbered;
+      has_id = l.has_id;
       is = l.is;
       monitor = l.monitor;
       held = ap (λ ms. slice_get ms l.number) literals ∙ l.held;
       state_monitor = l.state_monitor;
       state_held = l.state_held;
-      stands = l.stands;
+      refines = l.refines;
     };
     each_literal = h.each_literal;
   }
@@ -146,22 +146,22 @@ module _ (name : Names) (g : Addr → Addr) (null_stays : g null ≡ null) (name
 
 -- ---- the whole
 
-module _ (c : MachineState) (s : State) (name : Names) (sound : IsSound c) (stands : StandsBy name c s) where
+module _ (c : MachineState) (s : State) (name : Names) (sound : IsSound c) (refines : RefinesUnder name c s) where
   abbrev m : Spaces
   m = c.objects.spaces
 
   -- other posts change nothing
-  beside_posts : (posts : Handshakes) → StandsBy name (record c { posts = posts }) s
-  beside_posts posts = record { memory = stands.memory; threads = stands.threads }
+  beside_posts : (posts : Handshakes) → RefinesUnder name (record c { posts = posts }) s
+  beside_posts posts = record { memory = refines.memory; threads = refines.threads }
 
-  marks_stand : (posts : Handshakes) (thread : Option Thread) → StandsBy name (record c { posts = posts; objects = with_thread_marked c.objects thread }) s
-  marks_stand posts thread = subst (λ o. StandsBy name (record c { posts = posts; objects = o }) s) (sym (thread_marked c.objects thread)) (record {
+  marks_refine : (posts : Handshakes) (thread : Option Thread) → RefinesUnder name (record c { posts = posts; objects = with_thread_marked c.objects thread }) s
+  marks_refine posts thread = subst (λ o. RefinesUnder name (record c { posts = posts; objects = o }) s) (sym (thread_marked c.objects thread)) (record {
     memory = record {
-      heap = heap_marked c.tree name c.objects (with_all_marked c.objects (thread_values thread)) s sound.heap.blocks.spaces (AreDarker-with_all_marked (thread_values thread) c.objects sound.heap.blocks.spaces) (marks_keep_literals (thread_values thread) c.objects) stands.memory.heap;
-      static_values = stands.memory.static_values;
-      printed_is = stands.memory.printed_is;
+      heap = heap_marked c.tree name c.objects (with_all_marked c.objects (thread_values thread)) s sound.heap.blocks.spaces (AreDarker-with_all_marked (thread_values thread) c.objects sound.heap.blocks.spaces) (marks_keep_literals (thread_values thread) c.objects) refines.memory.heap;
+      static_values = refines.memory.static_values;
+      printed_is = refines.memory.printed_is;
     };
-    threads = stands.threads;
+    threads = refines.threads;
   })
 
   module _ (normal : IsNormal c.posts.posted m name) (flip : is_phase c.posts.posted ThreadFlip ≡ true) where
@@ -169,40 +169,40 @@ module _ (c : MachineState) (s : State) (name : Names) (sound : IsSound c) (stan
     forward_named : (a : Addr) (n : ObjectName) → name a.number ≡ Some n → name (forward m a).number ≡ Some n
     forward_named = normal_forward c.tree c.posts.posted c.posts.has_round c.limits.max_words c.progress c.objects sound.heap (ap has_words (same_phase c.posts.posted ThreadFlip flip)) name normal
 
-    status_stands : (x : ThreadStatus) (xs : List StateFrame) (e : Option End) → StandsAlike c.tree c.limits name x xs e → StandsAlike c.tree c.limits name (status_flipped c.objects x) xs e
-    status_stands (Live fs) xs None h = live_flipped name (forward m) (forward_null m sound.heap.blocks.spaces) forward_named c.tree c.limits fs xs h
-    status_stands (Ended e) xs (Some e') h = h
-    status_stands (Live fs) xs (Some e') h = h
-    status_stands (Ended e) xs None h = h
+    status_refines : (x : ThreadStatus) (xs : List StateFrame) (e : Option End) → StatusRefines c.tree c.limits name x xs e → StatusRefines c.tree c.limits name (status_flipped c.objects x) xs e
+    status_refines (Live fs) xs None h = live_flipped name (forward m) (forward_null m sound.heap.blocks.spaces) forward_named c.tree c.limits fs xs h
+    status_refines (Ended e) xs (Some e') h = h
+    status_refines (Live fs) xs (Some e') h = h
+    status_refines (Ended e) xs None h = h
 
-    flips_stand : (posts : Handshakes) (t : ℕ) (o : Option Thread) → slice_get c.threads t ≡ o → StandsBy name (record c { threads = with_flipped c.objects c.threads t o; posts = posts }) s
-    flips_stand posts t None is = beside_posts posts
-    flips_stand posts t (Some x) is = record {
-      memory = stands.memory;
-      threads = agree_changed (IsThread c.tree c.limits name) c.threads s.threads t x (thread_flipped c.objects x) is (λ u h. record { thread_status = status_stands x.thread_status u.frames u.ended h.thread_status; steps_left = h.steps_left }) stands.threads;
+    flips_refine : (posts : Handshakes) (t : ℕ) (o : Option Thread) → slice_get c.threads t ≡ o → RefinesUnder name (record c { threads = with_flipped c.objects c.threads t o; posts = posts }) s
+    flips_refine posts t None is = beside_posts posts
+    flips_refine posts t (Some x) is = record {
+      memory = refines.memory;
+      threads = agree_changed (IsThread c.tree c.limits name) c.threads s.threads t x (thread_flipped c.objects x) is (λ u h. record { thread_status = status_refines x.thread_status u.frames u.ended h.thread_status; steps_left = h.steps_left }) refines.threads;
     }
 
 -- what stands under normal names stands under them after an acknowledgement
-pub acknowledgement_stands : (c : MachineState) (t : ℕ) (s : State) (name : Names) → IsNormal c.posts.posted c.objects.spaces name → StandsBy name c s → IsSound c → StandsBy name (with_acknowledgement c t).0 s
-acknowledgement_stands c t s name normal stands sound =
-    after_acknowledgement c t (λ x. StandsBy name x s)
+pub acknowledgement_refines : (c : MachineState) (t : ℕ) (s : State) (name : Names) → IsNormal c.posts.posted c.objects.spaces name → RefinesUnder name c s → IsSound c → RefinesUnder name (with_acknowledgement c t).0 s
+acknowledgement_refines c t s name normal refines sound =
+    after_acknowledgement c t (λ x. RefinesUnder name x s)
     (record {
-      nothing = stands;
-      marks = λ seat here opened seen marking. marks_stand c s name sound stands (posts_after c t seat) (slice_get c.threads t);
-      answers = λ seat here opened seen other. beside_posts c s name sound stands (posts_after c t seat);
-      continues = λ seat here opened late later. beside_posts c s name sound stands (posts_after c t seat);
-      flips = λ seat here opened late flip. flips_stand c s name sound stands normal flip (posts_after c t seat) t (slice_get c.threads t) refl;
+      nothing = refines;
+      marks = λ seat here opened seen marking. marks_refine c s name sound refines (posts_after c t seat) (slice_get c.threads t);
+      answers = λ seat here opened seen other. beside_posts c s name sound refines (posts_after c t seat);
+      continues = λ seat here opened late later. beside_posts c s name sound refines (posts_after c t seat);
+      flips = λ seat here opened late flip. flips_refine c s name sound refines normal flip (posts_after c t seat) t (slice_get c.threads t) refl;
     })
 
 -- so a machine that represents a state represents it after an acknowledgement
 pub acknowledgement_represents : (c : MachineState) (t : ℕ) (s : State) → Represents c s → Represents (with_acknowledgement c t).0 s
 acknowledgement_represents c t s r =
-    let normal = normal_names c (sound_is_held c r.sound) r.accepted.legal s r.typed r.stands.name r.stands.by in
+    let normal = normal_names c (sound_is_held c r.sound) r.accepted.legal s r.typed r.refines.name r.refines.by in
     record {
       accepted = r.accepted;
       limits = r.limits;
       typed = r.typed;
       counted = r.counted;
       sound = acknowledgement_sound c t r.sound;
-      stands = record { name = normal.name; by = acknowledgement_stands c t s normal.name normal.normal normal.by r.sound };
+      refines = record { name = normal.name; by = acknowledgement_refines c t s normal.name normal.normal normal.by r.sound };
     }

@@ -29,7 +29,7 @@ use Rattle.simulation.specs.Agreement.{Agree}
 use Rattle.simulation.specs.MachineStates.{MachineState}
 use Rattle.simulation.specs.Sound.{IsSound}
 use Rattle.simulation.specs.Collecting.{clear_object, collect, flip_values, mark_object, next_posted, initial_words, round_posted, rounds, work, do_work}
-use Rattle.simulation.specs.Refines.{AreTwins, IsCell, IsHeap, IsMonitor, IsOfContents, IsValue, Names, StandsBy}
+use Rattle.simulation.specs.Refines.{AreTwins, IsCell, IsHeap, IsMonitor, IsOfContents, IsValue, Names, RefinesUnder}
 use Rattle.interpreter.proofs.object_memory.TwoBlocks.{either, new_is_cell, old_is_cell}
 use Rattle.collector.proofs.Addresses.Tests.{is_new_live, live_is_late, live_is_read, never, new_has_cell, none_is_new}
 use Rattle.collector.proofs.Marking.MarkChanges.{AreDarker, AreDarker-same, stays_there}
@@ -76,38 +76,38 @@ heap_shown tree name o o' s same heap = record {
   born = λ a n e.
       (let r = heap.born a n e in
       let d = same.shows a n e r.cell r.lies in
-      record { no_literal = r.no_literal; cell = d.0; lies = d.1; object = r.object; is = r.is; stands = cell_shown tree name r.cell d.0 r.object d.2 r.stands });
+      record { no_literal = r.no_literal; cell = d.0; lies = d.1; object = r.object; is = r.is; refines = cell_shown tree name r.cell d.0 r.object d.2 r.refines });
   literals = λ a characters e.
       (let r = heap.literals a characters e in
       record {
         number = r.number;
-        numbered = r.numbered;
+        has_id = r.has_id;
         is = r.is;
         monitor = r.monitor;
         held = ap (λ l. slice_get l r.number) same.literals ∙ r.held;
         state_monitor = r.state_monitor;
         state_held = r.state_held;
-        stands = r.stands;
+        refines = r.refines;
       });
   each_literal = heap.each_literal;
 }
 
-module _ (name : Names) (c : MachineState) (s : State) (stands : StandsBy name c s) where
+module _ (name : Names) (c : MachineState) (s : State) (refines : RefinesUnder name c s) where
   -- a machine with such objects represents the same state
-  pub stands_shown : (o : Objects) → ShowsNames name c.objects o → StandsBy name (record c { objects = o }) s
-  stands_shown o same = record {
-    memory = record { heap = heap_shown c.tree name c.objects o s same stands.memory.heap; static_values = stands.memory.static_values; printed_is = stands.memory.printed_is };
-    threads = stands.threads;
+  pub refines_shown : (o : Objects) → ShowsNames name c.objects o → RefinesUnder name (record c { objects = o }) s
+  refines_shown o same = record {
+    memory = record { heap = heap_shown c.tree name c.objects o s same refines.memory.heap; static_values = refines.memory.static_values; printed_is = refines.memory.printed_is };
+    threads = refines.threads;
   }
 
   -- and so does one of a further phase
-  pub stands_next : StandsBy name (next_posted c).0 s
-  stands_next = record { memory = stands.memory; threads = stands.threads }
+  pub refines_next : RefinesUnder name (next_posted c).0 s
+  refines_next = record { memory = refines.memory; threads = refines.threads }
 
 -- after one of two transitions, by a test
-either_stands : (name : Names) (s : State) (b : Bool) (x y : MachineState × Report) → (b ≡ true → StandsBy name x.0 s) → (b ≡ false → StandsBy name y.0 s) → StandsBy name (if◌then◌else◌ {A = MachineState × Report} b x y).0 s
-either_stands name s true x y f g = f refl
-either_stands name s false x y f g = g refl
+either_refines : (name : Names) (s : State) (b : Bool) (x y : MachineState × Report) → (b ≡ true → RefinesUnder name x.0 s) → (b ≡ false → RefinesUnder name y.0 s) → RefinesUnder name (if◌then◌else◌ {A = MachineState × Report} b x y).0 s
+either_refines name s true x y f g = f refl
+either_refines name s false x y f g = g refl
 
 -- ---- twins
 
@@ -225,7 +225,7 @@ module _ (name : Names) (o : Objects) (has_round : Bool) (tree : Tree) (words : 
       by_field : (x : Option Value) → slice_get statics p.flipped_statics ≡ x → Agree (λ v (f : FieldKey × StateValue). IsValue name v f.1) (flip_step p o statics x).1 fields
       by_field None is = agree
       by_field (Some v) is =
-          agree_changed (λ w (f : FieldKey × StateValue). IsValue name w f.1) statics fields p.flipped_statics v (forward_value o v) is (λ f stands. normal_value tree HeapFlip has_round words p o sound refl name normal v f.1 stands) agree
+          agree_changed (λ w (f : FieldKey × StateValue). IsValue name w f.1) statics fields p.flipped_statics v (forward_value o v) is (λ f refines. normal_value tree HeapFlip has_round words p o sound refl name normal v f.1 refines) agree
 
 -- ---- Reclaim
 
@@ -267,90 +267,90 @@ retired_shows name o has_round tree words p sound normal over = record {
 -- ---- each phase
 
 -- a step was done, or none was left
-worked_stands : (name : Names) (s : State) (c : MachineState) (x : Progress × Objects × Bool) → StandsBy name (record c { progress = x.0; objects = x.1 }) s → StandsBy name (next_posted c).0 s → StandsBy name (do_work c x).0 s
-worked_stands name s c (p, o, true) works posts = works
-worked_stands name s c (p, o, false) works posts = posts
+worked_refines : (name : Names) (s : State) (c : MachineState) (x : Progress × Objects × Bool) → RefinesUnder name (record c { progress = x.0; objects = x.1 }) s → RefinesUnder name (next_posted c).0 s → RefinesUnder name (do_work c x).0 s
+worked_refines name s c (p, o, true) works posts = works
+worked_refines name s c (p, o, false) works posts = posts
 
 module _ (name : Names) (c : MachineState) (s : State) where
   -- a cycle opens
-  opens_stand : IsSound (posting Idle c) → StandsBy name c s → StandsBy name (work Idle (posting Idle c)).0 s
-  opens_stand sound stands = let opens = stands_shown name c s stands _ (opened_shows name c.objects (initial_words c) (sound.heap.blocks.none_new refl)) in record { memory = opens.memory; threads = opens.threads }
+  opens_refine : IsSound (posting Idle c) → RefinesUnder name c s → RefinesUnder name (work Idle (posting Idle c)).0 s
+  opens_refine sound refines = let opens = refines_shown name c s refines _ (opened_shows name c.objects (initial_words c) (sound.heap.blocks.none_new refl)) in record { memory = opens.memory; threads = opens.threads }
 
   -- objects are marked
-  dark_stands : IsSound (posting Mark c) → (o : Objects) → o.literals ≡ c.objects.literals → AreDarker c.objects.spaces o.spaces → StandsBy name c s → StandsBy name (record c { objects = o }) s
-  dark_stands sound o literals darker stands = stands_shown name c s stands o (darker_shows name c.objects o c.posts.has_round c.tree c.limits.max_words c.progress sound.heap literals darker)
+  dark_refines : IsSound (posting Mark c) → (o : Objects) → o.literals ≡ c.objects.literals → AreDarker c.objects.spaces o.spaces → RefinesUnder name c s → RefinesUnder name (record c { objects = o }) s
+  dark_refines sound o literals darker refines = refines_shown name c s refines o (darker_shows name c.objects o c.posts.has_round c.tree c.limits.max_words c.progress sound.heap literals darker)
 
   -- a round is posted, or marking ends
-  rounds_stand : IsSound (posting Mark c) → StandsBy name c s → StandsBy name (rounds (posting Mark c)).0 s
-  rounds_stand sound stands = either_stands name s (is_closed c.progress c.objects (posting Mark c).posts) (next_posted (posting Mark c))
+  rounds_refine : IsSound (posting Mark c) → RefinesUnder name c s → RefinesUnder name (rounds (posting Mark c)).0 s
+  rounds_refine sound refines = either_refines name s (is_closed c.progress c.objects (posting Mark c).posts) (next_posted (posting Mark c))
       (if c.posts.has_round && not (all_answered (posting Mark c).posts) then (posting Mark c, Waiting) else (round_posted (posting Mark c), Worked))
-      (λ closed. stands_next name (posting Mark c) s here)
-      (λ more. either_stands name s (c.posts.has_round && not (all_answered (posting Mark c).posts)) (posting Mark c, Waiting) (round_posted (posting Mark c), Worked)
+      (λ closed. refines_next name (posting Mark c) s here)
+      (λ more. either_refines name s (c.posts.has_round && not (all_answered (posting Mark c).posts)) (posting Mark c, Waiting) (round_posted (posting Mark c), Worked)
       (λ waits. here)
-      (λ answered. (let unmarked = dark_stands sound (record c.objects { spaces = record c.objects.spaces { has_marked = false } }) refl (AreDarker-same c.objects.spaces (record c.objects.spaces { has_marked = false }) refl refl refl) stands in
+      (λ answered. (let unmarked = dark_refines sound (record c.objects { spaces = record c.objects.spaces { has_marked = false } }) refl (AreDarker-same c.objects.spaces (record c.objects.spaces { has_marked = false }) refl refl refl) refines in
       record { memory = unmarked.memory; threads = unmarked.threads })))
     where
-      here : StandsBy name (posting Mark c) s
-      here = record { memory = stands.memory; threads = stands.threads }
+      here : RefinesUnder name (posting Mark c) s
+      here = record { memory = refines.memory; threads = refines.threads }
 
   -- a step of Mark
-  by_mark : (x : Progress × Objects × Bool) → StandsBy name (record c { objects = x.1 }) s → StandsBy name (rounds (posting Mark c)).0 s → StandsBy name (mark_object (posting Mark c) x).0 s
+  by_mark : (x : Progress × Objects × Bool) → RefinesUnder name (record c { objects = x.1 }) s → RefinesUnder name (rounds (posting Mark c)).0 s → RefinesUnder name (mark_object (posting Mark c) x).0 s
   by_mark (p, o, true) works ends = record { memory = works.memory; threads = works.threads }
   by_mark (p, o, false) works ends = ends
 
-  marks_stand : IsSound (posting Mark c) → StandsBy name c s → StandsBy name (work Mark (posting Mark c)).0 s
-  marks_stand sound stands = either_stands name s c.progress.scanned_statics (mark_object (posting Mark c) (marked_on c.tree c.progress c.objects))
+  marks_refine : IsSound (posting Mark c) → RefinesUnder name c s → RefinesUnder name (work Mark (posting Mark c)).0 s
+  marks_refine sound refines = either_refines name s c.progress.scanned_statics (mark_object (posting Mark c) (marked_on c.tree c.progress c.objects))
       (record (posting Mark c) { progress = (statics_scanned c.progress c.objects c.statics).0; objects = (statics_scanned c.progress c.objects c.statics).1 }, Worked)
       (λ scanned. by_mark (marked_on c.tree c.progress c.objects)
-      (dark_stands sound (marked_on c.tree c.progress c.objects).1 (marked_on-literals c.tree c.progress c.objects) (AreDarker-marked_on c.tree c.posts.has_round c.limits.max_words c.progress c.objects sound.heap) stands)
-      (rounds_stand sound stands))
-      (λ early. (let scans = dark_stands sound (statics_scanned c.progress c.objects c.statics).1 (with_all_marked-literals c.statics c.objects) (AreDarker-with_all_marked c.statics c.objects sound.heap.blocks.spaces) stands in
+      (dark_refines sound (marked_on c.tree c.progress c.objects).1 (marked_on-literals c.tree c.progress c.objects) (AreDarker-marked_on c.tree c.posts.has_round c.limits.max_words c.progress c.objects sound.heap) refines)
+      (rounds_refine sound refines))
+      (λ early. (let scans = dark_refines sound (statics_scanned c.progress c.objects c.statics).1 (with_all_marked-literals c.statics c.objects) (AreDarker-with_all_marked c.statics c.objects sound.heap.blocks.spaces) refines in
       record { memory = scans.memory; threads = scans.threads }))
 
   -- a step with other objects, or the next phase
-  steps_stand : (x : Phase) (step : Progress × Objects × Bool) → ShowsNames name c.objects step.1 → StandsBy name c s → StandsBy name (do_work (posting x c) step).0 s
-  steps_stand x step same stands =
-      let works = stands_shown name c s stands step.1 same in
-      worked_stands name s (posting x c) step (record { memory = works.memory; threads = works.threads }) (stands_next name (posting x c) s (record { memory = stands.memory; threads = stands.threads }))
+  steps_refine : (x : Phase) (step : Progress × Objects × Bool) → ShowsNames name c.objects step.1 → RefinesUnder name c s → RefinesUnder name (do_work (posting x c) step).0 s
+  steps_refine x step same refines =
+      let works = refines_shown name c s refines step.1 same in
+      worked_refines name s (posting x c) step (record { memory = works.memory; threads = works.threads }) (refines_next name (posting x c) s (record { memory = refines.memory; threads = refines.threads }))
 
   -- static fields are flipped
-  by_flip : (x : Progress × List Value × Bool) → StandsBy name (record c { statics = x.1 }) s → StandsBy name c s → StandsBy name (flip_values (posting HeapFlip c) x).0 s
-  by_flip (p, statics, true) works stands = record { memory = works.memory; threads = works.threads }
-  by_flip (p, statics, false) works stands = stands_next name (posting HeapFlip c) s (record { memory = stands.memory; threads = stands.threads })
+  by_flip : (x : Progress × List Value × Bool) → RefinesUnder name (record c { statics = x.1 }) s → RefinesUnder name c s → RefinesUnder name (flip_values (posting HeapFlip c) x).0 s
+  by_flip (p, statics, true) works refines = record { memory = works.memory; threads = works.threads }
+  by_flip (p, statics, false) works refines = refines_next name (posting HeapFlip c) s (record { memory = refines.memory; threads = refines.threads })
 
-  flips_stand : IsSound (posting HeapFlip c) → IsNormal HeapFlip c.objects.spaces name → StandsBy name c s → StandsBy name (work HeapFlip (posting HeapFlip c)).0 s
-  flips_stand sound normal stands = by_flip (flipped_on c.progress c.objects c.statics)
+  flips_refine : IsSound (posting HeapFlip c) → IsNormal HeapFlip c.objects.spaces name → RefinesUnder name c s → RefinesUnder name (work HeapFlip (posting HeapFlip c)).0 s
+  flips_refine sound normal refines = by_flip (flipped_on c.progress c.objects c.statics)
       (record {
         memory = record {
-          heap = stands.memory.heap;
-          static_values = flipped_agree name c.objects c.posts.has_round c.tree c.limits.max_words c.progress sound.heap normal c.statics s.statics stands.memory.static_values;
-          printed_is = stands.memory.printed_is;
+          heap = refines.memory.heap;
+          static_values = flipped_agree name c.objects c.posts.has_round c.tree c.limits.max_words c.progress sound.heap normal c.statics s.statics refines.memory.static_values;
+          printed_is = refines.memory.printed_is;
         };
-        threads = stands.threads;
+        threads = refines.threads;
       })
-      stands
+      refines
 
   -- new objects are cleared, and the cycle ends
-  by_clear : (x : Progress × Objects × Bool) → StandsBy name (record c { objects = x.1 }) s → (x.2 ≡ false → StandsBy name (record c { objects = retire_old c.objects }) s) → StandsBy name (clear_object (posting Reclaim c) x).0 s
+  by_clear : (x : Progress × Objects × Bool) → RefinesUnder name (record c { objects = x.1 }) s → (x.2 ≡ false → RefinesUnder name (record c { objects = retire_old c.objects }) s) → RefinesUnder name (clear_object (posting Reclaim c) x).0 s
   by_clear (p, o, true) works ends = record { memory = works.memory; threads = works.threads }
   by_clear (p, o, false) works ends = let over = ends refl in record { memory = over.memory; threads = over.threads }
 
-  clears_stand : IsSound (posting Reclaim c) → IsNormal Reclaim c.objects.spaces name → StandsBy name c s → StandsBy name (work Reclaim (posting Reclaim c)).0 s
-  clears_stand sound normal stands = by_clear (cleared_on c.progress c.objects)
-      (stands_shown name c s stands (cleared_on c.progress c.objects).1 (cleared_shows_names name c.objects c.posts.has_round c.tree c.limits.max_words c.progress sound.heap normal))
-      (λ over. stands_shown name c s stands (retire_old c.objects) (retired_shows name c.objects c.posts.has_round c.tree c.limits.max_words c.progress sound.heap normal over))
+  clears_refine : IsSound (posting Reclaim c) → IsNormal Reclaim c.objects.spaces name → RefinesUnder name c s → RefinesUnder name (work Reclaim (posting Reclaim c)).0 s
+  clears_refine sound normal refines = by_clear (cleared_on c.progress c.objects)
+      (refines_shown name c s refines (cleared_on c.progress c.objects).1 (cleared_shows_names name c.objects c.posts.has_round c.tree c.limits.max_words c.progress sound.heap normal))
+      (λ over. refines_shown name c s refines (retire_old c.objects) (retired_shows name c.objects c.posts.has_round c.tree c.limits.max_words c.progress sound.heap normal over))
 
   -- in each phase
-  work_stands : (x : Phase) → IsSound (posting x c) → IsNormal x c.objects.spaces name → StandsBy name c s → StandsBy name (work x (posting x c)).0 s
-  work_stands Idle sound normal stands = opens_stand sound stands
-  work_stands Mark sound normal stands = marks_stand sound stands
-  work_stands Allocate sound normal stands = steps_stand Allocate (looked_on c.progress c.objects) (looked_shows name c.objects c.posts.has_round c.tree c.limits.max_words c.progress sound.heap normal) stands
-  work_stands Copy sound normal stands = steps_stand Copy (copied_on c.tree c.progress c.objects) (copied_shows name c.objects c.posts.has_round c.tree c.limits.max_words c.progress sound.heap normal) stands
-  work_stands PreFlip sound normal stands = stands_next name (posting PreFlip c) s (record { memory = stands.memory; threads = stands.threads })
-  work_stands HeapFlip sound normal stands = flips_stand sound normal stands
-  work_stands ThreadFlip sound normal stands = stands_next name (posting ThreadFlip c) s (record { memory = stands.memory; threads = stands.threads })
-  work_stands Reclaim sound normal stands = clears_stand sound normal stands
+  work_refines : (x : Phase) → IsSound (posting x c) → IsNormal x c.objects.spaces name → RefinesUnder name c s → RefinesUnder name (work x (posting x c)).0 s
+  work_refines Idle sound normal refines = opens_refine sound refines
+  work_refines Mark sound normal refines = marks_refine sound refines
+  work_refines Allocate sound normal refines = steps_refine Allocate (looked_on c.progress c.objects) (looked_shows name c.objects c.posts.has_round c.tree c.limits.max_words c.progress sound.heap normal) refines
+  work_refines Copy sound normal refines = steps_refine Copy (copied_on c.tree c.progress c.objects) (copied_shows name c.objects c.posts.has_round c.tree c.limits.max_words c.progress sound.heap normal) refines
+  work_refines PreFlip sound normal refines = refines_next name (posting PreFlip c) s (record { memory = refines.memory; threads = refines.threads })
+  work_refines HeapFlip sound normal refines = flips_refine sound normal refines
+  work_refines ThreadFlip sound normal refines = refines_next name (posting ThreadFlip c) s (record { memory = refines.memory; threads = refines.threads })
+  work_refines Reclaim sound normal refines = clears_refine sound normal refines
 
   -- after an event of the collector a machine represents the same state, under the same names
-  pub collected_stands : IsSound c → IsNormal c.posts.posted c.objects.spaces name → StandsBy name c s → StandsBy name (collect c).0 s
-  collected_stands sound normal stands = either_stands name s (all_seen c.posts) (work c.posts.posted c) (c, Waiting) (λ seen. work_stands c.posts.posted sound normal stands) (λ late. stands)
+  pub collected_refines : IsSound c → IsNormal c.posts.posted c.objects.spaces name → RefinesUnder name c s → RefinesUnder name (collect c).0 s
+  collected_refines sound normal refines = either_refines name s (all_seen c.posts) (work c.posts.posted c) (c, Waiting) (λ seen. work_refines c.posts.posted sound normal refines) (λ late. refines)

@@ -21,9 +21,9 @@ use Rattle.collector.specs.phase_handshake.Handshakes.{all_answered, all_seen}
 use Rattle.simulation.specs.Counts.{IsCounted}
 use Rattle.simulation.specs.MachineStates.{MachineState}
 use Rattle.simulation.specs.Collecting.{clear_object, collect, flip_values, mark_object, next_posted, round_posted, rounds, work, do_work}
-use Rattle.simulation.specs.Refines.{Names, Represents, StandsBy}
+use Rattle.simulation.specs.Refines.{Names, Represents, RefinesUnder}
 use Rattle.simulation.proofs.CollectorEvents.Soundness.{collected_soundly}
-use Rattle.simulation.proofs.CollectorEvents.RepresentedObjects.{collected_stands}
+use Rattle.simulation.proofs.CollectorEvents.RepresentedObjects.{collected_refines}
 use Rattle.simulation.proofs.Representation.NormalNames.{IsNormal}
 
 -- a machine keeps the same program, limits and threads, and has printed the same
@@ -88,8 +88,8 @@ module _ (c : MachineState) where
   collected_keeps = either_keeps (all_seen c.posts) (work c.posts.posted c) (c, Waiting) (work_keeps c.posts.posted) itself
 
 -- a machine that represents a state under names of what is live represents it after an event of the collector
-pub collected_represents : (c : MachineState) (s : State) → Represents c s → (name : Names) → IsNormal c.posts.posted c.objects.spaces name → StandsBy name c s → Represents (collect c).0 s
-collected_represents c s r name normal stands =
+pub collected_represents : (c : MachineState) (s : State) → Represents c s → (name : Names) → IsNormal c.posts.posted c.objects.spaces name → RefinesUnder name c s → Represents (collect c).0 s
+collected_represents c s r name normal refines =
     let keeps = collected_keeps c in
     record {
       accepted = subst (λ (t : Tree). IsAccepted t) (sym keeps.tree) r.accepted;
@@ -97,5 +97,5 @@ collected_represents c s r name normal stands =
       typed = subst (λ (t : Tree). IsTyped t s) (sym keeps.tree) r.typed;
       counted = subst (λ (l : Limits). IsCounted l s) (sym keeps.limits) r.counted;
       sound = collected_soundly c r.sound;
-      stands = record { name = name; by = collected_stands name c s r.sound normal stands };
+      refines = record { name = name; by = collected_refines name c s r.sound normal refines };
     }

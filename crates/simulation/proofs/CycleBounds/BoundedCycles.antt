@@ -75,7 +75,7 @@ fields_length tree s (e ∷ es) [] h = elim h [ ]
 
 statics_length : (c : MachineState) (s : State) → Represents c s → length c.statics ≡ static_count c
 statics_length c s r =
-    agree_length (λ (v : Value) (f : FieldKey × StateValue). IsValue r.stands.name v f.1) c.statics s.statics r.stands.by.memory.static_values
+    agree_length (λ (v : Value) (f : FieldKey × StateValue). IsValue r.refines.name v f.1) c.statics s.statics r.refines.by.memory.static_values
     ∙ fields_length c.tree s s.statics (static_fields c.tree) r.typed.statics
 
 -- the state that an event reaches, and what it takes of the work that is left

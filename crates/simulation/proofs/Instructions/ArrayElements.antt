@@ -13,7 +13,7 @@ use Rattle.interpreter.proofs.cil_model.Lists.{none_is_some}
 use Rattle.interpreter.proofs.cil_model.SameLaws.{same_type_equal, never}
 use Rattle.interpreter.specs.reference_machine.Values.{ObjectName, Born, Value as StateValue, same_kind}
 use Rattle.interpreter.specs.reference_machine.States.{Array as IsArray, HeapObject, Frame as StateFrame, State, same_kind_or_none, replaced_at, elements_of_contents, array_at, with_object, with_element}
-use Rattle.interpreter.specs.reference_machine.Effects.{Setting, given as state_given, onward as onward_frame}
+use Rattle.interpreter.specs.reference_machine.Effects.{Setting, when_some as state_given, onward as onward_frame}
 use Rattle.interpreter.specs.reference_machine.Steps.{execute, next, element, load_element, store_element}
 use Rattle.interpreter.proofs.reference_machine.TypedStates.RunningFrames.{IsTypedEffect}
 use Rattle.interpreter.proofs.reference_machine.TypedStates.StateChanges.{element_typed, array_typed}
@@ -28,7 +28,7 @@ use Rattle.interpreter.specs.object_memory.Objects.{Objects}
 use Rattle.interpreter.specs.object_memory.Values.{value_word}
 use Rattle.collector.specs.References.{holds_reference, is_reference_value}
 use Rattle.interpreter.specs.threads_monitors.Frames.{Frames, with_stack}
-use Rattle.interpreter.specs.instructions.Frames.{given}
+use Rattle.interpreter.specs.instructions.Frames.{when_some}
 use Rattle.interpreter.specs.loaded_program.Prepared.{kind_at, kind_of_type}
 use Rattle.interpreter.specs.instructions.ObjectTransitions.{object_of, index_of, slots_of, checked_index, in_range, load_slot, store_slot, load_element_transition, store_element_transition}
 use Rattle.interpreter.specs.Instructions.{operation_transition, of_objects}
@@ -100,7 +100,7 @@ module _ (here : Setting) (model : MemoryModel here.tree) (name : Names) (m : Fr
         (v : Value) (u : StateValue) → IsValue name v u → (slot : ℕ) (old : StateValue) → slice_get elements slot ≡ Some old → (rest : List Value) (rest' : List StateValue) → Agree (IsValue name) rest rest' →
         IsTypedEffect here.tree (state_given (with_element s n slot u) (λ s'. onward_frame f below s' rest')) →
         DoesAlike here model name m o statics printed s f below (of_objects o statics printed (store_slot model.phase v slot a (with_stack m rest) o)) (state_given (with_element s n slot u) (λ s'. onward_frame f below s' rest'))
-    slot_stored a n t elements named there array v u stands slot old found rest rest' k typed = given_alike here model name m o statics printed s f below i operation at _ (with_element s n slot u) (λ s'. onward_frame f below s' rest') typed after
+    slot_stored a n t elements named there array v u refines slot old found rest rest' k typed = given_alike here model name m o statics printed s f below i operation at _ (with_element s n slot u) (λ s'. onward_frame f below s' rest') typed after
       where
         cell : Cell
         cell = array.thing.cell
@@ -110,10 +110,10 @@ module _ (here : Setting) (model : MemoryModel here.tree) (name : Names) (m : Fr
 
         contents : IsOfContents here.tree name cell.kind (slice_set cell.slots slot (value_word v)) (IsArray t (slice_set elements slot u)) array.object.thread
         contents = subst (λ x. IsOfContents here.tree name x (slice_set cell.slots slot (value_word v)) (IsArray t (slice_set elements slot u)) array.object.thread) (sym array.kind_is)
-            (array.type_is, agree_set (IsWord name) cell.slots elements array.values slot (value_word v) u (record { value = v; stands = stands; is = refl }))
+            (array.type_is, agree_set (IsWord name) cell.slots elements array.values slot (value_word v) u (record { value = v; refines = refines; is = refl }))
 
         changed : IsCell here.tree name (with_cell_slot slot (value_word v) cell) object
-        changed = record { contents = contents; monitor = array.thing.stands.monitor }
+        changed = record { contents = contents; monitor = array.thing.refines.monitor }
 
         held : (w : ℕ) × (slice_get cell.slots slot ≡ Some w) × IsWord name w old
         held = agree_get (IsWord name) cell.slots elements array.values slot old found
@@ -122,7 +122,7 @@ module _ (here : Setting) (model : MemoryModel here.tree) (name : Names) (m : Fr
         sort : same_kind old u ≡ true → is_reference_value v ≡ holds_reference here.tree cell.kind slot
         sort kinds =
             let typed_old = element_typed here.tree at.running.accepted.legal s t elements slot old (array_typed here.tree at.running.accepted.legal s at.running.typed n t elements there) found in
-            value_says name v u stands ∙ sym (same_kinds old u kinds) ∙ ap is_reference_kind (sym (kind_fits here.tree at.running.accepted.legal s old t typed_old)) ∙ sym (element_says here.tree array.kind t array.type_is slot) ∙
+            value_says name v u refines ∙ sym (same_kinds old u kinds) ∙ ap is_reference_kind (sym (kind_fits here.tree at.running.accepted.legal s old t typed_old)) ∙ sym (element_says here.tree array.kind t array.type_is slot) ∙
             ap (λ k. holds_reference here.tree k slot) (sym array.kind_is)
 
         -- and so are all
@@ -137,7 +137,7 @@ module _ (here : Setting) (model : MemoryModel here.tree) (name : Names) (m : Fr
             let stored = element_stored s array.thing.number array.object t elements slot u s' array.thing.there array.holds (subst (λ x. with_element s x slot u ≡ Some s') array.thing.name_is is) in
             let same : s' ≡ with_object s (Born array.thing.number) object = stored.0 in
             subst (λ x. DoesAlike here model name m o statics printed s f below (of_objects o statics printed (store_slot model.phase v slot a (with_stack m rest) o)) (onward_frame f below x rest')) (sym same)
-            (replaced_alike here model name m o statics printed s f below i operation at a cell array.thing.lies slot held.0 held.1 array.thing.number (named ∙ ap Some array.thing.name_is) v u stands (sort (stored.1 old found)) object (linked (stored.1 old found)) changed rest rest' k)
+            (replaced_alike here model name m o statics printed s f below i operation at a cell array.thing.lies slot held.0 held.1 array.thing.number (named ∙ ap Some array.thing.name_is) v u refines (sort (stored.1 old found)) object (linked (stored.1 old found)) changed rest rest' k)
 
     -- ---- ldelem and stelem
 
@@ -146,11 +146,11 @@ module _ (here : Setting) (model : MemoryModel here.tree) (name : Names) (m : Fr
         DoesAlike here model name m o statics printed s f below (of_objects o statics printed (load_element_transition kind m o)) (load_element here s f below test)
     load_alike test kind fits typed =
         two_operands here model name m o statics printed s f below i operation at (of_objects o statics printed)
-        (λ array index k. object_of array k o (λ a. index_of index (λ z. given (slots_of o a) (λ slots. in_range (checked_index z (length slots)) k o (λ slot. load_slot kind slot a k o)))))
+        (λ array index k. object_of array k o (λ a. index_of index (λ z. when_some (slots_of o a) (λ slots. in_range (checked_index z (length slots)) k o (λ slot. load_slot kind slot a k o)))))
         (λ array index rest. element here s f below test array index (λ n t z v. next here s f below (v ∷ rest)))
         typed
-        (λ v w rest u x rest' is is' stands stands' k shorter t.
-        element_alike here model name m o statics printed s f below i operation at test v w u x stands stands' (with_stack m rest) (λ a slot. load_slot kind slot a (with_stack m rest) o) (λ n type z old. next here s f below (old ∷ rest')) t
+        (λ v w rest u x rest' is is' refines refines' k shorter t.
+        element_alike here model name m o statics printed s f below i operation at test v w u x refines refines' (with_stack m rest) (λ a slot. load_slot kind slot a (with_stack m rest) o) (λ n type z old. next here s f below (old ∷ rest')) t
         (λ a n type elements named there array passed slot old found t'.
         slot_loaded a n type elements named there array kind (fits type passed) slot old found rest rest' k (omega (arith, shorter))))
 
@@ -159,11 +159,11 @@ module _ (here : Setting) (model : MemoryModel here.tree) (name : Names) (m : Fr
         DoesAlike here model name m o statics printed s f below (of_objects o statics printed (store_element_transition model.phase m o)) (store_element here s f below test)
     store_alike test typed =
         three_operands here model name m o statics printed s f below i operation at (of_objects o statics printed)
-        (λ array index v k. object_of array k o (λ a. index_of index (λ z. given (slots_of o a) (λ slots. in_range (checked_index z (length slots)) k o (λ slot. store_slot model.phase v slot a k o)))))
+        (λ array index v k. object_of array k o (λ a. index_of index (λ z. when_some (slots_of o a) (λ slots. in_range (checked_index z (length slots)) k o (λ slot. store_slot model.phase v slot a k o)))))
         (λ array index v rest. element here s f below test array index (λ n t z old. state_given (with_element s n z v) (λ s'. onward_frame f below s' rest)))
         typed
-        (λ v w c rest u x y rest' is is' stands stands' stored k shorter t.
-        element_alike here model name m o statics printed s f below i operation at test v w u x stands stands' (with_stack m rest) (λ a slot. store_slot model.phase c slot a (with_stack m rest) o) (λ n type z old. state_given (with_element s n z y) (λ s'. onward_frame f below s' rest')) t
+        (λ v w c rest u x y rest' is is' refines refines' stored k shorter t.
+        element_alike here model name m o statics printed s f below i operation at test v w u x refines refines' (with_stack m rest) (λ a slot. store_slot model.phase c slot a (with_stack m rest) o) (λ n type z old. state_given (with_element s n z y) (λ s'. onward_frame f below s' rest')) t
         (λ a n type elements named there array passed slot old found t'.
         slot_stored a n type elements named there array c y stored slot old found rest rest' k t'))
 

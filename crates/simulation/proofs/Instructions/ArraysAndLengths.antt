@@ -16,7 +16,7 @@ use Rattle.interpreter.specs.cil_model.Legality.{IsLegal}
 use Rattle.interpreter.specs.reference_machine.Values.{ObjectName, Value as StateValue, Int32 as Int32Value, Native as NativeValue, Null, Reference, integer_zero, zero_of}
 use Rattle.interpreter.specs.reference_machine.Arithmetic.{as_index}
 use Rattle.interpreter.specs.reference_machine.States.{Array as IsArray, Frame as StateFrame, State, array_at, next_name, with_birth as with_state_birth}
-use Rattle.interpreter.specs.reference_machine.Effects.{Setting, Raises as StateRaises, given as state_given, not_null, onward as onward_frame, after}
+use Rattle.interpreter.specs.reference_machine.Effects.{Setting, Raises as StateRaises, when_some as state_given, not_null, onward as onward_frame, after}
 use Rattle.interpreter.specs.reference_machine.Steps.{execute, next, new_array}
 use Rattle.interpreter.specs.resolved_code.Numbered.{class_name, element_at, type_at}
 use Rattle.interpreter.specs.resolved_code.declared.operations.Operation.TheVariants as Resolved
@@ -38,9 +38,9 @@ use Rattle.interpreter.specs.instructions.barriers.Barriers.{object_born}
 use Rattle.interpreter.specs.instructions.TypeTransitions.{resolved_element, held_type}
 use Rattle.interpreter.specs.threads_monitors.Frames.{Frames, with_pc, with_stack}
 use Rattle.interpreter.specs.threads_monitors.declared.effects.Effect.TheVariants.{Continues, Raises}
-use Rattle.interpreter.specs.instructions.Frames.{given, value_pushed}
+use Rattle.interpreter.specs.instructions.Frames.{when_some, value_pushed}
 use Rattle.interpreter.specs.instructions.ObjectTransitions.{beside, object_of, index_of, slots_of, object_pushed, new_array_of, new_array_transition}
-use Rattle.interpreter.specs.declared.outcomes.Outcome.TheVariants.{Comes}
+use Rattle.interpreter.specs.declared.outcomes.InstructionOutcome.TheVariants.{OwnEffect}
 use Rattle.interpreter.specs.loaded_program.declared.instructions.LinkedInstruction.TheVariants as Linked
 use Rattle.interpreter.specs.Instructions.{operation_transition, of_objects, answer_of}
 use Rattle.interpreter.proofs.Linking.{link_does}
@@ -110,11 +110,11 @@ zero_word : (name : Names) (t : DeclaredType) → IsWord name 0 (zero_of t)
 zero_word name t = by_test (is_reference t) t.element
   where
     first : IsWord name 0 (Int32Value (pos 0))
-    first = record { value = Int32 (pos 0); stands = int32 (pos 0) (record { sfits = omega arith }); is = refl }
+    first = record { value = Int32 (pos 0); refines = int32 (pos 0) (record { sfits = omega arith }); is = refl }
 
     by_test : (b : Bool) (e : Element) → IsWord name 0 (if b then Null else integer_zero e)
-    by_test true e = record { value = Ref null; stands = null_reference; is = refl }
-    by_test false Int64Element = record { value = Int64 (pos 0); stands = int64 (pos 0) (record { sfits = omega arith }); is = refl }
+    by_test true e = record { value = Ref null; refines = null_reference; is = refl }
+    by_test false Int64Element = record { value = Int64 (pos 0); refines = int64 (pos 0) (record { sfits = omega arith }); is = refl }
     by_test false Int32Element = first
     by_test false ObjectElement = first
     by_test false StringElement = first
@@ -133,21 +133,21 @@ module _ (here : Setting) (model : MemoryModel here.tree) (name : Names) (m : Fr
       DoesAlike here model name m o statics printed s f below (operation_transition here.tree (mutator_in here model) Resolved.LoadLength m o statics printed) (execute here s f below Named.LoadLength)
   load_length_alike at =
       one_operand here model name m o statics printed s f below Named.LoadLength Resolved.LoadLength at (of_objects o statics printed)
-      (λ array k. object_of array k o (λ a. given (slots_of o a) (λ slots. beside o (value_pushed (Native (pos (length slots))) k))))
+      (λ array k. object_of array k o (λ a. when_some (slots_of o a) (λ slots. beside o (value_pushed (Native (pos (length slots))) k))))
       (λ array rest. not_null array NullReference (λ n. state_given (array_at s n) (λ held. next here s f below (NativeValue (pos (length held.1)) ∷ rest))))
       (fine here model name m o statics printed s f below Named.LoadLength Resolved.LoadLength at)
-      (λ v rest u rest' is is' stands k shorter t.
-      object_alike here model name m o statics printed s f below Named.LoadLength Resolved.LoadLength at v u stands (with_stack m rest) _ _ t (λ a n named t'.
+      (λ v rest u rest' is is' refines k shorter t.
+      object_alike here model name m o statics printed s f below Named.LoadLength Resolved.LoadLength at v u refines (with_stack m rest) _ _ t (λ a n named t'.
       given_alike here model name m o statics printed s f below Named.LoadLength Resolved.LoadLength at _ (array_at s n) _ t' (λ held there t''.
       in_array a n held.0 held.1 (array_there here.tree name o s (model.reads name o statics s at.memory.fits at.running.typed) a n held.0 held.1 named there) rest rest' k shorter)))
     where
       in_array : (a : Addr) (n : ObjectName) (t : DeclaredType) (elements : List StateValue) → IsArrayThere here.tree name o s (model.reads name o statics s at.memory.fits at.running.typed) a n t elements → (rest : List Value) (rest' : List StateValue) → Agree (IsValue name) rest rest' → length rest ≤ length m.running.stack →
-          DoesAlike here model name m o statics printed s f below (of_objects o statics printed (given (slots_of o a) (λ slots. beside o (value_pushed (Native (pos (length slots))) (with_stack m rest))))) (next here s f below (NativeValue (pos (length elements)) ∷ rest'))
+          DoesAlike here model name m o statics printed s f below (of_objects o statics printed (when_some (slots_of o a) (λ slots. beside o (value_pushed (Native (pos (length slots))) (with_stack m rest))))) (next here s f below (NativeValue (pos (length elements)) ∷ rest'))
       in_array a n t elements array rest rest' k shorter =
           let slots : List ℕ = array.thing.cell.slots in
           let few : length slots ≤ MOST_WORDS = (model.reads name o statics s at.memory.fits at.running.typed).sizes a array.thing.cell array.thing.lies in
           alike_transition here model name m o statics printed s f below Named.LoadLength Resolved.LoadLength at _ (of_objects o statics printed (beside o (value_pushed (Native (pos (length slots))) (with_stack m rest)))) _
-          (ap (λ (c : Option Cell). of_objects o statics printed (given (option_map (λ (y : Cell). y.slots) c) (λ xs. beside o (value_pushed (Native (pos (length xs))) (with_stack m rest))))) array.thing.lies)
+          (ap (λ (c : Option Cell). of_objects o statics printed (when_some (option_map (λ (y : Cell). y.slots) c) (λ xs. beside o (value_pushed (Native (pos (length xs))) (with_stack m rest))))) array.thing.lies)
           (left_alike here model name m o statics printed s f below Named.LoadLength Resolved.LoadLength at (Native (pos (length slots))) (NativeValue (pos (length elements)))
           (count_fits name (length slots) (length elements) few (agree_length (IsWord name) slots elements array.values)) rest rest' k shorter)
 
@@ -159,7 +159,7 @@ module _ (here : Setting) (model : MemoryModel here.tree) (name : Names) (m : Fr
         (rest : List Value) (rest' : List StateValue) → Agree (IsValue name) rest rest' → length rest ≤ length m.running.stack →
         DoesAlike here model name m o statics printed s f below (of_objects o statics printed (beside o' (object_pushed x (with_stack m rest)))) (new_array here s f below t (pos count) rest')
     born_alike element element_is count o' None born rest rest' k shorter = record {
-      answer = answer_of (with_stack m rest) o' statics printed (Comes (Raises OutOfMemory));
+      answer = answer_of (with_stack m rest) o' statics printed (OwnEffect (Raises OutOfMemory));
       is = refl;
       refuses = λ r _. inl (record {
         running = after f (Reference (next_name s) ∷ rest');
@@ -177,11 +177,11 @@ module _ (here : Setting) (model : MemoryModel here.tree) (name : Names) (m : Fr
       );
     }
     born_alike element element_is count o' (Some a) born rest rest' k shorter = record {
-      answer = answer_of (with_pc (with_stack m (Ref a ∷ rest)) (m.running.pc + 1)) o' statics printed (Comes Continues);
+      answer = answer_of (with_pc (with_stack m (Ref a ∷ rest)) (m.running.pc + 1)) o' statics printed (OwnEffect Continues);
       is = ap (λ transition. of_objects o statics printed (beside o' transition)) (leaves_is here model name m o statics printed s f below (Named.NewArray t) (Resolved.NewArray n) at (Ref a) rest shorter);
       refuses = λ _ h. never h;
       alike = λ r.
-          subst (λ e. GoesAlike here model name m o statics printed s f below (answer_of (with_pc (with_stack m (Ref a ∷ rest)) (m.running.pc + 1)) o' statics printed (Comes Continues)) e)
+          subst (λ e. GoesAlike here model name m o statics printed s f below (answer_of (with_pc (with_stack m (Ref a ∷ rest)) (m.running.pc + 1)) o' statics printed (OwnEffect Continues)) e)
           (sym (ap (λ b. if b then StateRaises OutOfMemory else onward_frame f below (with_state_birth s (IsArray t (replicate count (zero_of t)))) (Reference (next_name s) ∷ rest')) r))
           (onward_alike here model name m o statics printed s f below (Named.NewArray t) (Resolved.NewArray n) at birth.names birth.extends o' statics printed (with_state_birth s (IsArray t (replicate count (zero_of t)))) refl memory
           (Ref a ∷ rest) (Reference (next_name s) ∷ rest') (reference a (next_name s) birth.named, values_extend name birth.names birth.extends rest rest' k));
@@ -216,8 +216,8 @@ module _ (here : Setting) (model : MemoryModel here.tree) (name : Names) (m : Fr
         (λ v k. index_of v (λ z. new_array_of model.phase held.0 z k o))
         (λ v rest. state_given (as_index v) (λ z. new_array here s f below t z rest))
         (fine here model name m o statics printed s f below (Named.NewArray t) (Resolved.NewArray n) at)
-        (λ v rest u rest' is' is'' stands k shorter typed.
+        (λ v rest u rest' is' is'' refines k shorter typed.
         given_alike here model name m o statics printed s f below (Named.NewArray t) (Resolved.NewArray n) at _ (as_index u) _ typed (λ z index typed'.
         alike_transition here model name m o statics printed s f below (Named.NewArray t) (Resolved.NewArray n) at _ (of_objects o statics printed (new_array_of model.phase held.0 z (with_stack m rest) o)) _
-        (ap (λ x. of_objects o statics printed (given x (λ y. new_array_of model.phase held.0 y (with_stack m rest) o))) (same_index here model name m o statics printed s f below (Named.NewArray t) (Resolved.NewArray n) at v u stands ∙ index))
+        (ap (λ x. of_objects o statics printed (when_some x (λ y. new_array_of model.phase held.0 y (with_stack m rest) o))) (same_index here model name m o statics printed s f below (Named.NewArray t) (Resolved.NewArray n) at v u refines ∙ index))
         (counted_alike held.0 held.2 z rest rest' k shorter))))

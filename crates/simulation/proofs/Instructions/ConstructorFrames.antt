@@ -34,7 +34,7 @@ use Rattle.simulation.proofs.Representation.MoreNames.{values_extend, frame_list
 use Rattle.simulation.proofs.Instructions.Correspondence.{IsSetting}
 use Rattle.simulation.proofs.Instructions.FrameProgress.{own_frame, index_is_small, room_left}
 use Rattle.simulation.proofs.ListLaws.InsertedItems.{drop_inserted, reverse_inserted, length_inserted}
-use Rattle.simulation.proofs.Memory.InitialValues.{locals_stand}
+use Rattle.simulation.proofs.Memory.InitialValues.{locals_refine}
 use Rattle.simulation.proofs.Instructions.Constructors.{constructor, arguments_count, few_arguments, few_locals, is_numbered}
 use Rattle.simulation.proofs.Memory.MemoryModels.{MemoryModel, IsBirth}
 
@@ -132,43 +132,43 @@ module _ (here : Setting) (model : MemoryModel here.tree) (name : Names) (m : Fr
       extended : (vs : List Value) (us : List StateValue) → Agree (IsValue name) vs us → Agree (IsValue birth.names) vs us
       extended = values_extend name birth.names birth.extends
 
-      arguments_stand : Agree (IsValue birth.names) (reverse (take count inserted)) (Reference (next_name s) ∷ reverse (take (length parameters) f.stack))
-      arguments_stand =
+      arguments_refine : Agree (IsValue birth.names) (reverse (take count inserted)) (Reference (next_name s) ∷ reverse (take (length parameters) f.stack))
+      arguments_refine =
           let turned : reverse (take count inserted) ≡ Ref a ∷ reverse (take (length parameters) m.running.stack) = ap (λ n. reverse (take n inserted)) counted ∙ reverse_inserted (length parameters) (Ref a) m.running.stack operands_there in
           let operands : Agree (IsValue name) (reverse (take (length parameters) m.running.stack)) (reverse (take (length parameters) f.stack)) =
           agree_reverse (IsValue name) (take (length parameters) m.running.stack) (take (length parameters) f.stack) (agree_take (IsValue name) (length parameters) m.running.stack f.stack own.stack) in
           subst (λ vs. Agree (IsValue birth.names) vs (Reference (next_name s) ∷ reverse (take (length parameters) f.stack))) (sym turned)
           (reference a (next_name s) birth.named, extended (reverse (take (length parameters) m.running.stack)) (reverse (take (length parameters) f.stack)) operands)
 
-      rest_stands : Agree (IsValue birth.names) (drop count inserted) (drop (length parameters) f.stack)
-      rest_stands =
+      rest_refines : Agree (IsValue birth.names) (drop count inserted) (drop (length parameters) f.stack)
+      rest_refines =
           let left : drop count inserted ≡ drop (length parameters) m.running.stack = ap (λ n. drop n inserted) counted ∙ drop_inserted (length parameters) (Ref a) m.running.stack operands_there in
           subst (λ vs. Agree (IsValue birth.names) vs (drop (length parameters) f.stack)) (sym left)
           (extended (drop (length parameters) m.running.stack) (drop (length parameters) f.stack) (agree_drop (IsValue name) (length parameters) m.running.stack f.stack own.stack))
 
-      caller_stands : IsFrame here.tree birth.names (record caller.running { stack = drop count inserted }) (after f (drop (length parameters) f.stack))
-      caller_stands = record {
+      caller_refines : IsFrame here.tree birth.names (record caller.running { stack = drop count inserted }) (after f (drop (length parameters) f.stack))
+      caller_refines = record {
         method = own.method;
         pc = ap (λ n. n + 1) own.pc;
         arguments = extended m.running.arguments f.arguments own.arguments;
         locals = extended m.running.locals f.locals own.locals;
-        stack = rest_stands;
+        stack = rest_refines;
         constructed = object_extends name birth.names birth.extends m.running.constructed f.constructed own.constructed;
       }
 
-      pub frames_stand : (code : Code) → code_of built.kind ≡ Some code →
+      pub frames_refine : (code : Code) → code_of built.kind ≡ Some code →
           AreFrames here.tree here.limits birth.names frames_in (new_frame c built code (Reference (next_name s) ∷ reverse (take (length parameters) f.stack)) (Some (next_name s)) ∷ after f (drop (length parameters) f.stack) ∷ below)
-      frames_stand code has = record {
+      frames_refine code has = record {
         frames = (
           record {
             method = (is_numbered here.tree legal c parameters number is).2;
             pc = refl;
-            arguments = arguments_stand;
-            locals = locals_stand birth.names built code has;
+            arguments = arguments_refine;
+            locals = locals_refine birth.names built code has;
             stack = tt;
             constructed = birth.named;
           },
-          (caller_stands, frame_list_extends name birth.names birth.extends here.tree m.below below at.frames.frames.1),
+          (caller_refines, frame_list_extends name birth.names birth.extends here.tree m.below below at.frames.frames.1),
         );
         depth = at.frames.depth;
         few = subst (λ d. length (frames_in.running ∷ frames_in.below) ≤ d) at.frames.depth (omega (arith, not_full (length m.below) m.depth few_below deep));

@@ -70,7 +70,7 @@ module _ (tree : Tree) (legal : IsLegal tree) (c : ClassName) (parameters : List
   finds_own = is.finds ∙ ap (λ k. Some (k, constructor)) (sym is_own)
 
   pub numbered_own : method_at tree (number.class, number.index) ≡ Some (c, constructor)
-  numbered_own = is.numbered ∙ ap (λ k. Some (k, constructor)) (sym is_own)
+  numbered_own = is.has_id ∙ ap (λ k. Some (k, constructor)) (sym is_own)
 
   is_found : IsFound tree true (constructor_reference c parameters) c constructor
   is_found = found tree legal true (constructor_reference c parameters) c constructor finds_own

@@ -23,8 +23,8 @@ use Rattle.interpreter.specs.object_memory.Spaces.{room_for}
 use Rattle.interpreter.specs.threads_monitors.Frames.{Frames}
 use Rattle.interpreter.specs.threads_monitors.declared.effects.Effect.{Effect}
 use Rattle.interpreter.specs.threads_monitors.declared.effects.Effect.TheVariants.{Continues, Returns, Blocks, Raises}
-use Rattle.interpreter.specs.declared.outcomes.Outcome.{Outcome}
-use Rattle.interpreter.specs.declared.outcomes.Outcome.TheVariants.{Comes, Starts, Joins}
+use Rattle.interpreter.specs.declared.outcomes.InstructionOutcome.{InstructionOutcome}
+use Rattle.interpreter.specs.declared.outcomes.InstructionOutcome.TheVariants.{OwnEffect, Starts, Joins}
 use Rattle.interpreter.specs.Instructions.{HasSmallConstant, MachineTransition, operation_transition, Answer}
 use Rattle.simulation.specs.Refines.{Names, Extends, IsValue, AreFrames}
 use Rattle.interpreter.proofs.cil_model.SameLaws.{never}
@@ -55,8 +55,8 @@ is_refused_effect Continues = false
 is_refused_effect Returns = false
 is_refused_effect Blocks = false
 
-abbrev pub is_refused_outcome : Outcome → Bool
-is_refused_outcome (Comes e) = is_refused_effect e
+abbrev pub is_refused_outcome : InstructionOutcome → Bool
+is_refused_outcome (OwnEffect e) = is_refused_effect e
 is_refused_outcome (Starts a) = false
 is_refused_outcome (Joins a) = false
 
@@ -98,22 +98,22 @@ module _ (here : Setting) (model : MemoryModel here.tree) (name : Names) (m : Fr
     pub operand : StateValue
     pub rest : List StateValue
     pub stack : f.stack ≡ operand ∷ rest
-    pub stands : IsValue name (Ref object) operand
+    pub refines : IsValue name (Ref object) operand
     pub is : e ≡ act here s f below action (operand ∷ []) rest
     pub frames : a.frames ≡ m
     pub memory : LeavesMemory a
 
   -- the outcome of an instruction, and the same of the reference machine
-  abbrev pub ComesAlike : Outcome → Answer → StateEffect → Type 0
-  ComesAlike (Comes Continues) a e = GoesAlike a e
-  ComesAlike (Comes Returns) a e = (e ≡ Goes [] s) × LeavesMemory a
-  ComesAlike (Comes Blocks) a e = (e ≡ StateBlocks) × (a.frames ≡ m) × LeavesMemory a
-  ComesAlike (Comes (Raises x)) a e = (e ≡ StateRaises x) × LeavesMemory a
+  abbrev pub ComesAlike : InstructionOutcome → Answer → StateEffect → Type 0
+  ComesAlike (OwnEffect Continues) a e = GoesAlike a e
+  ComesAlike (OwnEffect Returns) a e = (e ≡ Goes [] s) × LeavesMemory a
+  ComesAlike (OwnEffect Blocks) a e = (e ≡ StateBlocks) × (a.frames ≡ m) × LeavesMemory a
+  ComesAlike (OwnEffect (Raises x)) a e = (e ≡ StateRaises x) × LeavesMemory a
   ComesAlike (Starts object) a e = AsksFor Start object a e
   ComesAlike (Joins object) a e = AsksFor Join object a e
 
   -- an object is born on the reference machine, whose cell exceeds the room of the machine
-  pub record ExceedsRoom (e : StateEffect) : Type 0 where
+  pub record HasNoOwnRoom (e : StateEffect) : Type 0 where
     pub running : Frame
     pub waiting : List Frame
     pub contents : Contents
@@ -126,7 +126,7 @@ module _ (here : Setting) (model : MemoryModel here.tree) (name : Names) (m : Fr
     pub answer : Answer
     pub is : transition ≡ Some answer
     pub alike : here.is_refused ≡ is_refused_outcome answer.outcome → ComesAlike answer.outcome answer e
-    pub refuses : here.is_refused ≡ false → is_refused_outcome answer.outcome ≡ true → ExceedsRoom e ⊎ (e ≡ StateRaises OutOfMemory)
+    pub refuses : here.is_refused ≡ false → is_refused_outcome answer.outcome ≡ true → HasNoOwnRoom e ⊎ (e ≡ StateRaises OutOfMemory)
 
 -- each instruction does, in each kind of memory
 abbrev pub InstructionsAreAlike : Type 1

@@ -16,7 +16,7 @@ use Rattle.interpreter.specs.cil_model.Mentions.{literals_of}
 use Rattle.interpreter.specs.reference_machine.Values.{Literal, Reference, Value as StateValue}
 use Rattle.interpreter.specs.reference_machine.Arithmetic.{binary_value, unary_value, shift_value, compare_values, branch_values, is_set as is_set_value, not_option, convert_32, convert_64, one_or_zero as one_or_zero_value}
 use Rattle.interpreter.specs.reference_machine.States.{Frame as StateFrame, State}
-use Rattle.interpreter.specs.reference_machine.Effects.{Setting, Goes, given as given_value, unless_fault, after}
+use Rattle.interpreter.specs.reference_machine.Effects.{Setting, Goes, when_some as given_value, unless_fault, after}
 use Rattle.interpreter.specs.reference_machine.Steps.{next, branch_if as branch_to, store_at as stored_value, switch_on as switch_labels, execute}
 use Rattle.interpreter.specs.resolved_code.declared.operations.Operation.{Operation}
 use Rattle.interpreter.specs.resolved_code.declared.operations.Operation.TheVariants as Resolved

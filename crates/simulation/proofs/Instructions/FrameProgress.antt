@@ -22,7 +22,7 @@ use Rattle.interpreter.specs.object_memory.Objects.{Objects}
 use Rattle.interpreter.specs.threads_monitors.Frames.{Frame, Frames, size, with_pc, with_stack}
 use Rattle.interpreter.specs.threads_monitors.declared.effects.Effect.TheVariants.{Continues}
 use Rattle.interpreter.specs.instructions.Frames.{onward, value_pushed}
-use Rattle.interpreter.specs.declared.outcomes.Outcome.TheVariants.{Comes}
+use Rattle.interpreter.specs.declared.outcomes.InstructionOutcome.TheVariants.{OwnEffect}
 use Rattle.simulation.proofs.ProgramSizes.Methods.{arguments_few, instructions_few, locals_few, stack_low}
 use Rattle.simulation.specs.Agreement.{Agree}
 use Rattle.simulation.specs.MachineStates.{frame_room}
@@ -130,7 +130,7 @@ module _ (here : Setting) (model : MemoryModel here.tree) (name : Names) (m : Fr
   -- on to the next instruction in another memory
   pub onward_alike : (names : Names) → Extends name names → (o' : Objects) (statics' : List Value) (printed' : List ℕ) (s' : State) → s'.threads ≡ s.threads → IsModelled here.tree model names o' statics' printed' s' →
       (stack : List Value) (stack' : List StateValue) → Agree (IsValue names) stack stack' →
-      GoesAlike here model name m o statics printed s f below (answer_of (with_pc (with_stack m stack) (m.running.pc + 1)) o' statics' printed' (Comes Continues)) (onward_frame f below s' stack')
+      GoesAlike here model name m o statics printed s f below (answer_of (with_pc (with_stack m stack) (m.running.pc + 1)) o' statics' printed' (OwnEffect Continues)) (onward_frame f below s' stack')
   onward_alike names extends o' statics' printed' s' others memory stack stack' h =
       record {
         running = after f stack';
@@ -151,12 +151,12 @@ module _ (here : Setting) (model : MemoryModel here.tree) (name : Names) (m : Fr
 
   -- on to the next instruction with another stack alone
   pub next_alike : (stack : List Value) (stack' : List StateValue) → Agree (IsValue name) stack stack' →
-      GoesAlike here model name m o statics printed s f below (answer_of (with_pc (with_stack m stack) (m.running.pc + 1)) o statics printed (Comes Continues)) (onward_frame f below s stack')
+      GoesAlike here model name m o statics printed s f below (answer_of (with_pc (with_stack m stack) (m.running.pc + 1)) o statics printed (OwnEffect Continues)) (onward_frame f below s stack')
   next_alike stack stack' h = onward_alike name same_names o statics printed s refl at.memory stack stack' h
 
   -- on to another pc of the method with another stack
   pub jump_alike : (pc : ℕ) (stack : List Value) (stack' : List StateValue) → Agree (IsValue name) stack stack' →
-      GoesAlike here model name m o statics printed s f below (answer_of (with_pc (with_stack m stack) pc) o statics printed (Comes Continues)) (Goes (record f { pc = pc; stack = stack' } ∷ below) s)
+      GoesAlike here model name m o statics printed s f below (answer_of (with_pc (with_stack m stack) pc) o statics printed (OwnEffect Continues)) (Goes (record f { pc = pc; stack = stack' } ∷ below) s)
   jump_alike pc stack stack' h =
       record {
         running = record f { pc = pc; stack = stack' };

@@ -13,7 +13,7 @@ use Rattle.interpreter.specs.cil_model.Bodies.{lines_of, pc_of, at_index}
 use Rattle.interpreter.specs.cil_model.Stacks.{take_one, take_two}
 use Rattle.interpreter.specs.reference_machine.Values.{Value as StateValue, same_kind}
 use Rattle.interpreter.specs.reference_machine.States.{Frame as StateFrame, State, same_kind_or_none}
-use Rattle.interpreter.specs.reference_machine.Effects.{Setting, Effect as StateEffect, Goes, Raises as StateRaises, Sticks, given as given_value, unless_fault, after}
+use Rattle.interpreter.specs.reference_machine.Effects.{Setting, Effect as StateEffect, Goes, Raises as StateRaises, Sticks, when_some as given_value, unless_fault, after}
 use Rattle.interpreter.specs.reference_machine.Steps.{next, jump as jump_to, branch_if as branch_to, store_at as stored_value, to_label}
 use Rattle.interpreter.proofs.reference_machine.TypedStates.RunningFrames.{IsTypedEffect}
 use Rattle.interpreter.specs.resolved_code.declared.operations.Operation.{Operation}
@@ -21,8 +21,8 @@ use Rattle.interpreter.specs.object_memory.declared.values.Value.{Value}
 use Rattle.interpreter.specs.object_memory.Objects.{Objects}
 use Rattle.interpreter.specs.threads_monitors.Frames.{Frames, with_pc, with_stack}
 use Rattle.interpreter.specs.threads_monitors.declared.effects.Effect.TheVariants.{Continues, Raises}
-use Rattle.interpreter.specs.instructions.Frames.{Transition, jump, onward, branch_if, value_pushed, with_top, given, result_pushed, store_in, to_pc}
-use Rattle.interpreter.specs.declared.outcomes.Outcome.TheVariants.{Comes}
+use Rattle.interpreter.specs.instructions.Frames.{Transition, jump, onward, branch_if, value_pushed, with_top, when_some, result_pushed, store_in, to_pc}
+use Rattle.interpreter.specs.declared.outcomes.InstructionOutcome.TheVariants.{OwnEffect}
 use Rattle.interpreter.specs.Instructions.{of_frames, answer_of}
 use Rattle.simulation.proofs.ProgramSizes.Methods.{instructions_few}
 use Rattle.simulation.proofs.ListLaws.TestsAndLengths.{found_within}
@@ -48,8 +48,8 @@ module _ (here : Setting) (model : MemoryModel here.tree) (name : Names) (m : Fr
   Typed e = IsTypedEffect here.tree e
 
   -- a stack that represents the other
-  abbrev pub Stands : List Value → List StateValue → Type 0
-  Stands vs us = Agree (IsValue name) vs us
+  abbrev pub Occurs : List Value → List StateValue → Type 0
+  Occurs vs us = Agree (IsValue name) vs us
 
   frame : IsFrame here.tree name m.running f
   frame = own_frame here model name m o statics printed s f below i operation at
@@ -57,12 +57,12 @@ module _ (here : Setting) (model : MemoryModel here.tree) (name : Names) (m : Fr
   -- ---- to another instruction
 
   -- on to the next instruction, with other values
-  pub changed_does : (arguments locals stack : List Value) (arguments' locals' stack' : List StateValue) → Stands arguments arguments' → Stands locals locals' → Stands stack stack' →
+  pub changed_does : (arguments locals stack : List Value) (arguments' locals' stack' : List StateValue) → Occurs arguments arguments' → Occurs locals locals' → Occurs stack stack' →
       Alike (onward (record m { running = record m.running { arguments = arguments; locals = locals; stack = stack } })) (Goes (after (record f { arguments = arguments'; locals = locals' }) stack' ∷ below) s)
   changed_does arguments locals stack arguments' locals' stack' h k l =
       let moved : ℕ → Frames = λ pc. record m { running = record m.running { pc = pc; arguments = arguments; locals = locals; stack = stack } } in
       record {
-        answer = answer_of (moved (m.running.pc + 1)) o statics printed (Comes Continues);
+        answer = answer_of (moved (m.running.pc + 1)) o statics printed (OwnEffect Continues);
         is = ap (λ b. of_frames o statics printed (if b then Some (moved (m.running.pc + 1), Continues) else None)) (index_is_small here model name m o statics printed s f below i operation at);
         refuses = λ _ h. never h;
         alike = λ r. record {
@@ -80,20 +80,20 @@ module _ (here : Setting) (model : MemoryModel here.tree) (name : Names) (m : Fr
       }
 
   -- with another stack
-  pub onward_does : (rest : List Value) (rest' : List StateValue) → Stands rest rest' → Alike (onward (with_stack m rest)) (next here s f below rest')
+  pub onward_does : (rest : List Value) (rest' : List StateValue) → Occurs rest rest' → Alike (onward (with_stack m rest)) (next here s f below rest')
   onward_does rest rest' k =
       record {
-        answer = answer_of (with_pc (with_stack m rest) (m.running.pc + 1)) o statics printed (Comes Continues);
+        answer = answer_of (with_pc (with_stack m rest) (m.running.pc + 1)) o statics printed (OwnEffect Continues);
         is = ap (of_frames o statics printed) (onward_is here model name m o statics printed s f below i operation at rest);
         refuses = λ _ h. never h;
         alike = λ r. next_alike here model name m o statics printed s f below i operation at rest rest' k;
       }
 
   -- with one value more
-  pub leaves_does : (v : Value) (u : StateValue) → IsValue name v u → (rest : List Value) (rest' : List StateValue) → Stands rest rest' → length rest ≤ length m.running.stack → Alike (value_pushed v (with_stack m rest)) (next here s f below (u ∷ rest'))
+  pub leaves_does : (v : Value) (u : StateValue) → IsValue name v u → (rest : List Value) (rest' : List StateValue) → Occurs rest rest' → length rest ≤ length m.running.stack → Alike (value_pushed v (with_stack m rest)) (next here s f below (u ∷ rest'))
   leaves_does v u h rest rest' k shorter =
       record {
-        answer = answer_of (with_pc (with_stack m (v ∷ rest)) (m.running.pc + 1)) o statics printed (Comes Continues);
+        answer = answer_of (with_pc (with_stack m (v ∷ rest)) (m.running.pc + 1)) o statics printed (OwnEffect Continues);
         is = ap (of_frames o statics printed) (leaves_is here model name m o statics printed s f below i operation at v rest shorter);
         refuses = λ _ h. never h;
         alike = λ r. next_alike here model name m o statics printed s f below i operation at (v ∷ rest) (u ∷ rest') (h, k);
@@ -104,10 +104,10 @@ module _ (here : Setting) (model : MemoryModel here.tree) (name : Names) (m : Fr
   pushes_does v u h = leaves_does v u h m.running.stack f.stack frame.stack (omega arith)
 
   -- with a result, or a fault
-  pub result_does : (r : Result Value Fault) (r' : Result StateValue Fault) → IsResult name r r' → (rest : List Value) (rest' : List StateValue) → Stands rest rest' → length rest ≤ length m.running.stack →
+  pub result_does : (r : Result Value Fault) (r' : Result StateValue Fault) → IsResult name r r' → (rest : List Value) (rest' : List StateValue) → Occurs rest rest' → length rest ≤ length m.running.stack →
       Alike (result_pushed (with_stack m rest) r) (unless_fault r' (λ u. next here s f below (u ∷ rest')))
   result_does (Ok v) (Ok u) h rest rest' k shorter = leaves_does v u h rest rest' k shorter
-  result_does (Err x) (Err y) h rest rest' k shorter = record { answer = answer_of (with_stack m rest) o statics printed (Comes (Raises x)); is = refl; refuses = λ _ refused. inr (ap StateRaises (sym h) ∙ refused_fault x refused); alike = λ r. (ap StateRaises (sym h), (refl, refl, refl)) }
+  result_does (Err x) (Err y) h rest rest' k shorter = record { answer = answer_of (with_stack m rest) o statics printed (OwnEffect (Raises x)); is = refl; refuses = λ _ refused. inr (ap StateRaises (sym h) ∙ refused_fault x refused); alike = λ r. (ap StateRaises (sym h), (refl, refl, refl)) }
   result_does (Ok v) (Err y) h rest rest' k shorter = elim h [ ]
   result_does (Err x) (Ok u) h rest rest' k shorter = elim h [ ]
 
@@ -123,18 +123,18 @@ module _ (here : Setting) (model : MemoryModel here.tree) (name : Names) (m : Fr
         let few : length typed.code.lines ≤ MOST_INSTRUCTIONS = instructions_few here.tree at.running.accepted.legal f.owner typed.is_declared.0 f.method typed.is_declared.1 typed.code typed.has_code in
         lt-ltb pc MOST_INSTRUCTIONS (omega (arith, inside, few))
 
-    pub jump_does : (rest : List Value) (rest' : List StateValue) → Stands rest rest' → Alike (jump pc (with_stack m rest)) (jump_to here s f below label rest')
+    pub jump_does : (rest : List Value) (rest' : List StateValue) → Occurs rest rest' → Alike (jump pc (with_stack m rest)) (jump_to here s f below label rest')
     jump_does rest rest' k =
         subst (λ p. Alike (jump pc (with_stack m rest)) (given_value p (λ q. Goes (record f { pc = q; stack = rest' } ∷ below) s))) (sym is)
         (record {
-          answer = answer_of (with_pc (with_stack m rest) pc) o statics printed (Comes Continues);
+          answer = answer_of (with_pc (with_stack m rest) pc) o statics printed (OwnEffect Continues);
           is = ap (λ b. of_frames o statics printed (if b then Some (with_pc (with_stack m rest) pc, Continues) else None)) label_is_small;
           refuses = λ _ h. never h;
           alike = λ r. jump_alike here model name m o statics printed s f below i operation at pc rest rest' k;
         })
 
     -- there or on, by the same test
-    pub branch_does : (a b : Bool) → a ≡ b → (rest : List Value) (rest' : List StateValue) → Stands rest rest' → Alike (branch_if a pc (with_stack m rest)) (branch_to here s f below b label rest')
+    pub branch_does : (a b : Bool) → a ≡ b → (rest : List Value) (rest' : List StateValue) → Occurs rest rest' → Alike (branch_if a pc (with_stack m rest)) (branch_to here s f below b label rest')
     branch_does a b e rest rest' k = subst (λ c. Alike (branch_if a pc (with_stack m rest)) (branch_to here s f below c label rest')) e (by_test a)
       where
         by_test : (c : Bool) → Alike (branch_if c pc (with_stack m rest)) (branch_to here s f below c label rest')
@@ -143,7 +143,7 @@ module _ (here : Setting) (model : MemoryModel here.tree) (name : Names) (m : Fr
 
   -- the label of a number and its pc
   pub to_label_does : (pc : Option ℕ) (label : Option (List ℕ)) → option_map (λ l. pc_of l (lines_of f.method)) label ≡ option_map Some pc →
-      (rest : List Value) (rest' : List StateValue) → Stands rest rest' → Alike (to_pc pc (with_stack m rest)) (to_label here s f below label rest')
+      (rest : List Value) (rest' : List StateValue) → Occurs rest rest' → Alike (to_pc pc (with_stack m rest)) (to_label here s f below label rest')
   to_label_does None None is rest rest' k = onward_does rest rest' k
   to_label_does (Some pc) (Some label) is rest rest' k = jump_does label pc (same_Some (pc_of label (lines_of f.method)) (Some pc) is) rest rest' k
   to_label_does (Some pc) None is rest rest' k = none_is_some (Some pc) is
@@ -154,7 +154,7 @@ module _ (here : Setting) (model : MemoryModel here.tree) (name : Names) (m : Fr
   module _ {X Y : Type 0} (R : X → Y → Type 0) where
     -- with what is there
     pub given_alike : (answer : Option X) (answer' : Option Y) (go : X → Transition) (go' : Y → StateEffect) → Meets R answer answer' → Typed (given_value answer' go') →
-        ((x : X) (y : Y) → R x y → Typed (go' y) → Alike (go x) (go' y)) → Alike (given answer go) (given_value answer' go')
+        ((x : X) (y : Y) → R x y → Typed (go' y) → Alike (go x) (go' y)) → Alike (when_some answer go) (given_value answer' go')
     given_alike answer None go go' h t each = elim t [ ]
     given_alike (Some x) (Some y) go go' h t each = each x y h t
     given_alike None (Some y) go go' h t each = elim h [ ]
@@ -163,10 +163,10 @@ module _ (here : Setting) (model : MemoryModel here.tree) (name : Names) (m : Fr
     pub one_given : (result : Value → Option X) (result' : StateValue → Option Y) (go : X → Frames → Transition) (go' : Y → List StateValue → StateEffect) →
         ((v : Value) (u : StateValue) → IsValue name v u → Meets R (result v) (result' u)) →
         Typed (take_one Sticks f.stack (λ u rest. given_value (result' u) (λ y. go' y rest))) →
-        ((x : X) (y : Y) → R x y → (rest : List Value) (rest' : List StateValue) → Stands rest rest' → length rest ≤ length m.running.stack → Typed (go' y rest') → Alike (go x (with_stack m rest)) (go' y rest')) →
-        Alike (with_top m (λ v n. given (result v) (λ x. go x n))) (take_one Sticks f.stack (λ u rest. given_value (result' u) (λ y. go' y rest)))
+        ((x : X) (y : Y) → R x y → (rest : List Value) (rest' : List StateValue) → Occurs rest rest' → length rest ≤ length m.running.stack → Typed (go' y rest') → Alike (go x (with_stack m rest)) (go' y rest')) →
+        Alike (with_top m (λ v n. when_some (result v) (λ x. go x n))) (take_one Sticks f.stack (λ u rest. given_value (result' u) (λ y. go' y rest)))
     one_given result result' go go' meets t each =
-        one_operand here model name m o statics printed s f below i operation at (of_frames o statics printed) (λ v n. given (result v) (λ x. go x n)) (λ u rest. given_value (result' u) (λ y. go' y rest)) t
+        one_operand here model name m o statics printed s f below i operation at (of_frames o statics printed) (λ v n. when_some (result v) (λ x. go x n)) (λ u rest. given_value (result' u) (λ y. go' y rest)) t
         (λ v rest u rest' is is' h k shorter t'.
         given_alike (result v) (result' u) (λ x. go x (with_stack m rest)) (λ y. go' y rest') (meets v u h) t' (λ x y r t''. each x y r rest rest' k shorter t''))
 
@@ -174,10 +174,10 @@ module _ (here : Setting) (model : MemoryModel here.tree) (name : Names) (m : Fr
     pub two_given : (result : Value → Value → Option X) (result' : StateValue → StateValue → Option Y) (go : X → Frames → Transition) (go' : Y → List StateValue → StateEffect) →
         ((v w : Value) (u x : StateValue) → IsValue name v u → IsValue name w x → Meets R (result v w) (result' u x)) →
         Typed (take_two Sticks f.stack (λ u x rest. given_value (result' u x) (λ y. go' y rest))) →
-        ((x : X) (y : Y) → R x y → (rest : List Value) (rest' : List StateValue) → Stands rest rest' → length rest ≤ length m.running.stack → Typed (go' y rest') → Alike (go x (with_stack m rest)) (go' y rest')) →
-        Alike (with_top m (λ w n. with_top n (λ v k. given (result v w) (λ x. go x k)))) (take_two Sticks f.stack (λ u x rest. given_value (result' u x) (λ y. go' y rest)))
+        ((x : X) (y : Y) → R x y → (rest : List Value) (rest' : List StateValue) → Occurs rest rest' → length rest ≤ length m.running.stack → Typed (go' y rest') → Alike (go x (with_stack m rest)) (go' y rest')) →
+        Alike (with_top m (λ w n. with_top n (λ v k. when_some (result v w) (λ x. go x k)))) (take_two Sticks f.stack (λ u x rest. given_value (result' u x) (λ y. go' y rest)))
     two_given result result' go go' meets t each =
-        two_operands here model name m o statics printed s f below i operation at (of_frames o statics printed) (λ v w n. given (result v w) (λ x. go x n)) (λ u x rest. given_value (result' u x) (λ y. go' y rest)) t
+        two_operands here model name m o statics printed s f below i operation at (of_frames o statics printed) (λ v w n. when_some (result v w) (λ x. go x n)) (λ u x rest. given_value (result' u x) (λ y. go' y rest)) t
         (λ v w rest u x rest' is is' h h' k shorter t'.
         given_alike (result v w) (result' u x) (λ z. go z (with_stack m rest)) (λ y. go' y rest') (meets v w u x h h') t' (λ z y r t''. each z y r rest rest' k (omega (arith, shorter)) t''))
 
@@ -185,26 +185,26 @@ module _ (here : Setting) (model : MemoryModel here.tree) (name : Names) (m : Fr
   pub value_does : (result : Value → Option Value) (result' : StateValue → Option StateValue) →
       ((v : Value) (u : StateValue) → IsValue name v u → Meets (IsValue name) (result v) (result' u)) →
       Typed (take_one Sticks f.stack (λ u rest. given_value (result' u) (λ x. next here s f below (x ∷ rest)))) →
-      Alike (with_top m (λ v n. given (result v) (λ x. value_pushed x n))) (take_one Sticks f.stack (λ u rest. given_value (result' u) (λ x. next here s f below (x ∷ rest))))
+      Alike (with_top m (λ v n. when_some (result v) (λ x. value_pushed x n))) (take_one Sticks f.stack (λ u rest. given_value (result' u) (λ x. next here s f below (x ∷ rest))))
   value_does result result' meets typed =
       one_given (IsValue name) result result' value_pushed (λ u rest. next here s f below (u ∷ rest)) meets typed (λ v u h rest rest' k shorter t. leaves_does v u h rest rest' k shorter)
 
   -- ---- arguments and locals of a frame
 
   -- the value at a signed index
-  values_meet : (vs : List Value) (us : List StateValue) → Stands vs us → (n : ℤ) → Meets (IsValue name) (at_index vs n) (at_index us n)
+  values_meet : (vs : List Value) (us : List StateValue) → Occurs vs us → (n : ℤ) → Meets (IsValue name) (at_index vs n) (at_index us n)
   values_meet vs us h (pos n) = meets_at (IsValue name) vs us h n
   values_meet vs us h (negsuc n) = tt
 
   -- it is pushed
-  pub load_does : (vs : List Value) (us : List StateValue) → Stands vs us → (n : ℤ) →
+  pub load_does : (vs : List Value) (us : List StateValue) → Occurs vs us → (n : ℤ) →
       Typed (given_value (at_index us n) (λ u. next here s f below (u ∷ f.stack))) →
-      Alike (given (at_index vs n) (λ v. value_pushed v m)) (given_value (at_index us n) (λ u. next here s f below (u ∷ f.stack)))
+      Alike (when_some (at_index vs n) (λ v. value_pushed v m)) (given_value (at_index us n) (λ u. next here s f below (u ∷ f.stack)))
   load_does vs us h n typed =
       given_alike (IsValue name) (at_index vs n) (at_index us n) (λ v. value_pushed v m) (λ u. next here s f below (u ∷ f.stack)) (values_meet vs us h n) typed (λ v u k t. pushes_does v u k)
 
   -- a value is stored at an index that exists
-  pub store_does : (vs : List Value) (us : List StateValue) → Stands vs us → (n : ℤ) (u : StateValue) (store : ℕ → Frames) (go : List StateValue → StateEffect) →
+  pub store_does : (vs : List Value) (us : List StateValue) → Occurs vs us → (n : ℤ) (u : StateValue) (store : ℕ → Frames) (go : List StateValue → StateEffect) →
       Typed (given_value (stored_value here s f below n u us) go) →
       ((k : ℕ) → Alike (onward (store k)) (go (slice_set us k u))) →
       Alike (store_in store vs n) (given_value (stored_value here s f below n u us) go)

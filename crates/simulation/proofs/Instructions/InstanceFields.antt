@@ -11,7 +11,7 @@ use Rattle.interpreter.specs.cil_model.Fields.{FieldKey, same_key}
 use Rattle.interpreter.specs.name_tables.declared.lookups.MemberNumber.{MemberNumber}
 use Rattle.interpreter.specs.reference_machine.Values.{ObjectName, Value as StateValue, same_kind}
 use Rattle.interpreter.specs.reference_machine.States.{Contents, Instance as IsInstance, Array as IsArray, HeapObject, Frame as StateFrame, State, entry_at, with_entry, same_kind_or_none, replaced_entry, object_at, with_object, fields_of_contents, with_fields, field_value, with_field}
-use Rattle.interpreter.specs.reference_machine.Effects.{Setting, given as state_given, not_null, onward as onward_frame}
+use Rattle.interpreter.specs.reference_machine.Effects.{Setting, when_some as state_given, not_null, onward as onward_frame}
 use Rattle.interpreter.specs.reference_machine.Steps.{execute, key_of, next}
 use Rattle.interpreter.specs.reference_machine.TypedStates.{IsTypedContents}
 use Rattle.interpreter.proofs.reference_machine.TypedStates.StateChanges.{contents_typed}
@@ -154,7 +154,7 @@ module _ (here : Setting) (model : MemoryModel here.tree) (name : Names) (m : Fr
           (word_value name (model.reads name o statics s at.memory.fits at.running.typed).small word.0 v kind holds (kind_fits here.tree at.running.accepted.legal s v is.found.field_type at_slot.typed)) rest rest' k shorter
 
       -- another value is stored
-      module _ (w : Value) (u : StateValue) (stands : IsValue name w u) where
+      module _ (w : Value) (u : StateValue) (refines : IsValue name w u) where
         abbrev changed_fields : List (FieldKey × StateValue)
         changed_fields = with_entry same_key own_key u own.fields
 
@@ -168,13 +168,13 @@ module _ (here : Setting) (model : MemoryModel here.tree) (name : Names) (m : Fr
           slots_are = ap (λ l. slice_set l own_slot (value_word w)) thing.contents.slots_are ∙
               slot_set (thread_word own.object.thread) own_index thing.contents.words (value_word w) (is_thread_class here.tree own.class) (is_thread_class here.tree is.declared_in) at_slot.hidden;
           values = subst (λ fs. Agree HoldsField (slice_set thing.contents.words own_index (value_word w)) fs) (sym (at_slot.changed u))
-              (agree_set HoldsField thing.contents.words own.fields thing.contents.values own_index (value_word w) (at_slot.entry.0, u) (record { value = w; stands = stands; is = refl }));
+              (agree_set HoldsField thing.contents.words own.fields thing.contents.values own_index (value_word w) (at_slot.entry.0, u) (record { value = w; refines = refines; is = refl }));
         }
 
-        stands_after : IsCell here.tree name (with_cell_slot own_slot (value_word w) thing.thing.cell) object_after
-        stands_after = record {
+        occurs_after : IsCell here.tree name (with_cell_slot own_slot (value_word w) thing.thing.cell) object_after
+        occurs_after = record {
           contents = subst (λ k. IsOfContents here.tree name k (slice_set thing.thing.cell.slots own_slot (value_word w)) (IsInstance own.class changed_fields) own.object.thread) (sym thing.kind_is) cell_after;
-          monitor = thing.thing.stands.monitor;
+          monitor = thing.thing.refines.monitor;
         }
 
         -- the slot is of the sort of what was there, and so of what comes
@@ -182,7 +182,7 @@ module _ (here : Setting) (model : MemoryModel here.tree) (name : Names) (m : Fr
         own_sort kinds =
             let contents : IsTypedContents here.tree s (IsInstance own.class own.fields) = subst (λ c. IsTypedContents here.tree s c) own.holds (contents_typed here.tree at.running.accepted.legal s at.running.typed n own.object own.there) in
             let says = slot_says here.tree at.running.accepted.legal s own.class thing.kind thing.contents.class_is own.fields contents.2 own_index at_slot.entry at_slot.there in
-            value_says name w u stands ∙ sym (same_kinds v u kinds) ∙ ap (λ x. is_reference_kind (kind_of_state x)) (sym at_slot.value_is) ∙ sym says ∙
+            value_says name w u refines ∙ sym (same_kinds v u kinds) ∙ ap (λ x. is_reference_kind (kind_of_state x)) (sym at_slot.value_is) ∙ sym says ∙
             ap (λ h. holds_reference here.tree (Instance thing.kind) (h + own_index)) (same_hidden here.tree own.class is.declared_in at_slot.hidden) ∙
             ap (λ k. holds_reference here.tree k own_slot) (sym thing.kind_is)
 
@@ -197,7 +197,7 @@ module _ (here : Setting) (model : MemoryModel here.tree) (name : Names) (m : Fr
             DoesAlike here model name m o statics printed s f below (of_objects o statics printed (store_slot model.phase w own_slot a (with_stack m rest) o)) (onward_frame f below (with_object s n object_after) rest')
         field_stored kinds rest rest' k =
             subst (λ x. DoesAlike here model name m o statics printed s f below (of_objects o statics printed (store_slot model.phase w own_slot a (with_stack m rest) o)) (onward_frame f below (with_object s x object_after) rest')) (sym thing.thing.name_is)
-            (replaced_alike here model name m o statics printed s f below i operation at a thing.thing.cell thing.thing.lies own_slot word.0 word_there thing.thing.number (named ∙ ap Some thing.thing.name_is) w u stands (own_sort kinds) object_after (linked kinds) stands_after rest rest' k)
+            (replaced_alike here model name m o statics printed s f below i operation at a thing.thing.cell thing.thing.lies own_slot word.0 word_there thing.thing.number (named ∙ ap Some thing.thing.name_is) w u refines (own_sort kinds) object_after (linked kinds) occurs_after rest rest' k)
 
   -- ---- ldfld
 
@@ -216,9 +216,9 @@ module _ (here : Setting) (model : MemoryModel here.tree) (name : Names) (m : Fr
         (λ object k. object_of object k o (λ a. load_slot kind number a k o))
         (λ object rest. state_given (find_field here.tree false r) (λ found. not_null object NullReference (λ n. state_given (field_value s n (key_of found)) (λ v. next here s f below (v ∷ rest)))))
         (fine here model name m o statics printed s f below (Named.LoadField r) (Resolved.LoadField owner field) at)
-        (λ v rest u rest' is' is'' stands k shorter typed.
+        (λ v rest u rest' is' is'' refines k shorter typed.
         known_alike here model name m o statics printed s f below (Named.LoadField r) (Resolved.LoadField owner field) at _ (find_field here.tree false r) (finds.declared_in, finds.found) finds.finds _ typed (λ typed'.
-        object_alike here model name m o statics printed s f below (Named.LoadField r) (Resolved.LoadField owner field) at v u stands (with_stack m rest) _ _ typed' (λ a n here_named typed''.
+        object_alike here model name m o statics printed s f below (Named.LoadField r) (Resolved.LoadField owner field) at v u refines (with_stack m rest) _ _ typed' (λ a n here_named typed''.
         given_alike here model name m o statics printed s f below (Named.LoadField r) (Resolved.LoadField owner field) at _ (field_value s n (key_of (finds.declared_in, finds.found))) _ typed'' (λ value found typed'''.
         field_loaded (Named.LoadField r) (Resolved.LoadField owner field) at r field finds a n here_named value (field_of s n (key_of (finds.declared_in, finds.found)) value found) rest rest' k shorter)))))
 
@@ -228,9 +228,9 @@ module _ (here : Setting) (model : MemoryModel here.tree) (name : Names) (m : Fr
     -- a store that is done
     store_done : (a : Addr) (n : ObjectName) → name a.number ≡ Some n → (w : Value) (u : StateValue) → IsValue name w u → (s' : State) → IsStored s n (key_of (finds.declared_in, finds.found)) u s' → (rest : List Value) (rest' : List StateValue) → Agree (IsValue name) rest rest' →
         DoesAlike here model name m o statics printed s f below (of_objects o statics printed (store_slot model.phase w (slot here.tree at.running.accepted.legal r field finds) a (with_stack m rest) o)) (onward_frame f below s' rest')
-    store_done a n here_named w u stands s' stored rest rest' k =
+    store_done a n here_named w u refines s' stored rest rest' k =
         subst (λ x. DoesAlike here model name m o statics printed s f below (of_objects o statics printed (store_slot model.phase w (slot here.tree at.running.accepted.legal r field finds) a (with_stack m rest) o)) (onward_frame f below x rest')) (sym stored.is)
-        (field_stored (Named.StoreField r) (Resolved.StoreField owner field) at r field finds a n here_named stored.old stored.field w u stands stored.kinds rest rest' k)
+        (field_stored (Named.StoreField r) (Resolved.StoreField owner field) at r field finds a n here_named stored.old stored.field w u refines stored.kinds rest rest' k)
 
     -- the whole instruction
     pub store_field_alike : DoesAlike here model name m o statics printed s f below (operation_transition here.tree (mutator_in here model) (Resolved.StoreField owner field) m o statics printed) (execute here s f below (Named.StoreField r))
@@ -243,8 +243,8 @@ module _ (here : Setting) (model : MemoryModel here.tree) (name : Names) (m : Fr
         (λ object v k. object_of object k o (λ a. store_slot model.phase v number a k o))
         (λ object v rest. state_given (find_field here.tree false r) (λ found. not_null object NullReference (λ n. state_given (with_field s n (key_of found) v) (λ s'. onward_frame f below s' rest))))
         (fine here model name m o statics printed s f below (Named.StoreField r) (Resolved.StoreField owner field) at)
-        (λ v w rest u x rest' is' is'' stands stands' k shorter typed.
+        (λ v w rest u x rest' is' is'' refines refines' k shorter typed.
         known_alike here model name m o statics printed s f below (Named.StoreField r) (Resolved.StoreField owner field) at _ (find_field here.tree false r) (finds.declared_in, finds.found) finds.finds _ typed (λ typed'.
-        object_alike here model name m o statics printed s f below (Named.StoreField r) (Resolved.StoreField owner field) at v u stands (with_stack m rest) _ _ typed' (λ a n here_named typed''.
+        object_alike here model name m o statics printed s f below (Named.StoreField r) (Resolved.StoreField owner field) at v u refines (with_stack m rest) _ _ typed' (λ a n here_named typed''.
         given_alike here model name m o statics printed s f below (Named.StoreField r) (Resolved.StoreField owner field) at _ (with_field s n (key_of (finds.declared_in, finds.found)) x) _ typed'' (λ s' stored typed'''.
-        store_done a n here_named w x stands' s' (stored_in s n (key_of (finds.declared_in, finds.found)) x s' stored) rest rest' k)))))
+        store_done a n here_named w x refines' s' (stored_in s n (key_of (finds.declared_in, finds.found)) x s' stored) rest rest' k)))))

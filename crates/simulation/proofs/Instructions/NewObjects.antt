@@ -12,7 +12,7 @@ use Rattle.interpreter.specs.cil_model.Fields.{slot_types}
 use Rattle.interpreter.specs.cil_model.Legality.{IsLegal}
 use Rattle.interpreter.specs.reference_machine.Values.{ObjectName, Value as StateValue, Reference}
 use Rattle.interpreter.specs.reference_machine.States.{Contents, Frame as StateFrame, State, next_name, with_birth as with_state_birth, new_instance}
-use Rattle.interpreter.specs.reference_machine.Effects.{Setting, Effect as StateEffect, Goes, Sticks, Raises as StateRaises, given as state_given, are_of_kinds, after, new_frame, onward as state_onward}
+use Rattle.interpreter.specs.reference_machine.Effects.{Setting, Effect as StateEffect, Goes, Sticks, Raises as StateRaises, when_some as state_given, are_of_kinds, after, new_frame, onward as state_onward}
 use Rattle.interpreter.specs.reference_machine.BuiltIn.{Action, action_of}
 use Rattle.interpreter.specs.reference_machine.Steps.{birth as state_birth, frame_for, is_too_deep, operands, construct, execute}
 use Rattle.interpreter.proofs.reference_machine.TypedStates.RunningFrames.{IsTypedEffect}
@@ -29,10 +29,10 @@ use Rattle.interpreter.specs.instructions.barriers.Barriers.{object_born}
 use Rattle.interpreter.specs.loaded_program.MethodNumbers.{number_of}
 use Rattle.interpreter.specs.threads_monitors.Frames.{Frames, with_pc, with_stack}
 use Rattle.interpreter.specs.threads_monitors.declared.effects.Effect.TheVariants.{Continues, Raises}
-use Rattle.interpreter.specs.instructions.Frames.{given}
+use Rattle.interpreter.specs.instructions.Frames.{when_some}
 use Rattle.interpreter.specs.instructions.ObjectTransitions.{ObjectTransition, bears, beside, birth_transition as born_transition}
 use Rattle.interpreter.specs.instructions.Calls.{constructs, is_full, new_object_transition, new_plain_object_transition}
-use Rattle.interpreter.specs.declared.outcomes.Outcome.TheVariants.{Comes}
+use Rattle.interpreter.specs.declared.outcomes.InstructionOutcome.TheVariants.{OwnEffect}
 use Rattle.interpreter.specs.Instructions.{MachineTransition, operation_transition, Answer, answer_of, of_objects}
 use Rattle.interpreter.proofs.Linking.{new_does}
 use Rattle.interpreter.specs.Calls.{called_as, make_object}
@@ -43,8 +43,8 @@ use Rattle.simulation.proofs.Instructions.FrameProgress.{own_frame, leaves_is, o
 use Rattle.simulation.proofs.Instructions.StackOperands.{fine}
 use Rattle.simulation.proofs.Memory.Allocation.{by_birth, birth_goes, memory_after}
 use Rattle.simulation.proofs.Instructions.Constructors.{constructor, finds_own, numbered_own, class_named, class_is_in, slots_are_at, plain_has_none, is_numbered}
-use Rattle.simulation.proofs.Instructions.ConstructorFrames.{depth_is, frames_in, constructs_is, frames_stand}
-use Rattle.simulation.proofs.Memory.NewObjectContents.{new_instance_stands}
+use Rattle.simulation.proofs.Instructions.ConstructorFrames.{depth_is, frames_in, constructs_is, frames_refine}
+use Rattle.simulation.proofs.Memory.NewObjectContents.{new_instance_refines}
 use Rattle.std.proofs.lemmas.List.{length-replicate}
 use Rattle.simulation.proofs.Memory.CellSizes.{contents_size}
 use Rattle.interpreter.proofs.cil_model.SameLaws.{never}
@@ -127,7 +127,7 @@ module _ (here : Setting) (model : MemoryModel here.tree) (name : Names) (m : Fr
 
   -- a fault that isn't one of memory
   too_deep : Alike (Some (m, o, Raises StackOverflow)) (StateRaises StackOverflow)
-  too_deep = record { answer = answer_of m o statics printed (Comes (Raises StackOverflow)); is = refl; refuses = λ _ h. never h; alike = λ r. (refl, (refl, refl, refl)) }
+  too_deep = record { answer = answer_of m o statics printed (OwnEffect (Raises StackOverflow)); is = refl; refuses = λ _ h. never h; alike = λ r. (refl, (refl, refl, refl)) }
 
   -- the reference machine continues from a birth with frames of its thread
   abbrev Enters : StateEffect → Type 0
@@ -137,7 +137,7 @@ module _ (here : Setting) (model : MemoryModel here.tree) (name : Names) (m : Fr
   refused : (go : ObjectName → State → StateEffect) → (here.is_refused ≡ false → Enters (go (next_name s) (with_state_birth s contents))) → room_for model.phase o.spaces < 3 + slots →
       Alike (Some (m, o, Raises OutOfMemory)) (state_birth here s f below contents go)
   refused go enters room = record {
-    answer = answer_of m o statics printed (Comes (Raises OutOfMemory));
+    answer = answer_of m o statics printed (OwnEffect (Raises OutOfMemory));
     is = refl;
     refuses = λ r _. let e = enters r in inl (record {
       running = e.0;
@@ -145,7 +145,7 @@ module _ (here : Setting) (model : MemoryModel here.tree) (name : Names) (m : Fr
       contents = contents;
       is = birth_goes here s f below contents go r ∙ e.2;
       exceeds =
-          (let words = contents_size here.tree name (Instance number.class) (replicate slots 0) contents None (new_instance_stands here.tree c number.class (class_named here.tree legal c parameters number is) name) in
+          (let words = contents_size here.tree name (Instance number.class) (replicate slots 0) contents None (new_instance_refines here.tree c number.class (class_named here.tree legal c parameters number is) name) in
           let zeros = length-replicate {A = ℕ} slots 0 in
           omega (arith, words, zeros, room));
     });
@@ -159,7 +159,7 @@ module _ (here : Setting) (model : MemoryModel here.tree) (name : Names) (m : Fr
   -- an object that was born
   birth_of : (birth_transition : Objects) (a : Addr) → object_born model.phase o (Instance number.class) slots ≡ (birth_transition, Some a) → IsBirth model.Fits name statics s contents birth_transition a
   birth_of birth_transition a e =
-      model.births name o statics s at.memory.fits (Instance number.class) slots contents (new_instance_stands here.tree c number.class (class_named here.tree legal c parameters number is)) birth_transition a e
+      model.births name o statics s at.memory.fits (Instance number.class) slots contents (new_instance_refines here.tree c number.class (class_named here.tree legal c parameters number is)) birth_transition a e
 
   -- ---- a constructor that is built in
 
@@ -169,7 +169,7 @@ module _ (here : Setting) (model : MemoryModel here.tree) (name : Names) (m : Fr
   plain_born : (birth_transition : Objects) (a : Addr) → object_born model.phase o (Instance number.class) slots ≡ (birth_transition, Some a) → Alike (born_transition m (birth_transition, Some a)) (state_birth here s f below contents pushed)
   plain_born birth_transition a e =
       let birth : IsBirth model.Fits name statics s contents birth_transition a = birth_of birth_transition a e in
-      let answer : Answer = (answer_of (with_pc (with_stack m (Ref a ∷ m.running.stack)) (m.running.pc + 1)) birth_transition statics printed (Comes Continues)) in
+      let answer : Answer = (answer_of (with_pc (with_stack m (Ref a ∷ m.running.stack)) (m.running.pc + 1)) birth_transition statics printed (OwnEffect Continues)) in
       record {
         answer = answer;
         is = ap (λ transition. as_transition (beside birth_transition transition)) (leaves_is here model name m o statics printed s f below (Named.NewObject c parameters) (Resolved.NewObject number) at (Ref a) m.running.stack (omega arith));
@@ -204,7 +204,7 @@ module _ (here : Setting) (model : MemoryModel here.tree) (name : Names) (m : Fr
         birth = birth_of birth_transition a e
 
         answer : Answer
-        answer = (answer_of (frames_in here model name m o statics printed s f below c parameters number is at enough deep a) birth_transition statics printed (Comes Continues))
+        answer = (answer_of (frames_in here model name m o statics printed s f below c parameters number is at enough deep a) birth_transition statics printed (OwnEffect Continues))
 
         waiting : List StateFrame
         waiting = after f rest ∷ below
@@ -221,7 +221,7 @@ module _ (here : Setting) (model : MemoryModel here.tree) (name : Names) (m : Fr
           names = birth.names;
           extends = birth.extends;
           others = refl;
-          frames = frames_stand here model name m o statics printed s f below c parameters number is at enough deep a contents birth_transition birth code has;
+          frames = frames_refine here model name m o statics printed s f below c parameters number is at enough deep a contents birth_transition birth code has;
           memory = memory_after here model name o statics printed s at.memory contents birth_transition a birth;
         }
 
@@ -251,19 +251,19 @@ module _ (here : Setting) (model : MemoryModel here.tree) (name : Names) (m : Fr
 
   -- in the method of its number
   by_number : IsTypedEffect here.tree (if is_too_deep here s f below then StateRaises StackOverflow else state_birth here s f below contents entered_by) →
-      Alike (given (number_of here.tree (c, built)) (λ n. new_object_transition model.phase number.class slots (called_as (c, built) n) m o)) (if is_too_deep here s f below then StateRaises StackOverflow else state_birth here s f below contents entered_by)
+      Alike (when_some (number_of here.tree (c, built)) (λ n. new_object_transition model.phase number.class slots (called_as (c, built) n) m o)) (if is_too_deep here s f below then StateRaises StackOverflow else state_birth here s f below contents entered_by)
   by_number t =
       let framed : Bool → StateEffect = λ b. if b then StateRaises StackOverflow else state_birth here s f below contents entered_by in
       let same : is_full m ≡ is_too_deep here s f below = depth_is here model name m o statics printed s f below c parameters number is at in
       let own = is_numbered here.tree legal c parameters number is in
-      subst (λ x. Alike (given x (λ n. new_object_transition model.phase number.class slots (called_as (c, built) n) m o)) (framed (is_too_deep here s f below))) (sym own.1)
+      subst (λ x. Alike (when_some x (λ n. new_object_transition model.phase number.class slots (called_as (c, built) n) m o)) (framed (is_too_deep here s f below))) (sym own.1)
       (subst (λ b. Alike (new_object_transition model.phase number.class slots (called_as (c, built) own.0) m o) (framed b)) same
       (by_depth (is_full m) refl (subst (λ b. IsTypedEffect here.tree (framed b)) (sym same) t)))
 
   by_action : (x : Option Action) → action_of c built ≡ x →
       IsTypedEffect here.tree (if is_some x then state_birth here s f below contents (λ n s'. state_onward f below s' (Reference n ∷ rest))
       else if is_too_deep here s f below then StateRaises StackOverflow else state_birth here s f below contents entered_by) →
-      Alike (option_map_or (λ (a : Action). new_plain_object_transition model.phase number.class slots m o) x (given (number_of here.tree (c, built)) (λ n. new_object_transition model.phase number.class slots (called_as (c, built) n) m o)))
+      Alike (option_map_or (λ (a : Action). new_plain_object_transition model.phase number.class slots m o) x (when_some (number_of here.tree (c, built)) (λ n. new_object_transition model.phase number.class slots (called_as (c, built) n) m o)))
       (if is_some x then state_birth here s f below contents (λ n s'. state_onward f below s' (Reference n ∷ rest))
       else if is_too_deep here s f below then StateRaises StackOverflow else state_birth here s f below contents entered_by)
   by_action (Some a) acts t =

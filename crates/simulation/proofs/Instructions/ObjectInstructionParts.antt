@@ -11,7 +11,7 @@ use Rattle.interpreter.specs.cil_model.declared.types.DeclaredType.{DeclaredType
 use Rattle.interpreter.specs.reference_machine.Values.{ObjectName, Born, Value as StateValue}
 use Rattle.interpreter.specs.reference_machine.States.{HeapObject, Frame as StateFrame, State, array_at, with_object}
 use Rattle.interpreter.specs.reference_machine.Arithmetic.{as_index}
-use Rattle.interpreter.specs.reference_machine.Effects.{Setting, Effect as StateEffect, Raises as StateRaises, Sticks, given as state_given, not_null, onward as onward_frame}
+use Rattle.interpreter.specs.reference_machine.Effects.{Setting, Effect as StateEffect, Raises as StateRaises, Sticks, when_some as state_given, not_null, onward as onward_frame}
 use Rattle.interpreter.specs.reference_machine.Steps.{element, in_range as state_in_range}
 use Rattle.interpreter.proofs.reference_machine.TypedStates.RunningFrames.{IsTypedEffect}
 use Rattle.interpreter.specs.resolved_code.declared.operations.Operation.{Operation}
@@ -25,9 +25,9 @@ use Rattle.collector.specs.References.{holds_reference, is_reference_value}
 use Rattle.interpreter.specs.instructions.barriers.Barriers.{is_storable, stored_value}
 use Rattle.interpreter.specs.threads_monitors.Frames.{Frames, with_pc, with_stack}
 use Rattle.interpreter.specs.threads_monitors.declared.effects.Effect.TheVariants.{Continues, Raises}
-use Rattle.interpreter.specs.instructions.Frames.{given, onward, value_pushed}
+use Rattle.interpreter.specs.instructions.Frames.{when_some, onward, value_pushed}
 use Rattle.interpreter.specs.instructions.ObjectTransitions.{ObjectTransition, beside, object_of, index_in, index_of, slots_of, load_slot, store_slot, checked_index, in_range}
-use Rattle.interpreter.specs.declared.outcomes.Outcome.TheVariants.{Comes}
+use Rattle.interpreter.specs.declared.outcomes.InstructionOutcome.TheVariants.{OwnEffect}
 use Rattle.interpreter.specs.Instructions.{MachineTransition, of_objects, answer_of}
 use Rattle.simulation.specs.Agreement.{Agree}
 use Rattle.simulation.specs.Refines.{Names, IsValue, int32, int64, native, null_reference, reference, IsWord, IsCell}
@@ -74,13 +74,13 @@ module _ (here : Setting) (model : MemoryModel here.tree) (name : Names) (m : Fr
 
   -- a fault, with nothing changed
   pub raised_alike : (k : Frames) (x : Fault) → Alike (objects_transition (Some (k, o, Raises x))) (StateRaises x)
-  raised_alike k x = record { answer = answer_of k o statics printed (Comes (Raises x)); is = refl; refuses = λ _ h. inr (refused_fault x h); alike = λ r. (refl, (refl, refl, refl)) }
+  raised_alike k x = record { answer = answer_of k o statics printed (OwnEffect (Raises x)); is = refl; refuses = λ _ h. inr (refused_fault x h); alike = λ r. (refl, (refl, refl, refl)) }
 
   -- a value is left
   pub left_alike : (v : Value) (u : StateValue) → IsValue name v u → (rest : List Value) (rest' : List StateValue) → Agree (IsValue name) rest rest' → length rest ≤ length m.running.stack →
       Alike (objects_transition (beside o (value_pushed v (with_stack m rest)))) (onward_frame f below s (u ∷ rest'))
   left_alike v u is rest rest' k shorter = record {
-    answer = answer_of (with_pc (with_stack m (v ∷ rest)) (m.running.pc + 1)) o statics printed (Comes Continues);
+    answer = answer_of (with_pc (with_stack m (v ∷ rest)) (m.running.pc + 1)) o statics printed (OwnEffect Continues);
     is = ap (λ t. objects_transition (beside o t)) (leaves_is here model name m o statics printed s f below i operation at v rest shorter);
     refuses = λ _ h. never h;
     alike = λ r. next_alike here model name m o statics printed s f below i operation at (v ∷ rest) (u ∷ rest') (is, k);
@@ -90,7 +90,7 @@ module _ (here : Setting) (model : MemoryModel here.tree) (name : Names) (m : Fr
   stored_alike : (o' : Objects) (s' : State) → s'.threads ≡ s.threads → IsModelled here.tree model name o' statics printed s' → (rest : List Value) (rest' : List StateValue) → Agree (IsValue name) rest rest' →
       Alike (objects_transition (beside o' (onward (with_stack m rest)))) (onward_frame f below s' rest')
   stored_alike o' s' others memory rest rest' k = record {
-    answer = answer_of (with_pc (with_stack m rest) (m.running.pc + 1)) o' statics printed (Comes Continues);
+    answer = answer_of (with_pc (with_stack m rest) (m.running.pc + 1)) o' statics printed (OwnEffect Continues);
     is = ap (λ t. objects_transition (beside o' t)) (onward_is here model name m o statics printed s f below i operation at rest);
     refuses = λ _ h. never h;
     alike = λ r. onward_alike here model name m o statics printed s f below i operation at name (λ b n is. is) o' statics printed s' others memory rest rest' k;
@@ -99,8 +99,8 @@ module _ (here : Setting) (model : MemoryModel here.tree) (name : Names) (m : Fr
   -- the memory with another word in a slot of an object, which changes alike
   memory_with : (a : Addr) (n : ℕ) → name a.number ≡ Some (Born n) → (cell : Cell) → object_cell o a ≡ Some cell → (slot : ℕ) (v : Value) (u : StateValue) → slot < length cell.slots → is_reference_value v ≡ holds_reference here.tree cell.kind slot → IsValue name v u →
       (object : HeapObject) → IsLinked here.tree cell.kind object.contents → IsCell here.tree name (with_cell_slot slot (value_word v) cell) object → IsModelled here.tree model name (stored_value model.phase o a slot v) statics printed (with_object s (Born n) object)
-  memory_with a n named cell lies slot v u inside sort is object linked stands = record {
-    fits = model.slots name o statics s at.memory.fits at.running.typed a n named cell lies slot v u inside sort is object linked stands;
+  memory_with a n named cell lies slot v u inside sort is object linked refines = record {
+    fits = model.slots name o statics s at.memory.fits at.running.typed a n named cell lies slot v u inside sort is object linked refines;
     printed_is = at.memory.printed_is;
   }
 
@@ -108,24 +108,24 @@ module _ (here : Setting) (model : MemoryModel here.tree) (name : Names) (m : Fr
 
   module _ (a : Addr) (cell : Cell) (lies : object_cell o a ≡ Some cell) (slot word : ℕ) (there : slice_get cell.slots slot ≡ Some word) where
     -- a transition that asks for a slot that is there
-    slot_transition : (go : ℕ → ObjectTransition) → objects_transition (given (slots_of o a) (λ slots. given (slice_get slots slot) go)) ≡ objects_transition (go word)
-    slot_transition go = ap (λ (c : Option Cell). objects_transition (given (option_map (λ (y : Cell). y.slots) c) (λ slots. given (slice_get slots slot) go))) lies ∙ ap (λ x. objects_transition (given x go)) there
+    slot_transition : (go : ℕ → ObjectTransition) → objects_transition (when_some (slots_of o a) (λ slots. when_some (slice_get slots slot) go)) ≡ objects_transition (go word)
+    slot_transition go = ap (λ (c : Option Cell). objects_transition (when_some (option_map (λ (y : Cell). y.slots) c) (λ slots. when_some (slice_get slots slot) go))) lies ∙ ap (λ x. objects_transition (when_some x go)) there
 
     -- its value is loaded
     pub loaded_alike : (kind : ValueKind) (u : StateValue) → IsValue name (value_in kind word) u → (rest : List Value) (rest' : List StateValue) → Agree (IsValue name) rest rest' → length rest ≤ length m.running.stack →
         Alike (objects_transition (load_slot kind slot a (with_stack m rest) o)) (onward_frame f below s (u ∷ rest'))
-    loaded_alike kind u stands rest rest' k shorter =
+    loaded_alike kind u refines rest rest' k shorter =
         alike_transition (objects_transition (load_slot kind slot a (with_stack m rest) o)) (objects_transition (beside o (value_pushed (value_in kind word) (with_stack m rest)))) (onward_frame f below s (u ∷ rest'))
-        (slot_transition (λ w. beside o (value_pushed (value_in kind w) (with_stack m rest)))) (left_alike (value_in kind word) u stands rest rest' k shorter)
+        (slot_transition (λ w. beside o (value_pushed (value_in kind w) (with_stack m rest)))) (left_alike (value_in kind word) u refines rest rest' k shorter)
 
     -- another value is stored there, and the object changes alike
     pub replaced_alike : (n : ℕ) → name a.number ≡ Some (Born n) → (v : Value) (u : StateValue) → IsValue name v u → is_reference_value v ≡ holds_reference here.tree cell.kind slot → (object : HeapObject) → IsLinked here.tree cell.kind object.contents → IsCell here.tree name (with_cell_slot slot (value_word v) cell) object → (rest : List Value) (rest' : List StateValue) → Agree (IsValue name) rest rest' →
         Alike (objects_transition (store_slot model.phase v slot a (with_stack m rest) o)) (onward_frame f below (with_object s (Born n) object) rest')
-    replaced_alike n named v u is sort object linked stands rest rest' k =
+    replaced_alike n named v u is sort object linked refines rest rest' k =
         alike_transition (objects_transition (store_slot model.phase v slot a (with_stack m rest) o)) (objects_transition stored) (onward_frame f below (with_object s (Born n) object) rest')
         (slot_transition (λ w. if is_storable model.phase o a slot v then stored else None) ∙
         ap (λ b. objects_transition (if b then stored else None)) (model.storable name o statics s at.memory.fits a n named cell lies slot v u (slice_get_within cell.slots slot word there) is))
-        (stored_alike (stored_value model.phase o a slot v) (with_object s (Born n) object) refl (memory_with a n named cell lies slot v u (slice_get_within cell.slots slot word there) sort is object linked stands) rest rest' k)
+        (stored_alike (stored_value model.phase o a slot v) (with_object s (Born n) object) refl (memory_with a n named cell lies slot v u (slice_get_within cell.slots slot word there) sort is object linked refines) rest rest' k)
       where
         stored : ObjectTransition
         stored = beside (stored_value model.phase o a slot v) (onward (with_stack m rest))
@@ -179,7 +179,7 @@ module _ (here : Setting) (model : MemoryModel here.tree) (name : Names) (m : Fr
 
   -- by the index
   abbrev index_transition : Frames → (Addr → ℕ → ObjectTransition) → Addr → ℤ → ObjectTransition
-  index_transition k go a z = given (slots_of o a) (slots_transition k go a z)
+  index_transition k go a z = when_some (slots_of o a) (slots_transition k go a z)
 
   -- by whether the elements pass the test
   abbrev tested_by : (ObjectName → DeclaredType → ℕ → StateValue → StateEffect) → ObjectName → DeclaredType → List StateValue → ℤ → Bool → StateEffect
@@ -190,7 +190,7 @@ module _ (here : Setting) (model : MemoryModel here.tree) (name : Names) (m : Fr
       Fine (element here s f below test u x go') →
       ((a : Addr) (n : ObjectName) (t : DeclaredType) (elements : List StateValue) → name a.number ≡ Some n → array_at s n ≡ Some (t, elements) → IsArrayThere here.tree name o s (model.reads name o statics s at.memory.fits at.running.typed) a n t elements → IsTrue (test t) →
       (slot : ℕ) (old : StateValue) → slice_get elements slot ≡ Some old → Fine (go' n t slot old) → Alike (objects_transition (go a slot)) (go' n t slot old)) →
-      Alike (objects_transition (object_of v k o (λ a. index_of w (λ z. given (slots_of o a) (λ slots. in_range (checked_index z (length slots)) k o (λ slot. go a slot)))))) (element here s f below test u x go')
+      Alike (objects_transition (object_of v k o (λ a. index_of w (λ z. when_some (slots_of o a) (λ slots. in_range (checked_index z (length slots)) k o (λ slot. go a slot)))))) (element here s f below test u x go')
   element_alike test v w u x is is' k go go' t each = object_alike v u is k _ _ t at_address
     where
       in_array : (a : Addr) (n : ObjectName) (type : DeclaredType) (elements : List StateValue) → name a.number ≡ Some n → array_at s n ≡ Some (type, elements) → (z : ℤ) (b : Bool) → test type ≡ b → Fine (tested_by go' n type elements z b) →
@@ -198,13 +198,13 @@ module _ (here : Setting) (model : MemoryModel here.tree) (name : Names) (m : Fr
       in_array a n type elements named there z false passed t' array = elim t' [ ]
       in_array a n type elements named there z true passed t' array =
           alike_transition (objects_transition (index_transition k go a z)) (objects_transition (slots_transition k go a z array.thing.cell.slots)) (tested_by go' n type elements z true)
-          (ap (λ (c : Option Cell). objects_transition (given (option_map (λ (y : Cell). y.slots) c) (slots_transition k go a z))) array.thing.lies)
+          (ap (λ (c : Option Cell). objects_transition (when_some (option_map (λ (y : Cell). y.slots) c) (slots_transition k go a z))) array.thing.lies)
           (slot_alike z array.thing.cell.slots elements (agree_length (IsWord name) array.thing.cell.slots elements array.values) k (go a) (go' n type) t' (each a n type elements named there array passed))
 
       at_address : (a : Addr) (n : ObjectName) → name a.number ≡ Some n → Fine (state_given (as_index x) (λ z. state_given (array_at s n) (λ (held : DeclaredType × List StateValue). tested_by go' n held.0 held.1 z (test held.0)))) →
           Alike (objects_transition (index_of w (index_transition k go a))) (state_given (as_index x) (λ z. state_given (array_at s n) (λ (held : DeclaredType × List StateValue). tested_by go' n held.0 held.1 z (test held.0))))
       at_address a n named t' =
           given_alike (objects_transition (index_of w (index_transition k go a))) (as_index x) _ t' (λ z index t''.
-          alike_transition (objects_transition (index_of w (index_transition k go a))) (objects_transition (index_transition k go a z)) _ (ap (λ j. objects_transition (given j (index_transition k go a))) (same_index w x is' ∙ index))
+          alike_transition (objects_transition (index_of w (index_transition k go a))) (objects_transition (index_transition k go a z)) _ (ap (λ j. objects_transition (when_some j (index_transition k go a))) (same_index w x is' ∙ index))
           (given_alike (objects_transition (index_transition k go a z)) (array_at s n) _ t'' (λ held there t'''.
           in_array a n held.0 held.1 named there z (test held.0) refl t''' (array_there here.tree name o s (model.reads name o statics s at.memory.fits at.running.typed) a n held.0 held.1 named there))))

@@ -13,7 +13,7 @@ use Rattle.interpreter.specs.cil_model.Assignable.{is_reference}
 use Rattle.interpreter.specs.reference_machine.Values.{ObjectName, Born, Literal, Value as StateValue, same_kind}
 use Rattle.interpreter.specs.reference_machine.Arithmetic.{as_index}
 use Rattle.interpreter.specs.reference_machine.States.{Array as IsArray, HeapObject, Frame as StateFrame, State, array_at, elements_of_contents, replaced_at, same_kind_or_none, with_element, with_object}
-use Rattle.interpreter.specs.reference_machine.Effects.{Setting, Effect as StateEffect, Raises as StateRaises, Sticks, given as given_state, onward as onward_frame}
+use Rattle.interpreter.specs.reference_machine.Effects.{Setting, Effect as StateEffect, Raises as StateRaises, Sticks, when_some as given_state, onward as onward_frame}
 use Rattle.interpreter.specs.reference_machine.Steps.{execute, in_range as in_range_state, element, may_hold}
 use Rattle.interpreter.proofs.reference_machine.TypedStates.RunningFrames.{IsTypedEffect}
 use Rattle.interpreter.specs.resolved_code.declared.operations.Operation.TheVariants as Resolved
@@ -27,10 +27,10 @@ use Rattle.interpreter.specs.instructions.barriers.Barriers.{is_storable, stored
 use Rattle.interpreter.specs.object_memory.Values.{value_word}
 use Rattle.interpreter.specs.threads_monitors.Frames.{Frames, with_pc, with_stack}
 use Rattle.interpreter.specs.threads_monitors.declared.effects.Effect.TheVariants.{Continues, Raises}
-use Rattle.interpreter.specs.instructions.Frames.{given, onward}
+use Rattle.interpreter.specs.instructions.Frames.{when_some, onward}
 use Rattle.interpreter.specs.instructions.ObjectTransitions.{ObjectTransition, beside, object_of, index_in, index_of, slots_of, checked_index, in_range, store_slot}
-use Rattle.interpreter.specs.instructions.TypeTransitions.{held_type, may_stand_as, element_in, store_admitted}
-use Rattle.interpreter.specs.declared.outcomes.Outcome.TheVariants.{Comes}
+use Rattle.interpreter.specs.instructions.TypeTransitions.{held_type, may_be_used_as, element_in, store_admitted}
+use Rattle.interpreter.specs.declared.outcomes.InstructionOutcome.TheVariants.{OwnEffect}
 use Rattle.interpreter.specs.Instructions.{of_objects, operation_transition, answer_of}
 use Rattle.simulation.specs.Agreement.{Agree}
 use Rattle.simulation.specs.Refines.{Names, IsValue, int32, int64, native, null_reference, reference, IsWord, IsOfContents, IsCell}
@@ -38,7 +38,7 @@ use Rattle.simulation.proofs.ListLaws.AgreeingLists.{agree_get, agree_beyond, ag
 use Rattle.simulation.proofs.Instructions.Correspondence.{IsSetting, DoesAlike, refused_fault}
 use Rattle.simulation.proofs.Instructions.FrameProgress.{onward_is, onward_alike}
 use Rattle.simulation.proofs.Instructions.StackOperands.{fine, three_operands}
-use Rattle.simulation.proofs.Memory.TypesAtAddresses.{may_stand_as_is, IsArrayAt, array_there}
+use Rattle.simulation.proofs.Memory.TypesAtAddresses.{may_be_used_as_is, IsArrayAt, array_there}
 use Rattle.simulation.proofs.Memory.NamedAddresses.{named_is_not_null}
 use Rattle.interpreter.proofs.cil_model.SameLaws.{never}
 use Rattle.interpreter.proofs.cil_model.Lists.{none_is_some}
@@ -72,8 +72,8 @@ within_test xs k x e = let h = slice_get_within xs k x e in grind (arith, nat_te
 -- the slots of an array with another element
 stored_contents : (tree : Tree) (name : Names) (k : Kind) (slots : List ℕ) (t : DeclaredType) (elements : List StateValue) (thread : Option ℕ) (slot_index w : ℕ) (v : StateValue) → IsWord name w v →
     IsOfContents tree name k slots (IsArray t elements) thread → IsOfContents tree name k (slice_set slots slot_index w) (IsArray t (slice_set elements slot_index v)) thread
-stored_contents tree name (Array e) slots t elements thread slot_index w v stands h = (h.0, agree_set (IsWord name) slots elements h.1 slot_index w v stands)
-stored_contents tree name (Instance class) slots t elements thread slot_index w v stands h = elim h [ ]
+stored_contents tree name (Array e) slots t elements thread slot_index w v refines h = (h.0, agree_set (IsWord name) slots elements h.1 slot_index w v refines)
+stored_contents tree name (Instance class) slots t elements thread slot_index w v refines h = elim h [ ]
 
 module _ (here : Setting) (model : MemoryModel here.tree) (name : Names) (m : Frames) (o : Objects) (statics : List Value) (printed : List ℕ) (s : State) (f : StateFrame) (below : List StateFrame)
     (at : IsSetting here model name m o statics printed s f below Named.StoreElementReference Resolved.StoreElementReference) where
@@ -85,7 +85,7 @@ module _ (here : Setting) (model : MemoryModel here.tree) (name : Names) (m : Fr
 
   -- a fault on both, which memory has no part in
   raised_alike : (j : Frames) (x : Fault) (transition : ObjectTransition) (e : StateEffect) → transition ≡ Some (j, o, Raises x) → e ≡ StateRaises x → Alike transition e
-  raised_alike j x transition e is is' = record { answer = answer_of j o statics printed (Comes (Raises x)); is = ap (of_objects o statics printed) is; refuses = λ _ h. inr (is' ∙ refused_fault x h); alike = λ r. (is', (refl, refl, refl)) }
+  raised_alike j x transition e is is' = record { answer = answer_of j o statics printed (OwnEffect (Raises x)); is = ap (of_objects o statics printed) is; refuses = λ _ h. inr (is' ∙ refused_fault x h); alike = λ r. (is', (refl, refl, refl)) }
 
   -- what the reference machine does with a value at an index, by whether the elements' type admits it
   module _ (u : StateValue) (rest' : List StateValue) where
@@ -96,7 +96,7 @@ module _ (here : Setting) (model : MemoryModel here.tree) (name : Names) (m : Fr
     tested n t slot_index = tested_by n slot_index (may_hold here s f below t u)
 
   -- the value, and the stacks below the three operands
-  module _ (v : Value) (u : StateValue) (stands : IsValue name v u) (rest : List Value) (rest' : List StateValue) (agree : Agree (IsValue name) rest rest') where
+  module _ (v : Value) (u : StateValue) (refines : IsValue name v u) (rest : List Value) (rest' : List StateValue) (agree : Agree (IsValue name) rest rest') where
     -- an array's cell, with these elements
     module _ (a : Addr) (n : ℕ) (named : name a.number ≡ Some (Born n)) (t : DeclaredType) (elements : List StateValue) (there : IsArrayAt here.tree name o s a n t elements) (slot_index : ℕ) (old : StateValue) (old_is : slice_get elements slot_index ≡ Some old) where
       -- the array with the value at the index
@@ -112,15 +112,15 @@ module _ (here : Setting) (model : MemoryModel here.tree) (name : Names) (m : Fr
       changed_transition : store_slot model.phase v slot_index a (with_stack m rest) o ≡ Some (with_pc (with_stack m rest) (m.running.pc + 1), stored_value model.phase o a slot_index v, Continues)
       changed_transition =
           let slot = agree_get (IsWord name) there.cell.slots elements there.words slot_index old old_is in
-          ap (λ x. given (option_map (λ (c : Cell). c.slots) x) (λ slots. given (slice_get slots slot_index) (λ w. if is_storable model.phase o a slot_index v then beside (stored_value model.phase o a slot_index v) (onward (with_stack m rest)) else None))) there.lies ∙
-          ap (λ x. given x (λ w. if is_storable model.phase o a slot_index v then beside (stored_value model.phase o a slot_index v) (onward (with_stack m rest)) else None)) slot.1 ∙
+          ap (λ x. when_some (option_map (λ (c : Cell). c.slots) x) (λ slots. when_some (slice_get slots slot_index) (λ w. if is_storable model.phase o a slot_index v then beside (stored_value model.phase o a slot_index v) (onward (with_stack m rest)) else None))) there.lies ∙
+          ap (λ x. when_some x (λ w. if is_storable model.phase o a slot_index v then beside (stored_value model.phase o a slot_index v) (onward (with_stack m rest)) else None)) slot.1 ∙
           ap (λ b. if b then beside (stored_value model.phase o a slot_index v) (onward (with_stack m rest)) else None)
-          (model.storable name o statics s at.memory.fits a n named there.cell there.lies slot_index v u (slice_get_within there.cell.slots slot_index slot.0 slot.1) stands) ∙
+          (model.storable name o statics s at.memory.fits a n named there.cell there.lies slot_index v u (slice_get_within there.cell.slots slot_index slot.0 slot.1) refines) ∙
           ap (beside (stored_value model.phase o a slot_index v)) (onward_is here model name m o statics printed s f below Named.StoreElementReference Resolved.StoreElementReference at rest)
 
-      changed_stands : IsCell here.tree name (stored_slot slot_index (value_word v) there.cell) changed
-      changed_stands = record {
-        contents = stored_contents here.tree name there.cell.kind there.cell.slots t elements there.object.thread slot_index (value_word v) u (record { value = v; stands = stands; is = refl }) there.of_contents;
+      changed_refines : IsCell here.tree name (stored_slot slot_index (value_word v) there.cell) changed
+      changed_refines = record {
+        contents = stored_contents here.tree name there.cell.kind there.cell.slots t elements there.object.thread slot_index (value_word v) u (record { value = v; refines = refines; is = refl }) there.of_contents;
         monitor = there.monitor;
       }
 
@@ -129,7 +129,7 @@ module _ (here : Setting) (model : MemoryModel here.tree) (name : Names) (m : Fr
       sort kinds =
           let held : array_at s (Born n) ≡ Some (t, elements) = ap (option_and_then (λ (x : HeapObject). elements_of_contents x.contents)) there.is ∙ ap elements_of_contents there.contents in
           let typed_old = element_typed here.tree at.running.accepted.legal s t elements slot_index old (array_typed here.tree at.running.accepted.legal s at.running.typed (Born n) t elements held) old_is in
-          value_says name v u stands ∙ sym (same_kinds old u kinds) ∙ ap is_reference_kind (sym (kind_fits here.tree at.running.accepted.legal s old t typed_old)) ∙ sym (element_says here.tree there.holds t there.held slot_index) ∙
+          value_says name v u refines ∙ sym (same_kinds old u kinds) ∙ ap is_reference_kind (sym (kind_fits here.tree at.running.accepted.legal s old t typed_old)) ∙ sym (element_says here.tree there.holds t there.held slot_index) ∙
           ap (λ k. holds_reference here.tree k slot_index) (sym there.kind)
 
       -- and so are all
@@ -143,7 +143,7 @@ module _ (here : Setting) (model : MemoryModel here.tree) (name : Names) (m : Fr
       changed_memory kinds = record {
         fits =
             (let slot = agree_get (IsWord name) there.cell.slots elements there.words slot_index old old_is in
-            model.slots name o statics s at.memory.fits at.running.typed a n named there.cell there.lies slot_index v u (slice_get_within there.cell.slots slot_index slot.0 slot.1) (sort kinds) stands changed (linked kinds) changed_stands);
+            model.slots name o statics s at.memory.fits at.running.typed a n named there.cell there.lies slot_index v u (slice_get_within there.cell.slots slot_index slot.0 slot.1) (sort kinds) refines changed (linked kinds) changed_refines);
         printed_is = at.memory.printed_is;
       }
 
@@ -161,7 +161,7 @@ module _ (here : Setting) (model : MemoryModel here.tree) (name : Names) (m : Fr
           by_kind : (b : Bool) → same_kind old u ≡ b → Typed (stored b) → Alike (store_slot model.phase v slot_index a (with_stack m rest) o) (stored b)
           by_kind false kinds typed' = elim typed' [ ]
           by_kind true kinds typed' = record {
-            answer = answer_of (with_pc (with_stack m rest) (m.running.pc + 1)) (stored_value model.phase o a slot_index v) statics printed (Comes Continues);
+            answer = answer_of (with_pc (with_stack m rest) (m.running.pc + 1)) (stored_value model.phase o a slot_index v) statics printed (OwnEffect Continues);
             is = ap (of_objects o statics printed) changed_transition;
             refuses = λ _ h. never h;
             alike = λ r. onward_alike here model name m o statics printed s f below Named.StoreElementReference Resolved.StoreElementReference at name (λ b k named'. named') (stored_value model.phase o a slot_index v) statics printed
@@ -170,13 +170,13 @@ module _ (here : Setting) (model : MemoryModel here.tree) (name : Names) (m : Fr
 
       -- the same by what the array's own elements admit
       abbrev transition_by : Option Bool → ObjectTransition
-      transition_by b = given b (λ holds. if holds then store_slot model.phase v slot_index a (with_stack m rest) o else Some (with_stack m rest, o, Raises ArrayTypeMismatch))
+      transition_by b = when_some b (λ holds. if holds then store_slot model.phase v slot_index a (with_stack m rest) o else Some (with_stack m rest, o, Raises ArrayTypeMismatch))
 
       transition_is : store_admitted model.phase here.tree v slot_index a (with_stack m rest) o ≡ transition_by (may_hold here s f below t u)
       transition_is =
-          ap (λ x. given (option_and_then (λ (c : Cell). element_in c.kind) x) (λ e. transition_by (may_stand_as here.tree o v (held_type e)))) there.lies ∙
-          ap (λ k. given (element_in k) (λ e. transition_by (may_stand_as here.tree o v (held_type e)))) there.kind ∙
-          ap transition_by (may_stand_as_is here name o s f below (model.reads name o statics s at.memory.fits at.running.typed) v u t (held_type there.holds) there.held stands)
+          ap (λ x. when_some (option_and_then (λ (c : Cell). element_in c.kind) x) (λ e. transition_by (may_be_used_as here.tree o v (held_type e)))) there.lies ∙
+          ap (λ k. when_some (element_in k) (λ e. transition_by (may_be_used_as here.tree o v (held_type e)))) there.kind ∙
+          ap transition_by (may_be_used_as_is here name o s f below (model.reads name o statics s at.memory.fits at.running.typed) v u t (held_type there.holds) there.held refines)
 
       admitted_alike : Typed (tested u rest' (Born n) t slot_index) → Alike (store_admitted model.phase here.tree v slot_index a (with_stack m rest) o) (tested u rest' (Born n) t slot_index)
       admitted_alike typed = subst (λ transition. Alike transition (tested u rest' (Born n) t slot_index)) (sym transition_is) (by_class (may_hold here s f below t u) typed)
@@ -209,7 +209,7 @@ module _ (here : Setting) (model : MemoryModel here.tree) (name : Names) (m : Fr
 
     -- the machine's store at an index
     abbrev index_transition : Addr → ℤ → ObjectTransition
-    index_transition a z = given (slots_of o a) (λ slots. ranged_transition a (checked_index z (length slots)))
+    index_transition a z = when_some (slots_of o a) (λ slots. ranged_transition a (checked_index z (length slots)))
 
     -- that of the reference machine
     abbrev index_effect : ObjectName → ℤ → StateEffect
@@ -229,7 +229,7 @@ module _ (here : Setting) (model : MemoryModel here.tree) (name : Names) (m : Fr
             Alike (index_transition a z) (if b then in_range_state here s f below (slice_get elements) (λ k old. tested u rest' (Born n) t k) z else Sticks)
         by_test false typed' = elim typed' [ ]
         by_test true typed' =
-            subst (λ x. Alike (given (option_map (λ (c : Cell). c.slots) x) (λ slots. ranged_transition a (checked_index z (length slots)))) (in_range_state here s f below (slice_get elements) (λ k old. tested u rest' (Born n) t k) z))
+            subst (λ x. Alike (when_some (option_map (λ (c : Cell). c.slots) x) (λ slots. ranged_transition a (checked_index z (length slots)))) (in_range_state here s f below (slice_get elements) (λ k old. tested u rest' (Born n) t k) z))
             (sym there.lies) (ranged_alike a n named t elements there z typed')
 
     -- null is looked at first
@@ -241,9 +241,9 @@ module _ (here : Setting) (model : MemoryModel here.tree) (name : Names) (m : Fr
     element_alike array index array' index' null_reference h typed = raised_alike (with_stack m rest) NullReference _ (StateRaises NullReference) refl refl
     element_alike array index array' index' (reference a n named) h typed =
         subst (λ b. Alike (if b then Some (with_stack m rest, o, Raises NullReference) else index_of index (index_transition a)) (given_state (as_index index') (index_effect n))) (sym (named_is_not_null here.tree name o s (model.reads name o statics s at.memory.fits at.running.typed) a.number n named))
-        (subst (λ x. Alike (given x (index_transition a)) (given_state (as_index index') (index_effect n))) (sym (index_is name index index' h)) (by_index (as_index index') typed))
+        (subst (λ x. Alike (when_some x (index_transition a)) (given_state (as_index index') (index_effect n))) (sym (index_is name index index' h)) (by_index (as_index index') typed))
       where
-        by_index : (x : Option ℤ) → Typed (given_state x (index_effect n)) → Alike (given x (index_transition a)) (given_state x (index_effect n))
+        by_index : (x : Option ℤ) → Typed (given_state x (index_effect n)) → Alike (when_some x (index_transition a)) (given_state x (index_effect n))
         by_index None typed' = elim typed' [ ]
         by_index (Some z) typed' = held_alike a n named z (array_at s n) refl typed'
 
@@ -251,7 +251,7 @@ module _ (here : Setting) (model : MemoryModel here.tree) (name : Names) (m : Fr
   pub store_element_reference_alike : DoesAlike here model name m o statics printed s f below (operation_transition here.tree (mutator_in here model) Resolved.StoreElementReference m o statics printed) (execute here s f below Named.StoreElementReference)
   store_element_reference_alike =
       three_operands here model name m o statics printed s f below Named.StoreElementReference Resolved.StoreElementReference at (of_objects o statics printed)
-      (λ array index v j. object_of array j o (λ a. index_of index (λ z. given (slots_of o a) (λ slots. in_range (checked_index z (length slots)) j o (λ slot. store_admitted model.phase here.tree v slot a j o)))))
+      (λ array index v j. object_of array j o (λ a. index_of index (λ z. when_some (slots_of o a) (λ slots. in_range (checked_index z (length slots)) j o (λ slot. store_admitted model.phase here.tree v slot a j o)))))
       (λ array index u rest. element here s f below is_reference array index (λ n t k old. tested u rest n t k))
       (fine here model name m o statics printed s f below Named.StoreElementReference Resolved.StoreElementReference at)
       (λ array index v rest array' index' u rest' is is' h k l agree shorter typed. element_alike v u l rest rest' agree array index array' index' h k typed)

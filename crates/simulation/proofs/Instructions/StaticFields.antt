@@ -20,7 +20,7 @@ use Rattle.interpreter.proofs.cil_model.SameLaws.{both_second, same_flag_equal, 
 use Rattle.interpreter.specs.name_tables.declared.lookups.MemberNumber.{MemberNumber}
 use Rattle.interpreter.specs.reference_machine.Values.{Value as StateValue}
 use Rattle.interpreter.specs.reference_machine.States.{Frame as StateFrame, State, entry_at, replaced_entry}
-use Rattle.interpreter.specs.reference_machine.Effects.{Setting, given as state_given, onward as onward_frame}
+use Rattle.interpreter.specs.reference_machine.Effects.{Setting, when_some as state_given, onward as onward_frame}
 use Rattle.interpreter.specs.reference_machine.Steps.{execute, key_of, next}
 use Rattle.interpreter.specs.reference_machine.TypedStates.{HaveFieldTypes}
 use Rattle.interpreter.proofs.reference_machine.Programs.DeclaredFields.{static_field_there}
@@ -34,9 +34,9 @@ use Rattle.interpreter.specs.object_memory.Objects.{Objects}
 use Rattle.interpreter.specs.instructions.barriers.Barriers.{is_static_storable, stored_static}
 use Rattle.interpreter.specs.threads_monitors.Frames.{Frames, with_pc, with_stack}
 use Rattle.interpreter.specs.threads_monitors.declared.effects.Effect.TheVariants.{Continues}
-use Rattle.interpreter.specs.instructions.Frames.{given, value_pushed, onward, Transition}
+use Rattle.interpreter.specs.instructions.Frames.{when_some, value_pushed, onward, Transition}
 use Rattle.interpreter.specs.instructions.ObjectTransitions.{load_static_transition, store_static_transition, StaticTransition, beside_statics}
-use Rattle.interpreter.specs.declared.outcomes.Outcome.TheVariants.{Comes}
+use Rattle.interpreter.specs.declared.outcomes.InstructionOutcome.TheVariants.{OwnEffect}
 use Rattle.interpreter.specs.loaded_program.declared.instructions.LinkedInstruction.TheVariants as Linked
 use Rattle.interpreter.specs.Instructions.{operation_transition, of_statics, answer_of, of_frames}
 use Rattle.interpreter.proofs.Linking.{link_does}
@@ -90,7 +90,7 @@ module _ (here : Setting) (model : MemoryModel here.tree) (name : Names) (m : Fr
     number_is : static_at here.tree field ≡ Some field_index.index
     number_is =
         let slot : static_slot here.tree key ≡ Some field_index.index = (let e : 0 + field_index.index ≡ field_index.index = omega arith in field_index.position 0 ∙ ap Some e) in
-        ap (option_and_then (static_in here.tree)) is.numbered ∙ ap (λ b. if b then option_and_then small (static_slot here.tree key) else None) (found_flag here.tree true r is.declared_in is.found is.finds) ∙
+        ap (option_and_then (static_in here.tree)) is.has_id ∙ ap (λ b. if b then option_and_then small (static_slot here.tree key) else None) (found_flag here.tree true r is.declared_in is.found is.finds) ∙
         ap (option_and_then small) slot ∙ is_small field_index.index (static_slot_small here.tree at.running.accepted.legal key field_index.index slot)
 
     -- the machine holds the same value there
@@ -106,12 +106,12 @@ module _ (here : Setting) (model : MemoryModel here.tree) (name : Names) (m : Fr
 
     -- once the value is found
     load_after : (n : ℕ) (v : Value) (u : StateValue) → slice_get statics n ≡ Some v → IsValue name v u → DoesAlike here model name m o statics printed s f below (of_frames o statics printed (loads n)) (next here s f below (u ∷ f.stack))
-    load_after n v u there stands = record {
-      answer = answer_of (with_pc (with_stack m (v ∷ m.running.stack)) (m.running.pc + 1)) o statics printed (Comes Continues);
-      is = ap (λ x. of_frames o statics printed (given x (λ w. value_pushed w m))) there ∙
+    load_after n v u there refines = record {
+      answer = answer_of (with_pc (with_stack m (v ∷ m.running.stack)) (m.running.pc + 1)) o statics printed (OwnEffect Continues);
+      is = ap (λ x. of_frames o statics printed (when_some x (λ w. value_pushed w m))) there ∙
           ap (of_frames o statics printed) (leaves_is here model name m o statics printed s f below (Named.LoadStaticField r) (Resolved.LoadStaticField field) at v m.running.stack (omega arith));
       refuses = λ _ h. never h;
-      alike = λ refused. next_alike here model name m o statics printed s f below (Named.LoadStaticField r) (Resolved.LoadStaticField field) at (v ∷ m.running.stack) (u ∷ f.stack) (stands, (own_frame here model name m o statics printed s f below (Named.LoadStaticField r) (Resolved.LoadStaticField field) at).stack);
+      alike = λ refused. next_alike here model name m o statics printed s f below (Named.LoadStaticField r) (Resolved.LoadStaticField field) at (v ∷ m.running.stack) (u ∷ f.stack) (refines, (own_frame here model name m o statics printed s f below (Named.LoadStaticField r) (Resolved.LoadStaticField field) at).stack);
     }
 
     -- the whole instruction
@@ -141,7 +141,7 @@ module _ (here : Setting) (model : MemoryModel here.tree) (name : Names) (m : Fr
     store_after : (n : ℕ) (v : Value) (u : StateValue) → IsValue name v u → (entries : List (FieldKey × StateValue)) → n < length statics → Agree HoldsStatic (slice_set statics n v) entries → (rest : List Value) (rest' : List StateValue) → Agree (IsValue name) rest rest' →
         DoesAlike here model name m o statics printed s f below (of_statics o statics printed (stores n v (with_stack m rest))) (onward_frame f below (record s { statics = entries }) rest')
     store_after n v u is entries near agree rest rest' k = record {
-      answer = answer_of (with_pc (with_stack m rest) (m.running.pc + 1)) memory_after.0 memory_after.1 printed (Comes Continues);
+      answer = answer_of (with_pc (with_stack m rest) (m.running.pc + 1)) memory_after.0 memory_after.1 printed (OwnEffect Continues);
       is = ap (λ b. of_statics o statics printed (if b then beside_statics memory_after (onward (with_stack m rest)) else None))
           (and_from (nat_lt n (length statics)) (is_static_storable model.phase o v) (inside n near) (model.static_storable name o statics s at.memory.fits v u is)) ∙
           ap (λ x. of_statics o statics printed (beside_statics memory_after x)) (onward_is here model name m o statics printed s f below (Named.StoreStaticField r) (Resolved.StoreStaticField field) at rest);
@@ -166,9 +166,9 @@ module _ (here : Setting) (model : MemoryModel here.tree) (name : Names) (m : Fr
         (one_operand here model name m o statics printed s f below (Named.StoreStaticField r) (Resolved.StoreStaticField field) at (of_statics o statics printed) (stores own.index)
         (λ v rest. state_given (find_field here.tree true r) (λ found. state_given (replaced_entry (key_of found) v s.statics) (λ entries. onward_frame f below (record s { statics = entries }) rest)))
         (fine here model name m o statics printed s f below (Named.StoreStaticField r) (Resolved.StoreStaticField field) at)
-        (λ v rest u rest' is' is'' stands k shorter typed.
+        (λ v rest u rest' is' is'' refines k shorter typed.
         known_alike here model name m o statics printed s f below (Named.StoreStaticField r) (Resolved.StoreStaticField field) at _ (find_field here.tree true r) (is.declared_in, is.found) is.finds _ typed (λ typed'.
         given_alike here model name m o statics printed s f below (Named.StoreStaticField r) (Resolved.StoreStaticField field) at _ (replaced_entry key' u s.statics) _ typed' (λ entries replaced typed''.
-        store_after own.index v u stands entries (slice_get_within statics own.index there.0 there.1)
-        (subst (λ es. Agree HoldsStatic (slice_set statics own.index v) es) (sym (replaced_is key' u s.statics entries replaced ∙ own.changed u)) (agree_set HoldsStatic statics s.statics (model.statics name o statics s at.memory.fits) own.index v (own.entry.0, u) stands))
+        store_after own.index v u refines entries (slice_get_within statics own.index there.0 there.1)
+        (subst (λ es. Agree HoldsStatic (slice_set statics own.index v) es) (sym (replaced_is key' u s.statics entries replaced ∙ own.changed u)) (agree_set HoldsStatic statics s.statics (model.statics name o statics s at.memory.fits) own.index v (own.entry.0, u) refines))
         rest rest' k))))

@@ -58,11 +58,11 @@ module _ (tree : Tree) (name : Names) (o : Objects) (s : State) (heap : IsReadab
       let own : class_of s (Born n) ≡ class_of_contents at.object.contents = ap (option_and_then (λ (x : HeapObject). class_of_contents x.contents)) at.is in (
         class_of_kind at.cell.kind,
         ap (λ l. option_map_or (λ k. Some (Some 1)) l (option_map (λ (c : Cell). class_of_kind c.kind) (object_cell o a))) at.no_literal ∙ ap (option_map (λ (c : Cell). class_of_kind c.kind)) at.lies,
-        subst (IsClass tree (class_of_kind at.cell.kind)) (sym own) (class_of_kind_is tree name at.cell.kind at.cell.slots at.object.contents at.object.thread at.stands.contents),
+        subst (IsClass tree (class_of_kind at.cell.kind)) (sym own) (class_of_kind_is tree name at.cell.kind at.cell.slots at.object.contents at.object.thread at.refines.contents),
       )
   class_at_named a (Literal characters) is =
       let at : IsLiteralAt tree o s a.number characters = heap.literals a.number characters is in
-      (Some 1, ap (λ l. option_map_or (λ k. Some (Some 1)) l (option_map (λ (c : Cell). class_of_kind c.kind) (object_cell o a))) at.numbered, refl)
+      (Some 1, ap (λ l. option_map_or (λ k. Some (Some 1)) l (option_map (λ (c : Cell). class_of_kind c.kind) (object_cell o a))) at.has_id, refl)
 
   -- the method that is chosen for the address is the one that runs for the object
   pub chosen_is : (found : ClassName × Method) (a : Addr) (n : ObjectName) → name a.number ≡ Some n → chosen_method tree o a found ≡ method_by tree found (class_of s n)

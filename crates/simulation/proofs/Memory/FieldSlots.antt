@@ -95,12 +95,12 @@ module _ (tree : Tree) (legal : IsLegal tree) (r : FieldReference) (field : Memb
   pub slot_is : slot_at tree field ≡ Some slot
   slot_is =
       let instance_is : instance_slot tree key ≡ Some slot = position.1 (length (hidden_slots tree is.declared_in)) in
-      ap (option_and_then (slot_in tree)) is.numbered ∙ ap (λ b. if b then None else option_and_then small (instance_slot tree key)) no_static ∙ ap (option_and_then small) instance_is ∙
-      is_small slot (instance_slot_small tree legal key slot field.class (class_of_field tree field.class field.index is.declared_in is.found is.numbered) instance_is)
+      ap (option_and_then (slot_in tree)) is.has_id ∙ ap (λ b. if b then None else option_and_then small (instance_slot tree key)) no_static ∙ ap (option_and_then small) instance_is ∙
+      is_small slot (instance_slot_small tree legal key slot field.class (class_of_field tree field.class field.index is.declared_in is.found is.has_id) instance_is)
 
   -- so is the kind of what it holds
   pub held_is : held_at tree field ≡ Some (kind_of_type is.found.field_type)
-  held_is = ap (option_map (λ (x : ClassName × Field). kind_of_type x.1.field_type)) is.numbered
+  held_is = ap (option_map (λ (x : ClassName × Field). kind_of_type x.1.field_type)) is.has_id
 
   -- ---- its type
 

@@ -45,8 +45,8 @@ locals_low m most each = by_code (code_of m.kind) refl
 
 module _ (name : Names) where
   -- what a variable of a type holds at first
-  zero_stands : (t : DeclaredType) → IsValue name (zero_value (kind_of_type t)) (zero_of t)
-  zero_stands t = by_type t.element t.brackets
+  zero_refines : (t : DeclaredType) → IsValue name (zero_value (kind_of_type t)) (zero_of t)
+  zero_refines t = by_type t.element t.brackets
     where
       by_type : (e : Element) (n : ℕ) → IsValue name (zero_value (kind_at e n)) (zero_of (typed_as e n))
       by_type Int32Element zero = int32 (pos 0) zero_fits_32
@@ -69,20 +69,20 @@ module _ (name : Names) where
       by_type e (suc n) = refl
 
   -- those of a list
-  zeros_stand : (ts : List DeclaredType) → Agree (IsValue name) (map zero_value (map kind_of_type ts)) (map zero_of ts)
-  zeros_stand [] = tt
-  zeros_stand (t ∷ ts) = (zero_stands t, zeros_stand ts)
+  zeros_refine : (ts : List DeclaredType) → Agree (IsValue name) (map zero_value (map kind_of_type ts)) (map zero_of ts)
+  zeros_refine [] = tt
+  zeros_refine (t ∷ ts) = (zero_refines t, zeros_refine ts)
 
   -- the locals of a method with code
-  pub locals_stand : (m : Method) (code : Code) → code_of m.kind ≡ Some code → Agree (IsValue name) (map zero_value (local_kinds m)) (map zero_of code.locals)
-  locals_stand m code coded = subst (λ ks. Agree (IsValue name) (map zero_value ks) (map zero_of code.locals)) (sym (locals_are m code coded)) (zeros_stand code.locals)
+  pub locals_refine : (m : Method) (code : Code) → code_of m.kind ≡ Some code → Agree (IsValue name) (map zero_value (local_kinds m)) (map zero_of code.locals)
+  locals_refine m code coded = subst (λ ks. Agree (IsValue name) (map zero_value ks) (map zero_of code.locals)) (sym (locals_are m code coded)) (zeros_refine code.locals)
 
   -- static fields
-  pub fields_stand : (fs : List (FieldKey × DeclaredType)) → Agree (λ v (f : FieldKey × StateValue). IsValue name v f.1) (map (λ (f : FieldKey × DeclaredType). zero_value (kind_of_type f.1)) fs) (zero_fields fs)
-  fields_stand [] = tt
-  fields_stand (f ∷ fs) = (zero_stands f.1, fields_stand fs)
+  pub fields_refine : (fs : List (FieldKey × DeclaredType)) → Agree (λ v (f : FieldKey × StateValue). IsValue name v f.1) (map (λ (f : FieldKey × DeclaredType). zero_value (kind_of_type f.1)) fs) (zero_fields fs)
+  fields_refine [] = tt
+  fields_refine (f ∷ fs) = (zero_refines f.1, fields_refine fs)
 
   -- the words of an object's fields
-  pub words_stand : (fs : List (FieldKey × DeclaredType)) → Agree (λ w (f : FieldKey × StateValue). IsWord name w f.1) (replicate (length fs) 0) (zero_fields fs)
-  words_stand [] = tt
-  words_stand (f ∷ fs) = (record { value = zero_value (kind_of_type f.1); stands = zero_stands f.1; is = zero_word f.1 }, words_stand fs)
+  pub words_refine : (fs : List (FieldKey × DeclaredType)) → Agree (λ w (f : FieldKey × StateValue). IsWord name w f.1) (replicate (length fs) 0) (zero_fields fs)
+  words_refine [] = tt
+  words_refine (f ∷ fs) = (record { value = zero_value (kind_of_type f.1); refines = zero_refines f.1; is = zero_word f.1 }, words_refine fs)

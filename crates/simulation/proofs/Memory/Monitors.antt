@@ -25,7 +25,7 @@ pub record AreMonitors (o : Objects) (s : State) (a : Addr) (n : ObjectName) : T
   pub held : monitor_at o a ≡ Some monitor
   pub state_monitor : StateMonitor
   pub state_held : monitor_of s n ≡ Some state_monitor
-  pub stands : IsMonitor monitor state_monitor
+  pub refines : IsMonitor monitor state_monitor
 
 module _ (tree : Tree) (name : Names) (o : Objects) (s : State) (heap : IsReadable tree name o s) (a : Addr) where
   born_monitors : (n : ℕ) → name a.number ≡ Some (Born n) → AreMonitors o s a (Born n)
@@ -36,7 +36,7 @@ module _ (tree : Tree) (name : Names) (o : Objects) (s : State) (heap : IsReadab
         held = ap (λ x. option_map_or (slice_get o.literals) x (option_map (λ (c : Cell). c.monitor) (object_cell o a))) here.no_literal ∙ ap (option_map (λ (c : Cell). c.monitor)) here.lies;
         state_monitor = here.object.monitor;
         state_held = ap (option_map (λ (x : HeapObject). x.monitor)) here.is;
-        stands = here.stands.monitor;
+        refines = here.refines.monitor;
       }
 
   literal_monitors : (characters : List ℕ) → name a.number ≡ Some (Literal characters) → AreMonitors o s a (Literal characters)
@@ -44,10 +44,10 @@ module _ (tree : Tree) (name : Names) (o : Objects) (s : State) (heap : IsReadab
       let here = heap.literals a.number characters named in
       record {
         monitor = here.monitor;
-        held = ap (λ x. option_map_or (slice_get o.literals) x (option_map (λ (c : Cell). c.monitor) (object_cell o a))) here.numbered ∙ here.held;
+        held = ap (λ x. option_map_or (slice_get o.literals) x (option_map (λ (c : Cell). c.monitor) (object_cell o a))) here.has_id ∙ here.held;
         state_monitor = here.state_monitor;
         state_held = here.state_held;
-        stands = here.stands;
+        refines = here.refines;
       }
 
   pub monitors_there : (n : ObjectName) → name a.number ≡ Some n → AreMonitors o s a n
@@ -80,7 +80,7 @@ module _ (tree : Tree) (model : MemoryModel tree) (name : Names) (o : Objects) (
       here = (model.reads name o statics s memory.fits typed).born a.number n named
 
       linked : IsLinked tree here.cell.kind here.object.contents
-      linked = typed_is_linked tree legal s name here.cell.kind here.cell.slots here.object.contents here.object.thread (typed.objects n here.object here.is) here.stands.contents
+      linked = typed_is_linked tree legal s name here.cell.kind here.cell.slots here.object.contents here.object.thread (typed.objects n here.object here.is) here.refines.contents
 
       changes : (new : Monitor) (changed : StateMonitor) → IsMonitor new changed → IsChanged tree model name o statics printed limits s a (Born n) new changed
       changes new changed h =
@@ -88,7 +88,7 @@ module _ (tree : Tree) (model : MemoryModel tree) (name : Names) (o : Objects) (
           let state_is : with_state_monitor s (Born n) changed ≡ after = ap (λ x. unwrap_or (option_map (λ (y : HeapObject). with_object s (Born n) (record y { monitor = changed })) x) s) here.is in
           let known : IsModelled tree model name (stored_monitor model.phase o a new) statics printed after =
           record {
-            fits = model.monitors name o statics s memory.fits typed a n named here.cell here.lies new (record here.object { monitor = changed }) linked (record { contents = here.stands.contents; monitor = h });
+            fits = model.monitors name o statics s memory.fits typed a n named here.cell here.lies new (record here.object { monitor = changed }) linked (record { contents = here.refines.contents; monitor = h });
             printed_is = memory.printed_is;
           }
           in record {

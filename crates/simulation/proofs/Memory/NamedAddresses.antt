@@ -26,16 +26,16 @@ module _ (tree : Tree) (name : Names) (o : Objects) (s s' : State) (objects : s'
     null_unnamed = h.null_unnamed;
     small = h.small;
     names = h.names;
-    born = λ a n named. let b = h.born a n named in record { no_literal = b.no_literal; cell = b.cell; lies = b.lies; object = b.object; is = ap (λ os. slice_get os n) objects ∙ b.is; stands = b.stands };
+    born = λ a n named. let b = h.born a n named in record { no_literal = b.no_literal; cell = b.cell; lies = b.lies; object = b.object; is = ap (λ os. slice_get os n) objects ∙ b.is; refines = b.refines };
     literals = λ a characters named. let l = h.literals a characters named in record {
       number = l.number;
-      numbered = l.numbered;
+      has_id = l.has_id;
       is = l.is;
       monitor = l.monitor;
       held = l.held;
       state_monitor = l.state_monitor;
       state_held = ap (entry_at same_text characters) monitors ∙ l.state_held;
-      stands = l.stands;
+      refines = l.refines;
     };
     each_literal = h.each_literal;
   }

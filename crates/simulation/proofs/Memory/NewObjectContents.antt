@@ -10,7 +10,7 @@ use Rattle.interpreter.specs.reference_machine.States.{new_instance}
 use Rattle.interpreter.specs.resolved_code.Numbered.{class_name}
 use Rattle.interpreter.specs.object_memory.declared.kinds.Kind.TheVariants.{Instance}
 use Rattle.simulation.specs.Refines.{Names, hidden_words, IsOfContents}
-use Rattle.simulation.proofs.Memory.InitialValues.{words_stand}
+use Rattle.simulation.proofs.Memory.InitialValues.{words_refine}
 
 -- ---- objects
 
@@ -34,5 +34,5 @@ module _ (tree : Tree) (c : ClassName) where
       by_flag false = counted
 
   -- zeros are an object of the class at first
-  pub new_instance_stands : (class : ℕ) → class_name tree class ≡ Some c → (names : Names) → IsOfContents tree names (Instance class) (replicate (length (slot_types tree c)) 0) (new_instance tree c) None
-  new_instance_stands class named names = record { class_is = named; words = replicate (length (instance_fields tree c)) 0; slots_are = words_are; values = words_stand names (instance_fields tree c) }
+  pub new_instance_refines : (class : ℕ) → class_name tree class ≡ Some c → (names : Names) → IsOfContents tree names (Instance class) (replicate (length (slot_types tree c)) 0) (new_instance tree c) None
+  new_instance_refines class named names = record { class_is = named; words = replicate (length (instance_fields tree c)) 0; slots_are = words_are; values = words_refine names (instance_fields tree c) }

@@ -33,7 +33,7 @@ module _ (tree : Tree) (name : Names) (o : Objects) (s : State) (h : IsReadable 
     pub there : slice_get s.objects number ≡ Some object
     pub cell : Cell
     pub lies : object_cell o a ≡ Some cell
-    pub stands : IsCell tree name cell object
+    pub refines : IsCell tree name cell object
 
   -- each object that is there has one
   pub thing_there : (a : Addr) (n : ObjectName) (object : HeapObject) → name a.number ≡ Some n → object_at s n ≡ Some object → IsThere a n object
@@ -46,13 +46,13 @@ module _ (tree : Tree) (name : Names) (o : Objects) (s : State) (h : IsReadable 
         there = there;
         cell = born.cell;
         lies = born.lies;
-        stands = subst (λ x. IsCell tree name born.cell x) (same_Some born.object object (sym born.is ∙ there)) born.stands;
+        refines = subst (λ x. IsCell tree name born.cell x) (same_Some born.object object (sym born.is ∙ there)) born.refines;
       }
 
   -- its slots hold references where its values are
   pub there_is_linked : IsLegal tree → IsTyped tree s → (a : Addr) (n : ObjectName) (object : HeapObject) → (thing : IsThere a n object) → IsLinked tree thing.cell.kind object.contents
   there_is_linked legal typed a n object thing =
-      typed_is_linked tree legal s name thing.cell.kind thing.cell.slots object.contents object.thread (typed.objects thing.number object thing.there) thing.stands.contents
+      typed_is_linked tree legal s name thing.cell.kind thing.cell.slots object.contents object.thread (typed.objects thing.number object thing.there) thing.refines.contents
 
   -- ---- arrays
 
@@ -71,11 +71,11 @@ module _ (tree : Tree) (name : Names) (o : Objects) (s : State) (h : IsReadable 
   array_there a n t elements named held = by_object (object_at s n) refl held
     where
       by_kind : (object : HeapObject) → object.contents ≡ IsArray t elements → (thing : IsThere a n object) → (k : Kind) → thing.cell.kind ≡ k → IsOfContents tree name k thing.cell.slots (IsArray t elements) object.thread → IsArrayThere a n t elements
-      by_kind object holds thing (Array e) is stands = record { object = object; holds = holds; thing = thing; kind = e; kind_is = is; type_is = stands.0; values = stands.1 }
-      by_kind object holds thing (Instance c) is stands = elim stands [ ]
+      by_kind object holds thing (Array e) is refines = record { object = object; holds = holds; thing = thing; kind = e; kind_is = is; type_is = refines.0; values = refines.1 }
+      by_kind object holds thing (Instance c) is refines = elim refines [ ]
 
       with_thing : (object : HeapObject) → object.contents ≡ IsArray t elements → IsThere a n object → IsArrayThere a n t elements
-      with_thing object holds thing = by_kind object holds thing thing.cell.kind refl (subst (λ c. IsOfContents tree name thing.cell.kind thing.cell.slots c object.thread) holds thing.stands.contents)
+      with_thing object holds thing = by_kind object holds thing thing.cell.kind refl (subst (λ c. IsOfContents tree name thing.cell.kind thing.cell.slots c object.thread) holds thing.refines.contents)
 
       by_contents : (object : HeapObject) → object_at s n ≡ Some object → (c : Contents) → object.contents ≡ c → elements_of_contents c ≡ Some (t, elements) → IsArrayThere a n t elements
       by_contents object there (IsInstance c fields) holds e = none_is_some (t, elements) e
@@ -101,8 +101,8 @@ module _ (tree : Tree) (name : Names) (o : Objects) (s : State) (h : IsReadable 
   instance_there a n c fields object named there holds = with_thing (thing_there a n object named there)
     where
       by_kind : (thing : IsThere a n object) → (k : Kind) → thing.cell.kind ≡ k → IsOfContents tree name k thing.cell.slots (IsInstance c fields) object.thread → IsInstanceThere a n c fields object
-      by_kind thing (Instance number) is stands = record { thing = thing; kind = number; kind_is = is; contents = stands }
-      by_kind thing (Array e) is stands = elim stands [ ]
+      by_kind thing (Instance number) is refines = record { thing = thing; kind = number; kind_is = is; contents = refines }
+      by_kind thing (Array e) is refines = elim refines [ ]
 
       with_thing : IsThere a n object → IsInstanceThere a n c fields object
-      with_thing thing = by_kind thing thing.cell.kind refl (subst (λ x. IsOfContents tree name thing.cell.kind thing.cell.slots x object.thread) holds thing.stands.contents)
+      with_thing thing = by_kind thing thing.cell.kind refl (subst (λ x. IsOfContents tree name thing.cell.kind thing.cell.slots x object.thread) holds thing.refines.contents)

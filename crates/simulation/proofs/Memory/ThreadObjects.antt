@@ -9,7 +9,7 @@ use Rattle.interpreter.specs.cil_model.Declarations.{string_name}
 use Rattle.interpreter.specs.cil_model.Fields.{FieldKey}
 use Rattle.interpreter.specs.reference_machine.Values.{ObjectName, Born, Literal, Value as StateValue, Null, Reference}
 use Rattle.interpreter.specs.reference_machine.States.{Contents, Instance as IsInstance, Array as IsArray, HeapObject, Frame as StateFrame, State, object_at, class_of, class_of_contents}
-use Rattle.interpreter.specs.reference_machine.Effects.{Setting, Effect as StateEffect, Sticks, given}
+use Rattle.interpreter.specs.reference_machine.Effects.{Setting, Effect as StateEffect, Sticks, when_some}
 use Rattle.interpreter.specs.reference_machine.BuiltIn.{thread_object}
 use Rattle.interpreter.proofs.reference_machine.TypedStates.RunningFrames.{IsTypedEffect}
 use Rattle.interpreter.specs.resolved_code.Numbered.{class_name}
@@ -83,22 +83,22 @@ module _ (here : Setting) (s : State) (f : StateFrame) (below : List StateFrame)
       by_test true t = elim t [ ]
       by_test false t = elim t [ ]
   thread_object_is (Born k) named typed =
-      by_contents born.object.contents born.cell.kind refl refl born.stands.contents
-      (subst (λ x. IsTypedEffect here.tree (given (option_and_then (λ (y : HeapObject). class_of_contents y.contents) x) asked)) born.is typed)
+      by_contents born.object.contents born.cell.kind refl refl born.refines.contents
+      (subst (λ x. IsTypedEffect here.tree (when_some (option_and_then (λ (y : HeapObject). class_of_contents y.contents) x) asked)) born.is typed)
     where
       born : IsBornAt here.tree name o s a.number k
       born = heap.born a.number k named
 
       asked : ClassName → StateEffect
-      asked d = if is_thread_class here.tree d then given (object_at s (Born k)) go else Sticks
+      asked d = if is_thread_class here.tree d then when_some (object_at s (Born k)) go else Sticks
 
       by_contents : (contents : Contents) (kind : Kind) → born.object.contents ≡ contents → born.cell.kind ≡ kind → IsOfContents here.tree name kind born.cell.slots contents born.object.thread →
-          IsTypedEffect here.tree (given (class_of_contents contents) asked) → IsAsked (Born k)
+          IsTypedEffect here.tree (when_some (class_of_contents contents) asked) → IsAsked (Born k)
       by_contents (IsArray e elements) kind is kind_is h t = elim t [ ]
       by_contents (IsInstance d fields) (Array e) is kind_is h t = elim h [ ]
       by_contents (IsInstance d fields) (Instance class) is kind_is h t = by_test (is_thread_class here.tree d) refl t
         where
-          by_test : (b : Bool) → is_thread_class here.tree d ≡ b → IsTypedEffect here.tree (if b then given (object_at s (Born k)) go else Sticks) → IsAsked (Born k)
+          by_test : (b : Bool) → is_thread_class here.tree d ≡ b → IsTypedEffect here.tree (if b then when_some (object_at s (Born k)) go else Sticks) → IsAsked (Born k)
           by_test false test t' = elim t' [ ]
           by_test true test t' = (
             k,
@@ -119,8 +119,8 @@ module _ (here : Setting) (s : State) (f : StateFrame) (below : List StateFrame)
               words = h.words;
               slots = h.slots_are ∙ ap (λ b. (if b then thread_word born.object.thread ∷ [] else []) ++ h.words) test;
               values = h.values;
-              monitor = born.stands.monitor;
+              monitor = born.refines.monitor;
             },
-            ap (λ x. given x asked) (ap (option_and_then (λ (y : HeapObject). class_of_contents y.contents)) born.is ∙ ap class_of_contents is) ∙
-                ap (λ b. if b then given (object_at s (Born k)) go else Sticks) test ∙ ap (λ x. given x go) born.is,
+            ap (λ x. when_some x asked) (ap (option_and_then (λ (y : HeapObject). class_of_contents y.contents)) born.is ∙ ap class_of_contents is) ∙
+                ap (λ b. if b then when_some (object_at s (Born k)) go else Sticks) test ∙ ap (λ x. when_some x go) born.is,
           )

@@ -56,7 +56,7 @@ module _ (name : Names) (small : (a : ℕ) (n : ObjectName) → name a ≡ Some 
   pub word_value : (w : ℕ) (u : StateValue) (k : ValueKind) → IsWord name w u → k ≡ kind_of_state u → IsValue name (value_in k w) u
   word_value w u k h same =
       subst (λ x. IsValue name (value_in x w) u) (sym same)
-      (subst (λ x. IsValue name (value_in (kind_of_state u) x) u) h.is (subst (λ x. IsValue name x u) (sym (value_again h.value u h.stands)) h.stands))
+      (subst (λ x. IsValue name (value_in (kind_of_state u) x) u) h.is (subst (λ x. IsValue name x u) (sym (value_again h.value u h.refines)) h.refines))
 
 -- ---- kinds of types
 

@@ -20,7 +20,7 @@ use Rattle.interpreter.specs.object_memory.declared.kinds.Kind.TheVariants.{Inst
 use Rattle.interpreter.specs.object_memory.declared.values.Value.{Value}
 use Rattle.interpreter.specs.object_memory.Cells.{Cell}
 use Rattle.interpreter.specs.object_memory.Objects.{Objects, object_cell}
-use Rattle.interpreter.specs.instructions.TypeTransitions.{held_type, type_of_kind, type_of_address, may_stand, may_stand_as}
+use Rattle.interpreter.specs.instructions.TypeTransitions.{held_type, type_of_kind, type_of_address, may_be_used, may_be_used_as}
 use Rattle.simulation.specs.Agreement.{Agree}
 use Rattle.simulation.specs.Refines.{Names, IsValue, int32, int64, native, null_reference, reference, IsWord, IsOfContents, IsMonitor, IsBornAt, IsLiteralAt}
 use Rattle.simulation.proofs.Memory.NamedAddresses.{named_is_not_null}
@@ -43,28 +43,28 @@ module _ (tree : Tree) (name : Names) (o : Objects) (s : State) (heap : IsReadab
       let at : IsBornAt tree name o s a.number n = heap.born a.number n is in
       ap (λ l. option_map_or (λ k. Some (plain String)) l (option_and_then (λ (c : Cell). type_of_kind tree c.kind) (object_cell o a))) at.no_literal ∙
       ap (option_and_then (λ (c : Cell). type_of_kind tree c.kind)) at.lies ∙
-      type_of_kind_is tree name at.cell.kind at.cell.slots at.object.contents at.object.thread at.stands.contents ∙
+      type_of_kind_is tree name at.cell.kind at.cell.slots at.object.contents at.object.thread at.refines.contents ∙
       sym (ap (option_map (λ (x : HeapObject). type_of_contents x.contents)) at.is)
   type_of_named a (Literal characters) is =
       let at : IsLiteralAt tree o s a.number characters = heap.literals a.number characters is in
-      ap (λ l. option_map_or (λ k. Some (plain String)) l (option_and_then (λ (c : Cell). type_of_kind tree c.kind) (object_cell o a))) at.numbered
+      ap (λ l. option_map_or (λ k. Some (plain String)) l (option_and_then (λ (c : Cell). type_of_kind tree c.kind) (object_cell o a))) at.has_id
 
 -- ---- what may be given where a type is required
 
 module _ (here : Setting) (name : Names) (o : Objects) (s : State) (f : StateFrame) (below : List StateFrame) (heap : IsReadable here.tree name o s) where
   -- a value may stand where the one that it represents may
-  may_stand_is : (v : Value) (u : StateValue) (t : DeclaredType) → IsValue name v u → may_stand here.tree o v t ≡ may_hold here s f below t u
-  may_stand_is v u t (int32 z fits) = refl
-  may_stand_is v u t (int64 z fits) = refl
-  may_stand_is v u t (native z fits) = refl
-  may_stand_is v u t null_reference = refl
-  may_stand_is v u t (reference a n is) =
+  may_be_used_is : (v : Value) (u : StateValue) (t : DeclaredType) → IsValue name v u → may_be_used here.tree o v t ≡ may_hold here s f below t u
+  may_be_used_is v u t (int32 z fits) = refl
+  may_be_used_is v u t (int64 z fits) = refl
+  may_be_used_is v u t (native z fits) = refl
+  may_be_used_is v u t null_reference = refl
+  may_be_used_is v u t (reference a n is) =
       ap (λ b. if b then Some true else option_map (λ own. is_assignable here.tree own t) (type_of_address here.tree o a)) (named_is_not_null here.tree name o s heap a.number n is) ∙
       ap (option_map (λ own. is_assignable here.tree own t)) (type_of_named here.tree name o s heap a n is)
 
   -- the same of a type by its number
-  pub may_stand_as_is : (v : Value) (u : StateValue) (t : DeclaredType) (n : ResolvedType) → type_at here.tree n ≡ Some t → IsValue name v u → may_stand_as here.tree o v n ≡ may_hold here s f below t u
-  may_stand_as_is v u t n numbered h = ap (option_and_then (may_stand here.tree o v)) numbered ∙ may_stand_is v u t h
+  pub may_be_used_as_is : (v : Value) (u : StateValue) (t : DeclaredType) (n : ResolvedType) → type_at here.tree n ≡ Some t → IsValue name v u → may_be_used_as here.tree o v n ≡ may_hold here s f below t u
+  may_be_used_as_is v u t n has_id h = ap (option_and_then (may_be_used here.tree o v)) has_id ∙ may_be_used_is v u t h
 
 -- ---- arrays
 
@@ -99,7 +99,7 @@ pub array_there : (tree : Tree) (name : Names) (o : Objects) (s : State) → IsR
 array_there tree name o s heap a n t elements named e =
     let at : IsBornAt tree name o s a.number n = heap.born a.number n named in
     let contents : at.object.contents ≡ IsArray t elements = array_contents at.object.contents t elements (sym (ap (option_and_then (λ (x : HeapObject). elements_of_contents x.contents)) at.is) ∙ e) in
-    let of_contents : IsOfContents tree name at.cell.kind at.cell.slots (IsArray t elements) at.object.thread = subst (λ c. IsOfContents tree name at.cell.kind at.cell.slots c at.object.thread) contents at.stands.contents in
+    let of_contents : IsOfContents tree name at.cell.kind at.cell.slots (IsArray t elements) at.object.thread = subst (λ c. IsOfContents tree name at.cell.kind at.cell.slots c at.object.thread) contents at.refines.contents in
     let kind = array_kind tree name at.cell.kind at.cell.slots t elements at.object.thread of_contents in
     record {
       cell = at.cell;
@@ -107,7 +107,7 @@ array_there tree name o s heap a n t elements named e =
       object = at.object;
       is = at.is;
       contents = contents;
-      monitor = at.stands.monitor;
+      monitor = at.refines.monitor;
       holds = kind.0;
       kind = kind.1;
       held = kind.2;

@@ -20,7 +20,7 @@ use Rattle.interpreter.specs.reference_machine.Values.{ObjectName, Value, Int32,
 use Rattle.interpreter.specs.reference_machine.Arithmetic.{binary_value, unary_value, shift_value, compare_values, branch_values, is_set, convert_32, convert_64, as_index, not_option}
 use Rattle.interpreter.specs.reference_machine.States.{Monitor, Free, Held, Contents, Array, HeapObject, Frame, State, entry_at, replaced_entry, field_value, with_field, object_at, class_of, monitor_of, is_live, array_at, with_element, next_name, with_birth, new_instance}
 use Rattle.interpreter.specs.cil_model.Stacks.{take_one, take_two, take_three}
-use Rattle.interpreter.specs.reference_machine.Effects.{Setting, Effect, Goes, Blocks, Raises, Sticks, given, unless_fault, not_null, are_of_kinds, after, onward}
+use Rattle.interpreter.specs.reference_machine.Effects.{Setting, Effect, Goes, Blocks, Raises, Sticks, when_some, unless_fault, not_null, are_of_kinds, after, onward}
 use Rattle.interpreter.specs.reference_machine.BuiltIn.{Action, Construct, Write, Enter, Exit, Start, Join, action_of, line_of, enter, exit, begin, start, join, thread_object, act}
 use Rattle.interpreter.specs.reference_machine.Steps.{instruction_at, effect_of, key_of, store_at, execute, jump, branch_if, birth, new_array, in_range, element, load_element, store_element, may_hold, store_reference, cast, frame_for, is_too_deep, run_method as run_found, operands, method_for, run_virtual, construct, return_from, to_label, switch_on}
 use Rattle.std.proofs.lemmas.Bool.{eqb-true}
@@ -41,7 +41,7 @@ module _ (here : Setting) (s : State) (left : ℕ) where
   Keeps e = KeepsInEffect here s left e
 
   -- with what is there
-  given_keeps : {X : Type 0} {go : X → Effect} (o : Option X) → ((x : X) → o ≡ Some x → Keeps (go x)) → Keeps (given o go)
+  given_keeps : {X : Type 0} {go : X → Effect} (o : Option X) → ((x : X) → o ≡ Some x → Keeps (go x)) → Keeps (when_some o go)
   given_keeps None each = sticks
   given_keeps (Some x) each = each x refl
 
@@ -206,7 +206,7 @@ module _ (here : Setting) (s : State) (left : ℕ) where
     load_keeps test = two_keeps f.stack (λ array index rest. element_of_keeps test array index (λ n t i v. onward_keeps (v ∷ rest)))
 
     -- another element
-    put_keeps : (n : ObjectName) (i : ℕ) (v : Value) (rest : List Value) → Keeps (given (with_element s n i v) (λ s'. onward f below s' rest))
+    put_keeps : (n : ObjectName) (i : ℕ) (v : Value) (rest : List Value) → Keeps (when_some (with_element s n i v) (λ s'. onward f below s' rest))
     put_keeps n i v rest = given_keeps (with_element s n i v) (λ s' e. goes _ s' (element_keeps here s left stepping n i v s' e))
 
     -- stelem

@@ -9,7 +9,7 @@ use Rattle.interpreter.specs.cil_model.declared.reports.Report.{Report}
 use Rattle.interpreter.specs.cil_model.declared.reports.Report.TheVariants.{Ran, Blocked, Absent}
 use Rattle.interpreter.specs.reference_machine.States.{Monitor, Free, Held, Frame, Thread, State}
 use Rattle.interpreter.specs.reference_machine.Effects.{Setting, Effect, Goes, Blocks, Raises, Sticks}
-use Rattle.interpreter.specs.reference_machine.Steps.{Outcome, Answers, Stuck, effect_of, with_thread_at, ended_as, continues, charge, step_of, step}
+use Rattle.interpreter.specs.reference_machine.Steps.{StepOutcome, Answers, Stuck, effect_of, with_thread_at, ended_as, continues, charge, step_of, step}
 use Rattle.simulation.specs.Counts.{IsCountedMonitor, IsCounted}
 use Rattle.simulation.proofs.ListLaws.ChangedItems.{set_or_stays}
 use Rattle.simulation.proofs.MonitorCounts.StateChanges.{IsStepping, IsCountedAfter, KeepsCounts, own_count, itself_keeps}
@@ -17,7 +17,7 @@ use Rattle.simulation.proofs.MonitorCounts.InstructionSteps.{KeepsInEffect, goes
 use Rattle.interpreter.proofs.cil_model.Lists.{none_is_some, set_or_was, set_is_there}
 
 -- the state that an outcome has is counted
-abbrev LeavesCounted : Limits → Outcome → Type 0
+abbrev LeavesCounted : Limits → StepOutcome → Type 0
 LeavesCounted limits (Answers r s) = IsCounted limits s
 LeavesCounted limits Stuck = Unit {0}
 

@@ -14,8 +14,8 @@ use Rattle.interpreter.specs.cil_model.declared.trees.Method.{Method}
 use Rattle.interpreter.specs.cil_model.declared.trees.Tree.{Tree}
 use Rattle.interpreter.specs.cil_model.declared.types.ClassName.{ClassName}
 use Rattle.interpreter.specs.cil_model.Bodies.{entry_points}
-use Rattle.interpreter.specs.reference_machine.Cycles.{Spaces as SeenSpaces, new_room, room, space_room}
-use Rattle.interpreter.specs.reference_machine.Rooms.{ExceedsRoom as ExceedsOneSpace, cell_words, spaces, words_of_all}
+use Rattle.interpreter.specs.reference_machine.Cycles.{SpaceSizes as SeenSpaces, new_room, room, space_room}
+use Rattle.interpreter.specs.reference_machine.Rooms.{ExceedsRoom, cell_words, spaces, words_of_all}
 use Rattle.interpreter.specs.reference_machine.Runs.{is_refusal}
 use Rattle.interpreter.specs.reference_machine.States.{State}
 use Rattle.interpreter.specs.reference_machine.Steps.{Answers, step}
@@ -51,7 +51,7 @@ use Rattle.collector.specs.declared.progress.TheConstants.{MOST_FAILED_CHECKS}
 use Rattle.collector.specs.phase_handshake.Handshakes.{all_answered, all_seen, is_open, own_phase}
 use Rattle.simulation.specs.Collecting.{answers_round, clear_object, collect, flip_values, mark_work, mark_object, next_posted, objects_after, round_posted, rounds, with_acknowledgement, with_roots_marked, with_status_marked, with_thread_marked, work, do_work}
 use Rattle.simulation.specs.MachineStates.{MachineState}
-use Rattle.simulation.specs.Rooms.{ExceedsRoom, spaces_of}
+use Rattle.simulation.specs.Rooms.{HasNoRoom, spaces_of}
 use Rattle.simulation.specs.Sound.{IsSound}
 use Rattle.simulation.specs.Refines.{Represents}
 use Rattle.simulation.specs.Transitions.{IsTransition, machine_state_at, initial_machine_state}
@@ -296,7 +296,7 @@ module _ (c : MachineState) (s : State) (r : Represents c s) (h : IsWithinBirths
   left_for_births = least_room (spaces_of c.objects) left left_in_old left_in_new (own_phase c.posts t)
 
   -- so what exceeds its room exceeds that of one space
-  pub exceeds_one_space : ExceedsRoom c s t → ExceedsOneSpace c.tree c.limits s t
+  pub exceeds_one_space : HasNoRoom c s t → ExceedsRoom c.tree c.limits s t
   exceeds_one_space x =
       let words : ℕ = cell_words c.tree x.object.contents in
       let more : room (spaces_of c.objects) (own_phase c.posts t) < words = is_beyond words (room (spaces_of c.objects) (own_phase c.posts t)) x.exceeds in

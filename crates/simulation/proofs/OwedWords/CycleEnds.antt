@@ -31,7 +31,7 @@ use Rattle.collector.specs.Phases.{is_of_cycle}
 use Rattle.simulation.specs.MachineStates.{MachineState}
 use Rattle.simulation.specs.Collecting.{collect}
 use Rattle.simulation.specs.Owed.{LeavesOnlyOwed, OwesAfter}
-use Rattle.simulation.specs.Runs.{IsNext, IsRunOf, RefusesBeyondRoom, StandsAfter}
+use Rattle.simulation.specs.Runs.{IsNext, IsRunOf, RefusesBeyondRoom, RefinesAfter}
 use Rattle.simulation.specs.Refines.{Represents}
 use Rattle.simulation.specs.Transitions.{IsTransition}
 use Rattle.simulation.proofs.CollectorEvents.Reports.{IsCollected, ends, waits, works}
@@ -46,7 +46,7 @@ use Rattle.simulation.proofs.Representation.InitialContents.{initial_represents}
 use Rattle.simulation.proofs.OwedWords.NewestCycles.{end_owes}
 use Rattle.simulation.proofs.Threads.UnchangedPosts.{step_posted}
 use Rattle.simulation.proofs.OwedWords.OpenCycleStates.{IsOwedBy, acknowledged_owed, acknowledged_posted, begins_owed, collected_owed, stepped_owed_as}
-use Rattle.simulation.proofs.Runs.EventByEvent.{Comes, Continues, IsAt, continues, walk}
+use Rattle.simulation.proofs.Runs.EventByEvent.{OwnEffect, Continues, IsAt, continues, walk}
 
 module _ (each : InstructionsAreAlike) where
   -- ---- the cycle
@@ -152,13 +152,13 @@ module _ (tree : Tree) (before now : State) (words : ℕ) (owes : OwesWords tree
 
 -- ---- runs
 
-module _ (each : InstructionsAreAlike) (tree : Tree) (accepted : IsAccepted tree) (limits : Limits) (in_range : IsTrue (are_in_range limits)) (events : List Event) (reports : List Report) (c : MachineState) (stands : StandsAfter tree limits events reports c)
+module _ (each : InstructionsAreAlike) (tree : Tree) (accepted : IsAccepted tree) (limits : Limits) (in_range : IsTrue (are_in_range limits)) (events : List Event) (reports : List Report) (c : MachineState) (refines : RefinesAfter tree limits events reports c)
     (most : List (Event × Report)) (over : zip events reports ≡ most ++ (Gc, CycleDone) ∷ []) (words : ℕ) (o : OwesAfter tree limits events reports words) where
   abbrev all : List (Event × Report)
   all = zip events reports
 
-  abbrev h : IsRunOf tree limits events reports stands.state
-  h = stands.is_run
+  abbrev h : IsRunOf tree limits events reports refines.state
+  h = refines.is_run
 
   -- the machine at the beginning
   first_represents : Represents h.machine o.first
@@ -184,7 +184,7 @@ module _ (each : InstructionsAreAlike) (tree : Tree) (accepted : IsAccepted tree
       })
 
   -- where the newest cycle begins
-  abbrev begun : Comes tree limits all o.now h.last IsBefore (λ done rest e r d next s after split k transition is. before_goes each done e r d next s after k transition is) o.earlier o.later [] o.first
+  abbrev begun : OwnEffect tree limits all o.now h.last IsBefore (λ done rest e r d next s after split k transition is. before_goes each done e r d next s after k transition is) o.earlier o.later [] o.first
   begun =
       walk tree limits all o.now h.last IsBefore (λ done rest e r d next s after split k transition is. before_goes each done e r d next s after k transition is) o.earlier o.later [] h.machine o.first at_first
       (record { represents = first_represents; posted = ap is_of_cycle opened.idle })
@@ -215,7 +215,7 @@ module _ (each : InstructionsAreAlike) (tree : Tree) (accepted : IsAccepted tree
   abbrev Holds : List (Event × Report) → MachineState → State → Type 0
   Holds = Within each o.earlier o.later o.split.newest (IsReachedOrUnborn begun.state) owed (owed_decoded tree begun.state o.now words owes) (owed_is tree begun.state o.now words owes)
 
-  abbrev come : Comes tree limits o.later o.now h.last Holds (within_goes each o.earlier o.later o.split.newest (IsReachedOrUnborn begun.state) owed (owed_decoded tree begun.state o.now words owes) (owed_is tree begun.state o.now words owes)) front ((Gc, CycleDone) ∷ []) [] begun.state
+  abbrev come : OwnEffect tree limits o.later o.now h.last Holds (within_goes each o.earlier o.later o.split.newest (IsReachedOrUnborn begun.state) owed (owed_decoded tree begun.state o.now words owes) (owed_is tree begun.state o.now words owes)) front ((Gc, CycleDone) ∷ []) [] begun.state
   come =
       walk tree limits o.later o.now h.last Holds (within_goes each o.earlier o.later o.split.newest (IsReachedOrUnborn begun.state) owed (owed_decoded tree begun.state o.now words owes) (owed_is tree begun.state o.now words owes)) front ((Gc, CycleDone) ∷ []) [] begun.machine_state begun.state at_cycle
       (inl (begins_owed (IsReachedOrUnborn begun.state) owed (owed_decoded tree begun.state o.now words owes) (owed_is tree begun.state o.now words owes) begun.machine_state begun.state begun.holds.represents (reached_is_closed begun.state) none_open))
@@ -247,16 +247,16 @@ module _ (each : InstructionsAreAlike) (tree : Tree) (accepted : IsAccepted tree
       by_way (inr k) = never (sym k.idle ∙ ap is_of_cycle done.0)
 
   spaces_are : c.objects.spaces ≡ close_cycle come.machine_state.objects.spaces
-  spaces_are = ap (λ (x : MachineState). x.objects.spaces) (sym stands.ends ∙ on.there.refuses) ∙ done.1
+  spaces_are = ap (λ (x : MachineState). x.objects.spaces) (sym refines.ends ∙ on.there.refuses) ∙ done.1
 
   -- no more words are in use at the end of a cycle than are owed
   pub cycle_leaves_owed : (used_space c.objects ≤ words) × (used_words c.objects.spaces.new.cells ≡ 0)
   cycle_leaves_owed = (subst (λ (m : Spaces). used_words m.old.cells ≤ words) (sym spaces_are) new_is_owed, ap (λ (m : Spaces). used_words m.new.cells) spaces_are)
 
 -- and there are such words
-pub leaves_owed : InstructionsAreAlike → (tree : Tree) → IsAccepted tree → (limits : Limits) → IsTrue (are_in_range limits) → (events : List Event) (reports : List Report) (c : MachineState) → StandsAfter tree limits events reports c →
+pub leaves_owed : InstructionsAreAlike → (tree : Tree) → IsAccepted tree → (limits : Limits) → IsTrue (are_in_range limits) → (events : List Event) (reports : List Report) (c : MachineState) → RefinesAfter tree limits events reports c →
     LeavesOnlyOwed tree limits events reports c
-leaves_owed each tree accepted limits in_range events reports c stands most over =
-    let owes = end_owes each tree accepted limits in_range events reports stands.state stands.is_run most over in
-    let left = cycle_leaves_owed each tree accepted limits in_range events reports c stands most over owes.0 owes.1 in
+leaves_owed each tree accepted limits in_range events reports c refines most over =
+    let owes = end_owes each tree accepted limits in_range events reports refines.state refines.is_run most over in
+    let left = cycle_leaves_owed each tree accepted limits in_range events reports c refines most over owes.0 owes.1 in
     (owes.0, owes.1, left.0, left.1)

@@ -48,7 +48,7 @@ use Rattle.simulation.specs.Agreement.{Agree}
 use Rattle.simulation.specs.Collecting.{clear_object, collect, cycle_ended, flip_values, mark_object, next_posted, round_posted, rounds, with_acknowledgement, work, do_work}
 use Rattle.simulation.specs.MachineStates.{MachineState}
 use Rattle.simulation.specs.Sound.{IsSound}
-use Rattle.simulation.specs.Refines.{IsHeap, IsThread, IsValue, Names, StandsAlike, StandsBy, int32, int64, native, null_reference, reference}
+use Rattle.simulation.specs.Refines.{IsHeap, IsThread, IsValue, Names, StatusRefines, RefinesUnder, int32, int64, native, null_reference, reference}
 use Rattle.simulation.proofs.CollectorEvents.AcknowledgementCases.{after_acknowledgement, posts_after}
 use Rattle.simulation.proofs.ListLaws.AgreeingLists.{agree_at}
 use Rattle.simulation.proofs.CollectedHeap.RewrittenCells.{IsNamedWord, contents_named}
@@ -139,11 +139,11 @@ module _ (tree : Tree) (legal : IsLegal tree) (s : State) (typed : IsTyped tree 
   words_named g c (Born n) lies is slot w there holds =
       let b = heap.born g.number n is in
       let same : b.cell ≡ c = same_Some b.cell c (sym b.lies ∙ old_is_cell o.spaces g c lies) in
-      let linked = typed_is_linked tree legal s name b.cell.kind b.cell.slots b.object.contents b.object.thread (typed.objects n b.object b.is) b.stands.contents in
-      contents_named tree name b.cell.kind b.cell.slots b.object.contents b.object.thread linked b.stands.contents slot w
+      let linked = typed_is_linked tree legal s name b.cell.kind b.cell.slots b.object.contents b.object.thread (typed.objects n b.object b.is) b.refines.contents in
+      contents_named tree name b.cell.kind b.cell.slots b.object.contents b.object.thread linked b.refines.contents slot w
       (ap (λ (x : Cell). slice_get x.slots slot) same ∙ there) (ap (λ (x : Cell). holds_reference tree x.kind slot) same ∙ holds)
   words_named g c (Literal characters) lies is slot w there holds =
-      let l = heap.literals g.number characters is in none_is_some l.number (sym (no_literal o.spaces spaces g c (old_is_cell o.spaces g c lies)) ∙ l.numbered)
+      let l = heap.literals g.number characters is in none_is_some l.number (sym (no_literal o.spaces spaces g c (old_is_cell o.spaces g c lies)) ∙ l.has_id)
 
   word_is : (w : ℕ) → IsNamedWord name w → is_null_or_named name (reference_in w) ≡ true
   word_is w (inl zero) = ap (λ x. is_null_or_named name (reference_in x)) zero
@@ -217,7 +217,7 @@ module _ (tree : Tree) (posted : Phase) (has_round : Bool) (words : ℕ) (p : Pr
 
 -- ---- each phase
 
-module _ (c : MachineState) (s : State) (legal : IsLegal c.tree) (typed : IsTyped c.tree s) (name names : Names) (stands : StandsBy name c s) where
+module _ (c : MachineState) (s : State) (legal : IsLegal c.tree) (typed : IsTyped c.tree s) (name names : Names) (refines : RefinesUnder name c s) where
   -- what is kept after a transition has a name, under names that are normal then
   abbrev Then : MachineState × Report → Type 0
   Then x = Renames name x.0 names → HasNames names x.0
@@ -269,9 +269,9 @@ module _ (c : MachineState) (s : State) (legal : IsLegal c.tree) (typed : IsType
     marks_then = either_then c.progress.scanned_statics (mark_object (posting Mark c) (marked_on c.tree c.progress c.objects))
         (record (posting Mark c) { progress = (statics_scanned c.progress c.objects c.statics).0; objects = (statics_scanned c.progress c.objects c.statics).1 }, Worked)
         (λ scanned. by_mark (marked_on c.tree c.progress c.objects)
-        (step_named c.tree legal s typed name c.objects spaces stands.memory.heap has.kept c.progress c.objects.spaces.grey (sound.heap.marks refl).listed (oldest_cell c.objects c.objects.spaces.grey) refl))
+        (step_named c.tree legal s typed name c.objects spaces refines.memory.heap has.kept c.progress c.objects.spaces.grey (sound.heap.marks refl).listed (oldest_cell c.objects c.objects.spaces.grey) refl))
         (λ early. dark_then (statics_scanned c.progress c.objects c.statics).0 (statics_scanned c.progress c.objects c.statics).1
-        (all_named name c.statics c.objects spaces (entries_are name c.statics s.statics stands.memory.static_values) has.kept))
+        (all_named name c.statics c.objects spaces (entries_are name c.statics s.statics refines.memory.static_values) has.kept))
 
   -- ---- Allocate
 
@@ -381,16 +381,16 @@ module _ (c : MachineState) (s : State) (legal : IsLegal c.tree) (typed : IsType
 
 -- ---- acknowledgements
 
-module _ (c : MachineState) (s : State) (name : Names) (stands : StandsBy name c s) (spaces : AreSpaces c.objects.spaces) (has : HasNames name c) (t : ℕ) where
+module _ (c : MachineState) (s : State) (name : Names) (refines : RefinesUnder name c s) (spaces : AreSpaces c.objects.spaces) (has : HasNames name c) (t : ℕ) where
   -- a thread refers to null, or to what has a name
-  status_is : (x : ThreadStatus) (gs : List StateFrame) (e : Option End) → StandsAlike c.tree c.limits name x gs e → AllByRecursion (ValuePasses (is_null_or_named name)) (status_values x)
+  status_is : (x : ThreadStatus) (gs : List StateFrame) (e : Option End) → StatusRefines c.tree c.limits name x gs e → AllByRecursion (ValuePasses (is_null_or_named name)) (status_values x)
   status_is (Live m) gs None h = listed_are name (roots m) (roots_pass name (is_null_or_named name) refl (is_named name) c.tree m gs h.frames)
   status_is (Ended x) gs e h = tt
   status_is (Live m) gs (Some e) h = elim h [ ]
 
   thread_is : (x : Option Thread) → slice_get c.threads t ≡ x → AllByRecursion (ValuePasses (is_null_or_named name)) (thread_values x)
   thread_is None is = tt
-  thread_is (Some x) is = let u = agree_at (IsThread c.tree c.limits name) c.threads s.threads stands.threads t x is in status_is x.thread_status u.0.frames u.0.ended u.2.thread_status
+  thread_is (Some x) is = let u = agree_at (IsThread c.tree c.limits name) c.threads s.threads refines.threads t x is in status_is x.thread_status u.0.frames u.0.ended u.2.thread_status
 
   abbrev vs : List Value
   vs = thread_values (slice_get c.threads t)

@@ -24,7 +24,7 @@ use Rattle.reference_machine.proofs.ReachableObjects.States.{AreFramesWithin, Ho
 use Rattle.reference_machine.proofs.ReachableObjects.Values.{AreWithin, IsWithin, values_of}
 use Rattle.simulation.specs.Agreement.{Agree}
 use Rattle.simulation.specs.MachineStates.{MachineState}
-use Rattle.simulation.specs.Refines.{IsBornAt, IsFrame, IsHeap, IsObject, IsOfContents, IsThread, IsValue, IsWord, Names, StandsAlike, StandsBy, int32, int64, native, null_reference, reference}
+use Rattle.simulation.specs.Refines.{IsBornAt, IsFrame, IsHeap, IsObject, IsOfContents, IsThread, IsValue, IsWord, Names, StatusRefines, RefinesUnder, int32, int64, native, null_reference, reference}
 
 -- lists whose elements stand in a relation stand in another one that follows for those of the second list
 agree_within : {A B : Type 0} (P : B → Type 0) (R S : A → B → Type 0) → ((x : A) (y : B) → P y → R x y → S x y) → (xs : List A) (ys : List B) → AllByRecursion P ys → Agree R xs ys → Agree S xs ys
@@ -88,7 +88,7 @@ module _ (is_inside : ℕ → Bool) where
       values_cut = agree_within (IsWithin Inside) (IsValue name) (IsValue (cut_inside name)) value_cut
 
       word_cut : (w : ℕ) (u : StateValue) → IsWithin Inside u → IsWord name w u → IsWord (cut_inside name) w u
-      word_cut w u within h = record { value = h.value; stands = value_cut h.value u within h.stands; is = h.is }
+      word_cut w u within h = record { value = h.value; refines = value_cut h.value u within h.refines; is = h.is }
 
       -- of entries under keys
       entries_cut : {A : Type 0} (R S : A → StateValue → Type 0) → ((x : A) (u : StateValue) → IsWithin Inside u → R x u → S x u) → (xs : List A) (es : List (FieldKey × StateValue)) → AreWithin Inside (values_of es) →
@@ -129,7 +129,7 @@ module _ (is_inside : ℕ → Bool) where
         constructed = object_cut f.constructed g.constructed within.constructed h.constructed;
       }
 
-      status_cut : (tree : Tree) (limits : Limits) (thread_status : ThreadStatus) (gs : List StateFrame) (e : Option End) → (e ≡ None → AreFramesWithin Inside gs) → StandsAlike tree limits name thread_status gs e → StandsAlike tree limits (cut_inside name) thread_status gs e
+      status_cut : (tree : Tree) (limits : Limits) (thread_status : ThreadStatus) (gs : List StateFrame) (e : Option End) → (e ≡ None → AreFramesWithin Inside gs) → StatusRefines tree limits name thread_status gs e → StatusRefines tree limits (cut_inside name) thread_status gs e
       status_cut tree limits (Live m) gs None within h = record {
         frames = agree_within (IsFrameWithin Inside) (IsFrame tree name) (IsFrame tree (cut_inside name)) (frame_cut tree) (m.running ∷ m.below) gs (within refl) h.frames;
         depth = h.depth;
@@ -161,9 +161,9 @@ module _ (is_inside : ℕ → Bool) where
           lies = b.lies;
           object = b.object;
           is = b.is;
-          stands = record {
-            contents = contents_cut tree b.cell.kind b.cell.slots b.object.contents b.object.thread (closed.objects n b.object b.is (inside n (born_inside n (inside_is name a (Born n) is)))) b.stands.contents;
-            monitor = b.stands.monitor;
+          refines = record {
+            contents = contents_cut tree b.cell.kind b.cell.slots b.object.contents b.object.thread (closed.objects n b.object b.is (inside n (born_inside n (inside_is name a (Born n) is)))) b.refines.contents;
+            monitor = b.refines.monitor;
           };
         }
 
@@ -181,8 +181,8 @@ module _ (is_inside : ℕ → Bool) where
         }
 
     -- a machine represents its state under the names of the set
-    pub stands_inside : (name : Names) (c : MachineState) (s : State) → IsClosed Inside s → ((n : ℕ) → is_inside n ≡ true → Inside n) → StandsBy name c s → StandsBy (cut_inside name) c s
-    stands_inside name c s closed inside h = record {
+    pub refines_inside : (name : Names) (c : MachineState) (s : State) → IsClosed Inside s → ((n : ℕ) → is_inside n ≡ true → Inside n) → RefinesUnder name c s → RefinesUnder (cut_inside name) c s
+    refines_inside name c s closed inside h = record {
       memory = record {
         heap = heap_cut name c.tree c.objects s closed.holds inside h.memory.heap;
         static_values = entries_cut name (IsValue name) (IsValue (cut_inside name)) (value_cut name) c.statics s.statics closed.holds.statics h.memory.static_values;

@@ -46,10 +46,10 @@ module _ (tree : Tree) (name : Names) (o : Objects) (s : State) (spaces : AreSpa
       by_kind (Born n) is =
           let b = heap.born a n is in
           let same : b.cell ≡ c = same_Some b.cell c (sym b.lies ∙ new_is_cell o.spaces spaces (record { number = a }) c lies) in
-          record { born = n; named = is; words_are = ap (words_of_object tree) b.is ∙ (sym (cell_size tree name b.cell b.object b.stands) ∙ ap size same) }
+          record { born = n; named = is; words_are = ap (words_of_object tree) b.is ∙ (sym (cell_size tree name b.cell b.object b.refines) ∙ ap size same) }
       by_kind (Literal characters) is =
           let l = heap.literals a characters is in
-          none_is_some l.number (sym (no_literal o.spaces spaces (record { number = a }) c (new_is_cell o.spaces spaces (record { number = a }) c lies)) ∙ l.numbered)
+          none_is_some l.number (sym (no_literal o.spaces spaces (record { number = a }) c (new_is_cell o.spaces spaces (record { number = a }) c lies)) ∙ l.has_id)
 
       by_name : IsNamed name (record { number = a }) → IsBorn a c
       by_name n = by_kind n.0 n.1

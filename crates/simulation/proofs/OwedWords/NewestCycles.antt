@@ -33,7 +33,7 @@ use Rattle.simulation.proofs.OwedWords.SumsOverNames.{distinct_sum, is_listed}
 use Rattle.simulation.proofs.OwedWords.ReachableObjects.{words_owed}
 use Rattle.simulation.proofs.CycleBounds.OpenCycles.{IsBefore, before_goes, gc_is, last_split, open_then, opened_is, then_open}
 use Rattle.simulation.proofs.Representation.InitialContents.{initial_represents}
-use Rattle.simulation.proofs.Runs.EventByEvent.{Comes, IsAt, continues, walk}
+use Rattle.simulation.proofs.Runs.EventByEvent.{OwnEffect, IsAt, continues, walk}
 
 -- ---- the newest cycle of events
 
@@ -206,7 +206,7 @@ module _ (each : InstructionsAreAlike) (tree : Tree) (accepted : IsAccepted tree
   goes = λ done rest e r d next u after split k transition is. before_goes each done e r d next u after k transition is
 
   -- what the run reaches after the first of its events
-  come : (xs ys : Events) → all ≡ xs ++ ys → Comes tree limits all s h.last IsBefore goes xs ys [] h.first
+  come : (xs ys : Events) → all ≡ xs ++ ys → OwnEffect tree limits all s h.last IsBefore goes xs ys [] h.first
   come xs ys split = walk tree limits all s h.last IsBefore goes xs ys [] h.machine h.first (at_first xs ys split) (record { represents = first_represents; posted = ap is_of_cycle (opened_is tree limits h.machine h.opened).idle })
 
   -- there are words that the newest cycle must keep

@@ -14,17 +14,17 @@ use Rattle.interpreter.proofs.reference_machine.ReachableObjects.States.{IsClose
 use Rattle.interpreter.specs.object_memory.declared.addresses.Addr.{Addr}
 use Rattle.simulation.specs.MachineStates.{MachineState}
 use Rattle.simulation.specs.Collecting.{collect, with_acknowledgement}
-use Rattle.simulation.specs.Refines.{Names, Represents, StandsBy}
+use Rattle.simulation.specs.Refines.{Names, Represents, RefinesUnder}
 use Rattle.simulation.specs.Transitions.{IsTransition}
 use Rattle.simulation.proofs.CollectorEvents.AcknowledgementCases.{after_acknowledgement}
-use Rattle.simulation.proofs.CollectorEvents.AcknowledgementNames.{acknowledgement_represents, acknowledgement_stands}
+use Rattle.simulation.proofs.CollectorEvents.AcknowledgementNames.{acknowledgement_represents, acknowledgement_refines}
 use Rattle.simulation.proofs.CollectorEvents.UnchangedState.{collected_represents}
-use Rattle.simulation.proofs.CollectorEvents.RepresentedObjects.{collected_stands}
+use Rattle.simulation.proofs.CollectorEvents.RepresentedObjects.{collected_refines}
 use Rattle.simulation.proofs.Instructions.Correspondence.{InstructionsAreAlike}
 use Rattle.simulation.proofs.OwedWords.NamesAfterEvents.{HasNames, Renames, acknowledged_has, collected_has, renamed}
 use Rattle.simulation.proofs.OwedWords.CycleNames.{AreCopiesOfMarked, IsNamed, is_copying, is_kept}
 use Rattle.simulation.proofs.OwedWords.ThreadNames.{IsKnown}
-use Rattle.simulation.proofs.OwedWords.NamesInSets.{cut_inside, inside_is, is_cut_inside, name_inside, stands_inside}
+use Rattle.simulation.proofs.OwedWords.NamesInSets.{cut_inside, inside_is, is_cut_inside, name_inside, refines_inside}
 use Rattle.simulation.proofs.Threads.UnchangedPosts.{step_posted}
 use Rattle.simulation.proofs.Threads.LiveThreads.{KeepsOwnNames, normally, normally_from, normally_keeps}
 use Rattle.simulation.proofs.Threads.StepResults.{KeepsOwnRoom}
@@ -52,9 +52,9 @@ module _ (Inside : ℕ → Type 0) (is_inside : ℕ → Bool) (decoded : (n : �
     pub has : HasNames (normally c s represents).name c
 
   -- the same under other names, of which these are the normal ones
-  module _ (c : MachineState) (s : State) (r : Represents c s) (set : IsClosed Inside s) (name : Names) (by : StandsBy name c s) (known : (a : ℕ) (n : ObjectName) → name a ≡ Some n → name_inside is_inside n ≡ Some n) where
+  module _ (c : MachineState) (s : State) (r : Represents c s) (set : IsClosed Inside s) (name : Names) (by : RefinesUnder name c s) (known : (a : ℕ) (n : ObjectName) → name a ≡ Some n → name_inside is_inside n ≡ Some n) where
     abbrev renamed_representation : Represents c s
-    renamed_representation = record r { stands = record { name = name; by = by } }
+    renamed_representation = record r { refines = record { name = name; by = by } }
 
     abbrev own : Names
     own = (normally c s renamed_representation).name
@@ -73,7 +73,7 @@ module _ (Inside : ℕ → Type 0) (is_inside : ℕ → Bool) (decoded : (n : �
   -- where a machine begins that has no cycle open
   pub begins_owed : (c : MachineState) (s : State) → Represents c s → IsClosed Inside s → c.posts.posted ≡ Idle → IsOwedBy c s
   begins_owed c s r set idle =
-      owed_by c s r set (cut_inside is_inside r.stands.name) (stands_inside is_inside Inside decoded r.stands.name c s set inside r.stands.by) (λ a n is. inside_is is_inside r.stands.name a n is)
+      owed_by c s r set (cut_inside is_inside r.refines.name) (refines_inside is_inside Inside decoded r.refines.name c s set inside r.refines.by) (λ a n is. inside_is is_inside r.refines.name a n is)
       (record {
         kept = λ a h. never (ap (λ x. is_kept x c.objects.spaces a) (sym idle) ∙ h);
         copies = λ copying. never (ap is_copying (sym idle) ∙ copying);
@@ -85,26 +85,26 @@ module _ (Inside : ℕ → Type 0) (is_inside : ℕ → Bool) (decoded : (n : �
   acknowledged_owed c s t h =
       let own = normally c s h.represents in
       let r' = acknowledgement_represents c t s h.represents in
-      let by = acknowledgement_stands c t s own.name own.normal own.by h.represents.sound in
+      let by = acknowledgement_refines c t s own.name own.normal own.by h.represents.sound in
       let has = acknowledged_has c s own.name own.by h.represents.sound.heap.blocks.spaces h.has t in
       owed_by (with_acknowledgement c t).0 s r' h.closed_set own.name by h.known
-      (renamed own.name (with_acknowledgement c t).0 (normally (with_acknowledgement c t).0 s (record r' { stands = record { name = own.name; by = by } })).name
+      (renamed own.name (with_acknowledgement c t).0 (normally (with_acknowledgement c t).0 s (record r' { refines = record { name = own.name; by = by } })).name
       (renames (with_acknowledgement c t).0 s r' h.closed_set own.name by h.known) has)
 
   pub collected_owed : (c : MachineState) (s : State) → IsOwedBy c s → IsOwedBy (collect c).0 s
   collected_owed c s h =
       let own = normally c s h.represents in
       let r' = collected_represents c s h.represents own.name own.normal own.by in
-      let by = collected_stands own.name c s h.represents.sound own.normal own.by in
+      let by = collected_refines own.name c s h.represents.sound own.normal own.by in
       owed_by (collect c).0 s r' h.closed_set own.name by h.known
-      (collected_has c s h.represents.accepted.legal h.represents.typed own.name (normally (collect c).0 s (record r' { stands = record { name = own.name; by = by } })).name own.by h.represents.sound h.has
+      (collected_has c s h.represents.accepted.legal h.represents.typed own.name (normally (collect c).0 s (record r' { refines = record { name = own.name; by = by } })).name own.by h.represents.sound h.has
       (renames (collect c).0 s r' h.closed_set own.name by h.known))
 
   -- ---- steps
 
   module _ (each : InstructionsAreAlike) (c : MachineState) (s : State) (t : ℕ) (next : MachineState) (r : Report) (h : IsOwedBy c s) (transition : IsTransition c (Step t) (next, r)) where
     -- what the reference machine reaches by the same step
-    abbrev follows : (u : State) × (step c.tree c.limits s t (is_refusal r) ≡ Answers r u) × (r' : Represents next u) × KeepsOwnRoom c s t next.objects u × KeepsOwnNames c s h.represents next.objects r'.stands.name
+    abbrev follows : (u : State) × (step c.tree c.limits s t (is_refusal r) ≡ Answers r u) × (r' : Represents next u) × KeepsOwnRoom c s t next.objects u × KeepsOwnNames c s h.represents next.objects r'.refines.name
     follows = step_names each c s h.represents t (next, r) transition
 
     abbrev after : State
@@ -112,7 +112,7 @@ module _ (Inside : ℕ → Type 0) (is_inside : ℕ → Bool) (decoded : (n : �
 
     -- the names that the step left, and those of the set among them
     abbrev all : Names
-    all = follows.2.stands.name
+    all = follows.2.refines.name
 
     abbrev cut : Names
     cut = cut_inside is_inside all
@@ -120,8 +120,8 @@ module _ (Inside : ℕ → Type 0) (is_inside : ℕ → Bool) (decoded : (n : �
     set_then : IsClosed Inside after
     set_then = step_within Inside c.tree c.limits s after t (is_refusal r) r h.closed_set follows.1
 
-    by_then : StandsBy cut next after
-    by_then = stands_inside is_inside Inside decoded all next after set_then inside follows.2.stands.by
+    by_then : RefinesUnder cut next after
+    by_then = refines_inside is_inside Inside decoded all next after set_then inside follows.2.refines.by
 
     known_then : (a : ℕ) (n : ObjectName) → cut a ≡ Some n → name_inside is_inside n ≡ Some n
     known_then a n is = inside_is is_inside all a n is
@@ -150,7 +150,7 @@ module _ (Inside : ℕ → Type 0) (is_inside : ℕ → Bool) (decoded : (n : �
     -- so they are owed after a step
     stepped_owed : IsOwedBy next after
     stepped_owed = owed_by next after follows.2 set_then cut by_then known_then
-        (renamed cut next (normally next after (record follows.2 { stands = record { name = cut; by = by_then } })).name (renames next after follows.2 set_then cut by_then known_then) has_then)
+        (renamed cut next (normally next after (record follows.2 { refines = record { name = cut; by = by_then } })).name (renames next after follows.2 set_then cut by_then known_then) has_then)
 
     pub stepped_owed_as : (s' : State) → step c.tree c.limits s t (is_refusal r) ≡ Answers r s' → IsOwedBy next s'
     stepped_owed_as s' is = subst (λ (u : State). IsOwedBy next u) (same_after r r after s' (sym follows.1 ∙ is)) stepped_owed

@@ -71,18 +71,18 @@ module _ (tree : Tree) (legal : IsLegal tree) (words : ℕ) (h : Handshakes) (p 
 
     -- where a named value is marked first
     pub marked_names : (v : Value) (u : StateValue) → IsValue name v u → KeepsNames h.posted (IsKnown own begun) first.spaces (marked_first seat.phase o v).spaces name
-    marked_names v u stands = record {
+    marked_names v u refines = record {
       known = fit.names.known;
       kept = λ x kept. elim (first_adds seat.phase h.posted o fit.fits.sound.blocks.spaces v x kept) [
         | inl was ↦ fit.names.kept x was
-        | inr here ↦ inr (value_named name o fit.fits.sound.blocks.spaces x here.1 v u stands here.0)
+        | inr here ↦ inr (value_named name o fit.fits.sound.blocks.spaces x here.1 v u refines here.0)
       ];
       copies = λ are. first_copies seat.phase h.posted o fit.fits.sound.blocks.spaces v (fit.names.copies are);
     }
 
     pub stored_names : (a : Addr) (slot : ℕ) (v : Value) (u : StateValue) → IsValue name v u → KeepsNames h.posted (IsKnown own begun) first.spaces (stored_value seat.phase o a slot v).spaces name
-    stored_names a slot v u stands =
-        let marked = marked_names v u stands in
+    stored_names a slot v u refines =
+        let marked = marked_names v u refines in
         let alike = value_alike o a slot v seat.phase in
         record {
           known = marked.known;
@@ -96,12 +96,12 @@ module _ (tree : Tree) (legal : IsLegal tree) (words : ℕ) (h : Handshakes) (p 
 
     -- ---- births
 
-    module _ (k : Kind) (count : ℕ) (contents : Contents) (stands : (names : Names) → IsOfContents tree names k (replicate count 0) contents None) (born : Objects) (a : Addr) (e : ◌≡◌ {A = Objects × Option Addr} (object_born seat.phase o k count) (born, Some a)) where
+    module _ (k : Kind) (count : ℕ) (contents : Contents) (refines : (names : Names) → IsOfContents tree names k (replicate count 0) contents None) (born : Objects) (a : Addr) (e : ◌≡◌ {A = Objects × Option Addr} (object_born seat.phase o k count) (born, Some a)) where
       abbrev b : IsBirth (FitsCollected tree words h p seat first all) name ss s contents born a
-      b = collected_births tree words h p seat close first time all name o ss s fit.fits k count contents stands born a e
+      b = collected_births tree words h p seat close first time all name o ss s fit.fits k count contents refines born a e
 
       known_then : (x : ℕ) (n : ObjectName) → b.names x ≡ Some n → IsKnown own begun n
-      known_then x n is = elim (births_only tree words h p seat close first time all name o ss s fit.fits k count contents stands born a e x n is) [
+      known_then x n is = elim (births_only tree words h p seat close first time all name o ss s fit.fits k count contents refines born a e x n is) [
         | inl was ↦ fit.names.known x n was
         | inr new ↦ inr (length s.objects, new, fit.more)
       ]
@@ -114,7 +114,7 @@ module _ (tree : Tree) (legal : IsLegal tree) (words : ℕ) (h : Handshakes) (p 
           elim here [
             | inl same ↦ subst (λ (y : Addr). b.names y.number ≡ Some (next_name s)) (sym same) b.named
             | inr other ↦
-                births_copied tree words h p seat close first time all name o ss s fit.fits k count contents stands born a e x other (kept_is_live h.posted born.spaces x kept)
+                births_copied tree words h p seat close first time all name o ss s fit.fits k count contents refines born a e x other (kept_is_live h.posted born.spaces x kept)
                 (kept_is_held h.posted h.has_round born.spaces (first_hold h seat first) (means tree words h p seat first all b.names born ss (with_state_birth s contents) b.fits) x kept)
           ],
         )
@@ -153,10 +153,10 @@ module _ (tree : Tree) (legal : IsLegal tree) (words : ℕ) (h : Handshakes) (p 
         same_null = λ name o ss s fit. base.same_null name o ss s fit.fits;
         null_name = λ name o ss s fit b k is. base.null_name name o ss s fit.fits b k is;
         name_null = λ name o ss s fit a n is. base.name_null name o ss s fit.fits a n is;
-        storable = λ name o ss s fit a n is cell lies slot v u inside stands. base.storable name o ss s fit.fits a n is cell lies slot v u inside stands;
-        slots = λ name o ss s fit typed a n is cell lies slot v u inside sort stands object linked after. record {
-          fits = base.slots name o ss s fit.fits typed a n is cell lies slot v u inside sort stands object linked after;
-          names = stored_names name o ss s fit a slot v u stands;
+        storable = λ name o ss s fit a n is cell lies slot v u inside refines. base.storable name o ss s fit.fits a n is cell lies slot v u inside refines;
+        slots = λ name o ss s fit typed a n is cell lies slot v u inside sort refines object linked after. record {
+          fits = base.slots name o ss s fit.fits typed a n is cell lies slot v u inside sort refines object linked after;
+          names = stored_names name o ss s fit a slot v u refines;
           more = same_count name o ss s fit n object;
         };
         word_storable = λ name o ss s fit a n is cell lies slot inside. base.word_storable name o ss s fit.fits a n is cell lies slot inside;
@@ -171,15 +171,15 @@ module _ (tree : Tree) (legal : IsLegal tree) (words : ℕ) (h : Handshakes) (p 
           names = alike_names name o ss s fit (stored_monitor seat.phase o a monitor) (monitor_alike seat.phase o a monitor);
           more = same_count name o ss s fit n object;
         };
-        literals = λ name o ss s fit a characters is monitor u stands. record {
-          fits = base.literals name o ss s fit.fits a characters is monitor u stands;
+        literals = λ name o ss s fit a characters is monitor u refines. record {
+          fits = base.literals name o ss s fit.fits a characters is monitor u refines;
           names = alike_names name o ss s fit (stored_monitor seat.phase o a monitor) (monitor_alike seat.phase o a monitor);
           more = fit.more;
         };
-        static_storable = λ name o ss s fit v u stands. base.static_storable name o ss s fit.fits v u stands;
-        static_stores = λ name o ss s fit n v u inside stands entries fields. record {
-          fits = base.static_stores name o ss s fit.fits n v u inside stands entries fields;
-          names = subst (λ (x : Objects). KeepsNames h.posted (IsKnown own begun) first.spaces x.spaces name) (sym (static_marks o ss n v seat.phase)) (marked_names name o ss s fit v u stands);
+        static_storable = λ name o ss s fit v u refines. base.static_storable name o ss s fit.fits v u refines;
+        static_stores = λ name o ss s fit n v u inside refines entries fields. record {
+          fits = base.static_stores name o ss s fit.fits n v u inside refines entries fields;
+          names = subst (λ (x : Objects). KeepsNames h.posted (IsKnown own begun) first.spaces x.spaces name) (sym (static_marks o ss n v seat.phase)) (marked_names name o ss s fit v u refines);
           more = fit.more;
         };
         bears = λ name o ss s fit. base.bears name o ss s fit.fits;

@@ -35,10 +35,10 @@ use Rattle.interpreter.specs.threads_monitors.Roots.{roots}
 use Rattle.interpreter.specs.threads_monitors.declared.threads.ThreadStatus.TheVariants.{Live}
 use Rattle.simulation.specs.MachineStates.{MachineState}
 use Rattle.simulation.specs.Sound.{AreSeated, IsSound}
-use Rattle.simulation.specs.Refines.{IsHeap, IsThread, StandsAlike, StandsBy, Represents}
+use Rattle.simulation.specs.Refines.{IsHeap, IsThread, StatusRefines, RefinesUnder, Represents}
 use Rattle.simulation.specs.Transitions.{machine_state_at, initial_machine_state, thread_at}
 use Rattle.simulation.proofs.ProgramSizes.LimitRanges.{budget_is_some, depth_is_some, most_words_are_few, words_are_few, words_are_within}
-use Rattle.simulation.proofs.Memory.InitialValues.{fields_stand}
+use Rattle.simulation.proofs.Memory.InitialValues.{fields_refine}
 use Rattle.simulation.proofs.ListLaws.AgreeingLists.{agree_at}
 use Rattle.simulation.proofs.CollectedHeap.VisibleNames.{permanent_passes}
 use Rattle.simulation.proofs.Representation.RootReferences.{roots_pass, statics_pass}
@@ -49,7 +49,7 @@ use Rattle.collector.specs.Phases.{no_progress}
 use Rattle.collector.specs.Holding.{Hold, hold_of, may_hold, passes, static_hold_of, static_may_hold}
 use Rattle.collector.specs.Soundness.{IsListed, IsSoundHeap}
 use Rattle.collector.proofs.PhaseChanges.BetweenCycles.{quiet_is_sound}
-use Rattle.simulation.proofs.Representation.NewThreads.{beginning_stands}
+use Rattle.simulation.proofs.Representation.NewThreads.{beginning_refines}
 use Rattle.simulation.proofs.Representation.LiteralNames.{same_for_each, free_first, literal_names, IsNamedLiteral, named_literal, literal_named, literals_small, literals_apart}
 
 module _ (tree : Tree) (limits : Limits) (accepted : IsAccepted tree) (in_range : IsTrue (are_in_range limits)) where
@@ -65,13 +65,13 @@ module _ (tree : Tree) (limits : Limits) (accepted : IsAccepted tree) (in_range 
     born = λ a n named. let x : IsNamedLiteral tree a _ = named_literal tree a _ named in let name = x.name in absurd cc;
     literals = λ a characters named. let x : IsNamedLiteral tree a _ = named_literal tree a _ named in let name = x.name in let same : x.characters ≡ characters = cc in let is : slice_get (literals_of tree) x.number ≡ Some characters = x.is ∙ ap Some same in record {
       number = x.number;
-      numbered = x.numbered;
+      has_id = x.has_id;
       is = is;
       monitor = Free;
       held = same_for_each (literals_of tree) x.number characters Free is;
       state_monitor = IsFree;
       state_held = free_first (literals_of tree) x.number characters is;
-      stands = tt;
+      refines = tt;
     };
     each_literal = literal_named tree;
   }
@@ -97,20 +97,20 @@ module _ (tree : Tree) (limits : Limits) (accepted : IsAccepted tree) (in_range 
       (λ a c lies. none_is_some c lies)
 
   -- the thread is at the beginning of the entry point
-  first_stands : (entry : ClassName × Method) (code : Code) → code_of entry.1.kind ≡ Some code → (n : ℕ) → slice_get (all_methods tree) n ≡ Some entry → StandsBy (literal_names tree) (machine_state_at tree limits entry n) (initial_state_at tree limits entry code)
-  first_stands entry code has_code n stands = record {
-    memory = record { heap = first_heap entry code; static_values = fields_stand (literal_names tree) (static_fields tree); printed_is = refl };
-    threads = (beginning_stands (literal_names tree) tree limits (depth_is_some limits in_range) entry code has_code n stands [] [] tt, tt);
+  first_refines : (entry : ClassName × Method) (code : Code) → code_of entry.1.kind ≡ Some code → (n : ℕ) → slice_get (all_methods tree) n ≡ Some entry → RefinesUnder (literal_names tree) (machine_state_at tree limits entry n) (initial_state_at tree limits entry code)
+  first_refines entry code has_code n refines = record {
+    memory = record { heap = first_heap entry code; static_values = fields_refine (literal_names tree) (static_fields tree); printed_is = refl };
+    threads = (beginning_refines (literal_names tree) tree limits (depth_is_some limits in_range) entry code has_code n refines [] [] tt, tt);
   }
 
   -- each thread may hold the literals, and so may static fields
   literal_passes : (hold : Hold) (m : Spaces) (a : ℕ) (n : ObjectName) → literal_names tree a ≡ Some n → passes hold Idle m (record { number = a }) ≡ true
   literal_passes hold m a n is =
       let x : IsNamedLiteral tree a n = named_literal tree a n is in
-      permanent_passes hold Idle m (record { number = a }) (or_second (a == 0) (is_some (literal_number (record { number = a }))) (ap is_some x.numbered))
+      permanent_passes hold Idle m (record { number = a }) (or_second (a == 0) (is_some (literal_number (record { number = a }))) (ap is_some x.has_id))
 
   -- the first machine is sound
-  initial_sound : (entry : ClassName × Method) (code : Code) (n : ℕ) → StandsBy (literal_names tree) (machine_state_at tree limits entry n) (initial_state_at tree limits entry code) → IsSound (machine_state_at tree limits entry n)
+  initial_sound : (entry : ClassName × Method) (code : Code) (n : ℕ) → RefinesUnder (literal_names tree) (machine_state_at tree limits entry n) (initial_state_at tree limits entry code) → IsSound (machine_state_at tree limits entry n)
   initial_sound entry code n by = record {
     seated = fit;
     heap = first_sound;
@@ -130,7 +130,7 @@ module _ (tree : Tree) (limits : Limits) (accepted : IsAccepted tree) (in_range 
       m : Spaces
       m = (no_objects limits.words (length (literals_of tree))).spaces
 
-      by_end : (fs : Frames) (seat : Seat) (a : Addr) → IsListed (roots fs) a → (gs : List StateFrame) (e : Option End) → StandsAlike tree limits (literal_names tree) (Live fs) gs e → may_hold first_handshakes m seat a ≡ true
+      by_end : (fs : Frames) (seat : Seat) (a : Addr) → IsListed (roots fs) a → (gs : List StateFrame) (e : Option End) → StatusRefines tree limits (literal_names tree) (Live fs) gs e → may_hold first_handshakes m seat a ≡ true
       by_end fs seat a listed gs None h =
           let hold : Hold = hold_of first_handshakes m.has_marked seat in
           roots_pass (literal_names tree) (may_hold first_handshakes m seat) (permanent_passes hold Idle m null refl) (literal_passes hold m) tree fs gs h.frames a listed
@@ -152,18 +152,18 @@ module _ (tree : Tree) (limits : Limits) (accepted : IsAccepted tree) (in_range 
     opened_with (Some code) is =
         let opened : initial_state tree limits ≡ Some (initial_state_at tree limits entry code) =
         ap (λ es. option_and_then (λ (e : ClassName × Method). option_map (initial_state_at tree limits e) (code_of e.1.kind)) (slice_get es 0)) alone ∙ ap (option_map (initial_state_at tree limits entry)) is in
-        let numbered : (n : ℕ) × (number_of tree entry ≡ Some n) × (slice_get (all_methods tree) n ≡ Some entry) = declared_is_numbered tree accepted.legal entry_declared.0 entry entry_declared.1 in (
-          machine_state_at tree limits entry numbered.0,
+        let has_id : (n : ℕ) × (number_of tree entry ≡ Some n) × (slice_get (all_methods tree) n ≡ Some entry) = declared_is_numbered tree accepted.legal entry_declared.0 entry entry_declared.1 in (
+          machine_state_at tree limits entry has_id.0,
           initial_state_at tree limits entry code,
-          ap (λ es. option_and_then (λ (e : ClassName × Method). option_map (machine_state_at tree limits e) (number_of tree e)) (slice_get es 0)) alone ∙ ap (option_map (machine_state_at tree limits entry)) numbered.1,
+          ap (λ es. option_and_then (λ (e : ClassName × Method). option_map (machine_state_at tree limits e) (number_of tree e)) (slice_get es 0)) alone ∙ ap (option_map (machine_state_at tree limits entry)) has_id.1,
           opened,
           record {
             accepted = accepted;
             limits = in_range;
             typed = initial_typed tree limits accepted (initial_state_at tree limits entry code) opened;
             counted = initial_counted tree limits (budget_is_some limits in_range) (initial_state_at tree limits entry code) opened;
-            sound = initial_sound entry code numbered.0 (first_stands entry code is numbered.0 numbered.2);
-            stands = record { name = literal_names tree; by = first_stands entry code is numbered.0 numbered.2 };
+            sound = initial_sound entry code has_id.0 (first_refines entry code is has_id.0 has_id.2);
+            refines = record { name = literal_names tree; by = first_refines entry code is has_id.0 has_id.2 };
           },
         )
 

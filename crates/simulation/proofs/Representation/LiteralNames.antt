@@ -105,7 +105,7 @@ module _ (tree : Tree) where
   -- what is named is a literal
   pub record IsNamedLiteral (a : ℕ) (n : ObjectName) : Type 0 where
     pub number : ℕ
-    pub numbered : literal_number (record { number = a }) ≡ Some number
+    pub has_id : literal_number (record { number = a }) ≡ Some number
     pub characters : List ℕ
     pub is : slice_get (literals_of tree) number ≡ Some characters
     pub name : n ≡ Literal characters
@@ -114,12 +114,12 @@ module _ (tree : Tree) where
   named_literal a n h = by_number (literal_number (record { number = a })) refl h
     where
       by_literal : (k : ℕ) → literal_number (record { number = a }) ≡ Some k → (o : Option (List ℕ)) → slice_get (literals_of tree) k ≡ o → option_map Literal o ≡ Some n → IsNamedLiteral a n
-      by_literal k numbered None is e = none_is_some n e
-      by_literal k numbered (Some characters) is e = record { number = k; numbered = numbered; characters = characters; is = is; name = sym (same_Some (Literal characters) n e) }
+      by_literal k has_id None is e = none_is_some n e
+      by_literal k has_id (Some characters) is e = record { number = k; has_id = has_id; characters = characters; is = is; name = sym (same_Some (Literal characters) n e) }
 
       by_number : (o : Option ℕ) → literal_number (record { number = a }) ≡ o → option_map Literal (option_and_then (slice_get (literals_of tree)) o) ≡ Some n → IsNamedLiteral a n
-      by_number None numbered e = none_is_some n e
-      by_number (Some k) numbered e = by_literal k numbered (slice_get (literals_of tree) k) refl e
+      by_number None has_id e = none_is_some n e
+      by_number (Some k) has_id e = by_literal k has_id (slice_get (literals_of tree) k) refl e
 
   pub literal_named : (n : ℕ) (characters : List ℕ) → slice_get (literals_of tree) n ≡ Some characters → literal_names (literal n).number ≡ Some (Literal characters)
   literal_named n characters is = ap (λ o. option_map Literal (option_and_then (slice_get (literals_of tree)) o)) (number_is n) ∙ ap (option_map Literal) is
@@ -127,7 +127,7 @@ module _ (tree : Tree) where
   pub literals_small : IsLegal tree → (a : ℕ) (n : ObjectName) → literal_names a ≡ Some n → a < ADDRESSES
   literals_small legal a n h =
       let x : IsNamedLiteral a n = named_literal a n h in
-      let own : a ≡ FIRST_LITERAL + x.number = literal_is a x.number x.numbered in
+      let own : a ≡ FIRST_LITERAL + x.number = literal_is a x.number x.has_id in
       let within : x.number < length (literals_of tree) = slice_get_within (literals_of tree) x.number x.characters x.is in
       let few : length (literals_of tree) ≤ MOST_METHODS * MOST_INSTRUCTIONS = literals_few tree legal in
       omega (arith, own, within, few)
@@ -139,4 +139,4 @@ module _ (tree : Tree) where
       let both : Literal x.characters ≡ Literal y.characters = sym x.name ∙ y.name in
       let same : x.characters ≡ y.characters = cc in
       let index : x.number ≡ y.number = once_apart (filter_map literal_of (instructions_of_tree tree)) x.number y.number x.characters x.is (y.is ∙ ap Some (sym same)) in
-      literal_is a x.number x.numbered ∙ ap (λ z. FIRST_LITERAL + z) index ∙ sym (literal_is b y.number y.numbered)
+      literal_is a x.number x.has_id ∙ ap (λ z. FIRST_LITERAL + z) index ∙ sym (literal_is b y.number y.has_id)

@@ -16,7 +16,7 @@ use Rattle.interpreter.specs.threads_monitors.declared.threads.ThreadStatus.{Thr
 use Rattle.interpreter.specs.threads_monitors.declared.threads.ThreadStatus.TheVariants.{Live, Ended}
 use Rattle.interpreter.specs.threads_monitors.declared.threads.Thread.{Thread}
 use Rattle.simulation.specs.Agreement.{Agree}
-use Rattle.simulation.specs.Refines.{Names, Extends, IsValue, int32, int64, native, null_reference, reference, IsWord, IsOfContents, IsCell, IsObject, IsFrame, AreFrames, StandsAlike, IsThread}
+use Rattle.simulation.specs.Refines.{Names, Extends, IsValue, int32, int64, native, null_reference, reference, IsWord, IsOfContents, IsCell, IsObject, IsFrame, AreFrames, StatusRefines, IsThread}
 use Rattle.simulation.proofs.ListLaws.AgreeingLists.{agree_weaken}
 
 module _ (name names : Names) (extends : Extends name names) where
@@ -31,7 +31,7 @@ module _ (name names : Names) (extends : Extends name names) where
   values_extend = agree_weaken (IsValue name) (IsValue names) value_extends
 
   pub word_extends : (w : ℕ) (u : StateValue) → IsWord name w u → IsWord names w u
-  word_extends w u h = record { value = h.value; stands = value_extends h.value u h.stands; is = h.is }
+  word_extends w u h = record { value = h.value; refines = value_extends h.value u h.refines; is = h.is }
 
   pub words_extend : (ws : List ℕ) (us : List StateValue) → Agree (IsWord name) ws us → Agree (IsWord names) ws us
   words_extend = agree_weaken (IsWord name) (IsWord names) word_extends
@@ -74,7 +74,7 @@ module _ (name names : Names) (extends : Extends name names) where
     pub frames_extend : (limits : Limits) (m : Frames) (gs : List StateFrame) → AreFrames tree limits name m gs → AreFrames tree limits names m gs
     frames_extend limits m gs h = record { frames = frame_list_extends (m.running ∷ m.below) gs h.frames; depth = h.depth; few = h.few; room = h.room }
 
-    pub status_extends : (limits : Limits) (thread_status : ThreadStatus) (gs : List StateFrame) (e : Option End) → StandsAlike tree limits name thread_status gs e → StandsAlike tree limits names thread_status gs e
+    pub status_extends : (limits : Limits) (thread_status : ThreadStatus) (gs : List StateFrame) (e : Option End) → StatusRefines tree limits name thread_status gs e → StatusRefines tree limits names thread_status gs e
     status_extends limits (Live m) gs None h = frames_extend limits m gs h
     status_extends limits (Ended e) gs (Some e') h = h
     status_extends limits (Live m) gs (Some e') h = h

@@ -13,15 +13,15 @@ use Rattle.interpreter.specs.object_memory.declared.values.Value.{Value}
 use Rattle.simulation.specs.Agreement.{Agree}
 use Rattle.simulation.specs.Refines.{Names, IsValue, IsThread}
 use Rattle.simulation.specs.Transitions.{thread_at}
-use Rattle.simulation.proofs.Memory.InitialValues.{locals_stand}
+use Rattle.simulation.proofs.Memory.InitialValues.{locals_refine}
 
 module _ (name : Names) where
-  pub beginning_stands : (tree : Tree) (limits : Limits) → 1 ≤ limits.depth → (found : ClassName × Method) (code : Code) → code_of found.1.kind ≡ Some code → (n : ℕ) → slice_get (all_methods tree) n ≡ Some found →
+  pub beginning_refines : (tree : Tree) (limits : Limits) → 1 ≤ limits.depth → (found : ClassName × Method) (code : Code) → code_of found.1.kind ≡ Some code → (n : ℕ) → slice_get (all_methods tree) n ≡ Some found →
       (arguments : List Value) (arguments' : List StateValue) → Agree (IsValue name) arguments arguments' →
       IsThread tree limits name (thread_at limits found arguments n) (record { frames = new_frame found.0 found.1 code arguments' None ∷ []; steps_left = limits.budget; ended = None })
-  beginning_stands tree limits deep found code has_code n stands arguments arguments' h = record {
+  beginning_refines tree limits deep found code has_code n refines arguments arguments' h = record {
     thread_status = record {
-      frames = (record { method = stands; pc = refl; arguments = h; locals = locals_stand name found.1 code has_code; stack = tt; constructed = tt }, tt);
+      frames = (record { method = refines; pc = refl; arguments = h; locals = locals_refine name found.1 code has_code; stack = tt; constructed = tt }, tt);
       depth = refl;
       few = deep;
       room = refl;

@@ -25,7 +25,7 @@ use Rattle.collector.specs.phase_handshake.declared.posts.Seat.{Seat}
 use Rattle.collector.proofs.Addresses.Tests.{may_hold_live, static_may_hold_live, value_weakens}
 use Rattle.simulation.specs.MachineStates.{MachineState}
 use Rattle.simulation.specs.Sound.{AreSeated, IsSound}
-use Rattle.simulation.specs.Refines.{Names, IsThread, IsValue, StandsBy}
+use Rattle.simulation.specs.Refines.{Names, IsThread, IsValue, RefinesUnder}
 use Rattle.simulation.proofs.Representation.RenamedThreads.{agree_by_index, status_kept, value_kept}
 use Rattle.simulation.proofs.Representation.NormalNames.{IsNormal, filled, filled_from, filled_heap, filled_is_normal, is_filled}
 use Rattle.simulation.proofs.Representation.FrameReferences.{Each, FramePasses, roots_passed}
@@ -43,10 +43,10 @@ pub sound_is_held : (c : MachineState) → IsSound c → IsHeldSoundly c
 sound_is_held c sound = record { seated = sound.seated; heap = sound.heap; threads = sound.threads; statics = sound.statics }
 
 -- under normal names
-pub record StandsNormally (c : MachineState) (s : State) : Type 0 where
+pub record RefinesNormally (c : MachineState) (s : State) : Type 0 where
   pub name : Names
   pub normal : IsNormal c.posts.posted c.objects.spaces name
-  pub by : StandsBy name c s
+  pub by : RefinesUnder name c s
 
 module _ (c : MachineState) (held : IsHeldSoundly c) where
   -- a live thread has a seat
@@ -72,15 +72,15 @@ module _ (c : MachineState) (held : IsHeldSoundly c) where
       value_weakens (static_may_hold c.posts.posted c.objects.spaces c.progress number) (is_live_address c.posts.posted c.objects.spaces)
       (static_may_hold_live c.posts.posted c.objects.spaces c.progress number) v (held.statics number v there)
 
-  module _ (legal : IsLegal c.tree) (s : State) (typed : IsTyped c.tree s) (name : Names) (stands : StandsBy name c s) where
+  module _ (legal : IsLegal c.tree) (s : State) (typed : IsTyped c.tree s) (name : Names) (refines : RefinesUnder name c s) where
     abbrev names : Names
     names = filled c.posts.posted c.objects.spaces name
 
     kept : (a : ℕ) (n : ObjectName) → is_live_address c.posts.posted c.objects.spaces (record { number = a }) ≡ true → name a ≡ Some n → names a ≡ Some n
     kept = is_filled c.posts.posted c.objects.spaces name
 
-    thread_stands : (t : ℕ) (x : Thread) (u : StateThread) → slice_get c.threads t ≡ Some x → IsThread c.tree c.limits name x u → IsThread c.tree c.limits names x u
-    thread_stands t x u there h = record {
+    thread_refines : (t : ℕ) (x : Thread) (u : StateThread) → slice_get c.threads t ≡ Some x → IsThread c.tree c.limits name x u → IsThread c.tree c.limits names x u
+    thread_refines t x u there h = record {
       thread_status = status_kept (is_live_address c.posts.posted c.objects.spaces) name names kept c.tree c.limits x.thread_status u.frames u.ended pass h.thread_status;
       steps_left = h.steps_left;
     }
@@ -91,18 +91,18 @@ module _ (c : MachineState) (held : IsHeldSoundly c) where
             roots_passed (is_live_address c.posts.posted c.objects.spaces) m (thread_is_live t x.steps_left m here)
 
     -- what stands under some names stands under normal ones
-    pub normal_names : StandsNormally c s
+    pub normal_names : RefinesNormally c s
     normal_names = record {
       name = names;
-      normal = filled_is_normal c.tree c.posts.posted c.posts.has_round c.limits.max_words c.progress c.objects held.heap name s stands.memory.heap;
+      normal = filled_is_normal c.tree c.posts.posted c.posts.has_round c.limits.max_words c.progress c.objects held.heap name s refines.memory.heap;
       by = record {
         memory = record {
-          heap = filled_heap c.tree c.posts.posted c.posts.has_round c.limits.max_words c.progress c.objects held.heap name s stands.memory.heap legal typed;
+          heap = filled_heap c.tree c.posts.posted c.posts.has_round c.limits.max_words c.progress c.objects held.heap name s refines.memory.heap legal typed;
           static_values = agree_by_index (λ v (f : FieldKey × StateValue). IsValue name v f.1) (λ v (f : FieldKey × StateValue). IsValue names v f.1) c.statics s.statics
-              (λ n v f there. value_kept (is_live_address c.posts.posted c.objects.spaces) name names kept v f.1 (static_is_live n v there)) stands.memory.static_values;
-          printed_is = stands.memory.printed_is;
+              (λ n v f there. value_kept (is_live_address c.posts.posted c.objects.spaces) name names kept v f.1 (static_is_live n v there)) refines.memory.static_values;
+          printed_is = refines.memory.printed_is;
         };
-        threads = agree_by_index (IsThread c.tree c.limits name) (IsThread c.tree c.limits names) c.threads s.threads thread_stands stands.threads;
+        threads = agree_by_index (IsThread c.tree c.limits name) (IsThread c.tree c.limits names) c.threads s.threads thread_refines refines.threads;
       };
     }
 

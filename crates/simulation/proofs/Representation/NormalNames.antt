@@ -273,7 +273,7 @@ module _ (tree : Tree) (posted : Phase) (has_round : Bool) (words : ℕ) (p : Pr
 
       -- a word that refers to what is live stands as it is,
       word_named : (word : ℕ) (u : StateValue) → is_live posted m (reference_in word) ≡ true → IsWord name word u → IsWord names word u
-      word_named word u live h = record { value = h.value; stands = by_value h.value u h.stands (subst (λ w. is_live posted m (reference_in w) ≡ true) (sym h.is) live); is = h.is }
+      word_named word u live h = record { value = h.value; refines = by_value h.value u h.refines (subst (λ w. is_live posted m (reference_in w) ≡ true) (sym h.is) live); is = h.is }
         where
           by_value : (v : Value) (x : StateValue) → IsValue name v x → is_live posted m (reference_in (value_word v)) ≡ true → IsValue names v x
           by_value v x (int32 z fits) l = int32 z fits
@@ -284,16 +284,16 @@ module _ (tree : Tree) (posted : Phase) (has_round : Bool) (words : ℕ) (p : Pr
 
       -- and so does its forward
       word_forwarded : has_words posted ≡ true → (word : ℕ) (u : StateValue) → is_reference_kind (kind_of_state u) ≡ true → is_live posted m (reference_in word) ≡ true → IsWord name word u → IsWord names (forward_word m word) u
-      word_forwarded late word u kind live h = subst (λ w. IsWord names (forward_word m w) u) h.is (by_value h.value u h.stands kind (subst (λ w. is_live posted m (reference_in w) ≡ true) (sym h.is) live))
+      word_forwarded late word u kind live h = subst (λ w. IsWord names (forward_word m w) u) h.is (by_value h.value u h.refines kind (subst (λ w. is_live posted m (reference_in w) ≡ true) (sym h.is) live))
         where
           by_value : (v : Value) (x : StateValue) → IsValue name v x → is_reference_kind (kind_of_state x) ≡ true → is_live posted m (reference_in (value_word v)) ≡ true → IsWord names (forward_word m (value_word v)) x
           by_value v x (int32 z fits) wrong l = never wrong
           by_value v x (int64 z fits) wrong l = never wrong
           by_value v x (native z fits) wrong l = never wrong
-          by_value v x null_reference k l = record { value = Ref null; stands = null_reference; is = ap (λ (y : Addr). y.number) (sym (ap (forward m) (reference_again null (omega arith)) ∙ forward_null m sound.blocks.spaces)) }
+          by_value v x null_reference k l = record { value = Ref null; refines = null_reference; is = ap (λ (y : Addr). y.number) (sym (ap (forward m) (reference_again null (omega arith)) ∙ forward_null m sound.blocks.spaces)) }
           by_value v x (reference a n is) k l = record {
             value = Ref (forward m a);
-            stands = reference (forward m a) n (forward_named a n is late (subst (λ x. is_live posted m x ≡ true) (again a n is) l));
+            refines = reference (forward m a) n (forward_named a n is late (subst (λ x. is_live posted m x ≡ true) (again a n is) l));
             is = ap (λ (y : Addr). (forward m y).number) (sym (again a n is));
           }
 
@@ -310,9 +310,9 @@ module _ (tree : Tree) (posted : Phase) (has_round : Bool) (words : ℕ) (p : Pr
               lies = b.lies;
               object = b.object;
               is = b.is;
-              stands = record {
-                contents = contents_shown tree legal s name names b.cell.kind b.cell.slots b.cell.slots (alike b.cell b.lies) b.object.contents b.object.thread (typed.objects n b.object b.is) b.stands.contents;
-                monitor = b.stands.monitor;
+              refines = record {
+                contents = contents_shown tree legal s name names b.cell.kind b.cell.slots b.cell.slots (alike b.cell b.lies) b.object.contents b.object.thread (typed.objects n b.object b.is) b.refines.contents;
+                monitor = b.refines.monitor;
               };
             }
           where
@@ -331,9 +331,9 @@ module _ (tree : Tree) (posted : Phase) (has_round : Bool) (words : ℕ) (p : Pr
           lies = lies;
           object = h.object;
           is = h.is;
-          stands = record {
-            contents = subst (λ k. IsOfContents tree names k are.to.slots h.object.contents h.object.thread) (sym are.same.kind) (contents_shown tree legal s name names are.from.kind are.from.slots are.to.slots alike h.object.contents h.object.thread (typed.objects n h.object h.is) stands.contents);
-            monitor = subst (λ x. IsMonitor x h.object.monitor) (sym are.same.monitor) stands.monitor;
+          refines = record {
+            contents = subst (λ k. IsOfContents tree names k are.to.slots h.object.contents h.object.thread) (sym are.same.kind) (contents_shown tree legal s name names are.from.kind are.from.slots are.to.slots alike h.object.contents h.object.thread (typed.objects n h.object h.is) refines.contents);
+            monitor = subst (λ x. IsMonitor x h.object.monitor) (sym are.same.monitor) refines.monitor;
           };
         }
           where
@@ -346,8 +346,8 @@ module _ (tree : Tree) (posted : Phase) (has_round : Bool) (words : ℕ) (p : Pr
             h : IsBornAt tree name o s b.number n
             h = heap.born b.number n named
 
-            stands : IsCell tree name are.from h.object
-            stands = subst (λ x. IsCell tree name x h.object) (same_Some h.cell are.from (sym h.lies ∙ here)) h.stands
+            refines : IsCell tree name are.from h.object
+            refines = subst (λ x. IsCell tree name x h.object) (same_Some h.cell are.from (sym h.lies ∙ here)) h.refines
 
             word_there : (slot word : ℕ) (held : Bool) → holds_reference tree are.from.kind slot ≡ held → slice_get are.from.slots slot ≡ Some word → slice_get are.to.slots slot ≡ Some (if held then forward_word m word else word)
             word_there slot word held is there = are.same.slots slot word there ∙ ap (λ x. Some (if x then forward_word m word else word)) is
@@ -385,7 +385,7 @@ module _ (tree : Tree) (posted : Phase) (has_round : Bool) (words : ℕ) (p : Pr
                 let to = other_cell (cell_in m.new (record { number = a })) b there in
                 let from = sound.copies.back b (record { number = a }) to.0 to.1 to.2 in
                 let none = no_literal m sound.blocks.spaces b from.0 (old_is_cell m b from.0 from.1) in
-                none_is_some _ (sym none ∙ (heap.literals b.number characters named).numbered)
+                none_is_some _ (sym none ∙ (heap.literals b.number characters named).has_id)
 
         literal_named : (n : ℕ) (characters : List ℕ) → slice_get (literals_of tree) n ≡ Some characters → names (literal n).number ≡ Some (Literal characters)
         literal_named n characters is = is_filled posted m name (literal n).number (Literal characters) live named
@@ -395,8 +395,8 @@ module _ (tree : Tree) (posted : Phase) (has_round : Bool) (words : ℕ) (p : Pr
 
             live : is_live posted m (literal n) ≡ true
             live =
-                let numbered = (heap.literals (literal n).number characters named).numbered in
-                ap (λ x. (((literal n).number == 0) || x) || is_live_object posted m (literal n)) (ap is_some numbered) ∙ either ((literal n).number == 0) (is_live_object posted m (literal n))
+                let has_id = (heap.literals (literal n).number characters named).has_id in
+                ap (λ x. (((literal n).number == 0) || x) || is_live_object posted m (literal n)) (ap is_some has_id) ∙ either ((literal n).number == 0) (is_live_object posted m (literal n))
               where
                 either : (x y : Bool) → ((x || true) || y) ≡ true
                 either true y = refl

@@ -72,7 +72,7 @@ module _ (tree : Tree) (legal : IsLegal tree) (s : State) (name names : Names) w
     where
       by_kind : (b : Bool) → holds_reference tree kind slot ≡ b → (w : ℕ) × (slice_get shown slot ≡ Some w) × IsWord names w u
       by_kind true held = alike.references slot word u held there (sym says ∙ held) h
-      by_kind false held = (word, alike.integers slot word held there, record { value = h.value; stands = integer_value name names h.value u (sym says ∙ held) h.stands; is = h.is })
+      by_kind false held = (word, alike.integers slot word held there, record { value = h.value; refines = integer_value name names h.value u (sym says ∙ held) h.refines; is = h.is })
 
   -- ---- arrays
 

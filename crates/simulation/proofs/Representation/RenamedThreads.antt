@@ -13,7 +13,7 @@ use Rattle.interpreter.specs.threads_monitors.declared.threads.ThreadStatus.{Thr
 use Rattle.interpreter.specs.threads_monitors.declared.threads.ThreadStatus.TheVariants.{Live, Ended}
 use Rattle.collector.specs.References.{Test, ValuePasses}
 use Rattle.simulation.specs.Agreement.{Agree}
-use Rattle.simulation.specs.Refines.{Names, IsValue, int32, int64, native, null_reference, reference, IsObject, IsFrame, StandsAlike}
+use Rattle.simulation.specs.Refines.{Names, IsValue, int32, int64, native, null_reference, reference, IsObject, IsFrame, StatusRefines}
 use Rattle.simulation.proofs.Representation.FrameReferences.{Each, FramePasses, Passes}
 
 -- in another relation, where it follows from the items at each index
@@ -61,7 +61,7 @@ module _ (test : Test) (name names : Names) (kept : (a : ℕ) (n : ObjectName) �
 
     -- a live thread whose frames pass
     pub status_kept : (limits : Limits) (thread_status : ThreadStatus) (gs : List StateFrame) (e : Option End) → ((m : Frames) → thread_status ≡ Live m → Each (FramePasses test) (m.running ∷ m.below)) →
-        StandsAlike tree limits name thread_status gs e → StandsAlike tree limits names thread_status gs e
+        StatusRefines tree limits name thread_status gs e → StatusRefines tree limits names thread_status gs e
     status_kept limits (Live m) gs None pass h = record {
       frames = agree_each (FramePasses test) (IsFrame tree name) (IsFrame tree names) frame_kept (m.running ∷ m.below) gs (pass m refl) h.frames;
       depth = h.depth;

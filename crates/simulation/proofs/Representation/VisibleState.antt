@@ -23,15 +23,15 @@ use Rattle.interpreter.specs.threads_monitors.declared.threads.Thread.{Thread}
 use Rattle.simulation.specs.Agreement.{Agree}
 use Rattle.simulation.specs.Budgets.{AreWithinBudget, HasEnded, KeepsBudgets, steps_left_of}
 use Rattle.simulation.specs.MachineStates.{MachineState}
-use Rattle.simulation.specs.Runs.{FollowsReference, RunsAlike, StandsAfter}
+use Rattle.simulation.specs.Runs.{FollowsReference, RunsAlike, RefinesAfter}
 use Rattle.simulation.specs.Transitions.{initial_machine_state}
-use Rattle.simulation.specs.Refines.{IsThread, Names, Represents, StandsAlike}
+use Rattle.simulation.specs.Refines.{IsThread, Names, Represents, StatusRefines}
 use Rattle.simulation.proofs.ListLaws.AgreeingLists.{agree_at}
 use Rattle.interpreter.proofs.cil_model.Lists.{none_is_some}
 
 -- ---- the states of threads, and what was printed
 
-same_end : (tree : Tree) (limits : Limits) (name : Names) (thread_status : ThreadStatus) (frames : List StateFrame) (ended : Option End) → StandsAlike tree limits name thread_status frames ended → end_in thread_status ≡ ended
+same_end : (tree : Tree) (limits : Limits) (name : Names) (thread_status : ThreadStatus) (frames : List StateFrame) (ended : Option End) → StatusRefines tree limits name thread_status frames ended → end_in thread_status ≡ ended
 same_end tree limits name (Live m) frames None h = refl
 same_end tree limits name (Ended e) frames (Some e') h = ap Some h
 same_end tree limits name (Live m) frames (Some e) h = absurd h
@@ -75,20 +75,20 @@ count_from n (x ∷ ts) [] e = none_first (end_of x) (map end_of ts) (sym e)
 
 module _ (c : MachineState) (s : State) (r : Represents c s) where
   -- the threads stand alike
-  pub ends_stand : map end_of c.threads ≡ map (λ (u : StateThread). u.ended) s.threads
-  ends_stand = ends_agree c.tree c.limits r.stands.name c.threads s.threads r.stands.by.threads
+  pub ends_refine : map end_of c.threads ≡ map (λ (u : StateThread). u.ended) s.threads
+  ends_refine = ends_agree c.tree c.limits r.refines.name c.threads s.threads r.refines.by.threads
 
-  pub printed_stands : c.printed ≡ s.printed
-  printed_stands = r.stands.by.memory.printed_is
+  pub printed_refines : c.printed ≡ s.printed
+  printed_refines = r.refines.by.memory.printed_is
 
-  pub live_stand : (t : ℕ) → is_live_at c.threads t ≡ is_live_in s t
-  live_stand t = live_by_ends c.threads s.threads ends_stand t
+  pub live_refine : (t : ℕ) → is_live_at c.threads t ≡ is_live_in s t
+  live_refine t = live_by_ends c.threads s.threads ends_refine t
 
-  pub count_stands : count_by is_live c.threads ≡ count_by is_live_thread s.threads
-  count_stands = count_from 0 c.threads s.threads ends_stand
+  pub count_refines : count_by is_live c.threads ≡ count_by is_live_thread s.threads
+  count_refines = count_from 0 c.threads s.threads ends_refine
 
-  pub started_stand : length c.threads ≡ length s.threads
-  started_stand = sym (length-map c.threads end_of) ∙ ap length ends_stand ∙ length-map s.threads (λ (u : StateThread). u.ended)
+  pub started_refine : length c.threads ≡ length s.threads
+  started_refine = sym (length-map c.threads end_of) ∙ ap length ends_refine ∙ length-map s.threads (λ (u : StateThread). u.ended)
 
 -- ---- budgets
 
@@ -112,7 +112,7 @@ module _ (tree : Tree) (limits : Limits) (c : MachineState) (s : State) (opens :
       by_thread : (o : Option Thread) → slice_get c.threads t ≡ o → option_map_or (λ (x : Thread). x.steps_left) o c.limits.budget ≡ limits.budget
       by_thread None is = ap (λ (l : Limits). l.budget) same
       by_thread (Some thread) is =
-          let at = agree_at (IsThread c.tree c.limits r.stands.name) c.threads s.threads r.stands.by.threads t thread is in
+          let at = agree_at (IsThread c.tree c.limits r.refines.name) c.threads s.threads r.refines.by.threads t thread is in
           at.2.steps_left ∙ opened_budget tree limits s opens t at.0 at.1
 
 module _ (limits : Limits) (c d : MachineState) (s : State) (events : List (Event × Report)) (r : Represents d s) (same : d.limits ≡ limits) (some : 0 < limits.budget)
@@ -132,16 +132,16 @@ module _ (limits : Limits) (c d : MachineState) (s : State) (events : List (Even
           let budget : steps_left_of d t ≡ limits.budget = ap (λ (o : Option Thread). option_map_or (λ (x : Thread). x.steps_left) o d.limits.budget) is ∙ ap (λ (l : Limits). l.budget) same in
           absurd (omega (arith, budget, none, some))
       by_thread (Some thread) is =
-          let at = agree_at (IsThread d.tree d.limits r.stands.name) d.threads s.threads r.stands.by.threads t thread is in
-          (at.0, at.1, ended_at thread is at.0 at.1 (same_end d.tree d.limits r.stands.name thread.thread_status at.0.frames at.0.ended at.2.thread_status))
+          let at = agree_at (IsThread d.tree d.limits r.refines.name) d.threads s.threads r.refines.by.threads t thread is in
+          (at.0, at.1, ended_at thread is at.0 at.1 (same_end d.tree d.limits r.refines.name thread.thread_status at.0.frames at.0.ended at.2.thread_status))
 
   within_budget : AreWithinBudget limits events s
   within_budget = record { within = λ t. omega (arith, kept.counted t, whole t); ended = λ t all. spent t (omega (arith, kept.counted t, whole t, all)) }
 
 -- a machine that represented the initial state, after a run
-pub stands_after : (tree : Tree) (limits : Limits) (c d : MachineState) (events : List Event) (reports : List Report) (first : State) → initial_state tree limits ≡ Some first → initial_machine_state tree limits ≡ Some c → Represents c first → c.tree ≡ tree → c.limits ≡ limits → d.limits ≡ c.limits → 0 < limits.budget
-    → length reports ≡ length events → FollowsReference c d (zip events reports) → StandsAfter tree limits events reports d
-stands_after tree limits c d events reports first opens opened r same_tree same_limits kept_limits some each follows =
+pub occurs_after : (tree : Tree) (limits : Limits) (c d : MachineState) (events : List Event) (reports : List Report) (first : State) → initial_state tree limits ≡ Some first → initial_machine_state tree limits ≡ Some c → Represents c first → c.tree ≡ tree → c.limits ≡ limits → d.limits ≡ c.limits → 0 < limits.budget
+    → length reports ≡ length events → FollowsReference c d (zip events reports) → RefinesAfter tree limits events reports d
+occurs_after tree limits c d events reports first opens opened r same_tree same_limits kept_limits some each follows =
     let alike : RunsAlike c d (zip events reports) first = follows first r in
     record {
       state = alike.state;

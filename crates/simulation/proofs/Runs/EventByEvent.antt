@@ -87,14 +87,14 @@ module _ (tree : Tree) (limits : Limits) (all : List (Event × Report)) (now : S
   -- what holds from event to event holds where the run ends
   module _ (Holds : List (Event × Report) → MachineState → State → Type 0)
       (goes : (done rest : List (Event × Report)) (e : Event) (r : Report) (c next : MachineState) (s after : State) → all ≡ done ++ (e, r) ∷ rest → Holds done c s → IsTransition c e (next, r) → IsNext c.tree c.limits s e r after → Holds (done ++ (e, r) ∷ []) next after) where
-    pub record Comes (xs ys done : List (Event × Report)) (s : State) : Type 0 where
+    pub record OwnEffect (xs ys done : List (Event × Report)) (s : State) : Type 0 where
       pub machine_state : MachineState
       pub state : State
       pub there : IsAt (done ++ xs) ys machine_state state
       pub holds : Holds (done ++ xs) machine_state state
       pub ran : run tree limits s (thread_part xs) ≡ RunsTo (step_reports xs) state
 
-    pub walk : (xs ys done : List (Event × Report)) (c : MachineState) (s : State) → IsAt done (xs ++ ys) c s → Holds done c s → Comes xs ys done s
+    pub walk : (xs ys done : List (Event × Report)) (c : MachineState) (s : State) → IsAt done (xs ++ ys) c s → Holds done c s → OwnEffect xs ys done s
     walk [] ys done c s at h = record {
       machine_state = c;
       state = s;

@@ -42,7 +42,7 @@ use Rattle.simulation.proofs.Instructions.NewObjects.{new_object_alike}
 use Rattle.simulation.specs.Ready.{IsReady, IsAnswerable}
 use Rattle.simulation.proofs.Representation.InitialContents.{initial_represents}
 use Rattle.simulation.proofs.Threads.Steps.{thread_ready, answerable, step_follows}
-use Rattle.simulation.specs.Rooms.{ExceedsRoom}
+use Rattle.simulation.specs.Rooms.{HasNoRoom}
 use Rattle.simulation.proofs.Threads.RefusedSteps.{refused_beyond_room}
 
 module _ (here : Setting) (model : MemoryModel here.tree) (name : Names) (m : Frames) (o : Objects) (statics : List Value) (printed : List ℕ) (s : State) (f : StateFrame) (below : List StateFrame) where
@@ -109,7 +109,7 @@ pub step_is_followed : (c : MachineState) (s : State) → Represents c s → (t 
 step_is_followed c s r t after transition = let follows = step_follows each_alike c s r t after transition in (follows.0, follows.1, follows.2)
 
 -- it is refused memory exactly where its object exceeds the room for births of its thread
-pub step_is_refused : (c : MachineState) (s : State) → Represents c s → (t : ℕ) (after : MachineState × Report) → IsTransition c (Step t) after → IsTrue (is_refusal after.1) ↔ ExceedsRoom c s t
+pub step_is_refused : (c : MachineState) (s : State) → Represents c s → (t : ℕ) (after : MachineState × Report) → IsTransition c (Step t) after → IsTrue (is_refusal after.1) ↔ HasNoRoom c s t
 step_is_refused c s r t after transition = refused_beyond_room each_alike c s r t after transition
 
 -- what is no step keeps the state

@@ -20,7 +20,7 @@ use Rattle.interpreter.specs.cil_model.Bodies.{code_of, entry_points}
 use Rattle.interpreter.specs.cil_model.Ranges.{are_in_range}
 use Rattle.interpreter.specs.cil_model.Typings.{IsAccepted}
 use Rattle.interpreter.specs.reference_machine.Cycles.{room}
-use Rattle.interpreter.specs.reference_machine.Rooms.{ExceedsRoom as ExceedsOneSpace, RefusesBeyondRoom as RefusesBeyondOneSpace, cell_words, spaces, words_of_all}
+use Rattle.interpreter.specs.reference_machine.Rooms.{ExceedsRoom, RefusesBeyondRoom as RefusesBeyondOneSpace, cell_words, spaces, words_of_all}
 use Rattle.interpreter.specs.reference_machine.Runs.{IsStateAfter, is_refusal, initial_state, initial_state_at, thread_part}
 use Rattle.interpreter.specs.reference_machine.States.{State}
 use Rattle.interpreter.specs.reference_machine.Steps.{Answers, step}
@@ -32,7 +32,7 @@ use Rattle.collector.specs.phase_handshake.declared.posts.Seat.{Seat}
 use Rattle.interpreter.specs.loaded_program.MethodNumbers.{number_of}
 use Rattle.interpreter.specs.Instructions.{Answer}
 use Rattle.simulation.specs.MachineStates.{MachineState}
-use Rattle.simulation.specs.Rooms.{ExceedsRoom, spaces_of}
+use Rattle.simulation.specs.Rooms.{HasNoRoom, spaces_of}
 use Rattle.simulation.specs.Runs.{AreSteps, IsRunOf, RefusesBeyondRoom}
 use Rattle.simulation.specs.Refines.{Represents}
 use Rattle.simulation.specs.Transitions.{IsTransition, machine_state_at, left_by, initial_machine_state, seats_after}
@@ -113,7 +113,7 @@ module _ (each : InstructionsAreAlike) where
         room_seen c h.represents.sound t ∙ ap (λ (p : Phase). room_for p c.objects.spaces) (own_between c.posts h.between t)
         ∙ sym (what_is_left (room_for Idle c.objects.spaces) (words_of_all c.tree s.objects) c.limits.words h.whole)
 
-    beyond_one : ExceedsRoom c s t → ExceedsOneSpace c.tree c.limits s t
+    beyond_one : HasNoRoom c s t → ExceedsRoom c.tree c.limits s t
     beyond_one x = record {
       report = x.report;
       after = x.after;
@@ -123,7 +123,7 @@ module _ (each : InstructionsAreAlike) where
       exceeds = subst (λ n. IsTrue (if nat_le (cell_words c.tree x.object.contents) n then false else true)) same_room x.exceeds;
     }
 
-    pub beyond_own : ExceedsOneSpace c.tree c.limits s t → ExceedsRoom c s t
+    pub beyond_own : ExceedsRoom c.tree c.limits s t → HasNoRoom c s t
     beyond_own x = record {
       report = x.report;
       after = x.after;

@@ -28,8 +28,8 @@ module _ (tree : Tree) (one : (lines : List Line) (i : Instruction) (o p : Opera
   at_once m o p h k =
       let methods : h.found ≡ k.found = same_Some h.found k.found (sym h.found_is ∙ k.found_is) in
       let lines : h.line ≡ k.line = same_Some h.line k.line (sym h.line_is ∙ (ap (λ (f : ClassName × Method). slice_get (lines_of f.1) m.running.pc) methods ∙ k.line_is)) in
-      one (lines_of h.found.1) h.line.instruction o p h.stands
-      (subst (λ (l : Line). IsOperation tree (lines_of h.found.1) l.instruction p) (sym lines) (subst (λ (f : ClassName × Method). IsOperation tree (lines_of f.1) k.line.instruction p) (sym methods) k.stands))
+      one (lines_of h.found.1) h.line.instruction o p h.refines
+      (subst (λ (l : Line). IsOperation tree (lines_of h.found.1) l.instruction p) (sym lines) (subst (λ (f : ClassName × Method). IsOperation tree (lines_of f.1) k.line.instruction p) (sym methods) k.refines))
 
   pub done_once : (mutator : Mutator) (m : Frames) (o : Objects) (statics : List Value) (printed : List ℕ) (a b : Answer) → IsDone tree mutator m o statics printed a → IsDone tree mutator m o statics printed b → a ≡ b
   done_once mutator m o statics printed a b h k =

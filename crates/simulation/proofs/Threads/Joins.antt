@@ -16,10 +16,10 @@ use Rattle.interpreter.specs.threads_monitors.declared.effects.Effect.TheVariant
 use Rattle.interpreter.specs.threads_monitors.declared.threads.ThreadStatus.{ThreadStatus}
 use Rattle.interpreter.specs.threads_monitors.declared.threads.ThreadStatus.TheVariants.{Live, Ended}
 use Rattle.interpreter.specs.threads_monitors.declared.threads.Thread.{Thread}
-use Rattle.interpreter.specs.declared.outcomes.Outcome.TheVariants.{Comes, Joins}
+use Rattle.interpreter.specs.declared.outcomes.InstructionOutcome.TheVariants.{OwnEffect, Joins}
 use Rattle.interpreter.specs.Instructions.{HasSmallConstant, IsAt, answer_of}
 use Rattle.simulation.specs.MachineStates.{MachineState}
-use Rattle.simulation.specs.Refines.{IsThread, StandsAlike, Represents}
+use Rattle.simulation.specs.Refines.{IsThread, StatusRefines, Represents}
 use Rattle.simulation.specs.Transitions.{after_request, count_step}
 use Rattle.simulation.proofs.ListLaws.AgreeingLists.{agree_get, agree_beyond}
 use Rattle.simulation.proofs.Instructions.FrameProgress.{next_alike}
@@ -32,7 +32,7 @@ use Rattle.simulation.proofs.Threads.LiveThreads.{own_model, own_names}
 -- ---- which threads live
 
 module _ (c : MachineState) (s : State) (r : Represents c s) where
-  status_lives : (thread_status : ThreadStatus) (fs : List StateFrame) (e : Option End) → StandsAlike c.tree c.limits r.stands.name thread_status fs e → is_none (end_in thread_status) ≡ is_none e
+  status_lives : (thread_status : ThreadStatus) (fs : List StateFrame) (e : Option End) → StatusRefines c.tree c.limits r.refines.name thread_status fs e → is_none (end_in thread_status) ≡ is_none e
   status_lives (Live m) fs None h = refl
   status_lives (Ended e) fs (Some e') h = refl
   status_lives (Live m) fs (Some e') h = elim h [ ]
@@ -43,9 +43,9 @@ module _ (c : MachineState) (s : State) (r : Represents c s) where
   lives_alike k = by_thread (slice_get s.threads k) refl
     where
       by_thread : (u : Option StateThread) → slice_get s.threads k ≡ u → is_live_at c.threads k ≡ unwrap_or (option_map is_live_thread u) false
-      by_thread None is = ap (λ x. option_map_or is_live_machine x false) (agree_beyond (IsThread c.tree c.limits r.stands.name) c.threads s.threads r.stands.by.threads k is)
+      by_thread None is = ap (λ x. option_map_or is_live_machine x false) (agree_beyond (IsThread c.tree c.limits r.refines.name) c.threads s.threads r.refines.by.threads k is)
       by_thread (Some u) is =
-          let found : (x : Thread) × (slice_get c.threads k ≡ Some x) × IsThread c.tree c.limits r.stands.name x u = agree_get (IsThread c.tree c.limits r.stands.name) c.threads s.threads r.stands.by.threads k u is in
+          let found : (x : Thread) × (slice_get c.threads k ≡ Some x) × IsThread c.tree c.limits r.refines.name x u = agree_get (IsThread c.tree c.limits r.refines.name) c.threads s.threads r.refines.by.threads k u is in
           ap (λ x. option_map_or is_live_machine x false) found.1 ∙ status_lives found.0.thread_status u.frames u.ended found.2.thread_status
 
 -- ---- Join
@@ -57,14 +57,14 @@ module _ (c : MachineState) (s : State) (r : Represents c s) (t left : ℕ) (m :
   IsJoined j =
       (false ≡ is_refused_effect j) ×
       ComesAlike (here c s r t left m there) (own_model c s r t left m there) (own_names c s r t left m there) m c.objects c.statics c.printed s (running c s r t left m there) (below c s r t left m there)
-      (Comes j) (answer_of (after_request j m) c.objects c.statics c.printed (Comes j)) (done c s r t left m there false)
+      (OwnEffect j) (answer_of (after_request j m) c.objects c.statics c.printed (OwnEffect j)) (done c s r t left m there false)
 
   module _ (operand : StateValue) (rest : List StateValue) (stack : (running c s r t left m there).stack ≡ operand ∷ rest) where
     joined_by : (live : Bool) → done c s r t left m there false ≡ (if live then StateBlocks else onward (running c s r t left m there) (below c s r t left m there) s rest) → IsJoined (if live then Blocks else Continues)
     joined_by true e = (refl, (e, refl, (refl, refl, refl)))
     joined_by false e = (
       refl,
-      subst (λ x. GoesAlike (here c s r t left m there) (own_model c s r t left m there) (own_names c s r t left m there) m c.objects c.statics c.printed s (running c s r t left m there) (below c s r t left m there) (answer_of (after_request Continues m) c.objects c.statics c.printed (Comes Continues)) x) (sym e)
+      subst (λ x. GoesAlike (here c s r t left m there) (own_model c s r t left m there) (own_names c s r t left m there) m c.objects c.statics c.printed s (running c s r t left m there) (below c s r t left m there) (answer_of (after_request Continues m) c.objects c.statics c.printed (OwnEffect Continues)) x) (sym e)
           (next_alike (here c s r t left m there) (own_model c s r t left m there) (own_names c s r t left m there) m c.objects c.statics c.printed s (running c s r t left m there) (below c s r t left m there) (instruction c s r t left m there) operation
           (setting c s r t left m there operation at constant) (drop 1 m.running.stack) rest (rest_agrees c s r t left m there operand rest stack)),
     )
@@ -92,4 +92,4 @@ module _ (c : MachineState) (s : State) (r : Represents c s) (t left : ℕ) (m :
       (asked_of c s r t left m there Join (λ rest n. join (here c s r t left m there) s (running c s r t left m there) (below c s r t left m there) rest) (λ v rest. refl) object (answer_of m c.objects c.statics c.printed (Joins object)) asks) in
       subst (λ ts. Follows c s r t (count_step (record c { threads = ts }) t left (join_effect ts c.objects object) (after_request (join_effect ts c.objects object) m))) (sym same)
       (comes c s r t left m there c.threads (λ x. refl) false (join_effect c.threads c.objects object) joined.0
-      (answer_of (after_request (join_effect c.threads c.objects object) m) c.objects c.statics c.printed (Comes (join_effect c.threads c.objects object))) joined.1)
+      (answer_of (after_request (join_effect c.threads c.objects object) m) c.objects c.statics c.printed (OwnEffect (join_effect c.threads c.objects object))) joined.1)

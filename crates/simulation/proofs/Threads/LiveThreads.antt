@@ -23,22 +23,22 @@ use Rattle.simulation.proofs.Representation.MoreNames.{frames_extend}
 use Rattle.simulation.proofs.OwedWords.CycleNames.{AreCopiesOfMarked, is_kept}
 use Rattle.simulation.proofs.Memory.MemoryModels.{IsModelled, IsReadable, MemoryModel}
 use Rattle.simulation.proofs.OwedWords.ThreadNames.{IsKnown, named}
-use Rattle.simulation.proofs.Representation.NormalContents.{StandsNormally, has_seat, normal_from, normal_keeps, normal_names, sound_is_held}
+use Rattle.simulation.proofs.Representation.NormalContents.{RefinesNormally, has_seat, normal_from, normal_keeps, normal_names, sound_is_held}
 use Rattle.simulation.proofs.CollectedHeap.MemoryWithRoom.{KeepsRoom, in_room, keeps_itself}
 
 module _ (c : MachineState) (s : State) (r : Represents c s) where
   -- the machine represents the state under normal names
-  pub normally : StandsNormally c s
-  normally = normal_names c (sound_is_held c r.sound) r.accepted.legal s r.typed r.stands.name r.stands.by
+  pub normally : RefinesNormally c s
+  normally = normal_names c (sound_is_held c r.sound) r.accepted.legal s r.typed r.refines.name r.refines.by
 
   -- each of these was there, and what is live keeps its name
-  pub normally_from : (a : ℕ) (n : ObjectName) → normally.name a ≡ Some n → (b : ℕ) × (r.stands.name b ≡ Some n)
+  pub normally_from : (a : ℕ) (n : ObjectName) → normally.name a ≡ Some n → (b : ℕ) × (r.refines.name b ≡ Some n)
   unfolding normally
-  normally_from = normal_from c (sound_is_held c r.sound) r.accepted.legal s r.typed r.stands.name r.stands.by
+  normally_from = normal_from c (sound_is_held c r.sound) r.accepted.legal s r.typed r.refines.name r.refines.by
 
-  pub normally_keeps : (a : ℕ) (n : ObjectName) → is_live c.posts.posted c.objects.spaces (record { number = a }) ≡ true → r.stands.name a ≡ Some n → normally.name a ≡ Some n
+  pub normally_keeps : (a : ℕ) (n : ObjectName) → is_live c.posts.posted c.objects.spaces (record { number = a }) ≡ true → r.refines.name a ≡ Some n → normally.name a ≡ Some n
   unfolding normally
-  normally_keeps = normal_keeps c (sound_is_held c r.sound) r.accepted.legal s r.typed r.stands.name r.stands.by
+  normally_keeps = normal_keeps c (sound_is_held c r.sound) r.accepted.legal s r.typed r.refines.name r.refines.by
 
   -- Names of objects that a step leaves: all that was named keeps its name, and what a cycle keeps then it kept before, or it has a name that was there or
   -- that of an object born in the step.

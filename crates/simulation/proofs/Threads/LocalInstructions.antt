@@ -13,7 +13,7 @@ use Rattle.interpreter.specs.threads_monitors.declared.effects.Effect.TheVariant
 use Rattle.interpreter.specs.threads_monitors.declared.threads.Thread.{Thread}
 use Rattle.interpreter.specs.Instructions.{Answer, answer_of}
 use Rattle.interpreter.specs.Local.{AreLocalSteps, IsLocalStep, IsReadySomewhere, frames_over}
-use Rattle.interpreter.specs.declared.outcomes.Outcome.TheVariants.{Comes}
+use Rattle.interpreter.specs.declared.outcomes.InstructionOutcome.TheVariants.{OwnEffect}
 use Rattle.simulation.specs.Lending.{RunsFrame, with_live}
 use Rattle.simulation.specs.MachineStates.{MachineState, frame_room, mutator_of}
 use Rattle.simulation.specs.Runs.{AreTransitions}
@@ -52,8 +52,8 @@ module _ (c : MachineState) (t left : ℕ) (f : Frame) (at : RunsFrame c t left 
   pub local_transition : (g : Frame) → 1 < left → IsLocalStep c.tree frame_room f g → IsTransition c (Step t) (after 1 g, Ran)
   local_transition g more step =
       let m = frames_over g at.below at.depth frame_room in
-      let a : Answer = answer_of m c.objects c.statics c.printed (Comes Continues) in
-      let ends : finish_step c t left a (Comes Continues) ≡ Some (after 1 g, Ran) =
+      let a : Answer = answer_of m c.objects c.statics c.printed (OwnEffect Continues) in
+      let ends : finish_step c t left a (OwnEffect Continues) ≡ Some (after 1 g, Ran) =
       ap (λ (x : Thread × Report). Some (record (left_by c t left a) { threads = slice_set (slice_set c.threads t (live_thread left m)) t x.0; posts = seats_after c.posts t x.1 }, x.1)) (step_charged_goes left m more)
       ∙ ap (λ (threads : List Thread). Some (record c { threads = threads }, Ran)) (set_twice c.threads t (live_thread left m) (live_thread (left - 1) m)) in
       subst (λ o. IsThreadTransition c t o (after 1 g, Ran)) (sym at.there) (a, step.done at.below at.depth (mutator_of c t) c.objects c.statics c.printed, ends)

@@ -20,7 +20,7 @@ use Rattle.interpreter.specs.threads_monitors.declared.threads.ThreadStatus.TheV
 use Rattle.interpreter.specs.Instructions.{HasSmallConstant, IsAt, line_at, operation_transition}
 use Rattle.simulation.specs.MachineStates.{MachineState, mutator_of}
 use Rattle.simulation.specs.Ready.{IsReady}
-use Rattle.simulation.specs.Refines.{Names, IsFrame, AreFrames, IsThread, StandsAlike, Represents}
+use Rattle.simulation.specs.Refines.{Names, IsFrame, AreFrames, IsThread, StatusRefines, Represents}
 use Rattle.simulation.proofs.ListLaws.AgreeingLists.{agree_at}
 use Rattle.simulation.proofs.Instructions.Correspondence.{IsSetting, DoesAlike, InstructionsAreAlike}
 use Rattle.simulation.proofs.ProgramSizes.LimitRanges.{budget_is_small}
@@ -53,7 +53,7 @@ module _ (c : MachineState) (s : State) (r : Represents c s) (t left : ℕ) (m :
       names : Names
       names = (normally c s r).name
 
-      by_thread : (u : StateThread) → slice_get s.threads t ≡ Some u → left ≡ u.steps_left → (fs : List StateFrame) (e : Option End) → u.frames ≡ fs → u.ended ≡ e → StandsAlike c.tree c.limits names (Live m) fs e →
+      by_thread : (u : StateThread) → slice_get s.threads t ≡ Some u → left ≡ u.steps_left → (fs : List StateFrame) (e : Option End) → u.frames ≡ fs → u.ended ≡ e → StatusRefines c.tree c.limits names (Live m) fs e →
           IsAlive c s (own_names c s r t left m there) t left m
       by_thread u at steps [] None is lives h = elim h.frames [ ]
       by_thread u at steps (f ∷ fs) None is lives h = record { thread = u; there = at; running = f; below = fs; frames_are = is; lives = lives; steps = steps; frames = own_frames c s r t left m there (f ∷ fs) h }
@@ -73,7 +73,7 @@ module _ (c : MachineState) (s : State) (r : Represents c s) (t left : ℕ) (m :
       running = is_running.2;
       counted = r.counted;
       budget = budget_is_small c.limits r.limits;
-      resolved = subst (λ x. IsOperation c.tree (lines_of f.method) x operation) same_instruction (subst (λ (x : ClassName × Method). IsOperation c.tree (lines_of x.1) at.line.instruction operation) same_method at.stands);
+      resolved = subst (λ x. IsOperation c.tree (lines_of f.method) x operation) same_instruction (subst (λ (x : ClassName × Method). IsOperation c.tree (lines_of x.1) at.line.instruction operation) same_method at.refines);
       constant = constant;
       frames = is_alive.frames;
       memory = own_memory c s r t left m there;

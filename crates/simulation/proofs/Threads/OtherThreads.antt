@@ -9,7 +9,7 @@ use Rattle.interpreter.specs.threads_monitors.declared.threads.ThreadStatus.{Thr
 use Rattle.interpreter.specs.threads_monitors.declared.threads.ThreadStatus.TheVariants.{Ended, Live}
 use Rattle.interpreter.specs.threads_monitors.declared.threads.Thread.{Thread}
 use Rattle.interpreter.specs.Instructions.{Answer}
-use Rattle.interpreter.specs.declared.outcomes.Outcome.{Outcome}
+use Rattle.interpreter.specs.declared.outcomes.InstructionOutcome.{InstructionOutcome}
 use Rattle.simulation.specs.Collecting.{flips_frames, thread_flipped, with_flipped}
 use Rattle.simulation.specs.MachineStates.{MachineState}
 use Rattle.simulation.specs.Transitions.{IsStatusTransition, IsThreadTransition, IsTransition, finish_step, left_by, live_thread}
@@ -30,7 +30,7 @@ module _ (c : MachineState) (after : MachineState × Report) (t : ℕ) (x : Thre
   Stays y = slice_get y.0.threads t ≡ Some x
 
   -- a step of another thread
-  stepped : (n left : ℕ) (a : Answer) (o : Outcome) → n ≢ t → finish_step c n left a o ≡ Some after → Stays after
+  stepped : (n left : ℕ) (a : Answer) (o : InstructionOutcome) → n ≢ t → finish_step c n left a o ≡ Some after → Stays after
   stepped n left a o apart is =
       let way = finished_by c n left a after o is in
       let left_there : slice_get (left_by c n left a).threads t ≡ Some x = set_other c.threads n t (live_thread left a.frames) x apart there in

@@ -14,7 +14,7 @@ use Rattle.interpreter.specs.reference_machine.Cycles.{room}
 use Rattle.interpreter.specs.reference_machine.Rooms.{cell_words, words_of_all}
 use Rattle.interpreter.specs.reference_machine.Runs.{is_refusal}
 use Rattle.interpreter.specs.reference_machine.States.{Contents, Frame as StateFrame, HeapObject, State, Free, with_birth}
-use Rattle.interpreter.specs.reference_machine.Steps.{Outcome, Answers, continues, charge, step}
+use Rattle.interpreter.specs.reference_machine.Steps.{StepOutcome, Answers, continues, charge, step}
 use Rattle.interpreter.proofs.reference_machine.Runs.InstructionEffects.{same_after}
 use Rattle.interpreter.proofs.reference_machine.Runs.OutOfMemory.{memory_is_refused}
 use Rattle.interpreter.specs.object_memory.Spaces.{room_for}
@@ -25,10 +25,10 @@ use Rattle.interpreter.specs.threads_monitors.declared.threads.ThreadStatus.TheV
 use Rattle.interpreter.specs.threads_monitors.declared.threads.Thread.{Thread}
 use Rattle.interpreter.specs.Instructions.{IsDone, Answer}
 use Rattle.simulation.specs.MachineStates.{MachineState, mutator_of}
-use Rattle.simulation.specs.Rooms.{ExceedsRoom, spaces_of}
+use Rattle.simulation.specs.Rooms.{HasNoRoom, spaces_of}
 use Rattle.simulation.specs.Refines.{Represents}
 use Rattle.simulation.specs.Transitions.{IsStatusTransition, IsThreadTransition, IsTransition}
-use Rattle.simulation.proofs.Instructions.Correspondence.{ExceedsRoom as ExceedsOwn, InstructionsAreAlike, is_refused_outcome}
+use Rattle.simulation.proofs.Instructions.Correspondence.{HasNoOwnRoom, InstructionsAreAlike, is_refused_outcome}
 use Rattle.simulation.proofs.CollectedHeap.ReportedRoom.{room_seen}
 use Rattle.simulation.proofs.Threads.StepEffects.{finished_refusal}
 use Rattle.simulation.proofs.Threads.NextInstruction.{setting_of, is_alive, is_running, does_alike}
@@ -52,7 +52,7 @@ is_beyond words left h = by_test (nat_le words left) refl h
 -- ---- where a step is refused, the object exceeds the room
 
 -- the result of a step that makes an object
-record IsBorn (s : State) (contents : Contents) (outcome : Outcome) : Type 0 where
+record IsBorn (s : State) (contents : Contents) (outcome : StepOutcome) : Type 0 where
   report : Report
   after : State
   is : outcome ≡ Answers report after
@@ -64,7 +64,7 @@ born_by s contents t (suc left) frames = record { report = _; after = _; is = re
 
 module _ (each : InstructionsAreAlike) (c : MachineState) (s : State) (r : Represents c s) (t left : ℕ) (m : Frames) (there : slice_get c.threads t ≡ Some (record { thread_status = Live m; steps_left = left })) where
   abbrev Exceeds : StateEffect → Type 0
-  Exceeds e = ExceedsOwn (setting_of c t false) (own_model c s r t left m there) (own_names c s r t left m there) m c.objects c.statics c.printed s (is_alive c s r t left m there).running (is_alive c s r t left m there).below e
+  Exceeds e = HasNoOwnRoom (setting_of c t false) (own_model c s r t left m there) (own_names c s r t left m there) m c.objects c.statics c.printed s (is_alive c s r t left m there).running (is_alive c s r t left m there).below e
 
   -- the instruction's object exceeds the room for births of its thread
   instruction_exceeds : (a : Answer) → IsDone c.tree (mutator_of c t) m c.objects c.statics c.printed a → is_refused_outcome a.outcome ≡ true → Exceeds (done c s r t left m there false)
@@ -82,7 +82,7 @@ module _ (each : InstructionsAreAlike) (c : MachineState) (s : State) (r : Repre
   room_is = room_seen c r.sound t ∙ ap (λ p. room_for p c.objects.spaces) (sym (own_phase_is c s r t left m there))
 
   -- so its step leaves the object, were it not refused
-  step_exceeds : Exceeds (done c s r t left m there false) → ExceedsRoom c s t
+  step_exceeds : Exceeds (done c s r t left m there false) → HasNoRoom c s t
   step_exceeds e =
       let frames = (is_alive c s r t left m there).thread.frames in
       let born : IsBorn s e.contents (continues Ran (with_birth s e.contents) t (left - 1) (e.running ∷ e.waiting)) = born_by s e.contents t (left - 1) (e.running ∷ e.waiting) in
@@ -106,7 +106,7 @@ was_there : (left_then left all_then all cell : ℕ) → left_then + all_then �
 was_there left_then left all_then all cell together more beyond_left = absurd (omega arith)
 
 module _ (each : InstructionsAreAlike) (c : MachineState) (s : State) (r : Represents c s) (t : ℕ) (after : MachineState × Report) (transition : IsTransition c (Step t) after) where
-  exceeding_is_refused : ExceedsRoom c s t → IsTrue (is_refusal after.1)
+  exceeding_is_refused : HasNoRoom c s t → IsTrue (is_refusal after.1)
   exceeding_is_refused x = by_report (is_refusal after.1) refl (step_follows each c s r t after transition)
     where
       by_report : (b : Bool) → is_refusal after.1 ≡ b → (s' : State) × (step c.tree c.limits s t (is_refusal after.1) ≡ Answers after.1 s') × Represents after.0 s' × KeepsOwnRoom c s t after.0.objects s' → IsTrue b
@@ -119,20 +119,20 @@ module _ (each : InstructionsAreAlike) (c : MachineState) (s : State) (r : Repre
           absurd (was_there (room_for (own_phase c.posts t) after.0.objects.spaces) (room_for (own_phase c.posts t) c.objects.spaces) (words_of_all c.tree follows.0.objects) (words_of_all c.tree s.objects) (cell_words c.tree x.object.contents)
           follows.3.together words (subst (λ n. n < cell_words c.tree x.object.contents) (room_seen c r.sound t) more))
 
-  refused_exceeds : IsTrue (is_refusal after.1) → ExceedsRoom c s t
+  refused_exceeds : IsTrue (is_refusal after.1) → HasNoRoom c s t
   refused_exceeds refused = by_thread (slice_get c.threads t) refl transition
     where
-      absent : after ≡ (c, Absent) → ExceedsRoom c s t
+      absent : after ≡ (c, Absent) → HasNoRoom c s t
       absent e = never (sym (ap (λ (x : MachineState × Report). is_refusal x.1) e) ∙ refused)
 
-      by_thread_status : (left : ℕ) (thread_status : ThreadStatus) → slice_get c.threads t ≡ Some (record { thread_status = thread_status; steps_left = left }) → IsStatusTransition c t left thread_status after → ExceedsRoom c s t
+      by_thread_status : (left : ℕ) (thread_status : ThreadStatus) → slice_get c.threads t ≡ Some (record { thread_status = thread_status; steps_left = left }) → IsStatusTransition c t left thread_status after → HasNoRoom c s t
       by_thread_status left (Live m) there (a, d, is) =
           step_exceeds each c s r t left m there (instruction_exceeds each c s r t left m there a d (sym (finished_refusal c t left a after a.outcome is) ∙ refused))
       by_thread_status left (Ended e) there is = absent is
 
-      by_thread : (x : Option Thread) → slice_get c.threads t ≡ x → IsThreadTransition c t x after → ExceedsRoom c s t
+      by_thread : (x : Option Thread) → slice_get c.threads t ≡ x → IsThreadTransition c t x after → HasNoRoom c s t
       by_thread None is h = absent h
       by_thread (Some x) is h = by_thread_status x.steps_left x.thread_status is h
 
-  pub refused_beyond_room : IsTrue (is_refusal after.1) ↔ ExceedsRoom c s t
+  pub refused_beyond_room : IsTrue (is_refusal after.1) ↔ HasNoRoom c s t
   refused_beyond_room = (refused_exceeds, exceeding_is_refused)

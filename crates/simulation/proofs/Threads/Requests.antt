@@ -70,7 +70,7 @@ module _ (c : MachineState) (s : State) (r : Represents c s) (t left : ℕ) (m :
   pub asked_of : (action : Action) (go : List StateValue → ObjectName → HeapObject → StateEffect) →
       ((v : StateValue) (rest : List StateValue) → act here s running below action (v ∷ []) rest ≡ not_null v NullReference (λ n. thread_object here s running below n (go rest n))) →
       (object : Addr) (a : Answer) → (asks : Asks action object a) → IsAskedOf (done c s r t left m there false) (go asks.rest) object
-  asked_of action go acts object a asks = by_operand (reference_is (own_names c s r t left m there) (Ref object) asks.operand asks.stands object refl)
+  asked_of action go acts object a asks = by_operand (reference_is (own_names c s r t left m there) (Ref object) asks.operand asks.refines object refl)
     where
       does : done c s r t left m there false ≡ not_null asks.operand NullReference (λ n. thread_object here s running below n (go asks.rest n))
       does = asks.is ∙ acts asks.operand asks.rest

@@ -25,15 +25,15 @@ use Rattle.interpreter.specs.threads_monitors.declared.effects.Effect.TheVariant
 use Rattle.interpreter.specs.threads_monitors.declared.threads.ThreadStatus.TheVariants.{Live}
 use Rattle.interpreter.specs.threads_monitors.declared.threads.Thread.{Thread}
 use Rattle.interpreter.specs.Instructions.{HasSmallConstant, IsAt, Answer, answer_of}
-use Rattle.interpreter.specs.declared.outcomes.Outcome.TheVariants.{Comes, Starts}
+use Rattle.interpreter.specs.declared.outcomes.InstructionOutcome.TheVariants.{OwnEffect, Starts}
 use Rattle.simulation.specs.MachineStates.{MachineState, mutator_of, frame_room}
-use Rattle.simulation.specs.Refines.{Names, reference, thread_word, IsCell, IsOfContents, IsThread, StandsBy, Represents}
+use Rattle.simulation.specs.Refines.{Names, reference, thread_word, IsCell, IsOfContents, IsThread, RefinesUnder, Represents}
 use Rattle.simulation.specs.Transitions.{after_request, count_step, start_thread, thread_at, thread_for, seat_thread}
 use Rattle.simulation.proofs.ListLaws.AgreeingLists.{agree_append, agree_length, agree_weaken}
 use Rattle.simulation.proofs.Instructions.Correspondence.{is_refused_fault}
 use Rattle.simulation.proofs.ProgramSizes.LimitRanges.{depth_is_some}
 use Rattle.simulation.proofs.Threads.StepResults.{Follows, done, finish, frames_pass, frames_whole, going_pass, comes}
-use Rattle.simulation.proofs.Representation.NewThreads.{beginning_stands}
+use Rattle.simulation.proofs.Representation.NewThreads.{beginning_refines}
 use Rattle.simulation.proofs.Memory.ThreadObjects.{IsThreadObject}
 use Rattle.simulation.proofs.Threads.Requests.{here, running, below, Asks, IsAskedOf, asked_of, popped_frames}
 use Rattle.simulation.proofs.Threads.ThreadStarts.{state_with, IsBegun, IsStarted, faulted, begun, is_started}
@@ -61,7 +61,7 @@ module _ (c : MachineState) (s : State) (r : Represents c s) (t left : ℕ) (m :
 
   -- a step that ends by a fault
   fault_follows : (fault : Fault) → false ≡ is_refused_fault fault → done c s r t left m there false ≡ StateRaises fault → Follows c s r t (counted_with c.threads (c.threads, c.objects, Raises fault))
-  fault_follows fault refuses e = comes c s r t left m there c.threads (λ x. refl) false (Raises fault) refuses (answer_of m c.objects c.statics c.printed (Comes (Raises fault))) (e, (refl, refl, refl))
+  fault_follows fault refuses e = comes c s r t left m there c.threads (λ x. refl) false (Raises fault) refuses (answer_of m c.objects c.statics c.printed (OwnEffect (Raises fault))) (e, (refl, refl, refl))
 
   module _ (rest : List StateValue) (object : Addr) (number : ℕ) (x : IsThreadObject c.tree (own_names c s r t left m there) c.objects s object number) (named : (own_names c s r t left m there) object.number ≡ Some (Born number)) where
     -- the object identifies its thread
@@ -72,7 +72,7 @@ module _ (c : MachineState) (s : State) (r : Represents c s) (t left : ℕ) (m :
     decoded_word = length c.threads + 1
 
     decoded_is : decoded_word ≡ suc (length s.threads)
-    decoded_is = let same : length c.threads ≡ length s.threads = agree_length (IsThread c.tree c.limits r.stands.name) c.threads s.threads r.stands.by.threads in omega (arith, same)
+    decoded_is = let same : length c.threads ≡ length s.threads = agree_length (IsThread c.tree c.limits r.refines.name) c.threads s.threads r.refines.by.threads in omega (arith, same)
 
     marked_cell : IsCell c.tree (own_names c s r t left m there) (store_slot 0 decoded_word x.cell) marked
     marked_cell = record {
@@ -141,7 +141,7 @@ module _ (c : MachineState) (s : State) (r : Represents c s) (t left : ℕ) (m :
 
       -- it stands under all names that have the object's
       starting : (names : Names) → names object.number ≡ Some (Born number) → IsThread c.tree c.limits names beginning state_beginning
-      starting names is = beginning_stands names c.tree c.limits (depth_is_some c.limits r.limits) b.found b.code b.has_code b.first b.stands (Ref object ∷ []) (Reference (Born number) ∷ []) (reference object (Born number) is, tt)
+      starting names is = beginning_refines names c.tree c.limits (depth_is_some c.limits r.limits) b.found b.code b.has_code b.first b.refines (Ref object ∷ []) (Reference (Born number) ∷ []) (reference object (Born number) is, tt)
 
       -- it holds what its starter may
       beginning_passes : FramesPass (own_passes c s r t left m there decoded) beginning.thread_status
@@ -151,9 +151,9 @@ module _ (c : MachineState) (s : State) (r : Represents c s) (t left : ℕ) (m :
           (record { running = new_machine_frame b.first (Ref object ∷ []) (local_kinds b.found.1) None; below = []; depth = c.limits.depth; room = frame_room }) state_beginning.frames (starting (own_names c s r t left m there) named).thread_status a
           (subst (λ (y : Frames). IsListed (roots y) a) (sym same) listed)
 
-      begun_stands : StandsBy begun_fits.whole (record c { threads = c.threads ++ beginning ∷ []; objects = decoded }) begun_state
-      begun_stands = record {
-        memory = record { heap = begun_fits.heap; static_values = begun_fits.stands; printed_is = begun_memory.printed_is };
+      begun_refines : RefinesUnder begun_fits.whole (record c { threads = c.threads ++ beginning ∷ []; objects = decoded }) begun_state
+      begun_refines = record {
+        memory = record { heap = begun_fits.heap; static_values = begun_fits.refines; printed_is = begun_memory.printed_is };
         threads = agree_append (IsThread c.tree c.limits begun_fits.whole) c.threads s.threads
             (agree_weaken (IsThread c.tree c.limits (normally c s r).name) (IsThread c.tree c.limits begun_fits.whole) (thread_extends (normally c s r).name begun_fits.whole begun_fits.extends c.tree c.limits) c.threads s.threads (normally c s r).by.threads)
             (beginning ∷ []) (state_beginning ∷ [])
@@ -164,7 +164,7 @@ module _ (c : MachineState) (s : State) (r : Represents c s) (t left : ℕ) (m :
       begun_follows operation at constant operand stack =
           let popped = popped_frames c s r t left m there operation at constant operand rest stack in
           finish c s r t left m there (own_names c s r t left m there) (c.threads ++ beginning ∷ []) (c.threads ++ beginning ∷ []) (join_thread c.posts (length c.threads) t) decoded c.statics c.printed begun_state (λ y. refl) begun_fits
-          (room_of c s r t left m there (own_names c s r t left m there) decoded c.statics c.printed begun_state begun_memory) begun_names begun_stands
+          (room_of c s r t left m there (own_names c s r t left m there) decoded c.statics c.printed begun_state begun_memory) begun_names begun_refines
           (beside_more c s r t left m there (own_names c s r t left m there) decoded c.statics begun_state begun_fits beginning beginning_passes) false Continues refl (after_request Continues m) (
             after (running c s r t left m there) rest,
             below c s r t left m there,

@@ -27,8 +27,8 @@ use Rattle.interpreter.specs.threads_monitors.declared.threads.ThreadStatus.TheV
 use Rattle.interpreter.specs.threads_monitors.declared.threads.Thread.{Thread}
 use Rattle.interpreter.specs.Calls.{chosen_at}
 use Rattle.interpreter.specs.Instructions.{IsDone, Answer}
-use Rattle.interpreter.specs.declared.outcomes.Outcome.{Outcome}
-use Rattle.interpreter.specs.declared.outcomes.Outcome.TheVariants.{Comes, Starts, Joins}
+use Rattle.interpreter.specs.declared.outcomes.InstructionOutcome.{InstructionOutcome}
+use Rattle.interpreter.specs.declared.outcomes.InstructionOutcome.TheVariants.{OwnEffect, Starts, Joins}
 use Rattle.simulation.specs.MachineStates.{MachineState, mutator_of}
 use Rattle.simulation.specs.Collecting.{flips_frames, thread_flipped, threads_after, with_flipped}
 use Rattle.simulation.proofs.CollectorEvents.UnchangedState.{collected_keeps}
@@ -49,7 +49,7 @@ pub record HasBegun (budget : ℕ) (before threads : List Thread) : Type 0 where
   pub room : length before < MOST_THREADS
 
 -- a step was counted beside these threads and objects, with one thread more or none; memory was refused to it where it was to its instruction
-pub record IsFinished (c : MachineState) (t left : ℕ) (a : Answer) (o : Outcome) (after : MachineState × Report) : Type 0 where
+pub record IsFinished (c : MachineState) (t left : ℕ) (a : Answer) (o : InstructionOutcome) (after : MachineState × Report) : Type 0 where
   pub threads : List Thread
   pub posts : Handshakes
   pub objects : Objects
@@ -66,7 +66,7 @@ module _ (c : MachineState) (t left : ℕ) (a : Answer) (after : MachineState ×
   threads = (left_by c t left a).threads
 
   -- no other thread begins
-  alone : (o : Outcome) (e : Effect) (m : Frames) → is_refused_effect e ≡ is_refused_outcome o → count_step (left_by c t left a) t left e m ≡ after → IsFinished c t left a o after
+  alone : (o : InstructionOutcome) (e : Effect) (m : Frames) → is_refused_effect e ≡ is_refused_outcome o → count_step (left_by c t left a) t left e m ≡ after → IsFinished c t left a o after
   alone o e m refused is = record { threads = threads; posts = c.posts; objects = a.objects; effect = e; frames = m; is = is; refused = refused; are = inl (refl, refl) }
 
   module _ (object : Addr) where
@@ -155,13 +155,13 @@ module _ (c : MachineState) (t left : ℕ) (a : Answer) (after : MachineState ×
       by_null true = refl
       by_null false = by_thread (thread_on a.objects object)
 
-  pub finished_by : (o : Outcome) → finish_step c t left a o ≡ Some after → IsFinished c t left a o after
-  finished_by (Comes e) is = alone (Comes e) e a.frames refl (same_Some (count_step (left_by c t left a) t left e a.frames) after is)
+  pub finished_by : (o : InstructionOutcome) → finish_step c t left a o ≡ Some after → IsFinished c t left a o after
+  finished_by (OwnEffect e) is = alone (OwnEffect e) e a.frames refl (same_Some (count_step (left_by c t left a) t left e a.frames) after is)
   finished_by (Joins object) is =
       let effect = join_effect threads a.objects object in alone (Joins object) effect (after_request effect a.frames) (join_plain object) (same_Some (count_step (left_by c t left a) t left effect (after_request effect a.frames)) after is)
   finished_by (Starts object) is = begins object is
 
-  module _ (o : Outcome) (done : finish_step c t left a o ≡ Some after) where
+  module _ (o : InstructionOutcome) (done : finish_step c t left a o ≡ Some after) where
     way : IsFinished c t left a o after
     way = finished_by o done
 

@@ -9,8 +9,8 @@ use Rattle.interpreter.specs.cil_model.declared.reports.Fault.TheVariants as Fau
 use Rattle.interpreter.specs.cil_model.declared.reports.Report.{Report}
 use Rattle.interpreter.specs.cil_model.declared.reports.Report.TheVariants.{Blocked, Ended as HasEnded, Absent}
 use Rattle.interpreter.specs.reference_machine.States.{Frame as StateFrame, Thread as StateThread, State}
-use Rattle.interpreter.specs.reference_machine.Effects.{Effect as StateEffect, Goes, Blocks as StateBlocks, Raises as StateRaises, given}
-use Rattle.interpreter.specs.reference_machine.Steps.{Outcome, Answers, execute, effect_of, with_thread_at, ended_as, continues, charge as state_step_charged, step_of, step}
+use Rattle.interpreter.specs.reference_machine.Effects.{Effect as StateEffect, Goes, Blocks as StateBlocks, Raises as StateRaises, when_some}
+use Rattle.interpreter.specs.reference_machine.Steps.{StepOutcome, Answers, execute, effect_of, with_thread_at, ended_as, continues, charge as state_step_charged, step_of, step}
 use Rattle.interpreter.specs.reference_machine.Runs.{is_refusal}
 use Rattle.interpreter.specs.reference_machine.TypedStates.{IsTyped}
 use Rattle.interpreter.proofs.reference_machine.TypedSteps.StepsAndRuns.{step_typed}
@@ -26,13 +26,13 @@ use Rattle.interpreter.specs.threads_monitors.declared.threads.ThreadStatus.TheV
 use Rattle.interpreter.specs.threads_monitors.declared.threads.Thread.{Thread}
 use Rattle.simulation.specs.Agreement.{Agree}
 use Rattle.simulation.specs.MachineStates.{MachineState, mutator_of}
-use Rattle.simulation.specs.Refines.{Names, AreFrames, IsThread, StandsBy, Represents}
+use Rattle.simulation.specs.Refines.{Names, AreFrames, IsThread, RefinesUnder, Represents}
 use Rattle.collector.specs.phase_handshake.Handshakes.{Handshakes}
 use Rattle.simulation.specs.Transitions.{count_step, live_thread, seats_after}
 use Rattle.simulation.proofs.ListLaws.AgreeingLists.{agree_set, agree_weaken}
 use Rattle.simulation.proofs.Representation.MoreNames.{frames_extend, thread_extends}
 use Rattle.simulation.proofs.Memory.NamedAddresses.{memory_beside}
-use Rattle.interpreter.specs.declared.outcomes.Outcome.TheVariants.{Comes}
+use Rattle.interpreter.specs.declared.outcomes.InstructionOutcome.TheVariants.{OwnEffect}
 use Rattle.simulation.proofs.Instructions.Correspondence.{LeavesMemory, ComesAlike, is_refused_fault, is_refused_effect}
 use Rattle.simulation.proofs.ProgramSizes.LimitRanges.{budget_is_some}
 use Rattle.simulation.proofs.Threads.NextInstruction.{setting_of, is_alive, is_running}
@@ -54,26 +54,26 @@ some_left n = grind (arith, nat_tests)
 
 -- ---- the thread after its step
 
-module _ (names : Names) (c : MachineState) (s : State) (by : StandsBy names c s) (t : ℕ) where
+module _ (names : Names) (c : MachineState) (s : State) (by : RefinesUnder names c s) (t : ℕ) where
   -- a thread in place of another
-  thread_stands : (x : Thread) (u : StateThread) → IsThread c.tree c.limits names x u → StandsBy names (record c { threads = slice_set c.threads t x }) (with_thread_at s t u)
-  thread_stands x u h = record {
+  thread_refines : (x : Thread) (u : StateThread) → IsThread c.tree c.limits names x u → RefinesUnder names (record c { threads = slice_set c.threads t x }) (with_thread_at s t u)
+  thread_refines x u h = record {
     memory = memory_beside c.tree names c.objects s (with_thread_at s t u) refl refl refl refl c.statics c.printed by.memory;
     threads = agree_set (IsThread c.tree c.limits names) c.threads s.threads by.threads t x u h;
   }
 
   -- both return the same report, and what is held then represents the state, of the same objects
-  abbrev ChargesStep : Outcome → Thread × Report → Type 0
-  ChargesStep outcome x = (s' : State) × (outcome ≡ Answers x.1 s') × StandsBy names (record c { threads = slice_set c.threads t x.0 }) s' × (s'.objects ≡ s.objects)
+  abbrev ChargesStep : StepOutcome → Thread × Report → Type 0
+  ChargesStep outcome x = (s' : State) × (outcome ≡ Answers x.1 s') × RefinesUnder names (record c { threads = slice_set c.threads t x.0 }) s' × (s'.objects ≡ s.objects)
 
   ends : (left : ℕ) (e : End) → ChargesStep (ended_as s t left e) (record { thread_status = Ended e; steps_left = left }, HasEnded e)
-  ends left e = (_, refl, thread_stands (record { thread_status = Ended e; steps_left = left }) (record { frames = []; steps_left = left; ended = Some e }) (record { thread_status = refl; steps_left = refl }), refl)
+  ends left e = (_, refl, thread_refines (record { thread_status = Ended e; steps_left = left }) (record { frames = []; steps_left = left; ended = Some e }) (record { thread_status = refl; steps_left = refl }), refl)
 
   goes : (m : Frames) (fs : List StateFrame) → AreFrames c.tree c.limits names m fs → (effect : Effect) (left : ℕ) → ChargesStep (continues (report_of effect) s t left fs) (status_after (if left == 0 then Some Budget else None) m left effect)
   goes m fs h effect zero = ends 0 Budget
   goes m fs h effect (suc left) =
       subst (λ b. ChargesStep (continues (report_of effect) s t (suc left) fs) (status_after (if b then Some Budget else None) m (suc left) effect)) (sym (some_left left))
-      (_, refl, thread_stands (record { thread_status = Live m; steps_left = suc left }) (record { frames = fs; steps_left = suc left; ended = None }) (record { thread_status = h; steps_left = refl }), refl)
+      (_, refl, thread_refines (record { thread_status = Live m; steps_left = suc left }) (record { frames = fs; steps_left = suc left; ended = None }) (record { thread_status = h; steps_left = refl }), refl)
 
   -- an effect that comes from the state before, where the thread had these frames, and the same of the reference machine
   abbrev pub IsEffect : State → List StateFrame → Effect → Frames → StateEffect → Type 0
@@ -119,7 +119,7 @@ refusal_of (Raises x) m left = refusal_of_fault x
 
 -- ---- a live thread's step
 
-same_state : (o : Outcome) (x y : Report) (s s' : State) → o ≡ Answers x s → o ≡ Answers y s' → s ≡ s'
+same_state : (o : StepOutcome) (x y : Report) (s s' : State) → o ≡ Answers x s → o ≡ Answers y s' → s ≡ s'
 same_state o x y s s' h k = cc
 
 -- the room for births of a thread and the words of all objects are together the same number as before its step
@@ -129,14 +129,14 @@ KeepsOwnRoom c s t o s' = KeepsRoom c.tree (mutator_of c t).phase c.objects o s.
 -- the outcome of the step of a thread on both machines, where posts and seats fit the threads after it
 abbrev pub Follows : (c : MachineState) (s : State) → Represents c s → ℕ → MachineState × Report → Type 0
 Follows c s r t after = AreSeated after.0.posts after.0.threads →
-    (s' : State) × (step c.tree c.limits s t (is_refusal after.1) ≡ Answers after.1 s') × (r' : Represents after.0 s') × KeepsOwnRoom c s t after.0.objects s' × KeepsOwnNames c s r after.0.objects r'.stands.name
+    (s' : State) × (step c.tree c.limits s t (is_refusal after.1) ≡ Answers after.1 s') × (r' : Represents after.0 s') × KeepsOwnRoom c s t after.0.objects s' × KeepsOwnNames c s r after.0.objects r'.refines.name
 
 -- a machine state that represents the state after a step
 pub followed : (c : MachineState) (s : State) (r : Represents c s) (t : ℕ) (threads : List Thread) (h : Handshakes) (o : Objects) (statics : List Value) (printed : List ℕ) (report : Report) (s' : State) →
-    step c.tree c.limits s t (is_refusal report) ≡ Answers report s' → (name : Names) → StandsBy name (record c { threads = threads; objects = o; statics = statics; printed = printed }) s' →
+    step c.tree c.limits s t (is_refusal report) ≡ Answers report s' → (name : Names) → RefinesUnder name (record c { threads = threads; objects = o; statics = statics; printed = printed }) s' →
     (AreSeated h threads → IsSound (record c { threads = threads; posts = h; objects = o; statics = statics; printed = printed })) → KeepsOwnRoom c s t o s' → KeepsOwnNames c s r o name →
     Follows c s r t (record c { threads = threads; posts = h; objects = o; statics = statics; printed = printed }, report)
-followed c s r t threads h o statics printed report s' is name stands sound room names =
+followed c s r t threads h o statics printed report s' is name refines sound room names =
     λ fit. let typed = step_typed instruction_typed c.tree c.limits r.accepted t (is_refusal report) s r.typed in (
       s',
       is,
@@ -146,7 +146,7 @@ followed c s r t threads h o statics printed report s' is name stands sound room
         typed = subst (IsTyped c.tree) (same_state (step c.tree c.limits s t (is_refusal report)) typed.0 report typed.1 s' typed.2 is) typed.3;
         counted = step_counted c.tree c.limits (budget_is_some c.limits r.limits) t (is_refusal report) s r.counted report s' is;
         sound = sound fit;
-        stands = record { name = name; by = record { memory = stands.memory; threads = stands.threads } };
+        refines = record { name = name; by = record { memory = refines.memory; threads = refines.threads } };
       },
       room,
       names,
@@ -175,7 +175,7 @@ module _ (c : MachineState) (s : State) (r : Represents c s) (t left : ℕ) (m :
       let f : StateFrame = (is_alive c s r t left m there).running in
       let below : List StateFrame = (is_alive c s r t left m there).below in
       let does : effect_of (setting_of c t refused) s u.frames ≡ done refused =
-      ap (effect_of (setting_of c t refused) s) (is_alive c s r t left m there).frames_are ∙ ap (λ i. given i (execute (setting_of c t refused) s f below)) (is_running c s r t left m there refused).1 in
+      ap (effect_of (setting_of c t refused) s) (is_alive c s r t left m there).frames_are ∙ ap (λ i. when_some i (execute (setting_of c t refused) s f below)) (is_running c s r t left m there refused).1 in
       ap (λ x. option_map_or (step_of (setting_of c t refused) s) x (Answers Absent s)) (is_alive c s r t left m there).there ∙
       ap (λ e. if is_none e then state_step_charged s t (u.steps_left - 1) u.frames (effect_of (setting_of c t refused) s u.frames) else Answers Absent s) (is_alive c s r t left m there).lives ∙
       ap (λ e. state_step_charged s t (u.steps_left - 1) u.frames e) does ∙
@@ -185,9 +185,9 @@ module _ (c : MachineState) (s : State) (r : Represents c s) (t left : ℕ) (m :
 
   -- what fits represents the state, beside the threads that were there
   pub by_fits : (names : Names) (o : Objects) (statics : List Value) (printed : List ℕ) (s' : State) (fits : FitsOwn c s r t left m there names o statics s') → printed ≡ s'.printed → s'.threads ≡ s.threads →
-      StandsBy fits.whole (record c { objects = o; statics = statics; printed = printed }) s'
+      RefinesUnder fits.whole (record c { objects = o; statics = statics; printed = printed }) s'
   by_fits names o statics printed s' fits same others = record {
-    memory = record { heap = fits.heap; static_values = fits.stands; printed_is = same };
+    memory = record { heap = fits.heap; static_values = fits.refines; printed_is = same };
     threads = subst (Agree (IsThread c.tree c.limits fits.whole) c.threads) (sym others)
         (agree_weaken (IsThread c.tree c.limits (normally c s r).name) (IsThread c.tree c.limits fits.whole) (thread_extends (normally c s r).name fits.whole fits.extends c.tree c.limits) c.threads s.threads (normally c s r).by.threads);
   }
@@ -209,7 +209,7 @@ module _ (c : MachineState) (s : State) (r : Represents c s) (t left : ℕ) (m :
 
   -- a thread whose step is charged as its instruction's effect says
   pub finish : (names : Names) (threads base : List Thread) (h : Handshakes) (o : Objects) (statics : List Value) (printed : List ℕ) (s' : State) → ((x : Thread) → slice_set threads t x ≡ slice_set base t x) →
-      (fits : FitsOwn c s r t left m there names o statics s') → KeepsOwnRoom c s t o s' → KeepsOwnNames c s r o fits.whole → (by : StandsBy fits.whole (record c { threads = base; objects = o; statics = statics; printed = printed }) s') →
+      (fits : FitsOwn c s r t left m there names o statics s') → KeepsOwnRoom c s t o s' → KeepsOwnNames c s r o fits.whole → (by : RefinesUnder fits.whole (record c { threads = base; objects = o; statics = statics; printed = printed }) s') →
       AreBeside c s r t left m there base h o → (refused : Bool) (effect : Effect) → refused ≡ is_refused_effect effect → (m' : Frames) →
       IsEffect fits.whole (record c { threads = base; objects = o; statics = statics; printed = printed }) s' by t s (is_alive c s r t left m there).thread.frames effect m' (done refused) →
       FramesPass (own_passes c s r t left m there o) (charge effect (live_thread left m')).0.thread_status →
@@ -220,7 +220,7 @@ module _ (c : MachineState) (s : State) (r : Represents c s) (t left : ℕ) (m :
       followed c s r t (slice_set threads t x.0) (seats_after h t x.1) o statics printed x.1 charge.0
       (ap (step c.tree c.limits s t) (refusal_of effect m' (left - 1) ∙ sym refuses) ∙ step_is refused ∙ charge.1)
       fits.whole
-      (subst (λ ts. StandsBy fits.whole (record c { threads = ts; objects = o; statics = statics; printed = printed }) charge.0) (sym (same x.0)) charge.2)
+      (subst (λ ts. RefinesUnder fits.whole (record c { threads = ts; objects = o; statics = statics; printed = printed }) charge.0) (sym (same x.0)) charge.2)
       (λ fit. subst (λ ts. IsSound (record c { threads = ts; posts = seats_after h t x.1; objects = o; statics = statics; printed = printed })) (sym (same x.0))
       (after_sound c s r t left m there names o statics s' fits printed base h beside effect m' pass (subst (AreSeated (seats_after h t x.1)) (same x.0) fit)))
       (subst (KeepsRoom c.tree (mutator_of c t).phase c.objects o s.objects) (sym charge.3) room)
@@ -255,7 +255,7 @@ module _ (c : MachineState) (s : State) (r : Represents c s) (t left : ℕ) (m :
 
   -- an instruction that asks nothing of other threads
   pub comes : (threads : List Thread) → ((x : Thread) → slice_set threads t x ≡ slice_set c.threads t x) → (refused : Bool) (effect : Effect) → refused ≡ is_refused_effect effect → (a : Answer) →
-      ComesAlike (setting_of c t refused) (own_model c s r t left m there) (own_names c s r t left m there) m c.objects c.statics c.printed s (is_alive c s r t left m there).running (is_alive c s r t left m there).below (Comes effect) a (done refused) →
+      ComesAlike (setting_of c t refused) (own_model c s r t left m there) (own_names c s r t left m there) m c.objects c.statics c.printed s (is_alive c s r t left m there).running (is_alive c s r t left m there).below (OwnEffect effect) a (done refused) →
       Follows c s r t (count_step (record c { threads = threads; objects = a.objects; statics = a.statics; printed = a.printed }) t left effect a.frames)
   comes threads same refused Continues refuses a h =
       let fits = fits_of c s r t left m there h.names a.objects a.statics a.printed h.state h.memory in
@@ -269,10 +269,10 @@ module _ (c : MachineState) (s : State) (r : Represents c s) (t left : ℕ) (m :
   comes threads same refused Returns refuses a (is, as_it_was) = left_follows a as_it_was threads same refused Returns refuses is (λ fs e. ended_none Done fs e)
   comes threads same refused Blocks refuses a (is, frames, as_it_was) =
       let fits = fits_left a as_it_was in
-      let stand : AreFrames c.tree c.limits (own_names c s r t left m there) a.frames (is_alive c s r t left m there).thread.frames =
+      let refine : AreFrames c.tree c.limits (own_names c s r t left m there) a.frames (is_alive c s r t left m there).thread.frames =
       subst (λ x. AreFrames c.tree c.limits (own_names c s r t left m there) x (is_alive c s r t left m there).thread.frames) (sym frames)
       (subst (AreFrames c.tree c.limits (own_names c s r t left m there) m) (sym (is_alive c s r t left m there).frames_are) (is_alive c s r t left m there).frames) in
       left_follows a as_it_was threads same refused Blocks refuses
-      (is, refl, frames_whole (own_names c s r t left m there) a.objects a.statics s fits a.frames (is_alive c s r t left m there).thread.frames stand)
-      (blocked_pass (own_names c s r t left m there) a.objects a.statics s fits a.frames (is_alive c s r t left m there).thread.frames stand)
+      (is, refl, frames_whole (own_names c s r t left m there) a.objects a.statics s fits a.frames (is_alive c s r t left m there).thread.frames refine)
+      (blocked_pass (own_names c s r t left m there) a.objects a.statics s fits a.frames (is_alive c s r t left m there).thread.frames refine)
   comes threads same refused (Raises x) refuses a (is, as_it_was) = left_follows a as_it_was threads same refused (Raises x) refuses (is, refl) (λ fs e. ended_none (ByFault x) fs e)

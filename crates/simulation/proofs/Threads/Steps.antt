@@ -16,11 +16,11 @@ use Rattle.interpreter.specs.threads_monitors.declared.threads.ThreadStatus.{Thr
 use Rattle.interpreter.specs.threads_monitors.declared.threads.ThreadStatus.TheVariants.{Live, Ended}
 use Rattle.interpreter.specs.threads_monitors.declared.threads.Thread.{Thread}
 use Rattle.interpreter.specs.Instructions.{IsDone, Answer, answer_of}
-use Rattle.interpreter.specs.declared.outcomes.Outcome.{Outcome}
-use Rattle.interpreter.specs.declared.outcomes.Outcome.TheVariants.{Comes, Starts, Joins}
+use Rattle.interpreter.specs.declared.outcomes.InstructionOutcome.{InstructionOutcome}
+use Rattle.interpreter.specs.declared.outcomes.InstructionOutcome.TheVariants.{OwnEffect, Starts, Joins}
 use Rattle.interpreter.specs.reference_machine.BuiltIn.{Action, Start, Join, start, join}
 use Rattle.simulation.specs.MachineStates.{MachineState, mutator_of}
-use Rattle.simulation.specs.Refines.{IsThread, StandsAlike, Represents}
+use Rattle.simulation.specs.Refines.{IsThread, StatusRefines, Represents}
 use Rattle.simulation.specs.Transitions.{IsStatusTransition, IsThreadTransition, IsTransition, finish_step}
 use Rattle.simulation.proofs.ListLaws.AgreeingLists.{agree_at, agree_get}
 use Rattle.simulation.proofs.Instructions.Correspondence.{InstructionsAreAlike, ComesAlike, is_refused_effect, is_refused_outcome}
@@ -39,11 +39,11 @@ use Rattle.simulation.proofs.CollectedHeap.MemoryWithRoom.{keeps_itself}
 
 module _ (c : MachineState) (s : State) (r : Represents c s) (t left : ℕ) (m : Frames) (there : slice_get c.threads t ≡ Some (record { thread_status = Live m; steps_left = left })) where
   -- an instruction that asks leaves all as it was
-  abbrev asking : Outcome → Answer
+  abbrev asking : InstructionOutcome → Answer
   asking out = (answer_of m c.objects c.statics c.printed out)
 
-  asks_itself : (action : Action) (object : Addr) (a : Answer) (out : Outcome) → Asks c s r t left m there action object a → Asks c s r t left m there action object (asking out)
-  asks_itself action object a out h = record { operand = h.operand; rest = h.rest; stack = h.stack; stands = h.stands; is = h.is; frames = refl; memory = (refl, refl, refl) }
+  asks_itself : (action : Action) (object : Addr) (a : Answer) (out : InstructionOutcome) → Asks c s r t left m there action object a → Asks c s r t left m there action object (asking out)
+  asks_itself action object a out h = record { operand = h.operand; rest = h.rest; stack = h.stack; refines = h.refines; is = h.is; frames = refl; memory = (refl, refl, refl) }
 
   asking_is : (action : Action) (object : Addr) (a : Answer) → Asks c s r t left m there action object a → a ≡ asking a.outcome
   asking_is action object a h =
@@ -59,7 +59,7 @@ absent : (c : MachineState) (s : State) (r : Represents c s) (t : ℕ) → step 
 absent c s r t is = λ fit. (
   s,
   is,
-  record r { stands = record { name = (normally c s r).name; by = (normally c s r).by } },
+  record r { refines = record { name = (normally c s r).name; by = (normally c s r).by } },
   keeps_itself c.tree (mutator_of c t).phase c.objects s.objects,
   record { extends = λ a n named. named; kept = λ a kept. inl kept; copies = λ are. are },
 )
@@ -70,16 +70,16 @@ none_absent c s r t none = by_thread (slice_get s.threads t) refl
     by_thread : (u : Option StateThread) → slice_get s.threads t ≡ u → Follows c s r t (c, Absent)
     by_thread None is = absent c s r t (ap (λ x. option_map_or (step_of (setting_of c t false) s) x (Answers Absent s)) is)
     by_thread (Some u) is =
-        let found : (x : Thread) × (slice_get c.threads t ≡ Some x) × IsThread c.tree c.limits r.stands.name x u = agree_get (IsThread c.tree c.limits r.stands.name) c.threads s.threads r.stands.by.threads t u is in
+        let found : (x : Thread) × (slice_get c.threads t ≡ Some x) × IsThread c.tree c.limits r.refines.name x u = agree_get (IsThread c.tree c.limits r.refines.name) c.threads s.threads r.refines.by.threads t u is in
         none_is_some found.0 (sym none ∙ found.1)
 
 ended_absent : (c : MachineState) (s : State) (r : Represents c s) (t left : ℕ) (e : End) → slice_get c.threads t ≡ Some (record { thread_status = Ended e; steps_left = left }) → Follows c s r t (c, Absent)
 ended_absent c s r t left e there =
-    let found : (u : StateThread) × (slice_get s.threads t ≡ Some u) × IsThread c.tree c.limits r.stands.name (record { thread_status = Ended e; steps_left = left }) u =
-    agree_at (IsThread c.tree c.limits r.stands.name) c.threads s.threads r.stands.by.threads t (record { thread_status = Ended e; steps_left = left }) there in
+    let found : (u : StateThread) × (slice_get s.threads t ≡ Some u) × IsThread c.tree c.limits r.refines.name (record { thread_status = Ended e; steps_left = left }) u =
+    agree_at (IsThread c.tree c.limits r.refines.name) c.threads s.threads r.refines.by.threads t (record { thread_status = Ended e; steps_left = left }) there in
     by_end found.0 found.1 found.0.frames found.0.ended refl found.2.thread_status
   where
-    by_end : (u : StateThread) → slice_get s.threads t ≡ Some u → (fs : List StateFrame) (e' : Option End) → u.ended ≡ e' → StandsAlike c.tree c.limits r.stands.name (Ended e) fs e' → Follows c s r t (c, Absent)
+    by_end : (u : StateThread) → slice_get s.threads t ≡ Some u → (fs : List StateFrame) (e' : Option End) → u.ended ≡ e' → StatusRefines c.tree c.limits r.refines.name (Ended e) fs e' → Follows c s r t (c, Absent)
     by_end u at fs None ended h = elim h [ ]
     by_end u at fs (Some e') ended h =
         absent c s r t (
@@ -106,11 +106,11 @@ module _ (each : InstructionsAreAlike) (c : MachineState) (s : State) (r : Repre
     live_follows : (a : Answer) → IsDone c.tree (mutator_of c t) m c.objects c.statics c.printed a → finish_step c t left a a.outcome ≡ Some after → Follows c s r t after
     live_follows a d is = by_outcome a.outcome (comes_alike a d) is
       where
-        by_outcome : (out : Outcome) →
+        by_outcome : (out : InstructionOutcome) →
             ComesAlike (setting_of c t (is_refused_outcome out)) (own_model c s r t left m there) (own_names c s r t left m there) m c.objects c.statics c.printed s (is_alive c s r t left m there).running (is_alive c s r t left m there).below out a
             (done c s r t left m there (is_refused_outcome out)) →
             finish_step c t left a out ≡ Some after → Follows c s r t after
-        by_outcome (Comes e) h is' =
+        by_outcome (OwnEffect e) h is' =
             subst (Follows c s r t) (same_Some _ after is')
             (comes c s r t left m there (slice_set c.threads t (record { thread_status = Live a.frames; steps_left = left })) (λ x. set-set c.threads t (record { thread_status = Live a.frames; steps_left = left }) x)
             (is_refused_effect e) e refl a h)
@@ -133,7 +133,7 @@ module _ (each : InstructionsAreAlike) where
 
   -- a step has the same outcome on both, and keeps the room and the words of all objects together, and names
   pub step_names : (c : MachineState) (s : State) (r : Represents c s) (t : ℕ) (after : MachineState × Report) → IsTransition c (Step t) after →
-      (s' : State) × (step c.tree c.limits s t (is_refusal after.1) ≡ Answers after.1 s') × (r' : Represents after.0 s') × KeepsOwnRoom c s t after.0.objects s' × KeepsOwnNames c s r after.0.objects r'.stands.name
+      (s' : State) × (step c.tree c.limits s t (is_refusal after.1) ≡ Answers after.1 s') × (r' : Represents after.0 s') × KeepsOwnRoom c s t after.0.objects s' × KeepsOwnNames c s r after.0.objects r'.refines.name
   step_names c s r t after transition = by_thread (slice_get c.threads t) refl transition (step_keeps_fitting c after t transition r.sound.seated)
     where
       by_thread_status : (left : ℕ) (thread_status : ThreadStatus) → slice_get c.threads t ≡ Some (record { thread_status = thread_status; steps_left = left }) → IsStatusTransition c t left thread_status after → Follows c s r t after
@@ -153,11 +153,11 @@ module _ (each : InstructionsAreAlike) where
       (a : Answer) → IsDone c.tree (mutator_of c t) m c.objects c.statics c.printed a → IsAnswerable c t left a a.outcome
   answerable c s r t left m there a d = by_outcome a.outcome (comes_alike each c s r t left m there a d)
     where
-      by_outcome : (out : Outcome) →
+      by_outcome : (out : InstructionOutcome) →
           ComesAlike (setting_of c t (is_refused_outcome out)) (own_model c s r t left m there) (own_names c s r t left m there) m c.objects c.statics c.printed s (is_alive c s r t left m there).running (is_alive c s r t left m there).below out a
           (done c s r t left m there (is_refused_outcome out)) →
           IsAnswerable c t left a out
-      by_outcome (Comes e) h = tt
+      by_outcome (OwnEffect e) h = tt
       by_outcome (Starts object) h =
           subst (λ y. IsAnswerable c t left y (Starts object)) (sym (asking_is c s r t left m there Start object a h)) (
             has_operand c s r t left m there Start (λ n. start (here c s r t left m there) s (running c s r t left m there) (below c s r t left m there) n own.rest) object (asking c s r t left m there (Starts object)) own (start_asked c s r t left m there object (asking c s r t left m there (Starts object)) own)

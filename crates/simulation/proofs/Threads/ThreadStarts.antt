@@ -14,7 +14,7 @@ use Rattle.interpreter.specs.cil_model.Slots.{target}
 use Rattle.interpreter.specs.name_tables.Numbers.{method_at}
 use Rattle.interpreter.specs.reference_machine.Values.{Born, Value as StateValue, Reference}
 use Rattle.interpreter.specs.reference_machine.States.{Thread as StateThread, State, class_of}
-use Rattle.interpreter.specs.reference_machine.Effects.{Effect as StateEffect, Raises as StateRaises, Sticks, given, new_frame, onward}
+use Rattle.interpreter.specs.reference_machine.Effects.{Effect as StateEffect, Raises as StateRaises, Sticks, when_some, new_frame, onward}
 use Rattle.interpreter.specs.reference_machine.BuiltIn.{with_thread, begin, start}
 use Rattle.interpreter.specs.reference_machine.TypedStates.{AreTypedFrames}
 use Rattle.interpreter.proofs.reference_machine.TypedStates.RunningFrames.{IsTypedEffect}
@@ -50,7 +50,7 @@ module _ (c : MachineState) (s : State) (r : Represents c s) (t left : ℕ) (m :
       pub code : Code
       pub has_code : code_of found.1.kind ≡ Some code
       pub first : ℕ
-      pub stands : slice_get (all_methods c.tree) first ≡ Some found
+      pub refines : slice_get (all_methods c.tree) first ≡ Some found
       pub does : done c s r t left m there false ≡ onward (running c s r t left m there) (below c s r t left m there) (state_with found code) rest
       pub thread : thread_for c.tree c.limits c.objects object ≡ Some (thread_at c.limits found (Ref object ∷ []) first)
 
@@ -72,22 +72,22 @@ module _ (c : MachineState) (s : State) (r : Represents c s) (t left : ℕ) (m :
     is_begun e = by_target (target c.tree x.own thread_name run_method) refl e
       where
         by_code : (found : ClassName × Method) → target c.tree x.own thread_name run_method ≡ Some found → (o : Option Code) → code_of found.1.kind ≡ o →
-            done c s r t left m there false ≡ given o (λ code. onward (running c s r t left m there) (below c s r t left m there) (state_with found code) rest) → IsBegun
+            done c s r t left m there false ≡ when_some o (λ code. onward (running c s r t left m there) (below c s r t left m there) (state_with found code) rest) → IsBegun
         by_code found runs None is e' = elim (typed_as_done Sticks e') [ ]
         by_code found runs (Some code) is e' =
             let typed = typed_as_done (onward (running c s r t left m there) (below c s r t left m there) (state_with found code) rest) e' in
             let thread : StateThread = record { frames = new_frame found.0 found.1 code (Reference (Born number) ∷ []) None ∷ []; steps_left = c.limits.budget; ended = None } in
             let frames : AreTypedFrames c.tree (state_with found code) thread.frames = typed.0.threads (length s.threads) thread (last_is_there s.threads thread) refl in
             let declared : (n : ℕ) × (slice_get (methods_declared c.tree found.0) n ≡ Some found.1) = frames.0.is_declared in
-            let numbered : (n : ℕ) × (number_of c.tree found ≡ Some n) × (slice_get (all_methods c.tree) n ≡ Some found) = declared_is_numbered c.tree r.accepted.legal declared.0 found declared.1 in
+            let has_id : (n : ℕ) × (number_of c.tree found ≡ Some n) × (slice_get (all_methods c.tree) n ≡ Some found) = declared_is_numbered c.tree r.accepted.legal declared.0 found declared.1 in
             record {
               found = found;
               code = code;
               has_code = is;
-              first = numbered.0;
-              stands = numbered.2;
+              first = has_id.0;
+              refines = has_id.2;
               does = e';
-              thread = ap (option_and_then (λ (y : ClassName × Method). option_map (thread_at c.limits y (Ref object ∷ [])) (number_of c.tree y))) (chosen_is found runs) ∙ ap (option_map (thread_at c.limits found (Ref object ∷ []))) numbered.1;
+              thread = ap (option_and_then (λ (y : ClassName × Method). option_map (thread_at c.limits y (Ref object ∷ [])) (number_of c.tree y))) (chosen_is found runs) ∙ ap (option_map (thread_at c.limits found (Ref object ∷ []))) has_id.1;
             }
 
         by_target : (o : Option (ClassName × Method)) → target c.tree x.own thread_name run_method ≡ o → done c s r t left m there false ≡ begins o → IsBegun
@@ -102,7 +102,7 @@ module _ (c : MachineState) (s : State) (r : Represents c s) (t left : ℕ) (m :
     fault_is apart =
         ap (λ b. if b then Some NullReference else if is_some (thread_on c.objects object) then Some ThreadState else if nat_le MOST_THREADS (length c.threads) then Some TooManyThreads else None) apart ∙
         ap (λ k. if is_some k then Some ThreadState else if nat_le MOST_THREADS (length c.threads) then Some TooManyThreads else None) (thread_on_is c.tree (own_names c s r t left m there) c.objects s object number x) ∙
-        ap (λ n. if is_some x.object.thread then Some ThreadState else if nat_le MOST_THREADS n then Some TooManyThreads else None) (agree_length (IsThread c.tree c.limits r.stands.name) c.threads s.threads r.stands.by.threads)
+        ap (λ n. if is_some x.object.thread then Some ThreadState else if nat_le MOST_THREADS n then Some TooManyThreads else None) (agree_length (IsThread c.tree c.limits r.refines.name) c.threads s.threads r.refines.by.threads)
 
     -- the same on both: a fault, or what begins
     pub data IsStarted : Type 0 where
@@ -113,7 +113,7 @@ module _ (c : MachineState) (s : State) (r : Represents c s) (t left : ℕ) (m :
     is_started apart e = by_tests (is_some x.object.thread) (nat_le MOST_THREADS (length s.threads)) (fault_is apart) e
       where
         by_tests : (b d : Bool) → start_fault c.threads c.objects object ≡ (if b then Some ThreadState else if d then Some TooManyThreads else None) →
-            done c s r t left m there false ≡ (if b then StateRaises ThreadState else if d then StateRaises TooManyThreads else given (class_of s (Born number)) (λ k. begins (target c.tree k thread_name run_method))) → IsStarted
+            done c s r t left m there false ≡ (if b then StateRaises ThreadState else if d then StateRaises TooManyThreads else when_some (class_of s (Born number)) (λ k. begins (target c.tree k thread_name run_method))) → IsStarted
         by_tests true d is e' = faulted ThreadState refl is e'
         by_tests false true is e' = faulted TooManyThreads refl is e'
-        by_tests false false is e' = begun is (is_begun (e' ∙ ap (λ k. given k (λ y. begins (target c.tree y thread_name run_method))) (own_class_is c.tree (own_names c s r t left m there) c.objects s object number x)))
+        by_tests false false is e' = begun is (is_begun (e' ∙ ap (λ k. when_some k (λ y. begins (target c.tree y thread_name run_method))) (own_class_is c.tree (own_names c s r t left m there) c.objects s object number x)))

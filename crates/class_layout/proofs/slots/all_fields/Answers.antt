@@ -69,13 +69,13 @@ loop-class-preserved c =
     let before = map (λ row. row.items) c.loop-class.rows.items in
     let rest = drop (i + 1) names in
     record {
-      numbered =
+      has_id =
           ap (λ rows. map (λ row. row.items) rows ++ field_rows t c.statics_after-next.result rest) c.in_ok-push.ensures.items ∙
           ap (λ rows. rows ++ field_rows t c.statics_after-next.result rest) (map-append (λ row. row.items) c.loop-class.rows.items (c.in_ok-field_row.field-0 ∷ [])) ∙
           append_assoc before (c.in_ok-field_row.field-0.items ∷ []) (field_rows t c.statics_after-next.result rest) ∙
           ap (λ ns. before ++ (ns ∷ field_rows t c.statics_after-next.result rest)) row ∙
           ap (λ n. before ++ (fields_by_id next (first_slot t name) (fields_declared t name) ∷ field_rows t n rest)) after ∙
-          ap (λ cs. before ++ field_rows t next cs) (sym (drop_at names i name are.named)) ∙ c.loop-class.invariant.numbered;
+          ap (λ cs. before ++ field_rows t next cs) (sym (drop_at names i name are.named)) ∙ c.loop-class.invariant.has_id;
       counted = ap (λ n. statics_of t n rest) after ∙ sym (counted_on t next i name are.named) ∙ c.loop-class.invariant.counted;
     }
 
@@ -87,4 +87,4 @@ returns c =
     let named : length (class_names t) ≡ length (declarations t) = length-map (declarations t) (λ (x : ClassName × Declaration). x.0) in
     let seen : c.loop-class.class ≡ length (class_names t) = omega arith in
     let before = map (λ row. row.items) c.loop-class.rows.items in
-    sym (append-nil before) ∙ ap (λ cs. before ++ field_rows t c.loop-class.next cs) (sym (drop_all (class_names t) c.loop-class.class seen)) ∙ c.loop-class.invariant.numbered
+    sym (append-nil before) ∙ ap (λ cs. before ++ field_rows t c.loop-class.next cs) (sym (drop_all (class_names t) c.loop-class.class seen)) ∙ c.loop-class.invariant.has_id

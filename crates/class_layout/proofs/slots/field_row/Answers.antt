@@ -23,8 +23,8 @@ loop-field-preserved c =
     let next = c.number_after-next_static.ensures in
     let slot = c.slot_after-next_slot.ensures in
     record {
-      numbered = one_numbered (λ (f : ResolvedField). f.is_static) fields index _ inside c.loop-field.next_static c.loop-field.next_slot c.number_after-next_static.result c.slot_after-next_slot.result c.own_number.result c.loop-field.numbers.items c.push.new.self.items _
-          c.own_number.ensures next slot c.in_ok-push.ensures.items c.loop-field.invariant.numbered;
+      has_id = one_numbered (λ (f : ResolvedField). f.is_static) fields index _ inside c.loop-field.next_static c.loop-field.next_slot c.number_after-next_static.result c.slot_after-next_slot.result c.own_number.result c.loop-field.numbers.items c.push.new.self.items _
+          c.own_number.ensures next slot c.in_ok-push.ensures.items c.loop-field.invariant.has_id;
       statics = one_static (λ (f : ResolvedField). f.is_static) fields index _ inside c.loop-field.next_static c.number_after-next_static.result _ next c.loop-field.invariant.statics;
       slots = one_slot (λ (f : ResolvedField). f.is_static) fields index _ inside c.loop-field.next_slot c.slot_after-next_slot.result _ slot c.loop-field.invariant.slots;
     }

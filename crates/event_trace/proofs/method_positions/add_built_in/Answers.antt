@@ -2,7 +2,7 @@ use Rattle.std.proofs.Common.{◌≡◌, ◌<◌, ◌≤◌, ◌++◌, ◌∷◌
 use Rattle.std.proofs.lemmas.List.{take_all}
 use Rattle.cil_model.specs.declared.trees.Method.{Method}
 use Rattle.event_trace.specs.declared.method_positions.MethodPosition.TheVariants.{BuiltIn}
-use Rattle.event_trace.proofs.PositionLaws.{Stand, built_in_more}
+use Rattle.event_trace.proofs.PositionLaws.{Occur, built_in_more}
 use Rattle.event_trace.proofs.method_positions.add_built_in.Goals as goal
 
 pub loop-method-preserved : goal.loop-method-preserved
@@ -17,5 +17,5 @@ pub returns : goal.returns
 returns c first tree e there many =
     let past : c.args.methods ≤ c.loop-method.method = c.loop-method-test.false in
     let all : length e.1.methods ≤ c.loop-method.method = omega (arith, past, many) in
-    subst (λ ms. Stand first tree c.args.positions.now.items c.loop-method.positions.items (map (λ (m : Method). (e.0, m)) ms)) (take_all c.loop-method.method e.1.methods all)
+    subst (λ ms. Occur first tree c.args.positions.now.items c.loop-method.positions.items (map (λ (m : Method). (e.0, m)) ms)) (take_all c.loop-method.method e.1.methods all)
     (c.loop-method.invariant first tree e there many)

@@ -4,10 +4,10 @@ use Rattle.cil_model.specs.declared.types.ClassName.{ClassName}
 use Rattle.cil_model.specs.declared.trees.Method.{Method}
 use Rattle.cil_model.specs.declared.trees.Tree.{Tree}
 use Rattle.cil_model.specs.Declarations.{Declaration}
-use Rattle.event_trace.proofs.PositionLaws.{Stand}
+use Rattle.event_trace.proofs.PositionLaws.{Occur}
 use Rattle.event_trace.proofs.method_positions.add_built_in.Given as goal
 
 -- the positions of the methods so far are listed
 abbrev pub invariant-loop-method : goal.invariant-loop-method
 invariant-loop-method l = (first : List (ClassName × Declaration)) (tree : Tree) (e : ClassName × Declaration) → slice_get first l.class ≡ Some e → length e.1.methods ≡ l.methods →
-    Stand first tree l.initial.positions.items l.positions.items (map (λ (m : Method). (e.0, m)) (take l.method e.1.methods))
+    Occur first tree l.initial.positions.items l.positions.items (map (λ (m : Method). (e.0, m)) (take l.method e.1.methods))

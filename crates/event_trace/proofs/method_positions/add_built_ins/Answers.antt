@@ -5,7 +5,7 @@ use Rattle.std.proofs.lemmas.List.{take_all}
 use Rattle.std.proofs.lemmas.Option.{slice_get-map, slice_get_read}
 use Rattle.name_tables.specs.BuiltInTable.{built_in_entry}
 use Rattle.interleaving_core.specs.simulation.loaded_program.AllMethods.{owned_methods}
-use Rattle.event_trace.proofs.PositionLaws.{Stand, class_more}
+use Rattle.event_trace.proofs.PositionLaws.{Occur, class_more}
 use Rattle.event_trace.proofs.method_positions.add_built_ins.Goals as goal
 
 pub loop-class-preserved : goal.loop-class-preserved
@@ -21,5 +21,5 @@ loop-class-preserved c first tree table =
 pub returns : goal.returns
 returns c first tree table =
     let past : length c.args.classes.now ≤ c.loop-class.class = c.loop-class-test.false in
-    subst (λ es. Stand first tree c.args.positions.now.items c.loop-class.positions.items (flat_map owned_methods es)) (ap (map built_in_entry) (take_all c.loop-class.class c.args.classes.now past) ∙ table)
+    subst (λ es. Occur first tree c.args.positions.now.items c.loop-class.positions.items (flat_map owned_methods es)) (ap (map built_in_entry) (take_all c.loop-class.class c.args.classes.now past) ∙ table)
     (c.loop-class.invariant first tree table)

@@ -5,7 +5,7 @@ use Rattle.std.proofs.lemmas.List.{take_all}
 use Rattle.std.proofs.lemmas.Option.{slice_get_read}
 use Rattle.name_tables.specs.Numbers.{source_entry}
 use Rattle.interleaving_core.specs.simulation.loaded_program.AllMethods.{owned_methods}
-use Rattle.event_trace.proofs.PositionLaws.{Stand, class_more}
+use Rattle.event_trace.proofs.PositionLaws.{Occur, class_more}
 use Rattle.event_trace.proofs.method_positions.add_classes.Goals as goal
 
 pub loop-class-preserved : goal.loop-class-preserved
@@ -20,5 +20,5 @@ loop-class-preserved c first tree is =
 pub returns : goal.returns
 returns c first tree is =
     let past : length c.args.classes.now ≤ c.loop-class.class = c.loop-class-test.false in
-    subst (λ cs. Stand first tree c.args.positions.now.items c.loop-class.positions.items (flat_map owned_methods (map source_entry cs))) (take_all c.loop-class.class c.args.classes.now past)
+    subst (λ cs. Occur first tree c.args.positions.now.items c.loop-class.positions.items (flat_map owned_methods (map source_entry cs))) (take_all c.loop-class.class c.args.classes.now past)
     (c.loop-class.invariant first tree is)

@@ -5,10 +5,10 @@ use Rattle.cil_model.specs.declared.trees.Tree.{Tree}
 use Rattle.cil_model.specs.Declarations.{Declaration}
 use Rattle.name_tables.specs.Numbers.{source_entry}
 use Rattle.interleaving_core.specs.simulation.loaded_program.AllMethods.{owned_methods}
-use Rattle.event_trace.proofs.PositionLaws.{Stand}
+use Rattle.event_trace.proofs.PositionLaws.{Occur}
 use Rattle.event_trace.proofs.method_positions.add_classes.Given as goal
 
 -- the positions of the methods of the classes so far are listed
 abbrev pub invariant-loop-class : goal.invariant-loop-class
 invariant-loop-class l = (first : List (ClassName × Declaration)) (tree : Tree) → tree.classes ≡ l.classes →
-    Stand first tree l.initial.positions.items l.positions.items (flat_map owned_methods (map source_entry (take l.class l.classes)))
+    Occur first tree l.initial.positions.items l.positions.items (flat_map owned_methods (map source_entry (take l.class l.classes)))

@@ -4,10 +4,10 @@ use Rattle.cil_model.specs.declared.types.ClassName.{ClassName}
 use Rattle.cil_model.specs.declared.trees.Class.{Class}
 use Rattle.cil_model.specs.declared.trees.Tree.{Tree}
 use Rattle.cil_model.specs.Declarations.{Declaration}
-use Rattle.event_trace.proofs.PositionLaws.{Stand, own_methods}
+use Rattle.event_trace.proofs.PositionLaws.{Occur, own_methods}
 use Rattle.event_trace.proofs.method_positions.add_members.Given as goal
 
 -- the positions of the methods among the members so far are listed
 abbrev pub invariant-loop-member : goal.invariant-loop-member
 invariant-loop-member l = (first : List (ClassName × Declaration)) (tree : Tree) (c : Class) → slice_get tree.classes l.class ≡ Some c → c.members ≡ l.members →
-    Stand first tree l.initial.positions.items l.positions.items (own_methods c l.member)
+    Occur first tree l.initial.positions.items l.positions.items (own_methods c l.member)

@@ -13,7 +13,7 @@ returns-in-Some c e found there at run is =
     let reached = c.target.ensures tree c.requires.laid_out found.0 e.0 found.1 (ap (option_map (λ (x : ClassName × Declaration). x.0)) there) at in
     let placed = sym (ap (option_map (λ (n : MemberNumber). method_at tree (n.class, n.index))) c.in-Some.is) ∙ reached ∙ ap (option_map Some) is in
     let run_is : method_at tree (c.in-Some.target.class, c.in-Some.target.index) ≡ Some run = same_Some (method_at tree (c.in-Some.target.class, c.in-Some.target.index)) (Some run) placed in
-    c.number.ensures.found tree c.requires.numbered run.0 run.1 run_is
+    c.number.ensures.found tree c.requires.has_id run.0 run.1 run_is
 
 pub returns-in-None : goal.returns-in-None
 returns-in-None c e found there at run is =

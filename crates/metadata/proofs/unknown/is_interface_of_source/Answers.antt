@@ -14,11 +14,11 @@ returns-in-None c =
     let t = c.args.names.now.classes.tree.now in
     let n = c.args.name.now in
     ap (λ o. option_map (λ (d : Declaration). d.is_interface) (option_map (λ d. declaration_in d.now) o)) (sym c.in-None.is) ∙
-    ap (option_map (λ (d : Declaration). d.is_interface)) (c.declared.ensures ∙ ap (declaration_of t) c.of.ensures) ∙ kind_of_plain t n.assembly n.name (sym c.is_some.ensures ∙ c.if-is_some.false)
+    ap (option_map (λ (d : Declaration). d.is_interface)) (c.declared_class.ensures ∙ ap (declaration_of t) c.of.ensures) ∙ kind_of_plain t n.assembly n.name (sym c.is_some.ensures ∙ c.if-is_some.false)
 
 pub returns-in-Some : goal.returns-in-Some
 returns-in-Some c =
     let t = c.args.names.now.classes.tree.now in
     let n = c.args.name.now in
     ap (λ o. option_map (λ (d : Declaration). d.is_interface) (option_map (λ d. declaration_in d.now) o)) (sym c.in-Some.is) ∙
-    ap (option_map (λ (d : Declaration). d.is_interface)) (c.declared.ensures ∙ ap (declaration_of t) c.of.ensures) ∙ kind_of_plain t n.assembly n.name (sym c.is_some.ensures ∙ c.if-is_some.false)
+    ap (option_map (λ (d : Declaration). d.is_interface)) (c.declared_class.ensures ∙ ap (declaration_of t) c.of.ensures) ∙ kind_of_plain t n.assembly n.name (sym c.is_some.ensures ∙ c.if-is_some.false)

@@ -15,12 +15,12 @@ loop-index-preserved c = λ number e.
     let test = has_virtual d in
     let index = c.loop-index.index in
     let own = get_or c.args.numbers.now index 0 in
-    let numbered : get_or (map number (map identity_of d.methods)) index 0 ≡ own = ap (λ ns. get_or ns index 0) (map_of_map identity_of number d.methods ∙ sym e) in
+    let has_id : get_or (map number (map identity_of d.methods)) index 0 ≡ own = ap (λ ns. get_or ns index 0) (map_of_map identity_of number d.methods ∙ sym e) in
     let tested : option_map test (slice_get (map identity_of d.methods) index) ≡ Some c.is_virtual_at.result =
     ap (option_map test) (slice_get-map identity_of d.methods index) ∙ option_map_of_map identity_of test (slice_get d.methods index) ∙ c.is_virtual_at.ensures in
     let before = map number (filter test (take index (map identity_of d.methods))) in
     let more : (b : Bool) → c.is_virtual_at.result ≡ b → map number (filter test (take (index + 1) (map identity_of d.methods))) ≡ before ++ cond b (own ∷ []) [] =
-    λ b h. map-filter-take_more number test (map identity_of d.methods) index b own 0 (tested ∙ ap Some h) numbered in
+    λ b h. map-filter-take_more number test (map identity_of d.methods) index b own 0 (tested ∙ ap Some h) has_id in
     elim c.if-is_virtual_at.branch [
       | then-is_virtual_at+in_ok-push w ↦ ap (λ v. v.items) w.chosen-is ∙ w.in_ok-push.ensures.items ∙ ap (λ ns. ns ++ own ∷ []) (c.loop-index.invariant number e) ∙ sym (more true w.if-is_virtual_at.true)
       | else-is_virtual_at w ↦ ap (λ v. v.items) w.chosen-is ∙ c.loop-index.invariant number e ∙ sym (append-nil before) ∙ sym (more false w.if-is_virtual_at.false)

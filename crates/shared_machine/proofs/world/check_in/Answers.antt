@@ -37,14 +37,14 @@ invariant_of-world-2 g c =
       | else-times-gt0-via-else-times-gt0 w ↦ ap (λ (l : Log). l.entries) w.history-is
     ] in
     let loan = c.into_loan.ensures.loan in
-    let done = ap (λ (l : Lent). l.done) (loan ∙ sym c.lent.view_is) ∙ sym c.done-times.ensures in
+    let done = ap (λ (l : Lent). l.done) (loan ∙ sym c.lent.view_is) ∙ sym c.step_count-times.ensures in
     let thread = ap (λ (l : Lent). l.thread) (loan ∙ sym c.lent.view_is) ∙ sym c.thread-thread.ensures in
-    let transitions = transitions_as c.world.inside.core c.take_back.new.self c.into_loan.result c.done-times.result c.thread-thread.result done thread c.take_back.ensures.transitions in
+    let transitions = transitions_as c.world.inside.core c.take_back.new.self c.into_loan.result c.step_count-times.result c.thread-thread.result done thread c.take_back.ensures.transitions in
     let t = c.args.ticket.now in
     world_at _ _ _ _ _ _ _ _ _ _ _ _
-    (sound_times _ _ t.worker (Step c.thread-thread.result) Ran (small_step c.thread-thread.result c.thread-thread.type_inv) c.take_back.new.self c.done-times.result c.world.inside.core c.world.inside.history.entries c.world.inside.book t.count c.world.invariant.sound c.record_steps.ensures.agreed transitions)
+    (sound_times _ _ t.worker (Step c.thread-thread.result) Ran (small_step c.thread-thread.result c.thread-thread.type_inv) c.take_back.new.self c.step_count-times.result c.world.inside.core c.world.inside.history.entries c.world.inside.book t.count c.world.invariant.sound c.record_steps.ensures.agreed transitions)
     refl
-    (c.record_steps.ensures.history ∙ ap (λ (h : List Entry). h ++ replicate c.done-times.result (entry t.worker (Step c.thread-thread.result) Ran)) before)
+    (c.record_steps.ensures.history ∙ ap (λ (h : List Entry). h ++ replicate c.step_count-times.result (entry t.worker (Step c.thread-thread.result) Ran)) before)
     c.record_steps.ensures.book
     refl
     (room_back _ c.world.inside.rooms.items c.from.result c.take_back.result c.world.invariant.homes (c.take_back.ensures.room ∙ same_tree _ _ _ _ _ c.world.invariant.sound))
@@ -58,13 +58,13 @@ returns-clause-done g c =
       | else-times-gt0-via-else-times-gt0 w ↦ ap (λ (l : Log). l.entries) w.history-is
     ] in
     let loan = c.into_loan.ensures.loan in
-    let done = ap (λ (l : Lent). l.done) (loan ∙ sym c.lent.view_is) ∙ sym c.done-times.ensures in
+    let done = ap (λ (l : Lent). l.done) (loan ∙ sym c.lent.view_is) ∙ sym c.step_count-times.ensures in
     let thread = ap (λ (l : Lent). l.thread) (loan ∙ sym c.lent.view_is) ∙ sym c.thread-thread.ensures in
-    let transitions = transitions_as c.world.inside.core c.take_back.new.self c.into_loan.result c.done-times.result c.thread-thread.result done thread c.take_back.ensures.transitions in
+    let transitions = transitions_as c.world.inside.core c.take_back.new.self c.into_loan.result c.step_count-times.result c.thread-thread.result done thread c.take_back.ensures.transitions in
     let lent = ap (λ rooms. is_lent_in (lent_of rooms) c.thread-thread.result) (sym c.deref.ensures.value) ∙ sym c.is_lent.ensures ∙ c.if-not-is_lent.false in
     let at = subst (IsAtOrigin c.world.inside.core) c.lent.view_is (c.is_at_origin.ensures.0 c.if-not-is_at_origin.false) in
     let t = c.args.ticket.now in
-    subst (λ (w : Shown). IsCheckedIn w t c.args.lent c.done-times.result (shown_as c.take_back.new.self c.record_steps.new.history.entries c.record_steps.new.book (lent_of (slice_set c.world.inside.rooms.items c.from.result (Some c.take_back.result))) c.world.inside.stopped) c.record_steps.new.ticket) c.world.view_is
-    (checked_in c.world.inside.core c.take_back.new.self c.world.inside.history.entries c.record_steps.new.history.entries c.world.inside.book c.record_steps.new.book c.world.inside.stopped c.world.inside.rooms.items c.from.result c.done-times.result
-    c.thread-thread.result c.take_back.result t c.record_steps.new.ticket c.args.lent c.from.ensures (c.done-times.ensures ∙ ap (λ (l : Lent). l.done) c.lent.view_is) (c.thread-thread.ensures ∙ ap (λ (l : Lent). l.thread) c.lent.view_is)
-    lent at transitions (c.record_steps.ensures.history ∙ ap (λ (h : List Entry). h ++ replicate c.done-times.result (entry t.worker (Step c.thread-thread.result) Ran)) before) c.record_steps.ensures.book c.record_steps.ensures.ticket)
+    subst (λ (w : Shown). IsCheckedIn w t c.args.lent c.step_count-times.result (shown_as c.take_back.new.self c.record_steps.new.history.entries c.record_steps.new.book (lent_of (slice_set c.world.inside.rooms.items c.from.result (Some c.take_back.result))) c.world.inside.stopped) c.record_steps.new.ticket) c.world.view_is
+    (checked_in c.world.inside.core c.take_back.new.self c.world.inside.history.entries c.record_steps.new.history.entries c.world.inside.book c.record_steps.new.book c.world.inside.stopped c.world.inside.rooms.items c.from.result c.step_count-times.result
+    c.thread-thread.result c.take_back.result t c.record_steps.new.ticket c.args.lent c.from.ensures (c.step_count-times.ensures ∙ ap (λ (l : Lent). l.done) c.lent.view_is) (c.thread-thread.ensures ∙ ap (λ (l : Lent). l.thread) c.lent.view_is)
+    lent at transitions (c.record_steps.ensures.history ∙ ap (λ (h : List Entry). h ++ replicate c.step_count-times.result (entry t.worker (Step c.thread-thread.result) Ran)) before) c.record_steps.ensures.book c.record_steps.ensures.ticket)

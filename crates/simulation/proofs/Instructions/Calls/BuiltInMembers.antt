@@ -5,7 +5,7 @@ use Rattle.interpreter.specs.cil_model.declared.instructions.Instruction.{Instru
 use Rattle.interpreter.specs.cil_model.Mentions.{literals_of}
 use Rattle.interpreter.specs.reference_machine.Values.{Value as StateValue}
 use Rattle.interpreter.specs.reference_machine.States.{Frame as StateFrame, State}
-use Rattle.interpreter.specs.reference_machine.Effects.{Setting, Effect as StateEffect, given as given_there, onward as onward_frame}
+use Rattle.interpreter.specs.reference_machine.Effects.{Setting, Effect as StateEffect, when_some as given_there, onward as onward_frame}
 use Rattle.interpreter.specs.reference_machine.BuiltIn.{Action, Construct, Write, Enter, Exit, Start, Join, act, line_of as state_line_of}
 use Rattle.interpreter.proofs.reference_machine.TypedStates.RunningFrames.{IsTypedEffect}
 use Rattle.interpreter.specs.resolved_code.declared.operations.Operation.{Operation}
@@ -17,13 +17,13 @@ use Rattle.interpreter.specs.object_memory.Objects.{Objects}
 use Rattle.interpreter.specs.threads_monitors.Frames.{Frames, with_pc, with_stack}
 use Rattle.interpreter.specs.threads_monitors.declared.effects.Effect.{Effect}
 use Rattle.interpreter.specs.threads_monitors.declared.effects.Effect.TheVariants.{Continues}
-use Rattle.interpreter.specs.instructions.Frames.{given, top_of, onward}
+use Rattle.interpreter.specs.instructions.Frames.{when_some, top_of, onward}
 use Rattle.interpreter.specs.instructions.ObjectTransitions.{beside}
 use Rattle.interpreter.specs.instructions.BuiltInTransitions.{line_of, print_bytes as printed_line}
 use Rattle.interpreter.specs.Calls.{CallTransition, act_transition, asks, beside_console, top_reference, call_answer}
 use Rattle.interpreter.specs.Instructions.{of_calls, answer_of}
-use Rattle.interpreter.specs.declared.outcomes.Outcome.{Outcome}
-use Rattle.interpreter.specs.declared.outcomes.Outcome.TheVariants.{Comes, Starts, Joins}
+use Rattle.interpreter.specs.declared.outcomes.InstructionOutcome.{InstructionOutcome}
+use Rattle.interpreter.specs.declared.outcomes.InstructionOutcome.TheVariants.{OwnEffect, Starts, Joins}
 use Rattle.simulation.specs.Agreement.{Agree}
 use Rattle.simulation.specs.Refines.{Names, IsValue, int32, int64, native, null_reference, reference}
 use Rattle.simulation.proofs.Instructions.Correspondence.{IsSetting, AsksFor, DoesAlike}
@@ -47,13 +47,13 @@ module _ (here : Setting) (model : MemoryModel here.tree) (name : Names) (m : Fr
 
   -- ---- an operand v that is the topmost of both stacks
 
-  module _ (v : Value) (rest : List Value) (u : StateValue) (rest' : List StateValue) (top : m.running.stack ≡ v ∷ rest) (top' : f.stack ≡ u ∷ rest') (stands : IsValue name v u) (others : Agree (IsValue name) rest rest') where
+  module _ (v : Value) (rest : List Value) (u : StateValue) (rest' : List StateValue) (top : m.running.stack ≡ v ∷ rest) (top' : f.stack ≡ u ∷ rest') (refines : IsValue name v u) (others : Agree (IsValue name) rest rest') where
     abbrev Acts : Action → Type 0
     Acts a = IsTypedEffect here.tree (act here s f below a (u ∷ []) rest') → Alike (act_transition here.tree (mutator_in here model) a m o print_bytes) (act here s f below a (u ∷ []) rest')
 
     constructs : Acts Construct
     constructs t = record {
-      answer = answer_of (popped rest) o statics print_bytes (Comes Continues);
+      answer = answer_of (popped rest) o statics print_bytes (OwnEffect Continues);
       is = ap (λ x. of_calls o statics print_bytes (top_of x m (λ w n. beside_console print_bytes (beside o (onward n))))) top ∙ ap (λ x. of_calls o statics print_bytes (beside_console print_bytes (beside o x))) (onward_popped rest);
       refuses = λ _ h. never h;
       alike = λ r. next_alike here model name m o statics print_bytes s f below i operation at rest rest' others;
@@ -66,12 +66,12 @@ module _ (here : Setting) (model : MemoryModel here.tree) (name : Names) (m : Fr
             Alike (act_transition here.tree (mutator_in here model) Write m o print_bytes) (given_there l (λ line. onward_frame f below (record s { printed = s.printed ++ line }) rest'))
         by_line None is t' = elim t' [ ]
         by_line (Some line) is t' = record {
-          answer = answer_of (popped rest) o statics (print_bytes ++ line) (Comes Continues);
+          answer = answer_of (popped rest) o statics (print_bytes ++ line) (OwnEffect Continues);
           is =
-              ap (λ x. of_calls o statics print_bytes (option_map (λ (y : Frames × List ℕ × Effect). call_answer y.0 o y.1 (Comes y.2)) (top_of x m (λ w n. given (line_of (literals_of here.tree) w) (λ l. printed_line l print_bytes n))))) top ∙
-              ap (λ x. of_calls o statics print_bytes (option_map (λ (y : Frames × List ℕ × Effect). call_answer y.0 o y.1 (Comes y.2)) (given x (λ l. printed_line l print_bytes (with_stack m rest)))))
-              (line_alike here.tree name o s (model.reads name o statics s at.memory.fits at.running.typed) v u stands line is) ∙
-              ap (λ x. of_calls o statics print_bytes (option_map (λ (y : Frames × List ℕ × Effect). call_answer y.0 o y.1 (Comes y.2)) (option_map (λ (y : Frames × Effect). (y.0, print_bytes ++ line, y.1)) x))) (onward_popped rest);
+              ap (λ x. of_calls o statics print_bytes (option_map (λ (y : Frames × List ℕ × Effect). call_answer y.0 o y.1 (OwnEffect y.2)) (top_of x m (λ w n. when_some (line_of (literals_of here.tree) w) (λ l. printed_line l print_bytes n))))) top ∙
+              ap (λ x. of_calls o statics print_bytes (option_map (λ (y : Frames × List ℕ × Effect). call_answer y.0 o y.1 (OwnEffect y.2)) (when_some x (λ l. printed_line l print_bytes (with_stack m rest)))))
+              (line_alike here.tree name o s (model.reads name o statics s at.memory.fits at.running.typed) v u refines line is) ∙
+              ap (λ x. of_calls o statics print_bytes (option_map (λ (y : Frames × List ℕ × Effect). call_answer y.0 o y.1 (OwnEffect y.2)) (option_map (λ (y : Frames × Effect). (y.0, print_bytes ++ line, y.1)) x))) (onward_popped rest);
           refuses = λ _ h. never h;
           alike = λ r.
               onward_alike here model name m o statics print_bytes s f below i operation at name (λ a n e. e) o statics (print_bytes ++ line) (record s { printed = s.printed ++ line }) refl
@@ -80,10 +80,10 @@ module _ (here : Setting) (model : MemoryModel here.tree) (name : Names) (m : Fr
 
     -- ---- what is asked of other threads
 
-    asked : (action : Action) (a : Addr) (outcome : Outcome) → v ≡ Ref a → AsksFor here model name m o statics print_bytes s f below action a (answer_of m o statics print_bytes outcome) (act here s f below action (u ∷ []) rest')
-    asked action a outcome is = record { operand = u; rest = rest'; stack = top'; stands = subst (λ x. IsValue name x u) is stands; is = refl; frames = refl; memory = (refl, refl, refl) }
+    asked : (action : Action) (a : Addr) (outcome : InstructionOutcome) → v ≡ Ref a → AsksFor here model name m o statics print_bytes s f below action a (answer_of m o statics print_bytes outcome) (act here s f below action (u ∷ []) rest')
+    asked action a outcome is = record { operand = u; rest = rest'; stack = top'; refines = subst (λ x. IsValue name x u) is refines; is = refl; frames = refl; memory = (refl, refl, refl) }
 
-    asks_is : (what : Addr → Outcome) (a : Addr) → v ≡ Ref a → of_calls o statics print_bytes (asks what m o print_bytes) ≡ Some (answer_of m o statics print_bytes (what a))
+    asks_is : (what : Addr → InstructionOutcome) (a : Addr) → v ≡ Ref a → of_calls o statics print_bytes (asks what m o print_bytes) ≡ Some (answer_of m o statics print_bytes (what a))
     asks_is what a is = ap (λ x. of_calls o statics print_bytes (option_map (λ b. call_answer m o print_bytes (what b)) (top_reference x))) (top ∙ ap (λ x. x ∷ rest) is)
 
     starts_of : (a : Addr) → v ≡ Ref a → Alike (act_transition here.tree (mutator_in here model) Start m o print_bytes) (act here s f below Start (u ∷ []) rest')
@@ -93,7 +93,7 @@ module _ (here : Setting) (model : MemoryModel here.tree) (name : Names) (m : Fr
     joins_of a is = record { answer = answer_of m o statics print_bytes (Joins a); is = asks_is Joins a is; refuses = λ _ h. never h; alike = λ r. asked Join a (Joins a) is }
 
     starts : Acts Start
-    starts = by_value v u refl stands
+    starts = by_value v u refl refines
       where
         by_value : (w : Value) (x : StateValue) → v ≡ w → IsValue name w x → IsTypedEffect here.tree (act here s f below Start (x ∷ []) rest') → Alike (act_transition here.tree (mutator_in here model) Start m o print_bytes) (act here s f below Start (u ∷ []) rest')
         by_value w x is (int32 z fits) t = elim t [ ]
@@ -103,7 +103,7 @@ module _ (here : Setting) (model : MemoryModel here.tree) (name : Names) (m : Fr
         by_value w x is (reference a n named) t = starts_of a is
 
     joins : Acts Join
-    joins = by_value v u refl stands
+    joins = by_value v u refl refines
       where
         by_value : (w : Value) (x : StateValue) → v ≡ w → IsValue name w x → IsTypedEffect here.tree (act here s f below Join (x ∷ []) rest') → Alike (act_transition here.tree (mutator_in here model) Join m o print_bytes) (act here s f below Join (u ∷ []) rest')
         by_value w x is (int32 z fits) t = elim t [ ]
@@ -117,8 +117,8 @@ module _ (here : Setting) (model : MemoryModel here.tree) (name : Names) (m : Fr
     acts : (a : Action) → Acts a
     acts Construct t = constructs t
     acts Write t = writes t
-    acts Enter t = enters_alike here model name m o statics print_bytes s f below i operation at rest rest' others v u top stands t
-    acts Exit t = exits_alike here model name m o statics print_bytes s f below i operation at rest rest' others v u top stands t
+    acts Enter t = enters_alike here model name m o statics print_bytes s f below i operation at rest rest' others v u top refines t
+    acts Exit t = exits_alike here model name m o statics print_bytes s f below i operation at rest rest' others v u top refines t
     acts Start t = starts t
     acts Join t = joins t
 

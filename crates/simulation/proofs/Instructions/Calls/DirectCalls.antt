@@ -11,7 +11,7 @@ use Rattle.interpreter.specs.cil_model.Assignable.{type_of_class}
 use Rattle.interpreter.specs.cil_model.Bodies.{argument_types, reference_operands}
 use Rattle.interpreter.specs.reference_machine.Values.{Value as StateValue}
 use Rattle.interpreter.specs.reference_machine.States.{Frame as StateFrame, State}
-use Rattle.interpreter.specs.reference_machine.Effects.{Setting, Effect as StateEffect, Sticks, given as given_there, are_of_kinds}
+use Rattle.interpreter.specs.reference_machine.Effects.{Setting, Effect as StateEffect, Sticks, when_some as given_there, are_of_kinds}
 use Rattle.interpreter.specs.reference_machine.Steps.{run_method, operands, execute}
 use Rattle.interpreter.proofs.reference_machine.Programs.FoundMethods.{IsFound, found}
 use Rattle.interpreter.proofs.reference_machine.TypedStates.RunningFrames.{IsTypedEffect}
@@ -69,7 +69,7 @@ module _ (here : Setting) (model : MemoryModel here.tree) (name : Names) (m : Fr
       let is : IsFound here.tree is_instance r finds.declared_in finds.found = found here.tree at.running.accepted.legal is_instance r finds.declared_in finds.found finds.finds in
       let types : List DeclaredType = reference_operands is_instance r in
       let transition : MachineTransition = operation_transition here.tree (mutator_in here model) (Resolved.Call is_instance owner method) m o statics printed in
-      let transition_is : transition ≡ of_calls o statics printed (run_transition here.tree (mutator_in here model) run m o printed) = call_does here.tree (mutator_in here model) m o statics printed method run finds.numbered is_instance owner in
+      let transition_is : transition ≡ of_calls o statics printed (run_transition here.tree (mutator_in here model) run m o printed) = call_does here.tree (mutator_in here model) m o statics printed method run finds.has_id is_instance owner in
       let typed : IsTypedEffect here.tree (operands here s f below types (run_method here s f below run)) =
       subst (λ x. IsTypedEffect here.tree (given_there x (λ y. operands here s f below types (run_method here s f below y)))) finds.finds
       (fine here model name m o statics printed s f below (Named.Call is_instance r) (Resolved.Call is_instance owner method) at) in
@@ -77,4 +77,4 @@ module _ (here : Setting) (model : MemoryModel here.tree) (name : Names) (m : Fr
       (subst (λ x. DoesAlike here model name m o statics printed s f below x (operands here s f below types (run_method here s f below run))) (sym transition_is)
       (operands_there here s f below types (run_method here s f below run) (λ e. DoesAlike here model name m o statics printed s f below (of_calls o statics printed (run_transition here.tree (mutator_in here model) run m o printed)) e)
       (length (argument_types finds.found finds.declared_in)) (operand_count is_instance r finds.declared_in finds.found _ is.static is.signature) typed (λ enough t.
-      methods_run_alike here model name m o statics printed s f below (Named.Call is_instance r) (Resolved.Call is_instance owner method) at run method.class method.index finds.numbered enough t)))
+      methods_run_alike here model name m o statics printed s f below (Named.Call is_instance r) (Resolved.Call is_instance owner method) at run method.class method.index finds.has_id enough t)))

@@ -10,7 +10,7 @@ use Rattle.interpreter.specs.reference_machine.BuiltIn.{Action, action_of, act}
 use Rattle.interpreter.specs.reference_machine.Steps.{is_too_deep, frame_for}
 use Rattle.interpreter.proofs.reference_machine.TypedStates.RunningFrames.{IsTypedEffect}
 use Rattle.interpreter.specs.loaded_program.MethodNumbers.{number_of}
-use Rattle.interpreter.specs.instructions.Frames.{given}
+use Rattle.interpreter.specs.instructions.Frames.{when_some}
 use Rattle.interpreter.specs.instructions.ObjectTransitions.{beside}
 use Rattle.interpreter.specs.instructions.Calls.{call_transition}
 use Rattle.interpreter.specs.Calls.{CallTransition, act_transition, called_as, beside_console}
@@ -35,7 +35,7 @@ methods_run_alike here model name m o statics printed s f below i operation at f
     framed = if is_too_deep here s f below then StateRaises StackOverflow else frame_for here s f below found.0 found.1 (reverse (take (length (argument_types found.1 found.0)) f.stack)) None s (drop (length (argument_types found.1 found.0)) f.stack)
 
     called : CallTransition
-    called = given (number_of here.tree found) (λ n. beside_console printed (beside o (call_transition (called_as found n) m)))
+    called = when_some (number_of here.tree found) (λ n. beside_console printed (beside o (call_transition (called_as found n) m)))
 
     by_action : (a : Option Action) → IsTypedEffect here.tree (option_map_or (λ x. act here s f below x arguments rest) a framed) →
         DoesAlike here model name m o statics printed s f below (of_calls o statics printed (option_map_or (λ x. act_transition here.tree (mutator_in here model) x m o printed) a called)) (option_map_or (λ x. act here s f below x arguments rest) a framed)

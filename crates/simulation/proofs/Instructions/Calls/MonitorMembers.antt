@@ -10,7 +10,7 @@ use Rattle.interpreter.specs.cil_model.declared.reports.Fault.{Fault}
 use Rattle.interpreter.specs.cil_model.declared.reports.Fault.TheVariants.{ArgumentNull, SynchronizationLock}
 use Rattle.interpreter.specs.reference_machine.Values.{ObjectName, Value as StateValue, Reference}
 use Rattle.interpreter.specs.reference_machine.States.{Monitor as StateMonitor, Free as IsFree, Held as IsHeld, Frame as StateFrame, State, with_monitor as with_state_monitor}
-use Rattle.interpreter.specs.reference_machine.Effects.{Setting, Effect as StateEffect, Blocks as StateBlocks, Raises as StateRaises, given as given_there, onward as onward_frame}
+use Rattle.interpreter.specs.reference_machine.Effects.{Setting, Effect as StateEffect, Blocks as StateBlocks, Raises as StateRaises, when_some as given_there, onward as onward_frame}
 use Rattle.interpreter.specs.reference_machine.BuiltIn.{Enter, Exit, act, enter, exit}
 use Rattle.interpreter.proofs.reference_machine.TypedStates.RunningFrames.{IsTypedEffect}
 use Rattle.simulation.specs.Counts.{IsCountedMonitor}
@@ -31,7 +31,7 @@ use Rattle.interpreter.specs.instructions.ObjectTransitions.{beside}
 use Rattle.interpreter.specs.instructions.BuiltInTransitions.{reference_from, carry, is_countable}
 use Rattle.interpreter.specs.Calls.{CallTransition, act_transition, beside_console}
 use Rattle.interpreter.specs.Instructions.{of_calls, answer_of}
-use Rattle.interpreter.specs.declared.outcomes.Outcome.TheVariants.{Comes}
+use Rattle.interpreter.specs.declared.outcomes.InstructionOutcome.TheVariants.{OwnEffect}
 use Rattle.simulation.specs.Agreement.{Agree}
 use Rattle.simulation.specs.Refines.{Names, IsValue, int32, int64, native, null_reference, reference, IsMonitor}
 use Rattle.simulation.proofs.Instructions.Correspondence.{IsSetting, DoesAlike, refused_fault}
@@ -72,10 +72,10 @@ module _ (here : Setting) (model : MemoryModel here.tree) (name : Names) (m : Fr
   carrying x = beside_console printed (carry m (with_stack m rest) x)
 
   blocks_alike : (transition : CallTransition) → transition ≡ carrying (o, Blocks) → Alike transition StateBlocks
-  blocks_alike transition is = record { answer = answer_of m o statics printed (Comes Blocks); is = ap (of_calls o statics printed) is; refuses = λ _ h. never h; alike = λ r. (refl, refl, (refl, refl, refl)) }
+  blocks_alike transition is = record { answer = answer_of m o statics printed (OwnEffect Blocks); is = ap (of_calls o statics printed) is; refuses = λ _ h. never h; alike = λ r. (refl, refl, (refl, refl, refl)) }
 
   raises_alike : (transition : CallTransition) (x : Fault) → transition ≡ carrying (o, Raises x) → Alike transition (StateRaises x)
-  raises_alike transition x is = record { answer = answer_of m o statics printed (Comes (Raises x)); is = ap (of_calls o statics printed) is; refuses = λ _ h. inr (refused_fault x h); alike = λ r. (refl, (refl, refl, refl)) }
+  raises_alike transition x is = record { answer = answer_of m o statics printed (OwnEffect (Raises x)); is = ap (of_calls o statics printed) is; refuses = λ _ h. inr (refused_fault x h); alike = λ r. (refl, (refl, refl, refl)) }
 
   -- ---- an object, at its address
 
@@ -84,7 +84,7 @@ module _ (here : Setting) (model : MemoryModel here.tree) (name : Names) (m : Fr
     changes_alike new changed is h =
         let after : IsChanged here.tree model name o statics printed here.limits s a n new changed = there.changes new changed h in
         record {
-          answer = answer_of (with_pc (with_stack m rest) (m.running.pc + 1)) (stored_monitor model.phase o a new) statics printed (Comes Continues);
+          answer = answer_of (with_pc (with_stack m rest) (m.running.pc + 1)) (stored_monitor model.phase o a new) statics printed (OwnEffect Continues);
           is = ap (of_calls o statics printed) is ∙ ap (λ x. of_calls o statics printed (beside_console printed (beside (stored_monitor model.phase o a new) x))) (onward_is here model name m o statics printed s f below i operation at rest);
           refuses = λ _ h. never h;
           alike = λ r. onward_alike here model name m o statics printed s f below i operation at name (λ b k e. e) (stored_monitor model.phase o a new) statics printed (with_state_monitor s n changed) after.others after.memory rest rest' others;
@@ -146,19 +146,19 @@ module _ (here : Setting) (model : MemoryModel here.tree) (name : Names) (m : Fr
       enters_object : Alike (act_transition here.tree (mutator_in here model) Enter m o printed) (act here s f below Enter (Reference n ∷ []) rest')
       enters_object =
           subst (λ x. Alike (act_transition here.tree (mutator_in here model) Enter m o printed) (given_there x (enter here s f below n rest'))) (sym there.are.state_held) (
-          entry_alike a n named there (act_transition here.tree (mutator_in here model) Enter m o printed) there.are.monitor there.are.state_monitor there.are.stands (
+          entry_alike a n named there (act_transition here.tree (mutator_in here model) Enter m o printed) there.are.monitor there.are.state_monitor there.are.refines (
           enter_is ∙
           ap (λ b. enters_by b (is_countable (monitor_at o a) && storable a) (if b then (o, Raises ArgumentNull) else with_monitor_or model.phase o a Blocks (option_and_then (enter_monitor here.thread) (monitor_at o a)))) not_null ∙
           ap (λ x. enters_by false (is_countable x && storable a) (with_monitor_or model.phase o a Blocks (option_and_then (enter_monitor here.thread) x))) there.are.held ∙
           ap (λ b. enters_by false b (with_monitor_or model.phase o a Blocks (enter_monitor here.thread there.are.monitor)))
-          (and_from (is_countable (Some there.are.monitor)) (storable a) (countable here.limits s there.are.monitor there.are.state_monitor at.budget there.are.stands there.counted) can_store)
+          (and_from (is_countable (Some there.are.monitor)) (storable a) (countable here.limits s there.are.monitor there.are.state_monitor at.budget there.are.refines there.counted) can_store)
           )
           )
 
       exits_object : Alike (act_transition here.tree (mutator_in here model) Exit m o printed) (act here s f below Exit (Reference n ∷ []) rest')
       exits_object =
           subst (λ x. Alike (act_transition here.tree (mutator_in here model) Exit m o printed) (given_there x (exit here s f below n rest'))) (sym there.are.state_held) (
-          exit_alike a n named there (act_transition here.tree (mutator_in here model) Exit m o printed) there.are.monitor there.are.state_monitor there.are.stands (
+          exit_alike a n named there (act_transition here.tree (mutator_in here model) Exit m o printed) there.are.monitor there.are.state_monitor there.are.refines (
           exit_is ∙
           ap (λ b. enters_by b (is_some (monitor_at o a) && storable a) (if b then (o, Raises ArgumentNull) else with_monitor_or model.phase o a (Raises SynchronizationLock) (option_and_then (leave_monitor here.thread) (monitor_at o a)))) not_null ∙
           ap (λ x. enters_by false (is_some x && storable a) (with_monitor_or model.phase o a (Raises SynchronizationLock) (option_and_then (leave_monitor here.thread) x))) there.are.held ∙

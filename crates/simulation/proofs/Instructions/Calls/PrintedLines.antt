@@ -27,7 +27,7 @@ module _ (tree : Tree) (name : Names) (o : Objects) (s : State) (heap : IsReadab
   line_alike v u (reference a (Literal characters) named) line is =
       let there : IsLiteralAt tree o s a.number characters = heap.literals a.number characters named in
       ap (λ b. option_map (λ text. text ++ 10 ∷ []) (if b then Some [] else option_map_or (slice_get (literals_of tree)) (literal_number a) None)) (named_is_not_null tree name o s heap a.number (Literal characters) named) ∙
-      ap (λ x. option_map (λ text. text ++ 10 ∷ []) (option_map_or (slice_get (literals_of tree)) x None)) there.numbered ∙
+      ap (λ x. option_map (λ text. text ++ 10 ∷ []) (option_map_or (slice_get (literals_of tree)) x None)) there.has_id ∙
       ap (option_map (λ text. text ++ 10 ∷ [])) there.is ∙ is
 
 -- the memory once a line was printed

@@ -18,11 +18,11 @@ use Rattle.interpreter.specs.object_memory.declared.values.Value.TheVariants.{Re
 use Rattle.interpreter.specs.object_memory.Objects.{Objects}
 use Rattle.interpreter.specs.threads_monitors.Frames.{Frame, Frames, size, with_running, return_frames, returned_to}
 use Rattle.interpreter.specs.threads_monitors.declared.effects.Effect.TheVariants.{Continues, Returns}
-use Rattle.interpreter.specs.instructions.Frames.{Transition, given}
+use Rattle.interpreter.specs.instructions.Frames.{Transition, when_some}
 use Rattle.interpreter.specs.instructions.Calls.{gives, return_by}
 use Rattle.interpreter.specs.Instructions.{operation_transition, answer_of, of_frames}
 use Rattle.interpreter.proofs.Linking.{return_does}
-use Rattle.interpreter.specs.declared.outcomes.Outcome.TheVariants.{Comes}
+use Rattle.interpreter.specs.declared.outcomes.InstructionOutcome.TheVariants.{OwnEffect}
 use Rattle.simulation.specs.Agreement.{Agree}
 use Rattle.simulation.specs.MachineStates.{frame_room}
 use Rattle.simulation.specs.Refines.{Names, IsValue, reference, IsObject, IsFrame}
@@ -68,7 +68,7 @@ module _ (here : Setting) (model : MemoryModel here.tree) (name : Names) (m : Fr
   -- back in the frame below, with another stack
   returns_to : (g : Frame) (gs : List Frame) (g' : StateFrame) (gs' : List StateFrame) → m.below ≡ g ∷ gs → IsFrame here.tree name g g' → Agree (IsFrame here.tree name) gs gs' →
       (stack : List Value) (stack' : List StateValue) → Agree (IsValue name) stack stack' →
-      GoesAlike here model name m o statics printed s f below (answer_of (record m { running = record g { stack = stack }; below = gs }) o statics printed (Comes Continues)) (Goes (record g' { stack = stack' } ∷ gs') s)
+      GoesAlike here model name m o statics printed s f below (answer_of (record m { running = record g { stack = stack }; below = gs }) o statics printed (OwnEffect Continues)) (Goes (record g' { stack = stack' } ∷ gs') s)
   returns_to g gs g' gs' is h k stack stack' l =
       let few : length (m.running ∷ g ∷ gs) ≤ here.limits.depth = subst (λ bs. length (m.running ∷ bs) ≤ here.limits.depth) is at.frames.few in
       record {
@@ -90,7 +90,7 @@ module _ (here : Setting) (model : MemoryModel here.tree) (name : Names) (m : Fr
 
   -- what the running frame gives, whatever is left in it
   leaves_alike : (r : Frame) (v : Option Value) (u : Option StateValue) → IsGiven name v u → Alike (gives v (with_running m r)) (push_and_advance here s f below u)
-  leaves_alike r v u given = by_below m.below below refl at.frames.frames.1 at.running.waiting v u given
+  leaves_alike r v u when_some = by_below m.below below refl at.frames.frames.1 at.running.waiting v u when_some
     where
       has_room : (g : Frame) (g' : StateFrame) (gs' : List StateFrame) → IsFrame here.tree name g g' → AreWaiting here.tree s (type_gives s f) (g' ∷ gs') → nat_lt (size g) m.room ≡ true
       has_room g g' gs' h waiting =
@@ -101,19 +101,19 @@ module _ (here : Setting) (model : MemoryModel here.tree) (name : Names) (m : Fr
       by_below : (bs : List Frame) (bs' : List StateFrame) → m.below ≡ bs → Agree (IsFrame here.tree name) bs bs' → AreWaiting here.tree s (type_gives s f) bs' →
           (v : Option Value) (u : Option StateValue) → IsGiven name v u → Alike (gives v (with_running m r)) (Goes (returned_frames u bs') s)
       by_below [] [] is h waiting v u k = record {
-        answer = answer_of (with_running m r) o statics printed (Comes Returns);
+        answer = answer_of (with_running m r) o statics printed (OwnEffect Returns);
         is = ap (of_frames o statics printed) (gives_done v (with_running m r) is);
         refuses = λ _ h. never h;
         alike = λ x. (refl, (refl, refl, refl));
       }
       by_below (g ∷ gs) (g' ∷ gs') is h waiting None None k = record {
-        answer = (answer_of (record m { running = g; below = gs }) o statics printed (Comes Continues));
+        answer = (answer_of (record m { running = g; below = gs }) o statics printed (OwnEffect Continues));
         is = ap (of_frames o statics printed) (gives_none (with_running m r) g gs is);
         refuses = λ _ h. never h;
         alike = λ x. returns_to g gs g' gs' is h.0 h.1 g.stack g'.stack h.0.stack;
       }
       by_below (g ∷ gs) (g' ∷ gs') is h waiting (Some v) (Some u) k = record {
-        answer = (answer_of (record m { running = record g { stack = v ∷ g.stack }; below = gs }) o statics printed (Comes Continues));
+        answer = (answer_of (record m { running = record g { stack = v ∷ g.stack }; below = gs }) o statics printed (OwnEffect Continues));
         is = ap (of_frames o statics printed) (gives_some v (with_running m r) g gs is (has_room g g' gs' h.0 waiting));
         refuses = λ _ h. never h;
         alike = λ x. returns_to g gs g' gs' is h.0 h.1 (v ∷ g.stack) (u ∷ g'.stack) (k, h.0.stack);

@@ -11,7 +11,7 @@ use Rattle.interpreter.specs.cil_model.declared.types.Signature.{Signature}
 use Rattle.interpreter.specs.cil_model.Bodies.{argument_types, reference_operands, virtual_reference}
 use Rattle.interpreter.specs.reference_machine.Values.{ObjectName, Value as StateValue, Reference}
 use Rattle.interpreter.specs.reference_machine.States.{Frame as StateFrame, State, class_of}
-use Rattle.interpreter.specs.reference_machine.Effects.{Setting, Effect as StateEffect, Sticks, given as given_state, are_of_kinds}
+use Rattle.interpreter.specs.reference_machine.Effects.{Setting, Effect as StateEffect, Sticks, when_some as given_state, are_of_kinds}
 use Rattle.interpreter.specs.reference_machine.Steps.{execute, run_method, run_virtual, operands}
 use Rattle.interpreter.proofs.reference_machine.Programs.FoundMethods.{IsFound, found}
 use Rattle.interpreter.proofs.reference_machine.TypedStates.RunningFrames.{IsTypedEffect}
@@ -24,8 +24,8 @@ use Rattle.interpreter.specs.object_memory.declared.values.Value.{Value}
 use Rattle.interpreter.specs.object_memory.Objects.{Objects}
 use Rattle.interpreter.specs.threads_monitors.Frames.{Frames}
 use Rattle.interpreter.specs.threads_monitors.declared.effects.Effect.TheVariants.{Raises}
-use Rattle.interpreter.specs.instructions.Frames.{given}
-use Rattle.interpreter.specs.declared.outcomes.Outcome.TheVariants.{Comes}
+use Rattle.interpreter.specs.instructions.Frames.{when_some}
+use Rattle.interpreter.specs.declared.outcomes.InstructionOutcome.TheVariants.{OwnEffect}
 use Rattle.interpreter.specs.Calls.{CallTransition, chosen_method, receiver, receiver_in, run_transition, call_answer, run_on}
 use Rattle.interpreter.specs.Instructions.{of_calls, operation_transition, answer_of}
 use Rattle.interpreter.proofs.Linking.{virtual_does}
@@ -88,10 +88,10 @@ module _ (methods_run_alike : MethodsRunAlike) where
       abbrev transition_on : Addr → CallTransition
       transition_on a = run_on here.tree (mutator_in here model) own a m o printed
 
-      transition_on_is : (a : Addr) (n : ObjectName) → name a.number ≡ Some n → transition_on a ≡ given (method_by here.tree own (class_of s n)) (λ x. run_transition here.tree (mutator_in here model) x m o printed)
+      transition_on_is : (a : Addr) (n : ObjectName) → name a.number ≡ Some n → transition_on a ≡ when_some (method_by here.tree own (class_of s n)) (λ x. run_transition here.tree (mutator_in here model) x m o printed)
       transition_on_is a n named =
-          ap (λ b. if b then Some (call_answer m o printed (Comes (Raises NullReference))) else given (chosen_method here.tree o a own) (λ y. run_transition here.tree (mutator_in here model) y m o printed)) (named_is_not_null here.tree name o s (model.reads name o statics s at.memory.fits at.running.typed) a.number n named) ∙
-          ap (λ x. given x (λ y. run_transition here.tree (mutator_in here model) y m o printed)) (chosen_is here.tree name o s (model.reads name o statics s at.memory.fits at.running.typed) own a n named)
+          ap (λ b. if b then Some (call_answer m o printed (OwnEffect (Raises NullReference))) else when_some (chosen_method here.tree o a own) (λ y. run_transition here.tree (mutator_in here model) y m o printed)) (named_is_not_null here.tree name o s (model.reads name o statics s at.memory.fits at.running.typed) a.number n named) ∙
+          ap (λ x. when_some x (λ y. run_transition here.tree (mutator_in here model) y m o printed)) (chosen_is here.tree name o s (model.reads name o statics s at.memory.fits at.running.typed) own a n named)
 
       module _ (few : nat_le count (length f.stack) ≡ true) (this : StateValue) (arguments : List StateValue) (taken : reverse (take count f.stack) ≡ this ∷ arguments) where
         -- the method that an object chooses runs alike
@@ -99,23 +99,23 @@ module _ (methods_run_alike : MethodsRunAlike) where
         run_alike run is typed =
             subst (λ vs. Alike (run_transition here.tree (mutator_in here model) run m o printed) (run_method here s f below run vs rest)) taken
             (subst (λ n. Alike (run_transition here.tree (mutator_in here model) run m o printed) (run_method here s f below run (reverse (take n f.stack)) (drop n f.stack))) is.count
-            (methods_run_alike here model name m o statics printed s f below (Named.CallVirtual c label signature) (Resolved.CallVirtual owner method) at run is.class is.index is.numbered
+            (methods_run_alike here model name m o statics printed s f below (Named.CallVirtual c label signature) (Resolved.CallVirtual owner method) at run is.class is.index is.has_id
             (subst (λ n. nat_le n (length f.stack) ≡ true) (sym is.count) few)
             (subst (λ n. Typed (run_method here s f below run (reverse (take n f.stack)) (drop n f.stack))) (sym is.count) (subst (λ vs. Typed (run_method here s f below run vs rest)) (sym taken) typed))))
 
         chosen_alike : (a : Addr) (n : ObjectName) → name a.number ≡ Some n → (run : Option (ClassName × Method)) → method_by here.tree own (class_of s n) ≡ run →
             Typed (given_state run (λ x. run_method here s f below x (this ∷ arguments) rest)) →
-            Alike (given run (λ x. run_transition here.tree (mutator_in here model) x m o printed)) (given_state run (λ x. run_method here s f below x (this ∷ arguments) rest))
+            Alike (when_some run (λ x. run_transition here.tree (mutator_in here model) x m o printed)) (given_state run (λ x. run_method here s f below x (this ∷ arguments) rest))
         chosen_alike a n named None is typed = elim typed [ ]
         chosen_alike a n named (Some run) is typed = run_alike run (chosen_has_number here.tree signature own is_found.declared is_found.signature is_found.static (class_of s n) run is) typed
 
       -- by what the first operand is
       this_alike : nat_le count (length f.stack) ≡ true → (this : StateValue) (arguments : List StateValue) → reverse (take count f.stack) ≡ this ∷ arguments → (v : Value) → IsValue name v this →
-          Typed (run_virtual here s f below own (this ∷ arguments) rest) → Alike (given (receiver_in (Some v)) transition_on) (run_virtual here s f below own (this ∷ arguments) rest)
+          Typed (run_virtual here s f below own (this ∷ arguments) rest) → Alike (when_some (receiver_in (Some v)) transition_on) (run_virtual here s f below own (this ∷ arguments) rest)
       this_alike few this arguments taken v (int32 z fits) typed = elim typed [ ]
       this_alike few this arguments taken v (int64 z fits) typed = elim typed [ ]
       this_alike few this arguments taken v (native z fits) typed = elim typed [ ]
-      this_alike few this arguments taken v null_reference typed = record { answer = answer_of m o statics printed (Comes (Raises NullReference)); is = refl; refuses = λ _ h. never h; alike = λ r. (refl, (refl, refl, refl)) }
+      this_alike few this arguments taken v null_reference typed = record { answer = answer_of m o statics printed (OwnEffect (Raises NullReference)); is = refl; refuses = λ _ h. never h; alike = λ r. (refl, (refl, refl, refl)) }
       this_alike few this arguments taken v (reference a n named) typed =
           subst (λ transition. Alike transition (run_virtual here s f below own (Reference n ∷ arguments) rest)) (sym (transition_on_is a n named)) (chosen_alike few (Reference n) arguments taken a n named (method_by here.tree own (class_of s n)) refl typed)
 
@@ -123,31 +123,31 @@ module _ (methods_run_alike : MethodsRunAlike) where
       types = reference_operands true (virtual_reference c label signature)
 
       -- the operands are on both stacks
-      operands_alike : Typed (operands here s f below types (run_virtual here s f below own)) → Alike (given (receiver m.running.stack count) transition_on) (operands here s f below types (run_virtual here s f below own))
+      operands_alike : Typed (operands here s f below types (run_virtual here s f below own)) → Alike (when_some (receiver m.running.stack count) transition_on) (operands here s f below types (run_virtual here s f below own))
       operands_alike typed = by_count (nat_le count (length f.stack)) refl typed
         where
-          by_operands : nat_le count (length f.stack) ≡ true → (vs : List StateValue) → reverse (take count f.stack) ≡ vs → Typed (run_virtual here s f below own vs rest) → Alike (given (receiver m.running.stack count) transition_on) (run_virtual here s f below own vs rest)
+          by_operands : nat_le count (length f.stack) ≡ true → (vs : List StateValue) → reverse (take count f.stack) ≡ vs → Typed (run_virtual here s f below own vs rest) → Alike (when_some (receiver m.running.stack count) transition_on) (run_virtual here s f below own vs rest)
           by_operands few [] taken typed' = elim typed' [ ]
           by_operands few (this ∷ arguments) taken typed' =
               let stacks : Agree (IsValue name) m.running.stack f.stack = (own_frame here model name m o statics printed s f below (Named.CallVirtual c label signature) (Resolved.CallVirtual owner method) at).stack in
               let first : slice_get f.stack (length signature.parameters) ≡ Some this = last_taken (length signature.parameters) f.stack this arguments (leb-true count (length f.stack) few) taken in
               let object = agree_get (IsValue name) m.running.stack f.stack stacks (length signature.parameters) this first in
-              subst (λ x. Alike (given (receiver_in x) transition_on) (run_virtual here s f below own (this ∷ arguments) rest)) (sym object.1) (this_alike few this arguments taken object.0 object.2 typed')
+              subst (λ x. Alike (when_some (receiver_in x) transition_on) (run_virtual here s f below own (this ∷ arguments) rest)) (sym object.1) (this_alike few this arguments taken object.0 object.2 typed')
 
           by_kinds : nat_le count (length f.stack) ≡ true → (b : Bool) → Typed (if b then run_virtual here s f below own (reverse (take count f.stack)) rest else Sticks) →
-              Alike (given (receiver m.running.stack count) transition_on) (if b then run_virtual here s f below own (reverse (take count f.stack)) rest else Sticks)
+              Alike (when_some (receiver m.running.stack count) transition_on) (if b then run_virtual here s f below own (reverse (take count f.stack)) rest else Sticks)
           by_kinds few false typed' = elim typed' [ ]
           by_kinds few true typed' = by_operands few (reverse (take count f.stack)) refl typed'
 
           by_count : (b : Bool) → nat_le count (length f.stack) ≡ b → Typed (if b then (if are_of_kinds types (reverse (take count f.stack)) then run_virtual here s f below own (reverse (take count f.stack)) rest else Sticks) else Sticks) →
-              Alike (given (receiver m.running.stack count) transition_on) (if b then (if are_of_kinds types (reverse (take count f.stack)) then run_virtual here s f below own (reverse (take count f.stack)) rest else Sticks) else Sticks)
+              Alike (when_some (receiver m.running.stack count) transition_on) (if b then (if are_of_kinds types (reverse (take count f.stack)) then run_virtual here s f below own (reverse (take count f.stack)) rest else Sticks) else Sticks)
           by_count false few typed' = elim typed' [ ]
           by_count true few typed' = by_kinds few (are_of_kinds types (reverse (take count f.stack))) typed'
 
       -- the method that the reference finds
-      found_alike : Alike (given (receiver m.running.stack (length (argument_types finds.found finds.declared_in))) transition_on) (operands here s f below types (run_virtual here s f below own))
+      found_alike : Alike (when_some (receiver m.running.stack (length (argument_types finds.found finds.declared_in))) transition_on) (operands here s f below types (run_virtual here s f below own))
       found_alike =
-          subst (λ n. Alike (given (receiver m.running.stack n) transition_on) (operands here s f below types (run_virtual here s f below own))) (sym own_count)
+          subst (λ n. Alike (when_some (receiver m.running.stack n) transition_on) (operands here s f below types (run_virtual here s f below own))) (sym own_count)
           (operands_alike (subst (λ x. Typed (given_state x (λ y. operands here s f below types (run_virtual here s f below y)))) finds.finds (fine here model name m o statics printed s f below (Named.CallVirtual c label signature) (Resolved.CallVirtual owner method) at)))
 
     -- callvirt (III.4.2)
@@ -155,6 +155,6 @@ module _ (methods_run_alike : MethodsRunAlike) where
         IsSetting here model name m o statics printed s f below (Named.CallVirtual c label signature) (Resolved.CallVirtual owner method) →
         DoesAlike here model name m o statics printed s f below (operation_transition here.tree (mutator_in here model) (Resolved.CallVirtual owner method) m o statics printed) (execute here s f below (Named.CallVirtual c label signature))
     call_virtual_alike c label signature owner method named finds at =
-        subst (λ transition. DoesAlike here model name m o statics printed s f below transition (execute here s f below (Named.CallVirtual c label signature))) (sym (virtual_does here.tree (mutator_in here model) m o statics printed method (finds.declared_in, finds.found) finds.numbered owner))
-        (subst (λ x. Alike (given (receiver m.running.stack (length (argument_types finds.found finds.declared_in))) (transition_on c label signature owner method finds at)) (given_state x (λ y. operands here s f below (types c label signature owner method finds at) (run_virtual here s f below y)))) (sym finds.finds)
+        subst (λ transition. DoesAlike here model name m o statics printed s f below transition (execute here s f below (Named.CallVirtual c label signature))) (sym (virtual_does here.tree (mutator_in here model) m o statics printed method (finds.declared_in, finds.found) finds.has_id owner))
+        (subst (λ x. Alike (when_some (receiver m.running.stack (length (argument_types finds.found finds.declared_in))) (transition_on c label signature owner method finds at)) (given_state x (λ y. operands here s f below (types c label signature owner method finds at) (run_virtual here s f below y)))) (sym finds.finds)
         (found_alike c label signature owner method finds at))

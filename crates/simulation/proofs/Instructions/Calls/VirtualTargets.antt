@@ -19,7 +19,7 @@ use Rattle.interpreter.proofs.cil_model.Lists.{none_is_some, find_passes}
 use Rattle.interpreter.proofs.cil_model.SameLaws.{never, both_second, same_signature_equal}
 use Rattle.interpreter.proofs.reference_machine.Programs.MethodTypings.{IsDeclared, target_is_declared}
 use Rattle.interpreter.specs.name_tables.Numbers.{class_number, method_at}
-use Rattle.interpreter.proofs.name_tables.NumberLaws.{HasId, numbered}
+use Rattle.interpreter.proofs.name_tables.NumberLaws.{HasId, has_id}
 use Rattle.interpreter.proofs.loaded_program.FlatLaws.{numbered_at}
 use Rattle.simulation.proofs.Memory.ClassesAtAddresses.{method_by}
 
@@ -78,7 +78,7 @@ target_has_object tree d c m k m' h object = by_kind (is_virtual m.kind) (is_int
 
 -- a declared method is at an index of a class with an id
 pub declared_at : (tree : Tree) (c : ClassName) (m : Method) → IsDeclared tree c m → (class : ℕ) × (index : ℕ) × (method_at tree (class, index) ≡ Some (c, m))
-declared_at tree c m (index, h) = by_number (class_number tree c) (numbered tree c)
+declared_at tree c m (index, h) = by_number (class_number tree c) (has_id tree c)
   where
     by_number : (o : Option ℕ) → HasId tree c o → (class : ℕ) × (index : ℕ) × (method_at tree (class, index) ≡ Some (c, m))
     by_number None e = none_is_some m (sym (ap (λ z. slice_get (listed_by (λ (d : Declaration). d.methods) z) index) e) ∙ h)
@@ -92,7 +92,7 @@ declared_at tree c m (index, h) = by_number (class_number tree c) (numbered tree
 pub record IsChosen (tree : Tree) (signature : Signature) (run : ClassName × Method) : Type 0 where
   pub class : ℕ
   pub index : ℕ
-  pub numbered : method_at tree (class, index) ≡ Some run
+  pub has_id : method_at tree (class, index) ≡ Some run
   pub count : length (argument_types run.1 run.0) ≡ suc (length signature.parameters)
 
 -- a declared method of an object, of the signature
@@ -102,7 +102,7 @@ is_chosen tree signature run declared same object =
     record {
       class = index.0;
       index = index.1;
-      numbered = index.2;
+      has_id = index.2;
       count = ap (λ b. length (if b then run.1.signature.parameters else type_of_class run.0 ∷ run.1.signature.parameters)) object ∙ ap (λ (x : Signature). suc (length x.parameters)) same;
     }
 

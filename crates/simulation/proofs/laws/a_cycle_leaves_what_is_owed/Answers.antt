@@ -3,4 +3,4 @@ use Rattle.simulation.proofs.Runs.EventCorrespondence.{each_alike}
 use Rattle.simulation.proofs.laws.a_cycle_leaves_what_is_owed.Goals as goal
 
 pub returns : goal.returns
-returns c = λ tree accepted limits in_range events reports machine_state stands. leaves_owed each_alike tree accepted limits in_range events reports machine_state stands
+returns c = λ tree accepted limits in_range events reports machine_state refines. leaves_owed each_alike tree accepted limits in_range events reports machine_state refines

@@ -19,15 +19,15 @@ loop-index-preserved c =
     let next : index + 1 ≡ c.loop-index.index = omega (arith, c.loop-index-test.true) in
     let opened : drop index chain ≡ class ∷ following = drop_more chain index 0 (omega (arith, c.loop-index-test.true, c.loop-index.auto)) ∙ ap (λ k. class ∷ drop k chain) next in
     let slot_is = c.slot_over-slot.ensures ∙ ap (slot_from all s.identity class) c.loop-index.invariant.0 in
-    let fills_is = c.is_slot.ensures ∙ ap (λ (slot : Option ℕ). option_map_or (λ n. n == c.args.wanted) slot false) slot_is in (
+    let fills_is = c.is_slot.ensures ∙ ap (λ (slot : Option ℕ). option_map_or (λ n. n == c.args.required) slot false) slot_is in (
       slot_is ∙ ap (slot_along all s.identity) (sym opened),
       c.implementation_over-implementation.ensures ∙ ap (λ (fills : Bool). implementation_from all s.identity class fills c.loop-index.implementation) fills_is ∙
-          ap (implementation_from all s.identity class (option_map_or (λ n. n == c.args.wanted) (slot_along all s.identity (class ∷ following)) false)) c.loop-index.invariant.1 ∙
-          ap (implementation_along all s.identity c.args.wanted) (sym opened),
+          ap (implementation_from all s.identity class (option_map_or (λ n. n == c.args.required) (slot_along all s.identity (class ∷ following)) false)) c.loop-index.invariant.1 ∙
+          ap (implementation_along all s.identity c.args.required) (sym opened),
     )
 
 pub returns : goal.returns
 returns c =
     let s = c.args.self.now in
     let first : c.loop-index.index ≡ 0 = omega (arith, c.loop-index-test.false) in
-    c.loop-index.invariant.1 ∙ ap (λ n. implementation_along s.classes.now.all.now s.identity c.args.wanted (drop n c.args.chain.now)) first
+    c.loop-index.invariant.1 ∙ ap (λ n. implementation_along s.classes.now.all.now s.identity c.args.required (drop n c.args.chain.now)) first

@@ -3,4 +3,4 @@ use Rattle.class_layout.specs.Roles.{slot_along, implementation_along}
 use Rattle.class_layout.proofs.method_families.MethodFamilies.implementation_along.Given as goal
 
 abbrev pub invariant-loop-index : goal.invariant-loop-index
-invariant-loop-index l = (l.slot ≡ slot_along l.self.classes.now.all.now l.self.identity (drop l.index l.chain)) × (l.implementation ≡ implementation_along l.self.classes.now.all.now l.self.identity l.wanted (drop l.index l.chain))
+invariant-loop-index l = (l.slot ≡ slot_along l.self.classes.now.all.now l.self.identity (drop l.index l.chain)) × (l.implementation ≡ implementation_along l.self.classes.now.all.now l.self.identity l.required (drop l.index l.chain))

@@ -3,7 +3,7 @@ use Rattle.std.specs.List.{flat_map}
 use Rattle.name_tables.specs.BuiltInTable.{built_in_entry}
 use Rattle.name_tables.specs.Numbers.{source_entry}
 use Rattle.interleaving_core.specs.simulation.loaded_program.AllMethods.{owned_methods}
-use Rattle.event_trace.proofs.PositionLaws.{Stand, all_placed}
+use Rattle.event_trace.proofs.PositionLaws.{Occur, all_placed}
 use Rattle.event_trace.proofs.method_positions.MethodPositions.new.Goals as goal
 
 pub returns : goal.returns
@@ -14,4 +14,4 @@ returns c =
     let all = c.add_classes.new.positions.items in
     all_placed first tree c.new-positions.result.items one all c.in_ok-built_ins.ensures c.new-positions.ensures.items
     (c.in_ok-add_built_ins.ensures first tree (ap (map built_in_entry) c.as_slice.ensures))
-    (subst (λ cs. Stand first tree one all (flat_map owned_methods (map source_entry cs))) c.as_slice-2.ensures (c.in_ok-add_classes.ensures first tree (sym c.as_slice-2.ensures)))
+    (subst (λ cs. Occur first tree one all (flat_map owned_methods (map source_entry cs))) c.as_slice-2.ensures (c.in_ok-add_classes.ensures first tree (sym c.as_slice-2.ensures)))

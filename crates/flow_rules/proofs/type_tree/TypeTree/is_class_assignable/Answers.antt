@@ -3,7 +3,7 @@ use Rattle.std.specs.Option.{is_some as has_some}
 use Rattle.cil_model.specs.Assignable.{is_class_assignable}
 use Rattle.cil_model.specs.Chains.{longest_chain}
 use Rattle.flow_rules.specs.Named.{class_named}
-use Rattle.flow_rules.proofs.ChainNumbers.{stands_along, found_here, found_nowhere, found_later, based_known}
+use Rattle.flow_rules.proofs.ChainNumbers.{is_along, found_here, found_nowhere, found_later, based_known}
 use Rattle.flow_rules.proofs.type_tree.TypeTree.is_class_assignable.Goals as goal
 
 never : {A : Type 0} → false ≡ true → A
@@ -39,12 +39,12 @@ loop-step-preserved c =
 pub returns : goal.returns
 returns c =
     let done : longest_chain c.args.self.now - c.loop-step.step ≡ 0 = omega (arith, c.loop-step-test.false, c.longest_chain-step-end.ensures) in
-    sym (ap (λ (n : ℕ). stands_along c.args.self.now (class_named c.args.self.now c.args.to) n (Some (class_named c.args.self.now c.loop-step.here))) done) ∙ c.loop-step.invariant.rest
+    sym (ap (λ (n : ℕ). is_along c.args.self.now (class_named c.args.self.now c.args.to) n (Some (class_named c.args.self.now c.loop-step.here))) done) ∙ c.loop-step.invariant.rest
 
 pub loop-step-init : goal.loop-step-init
 loop-step-init c =
     let whole : longest_chain c.args.self.now - 0 ≡ longest_chain c.args.self.now = omega arith in
     record {
-      rest = ap (λ (n : ℕ). stands_along c.args.self.now (class_named c.args.self.now c.args.to) n (Some (class_named c.args.self.now c.args.from))) whole;
+      rest = ap (λ (n : ℕ). is_along c.args.self.now (class_named c.args.self.now c.args.to) n (Some (class_named c.args.self.now c.args.from))) whole;
       known = c.requires.from;
     }

@@ -12,12 +12,12 @@ loop-class-preserved c =
     let f = c.args.self.now.forest in
     let found = c.loop-class.found.items in
     let inv = c.loop-class.invariant in
-    let tells = IsAnswer (is_match c.args.query) f c.args.keys.now in
-    let here : tells c.loop-class.class c.may_find.result = record { reported = c.may_find.ensures.reported; ended = c.may_find.ensures.ended } in
+    let is_answer = IsAnswer (is_match c.args.query) f c.args.keys.now in
+    let here : is_answer c.loop-class.class c.may_find.result = record { reported = c.may_find.ensures.reported; ended = c.may_find.ensures.ended } in
     record {
       width = ap length c.in_ok-push.ensures.items ∙ length-append found (c.may_find.result ∷ []) ∙ ap (λ n. n + 1) inv.width;
-      answers = λ class answer e. more_answers tells found c.may_find.result inv.answers
-          (subst (λ n. tells n c.may_find.result) (sym inv.width) here) class answer (sym (ap (λ xs. slice_get xs class) c.in_ok-push.ensures.items) ∙ e);
+      answers = λ class answer e. more_answers is_answer found c.may_find.result inv.answers
+          (subst (λ n. is_answer n c.may_find.result) (sym inv.width) here) class answer (sym (ap (λ xs. slice_get xs class) c.in_ok-push.ensures.items) ∙ e);
     }
 
 pub returns-clause-width : goal.returns-clause-width

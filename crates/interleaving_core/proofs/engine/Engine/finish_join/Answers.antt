@@ -1,5 +1,5 @@
 use Rattle.interleaving_core.specs.Views.{machine_state_of}
-use Rattle.simulation.specs.interpreter.declared.outcomes.Outcome.TheVariants.{Joins}
+use Rattle.simulation.specs.interpreter.declared.outcomes.InstructionOutcome.TheVariants.{Joins}
 use Rattle.interleaving_core.proofs.Threads.Requests.{join_finished, of_live}
 use Rattle.interleaving_core.proofs.engine.Engine.finish_join.Goals as goal
 

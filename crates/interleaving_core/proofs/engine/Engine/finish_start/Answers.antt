@@ -1,7 +1,7 @@
 use Rattle.phase_handshake.specs.Handshakes.{own_phase}
 use Rattle.simulation.specs.Transitions.{live_thread}
 use Rattle.interleaving_core.specs.Views.{machine_state_of}
-use Rattle.simulation.specs.interpreter.declared.outcomes.Outcome.TheVariants.{Starts}
+use Rattle.simulation.specs.interpreter.declared.outcomes.InstructionOutcome.TheVariants.{Starts}
 use Rattle.interleaving_core.proofs.Threads.HalfSteps.{started_keeps}
 use Rattle.interleaving_core.proofs.Threads.Requests.{live_after, of_live, start_finished, started_back}
 use Rattle.interleaving_core.proofs.engine.Engine.finish_start.Goals as goal

@@ -1,8 +1,8 @@
 use Rattle.std.proofs.Common.{◌∙◌}
-use Rattle.loaded_program.proofs.OperandLaws.{numbered}
+use Rattle.loaded_program.proofs.OperandLaws.{has_id}
 use Rattle.loaded_program.proofs.linker.Linker.number.Goals as goal
 
 pub returns : goal.returns
 returns c n e =
-    let known = numbered c.args.self.now.program.now c.args.member n e in
-    c.number.ensures.counted c.args.self.now.program.now c.requires.numbered known.found.0 known.found.1 known.found_is ∙ known.number_is
+    let known = has_id c.args.self.now.program.now c.args.member n e in
+    c.number.ensures.counted c.args.self.now.program.now c.requires.has_id known.found.0 known.found.1 known.found_is ∙ known.number_is

@@ -36,8 +36,8 @@ first_same {K} {X} view part same itself keys xs e i l = by_item (slice_get_case
     by_key x some (Some k) key h (Some p) found =
         let at_key : position_from (λ z. same (view k) (view z)) 0 keys ≡ Some p =
         sym (position_from-map view (same (view k)) 0 keys) ∙ ap (position_from (same (view k)) 0) e ∙ position_from-map part (same (view k)) 0 xs ∙ ap (λ y. position_from (λ z. same y (part z)) 0 xs) (same_Some (view k) (part x) h) ∙ found in
-        let numbered : get_or (map number keys) i 0 ≡ p = get_or_from_slice_get (map number keys) i (number k) 0 (slice_get-map number keys i ∙ ap (option_map number) key) ∙ ap (λ o. unwrap_or o (length keys)) at_key in
-        sym (found_some (λ z. same (part x) (part z)) xs p found) ∙ ap (slice_get xs) (sym numbered)
+        let has_id : get_or (map number keys) i 0 ≡ p = get_or_from_slice_get (map number keys) i (number k) 0 (slice_get-map number keys i ∙ ap (option_map number) key) ∙ ap (λ o. unwrap_or o (length keys)) at_key in
+        sym (found_some (λ z. same (part x) (part z)) xs p found) ∙ ap (slice_get xs) (sym has_id)
 
     by_item : ((x : X) × (i < length xs) × (slice_get xs i ≡ Some x) × (get_or xs i x ≡ x)) ⊎ ((length xs ≤ i) × (slice_get xs i ≡ None)) →
         option_map (λ x. find (λ z. same (part x) (part z)) xs) (slice_get xs i) ≡ Some (slice_get xs (get_or (map number keys) i 0))

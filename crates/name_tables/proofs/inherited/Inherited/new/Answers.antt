@@ -9,8 +9,8 @@ returns-clause-indices g c = λ key class.
     index_in_rows g.K.PartialEq.eq g.met.K.Eq.laws (λ row. row.items) c.args.rows.now c.in_ok-keys.keys _ c.in_ok-keys.ensures
     (ap (λ (f : Forest). map (λ r. r.items) f.declared.items) c.in_ok-inheritance.ensures ∙ c.in_ok-forest.ensures.declared) key class
 
-pub invariant_of-result-clause-numbered : goal.invariant_of-result-clause-numbered
-invariant_of-result-clause-numbered g c =
+pub invariant_of-result-clause-has_id : goal.invariant_of-result-clause-has_id
+invariant_of-result-clause-has_id g c =
     numbered_in_rows g.K.PartialEq.eq g.met.K.Eq.laws (λ row. row.items) c.args.rows.now c.in_ok-keys.keys _ c.in_ok-keys.ensures
     (ap (λ (f : Forest). map (λ r. r.items) f.declared.items) c.in_ok-inheritance.ensures ∙ c.in_ok-forest.ensures.declared)
 

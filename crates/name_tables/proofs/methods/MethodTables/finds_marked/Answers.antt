@@ -33,16 +33,16 @@ returns-clause-ended c = if_ok c.finds_marked.result c.finds_marked.ensures.ende
     of_tree t all.inheritance.forest (identity_number all.keys) (method_index t) c.args.self.now.names.now.methods_are.table (λ bases most. Ends bases most class) (ended class e))
 
 pub returns-clause-marked : goal.returns-clause-marked
-returns-clause-marked c = if_ok c.finds_marked.result c.finds_marked.ensures.marked (λ marking tells class e.
+returns-clause-marked c = if_ok c.finds_marked.result c.finds_marked.ensures.marked (λ marking finds class e.
     let t = c.args.self.now.names.now.classes.tree.now in
     let all = c.args.self.now.names.now.methods in
     let forest = all.inheritance.forest in
     let marks = map (λ v. v.items) c.args.marks.now in
     let marked : Type 0 = (k : MethodIdentity) × (is_marked marks (nearest_number (method_index t k) (line_of t (Some class))) ≡ true) in
     let of_forest : Ends forest.bases.items forest.most class → marked = λ ends.
-    let found = tells class e ends in
+    let found = finds class e ends in
     let index = marked_index marks forest found.0 class found.2 in
-    let from = mapped_from (number_in (λ (a b : MethodKey). same_identity (method_of_key a) (method_of_key b)) all.keys) (slice_get all.keys found.0) found.0 (all.numbered found.0 index.0.0 index.0.1 index.1) in
+    let from = mapped_from (number_in (λ (a b : MethodKey). same_identity (method_of_key a) (method_of_key b)) all.keys) (slice_get all.keys found.0) found.0 (all.has_id found.0 index.0.0 index.0.1 index.1) in
     let k = method_of_key from.0 in
     let at : identity_number all.keys k ≡ found.0 = sym (number_of_view method_of_key same_identity all.keys from.0) ∙ from.1 in
     let same = nearest_on_line t forest (identity_number all.keys) (method_index t) c.args.self.now.names.now.methods_are.table k class in

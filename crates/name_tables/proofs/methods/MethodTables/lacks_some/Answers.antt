@@ -38,9 +38,9 @@ returns-clause-reported c = if_ok c.finds_nothing.result c.finds_nothing.ensures
     let again : ℕ → ℕ = number_in (λ (a b : ℕ). a == b) tables.keys in
     let found : ℕ → Option (ℕ × ℕ) = λ n. nearest_from forest n forest.most (Some class) in
     let all : Bool = list_all (λ (m : Method). is_some (nearest_number (virtual_index t (identity_of m)) (line_of t (Some class)))) (methods_at t c.args.interface) in
-    let numbered : c.as_slice.result.now ≡ map again c.numbers_at.result.now = c.as_slice.ensures.value ∙ c.in_ok-numbers.ensures in
+    let has_id : c.as_slice.result.now ≡ map again c.numbers_at.result.now = c.as_slice.ensures.value ∙ c.in_ok-numbers.ensures in
     let of_numbers : list_all (λ n. is_some (found n)) c.as_slice.result.now ≡ all =
-    ap (list_all (λ n. is_some (found n))) numbered ∙ all_of_map again (λ n. is_some (found n)) c.numbers_at.result.now ∙ ap (list_all (λ n. is_some (found (again n)))) c.numbers_at.ensures ∙
+    ap (list_all (λ n. is_some (found n))) has_id ∙ all_of_map again (λ n. is_some (found n)) c.numbers_at.result.now ∙ ap (list_all (λ n. is_some (found (again n)))) c.numbers_at.ensures ∙
     found_by_numbers t (identity_number s.names.now.methods.keys) (map (λ r. r.items) s.names.now.methods.inheritance.forest.declared.items) s.names.now.methods_are.numbers again forest s.overridable_are c.args.interface class in
     let of_forest : Ends forest.bases.items forest.most class → b ≡ not all = λ ends.
     reported class b e ends ∙ some_none found c.as_slice.result.now ∙ ap not of_numbers in

@@ -2,7 +2,7 @@ use Rattle.std.proofs.Common.{arith, ap, sym, subst, ◌∙◌, ◌≡◌, ◌-�
 use Rattle.std.specs.Prelude.{vec_capacity}
 use Rattle.std.specs.Result.{is_ok}
 use Rattle.std.specs.List.{insert}
-use Rattle.threads_monitors.specs.Activations.{IsSound}
+use Rattle.threads_monitors.specs.Activations.{IsSoundStack}
 use Rattle.threads_monitors.proofs.Memories.{has_room, after_insert}
 use Rattle.threads_monitors.proofs.frames.FrameMemory.insert_beneath.Goals as goal
 
@@ -23,8 +23,8 @@ invariant_of-self c =
     written ∙ ap (λ k. insert c.self.inside.values.items (k - c.args.below) c.args.value) index in
     let room = has_room c.self.inside.values.items c.self.inside.running c.self.inside.below.items c.self.inside.depth c.self.inside.room (vec_capacity c.self.inside.values) (vec_capacity c.self.inside.below) c.self.invariant 1 (omega (arith, given)) in
     let block = c.insert-inserted.ensures.in_place (omega (arith, room)) in
-    subst (λ xs. IsSound xs c.self.inside.running c.self.inside.below.items c.self.inside.depth c.self.inside.room (vec_capacity c.insert-inserted.new.self) (vec_capacity c.self.inside.below)) (sym items)
-    (subst (λ k. IsSound (insert c.self.inside.values.items (length c.self.inside.values.items - c.args.below) c.args.value) c.self.inside.running c.self.inside.below.items c.self.inside.depth c.self.inside.room k (vec_capacity c.self.inside.below)) (sym block.1.0) after.sound)
+    subst (λ xs. IsSoundStack xs c.self.inside.running c.self.inside.below.items c.self.inside.depth c.self.inside.room (vec_capacity c.insert-inserted.new.self) (vec_capacity c.self.inside.below)) (sym items)
+    (subst (λ k. IsSoundStack (insert c.self.inside.values.items (length c.self.inside.values.items - c.args.below) c.args.value) c.self.inside.running c.self.inside.below.items c.self.inside.depth c.self.inside.room k (vec_capacity c.self.inside.below)) (sym block.1.0) after.sound)
 
 pub returns : goal.returns
 returns c =

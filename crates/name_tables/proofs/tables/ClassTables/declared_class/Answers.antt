@@ -5,7 +5,7 @@ use Rattle.name_tables.specs.Entries.{entry_of}
 use Rattle.name_tables.specs.Keys.{class_of_key}
 use Rattle.name_tables.proofs.Lists.{option_map_of_map}
 use Rattle.name_tables.proofs.NumberLaws.{declared_at_none, declared_at_number}
-use Rattle.name_tables.proofs.tables.ClassTables.declared.Goals as goal
+use Rattle.name_tables.proofs.tables.ClassTables.declared_class.Goals as goal
 
 pub returns-in-None : goal.returns-in-None
 returns-in-None c = sym (declared_at_none c.args.self.now.tree.now (class_of_key c.args.name) (sym c.in-None.ensures))
