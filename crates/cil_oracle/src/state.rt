@@ -23,13 +23,13 @@ pub struct OracleThread<'a> {
 
 /// A step that is being made: of which thread, how many frames it has, and whether a birth is refused.
 #[derive(Clone, Copy, Debug)]
-pub struct Turn {
+pub struct OracleStep {
     pub thread: usize,
     pub depth: usize,
     pub is_refused: bool,
 }
 
-impl Turn {
+impl OracleStep {
     /// A birth may be refused.
     pub fn check_birth(self) -> Result<(), Halt> {
         if self.is_refused {
@@ -59,7 +59,7 @@ pub struct State<'a> {
     pub threads: Vec<OracleThread<'a>>,
     pub callee: Option<Frame<'a>>,
     pub console: String,
-    pub transition: Turn,
+    pub transition: OracleStep,
 }
 
 /// Each part is dropped.
@@ -94,7 +94,7 @@ impl<'a> State<'a> {
             threads: Vec::new(alloc),
             callee: None,
             console: String::new(alloc),
-            transition: Turn {
+            transition: OracleStep {
                 thread: 0,
                 depth: 0,
                 is_refused: false,

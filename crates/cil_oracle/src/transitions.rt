@@ -2,7 +2,7 @@
 
 use crate::effects::{Effect, Halt};
 use crate::frames::Frame;
-use crate::state::{State, Turn};
+use crate::state::{OracleStep, State};
 use crate::values::Value;
 use cil_model::reports::{End, Report};
 
@@ -35,7 +35,7 @@ impl<'a> State<'a> {
         running.steps_left = running.steps_left.saturating_sub(1);
         let depth = running.frames.len();
         let frame = running.frames.pop();
-        self.transition = Turn {
+        self.transition = OracleStep {
             thread,
             depth,
             is_refused,

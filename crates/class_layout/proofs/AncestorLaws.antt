@@ -15,7 +15,7 @@ use Rattle.cil_model.proofs.SameLaws.{class_equivalence}
 use Rattle.name_tables.specs.Numbers.{class_number, chain_numbers, declarations}
 use Rattle.name_tables.proofs.NumberLaws.{none_is_some}
 use Rattle.class_layout.specs.ByClass.{by_class, interface_numbers, assignable_row, with_interfaces, marked_at}
-use Rattle.resolved_code.specs.Numbered.{class_name}
+use Rattle.resolved_code.specs.ById.{class_name}
 use Rattle.name_tables.proofs.Lists.{option_map_of_map}
 use Rattle.class_layout.proofs.Indices.{same_elements}
 use Rattle.resolved_code.proofs.Numbers.Classes.{found_at, not_declared, known_apart, number_equal, among_numbers, number_of_index}
@@ -29,15 +29,15 @@ module _ (tree : Tree) where
   answer_at answer c n e = slice_get-map (λ (y : ClassName × Declaration). answer y.0) (declarations tree) n ∙ ap (option_map (λ (y : ClassName × Declaration). answer y.0)) (found_at tree c n e).2
 
   -- the row of a number; none where no class has it
-  pub row_numbered : {X : Type 0} (answer : ClassName → X) (n : ℕ) → slice_get (by_class tree answer) n ≡ option_map answer (class_name tree n)
-  row_numbered answer n =
+  pub row_by_id : {X : Type 0} (answer : ClassName → X) (n : ℕ) → slice_get (by_class tree answer) n ≡ option_map answer (class_name tree n)
+  row_by_id answer n =
       slice_get-map (λ (y : ClassName × Declaration). answer y.0) (declarations tree) n ∙ sym (option_map_of_map (λ (y : ClassName × Declaration). y.0) answer (slice_get (declarations tree) n))
 
   -- the result of a table for a class
   pub answer_of : {X : Type 0} (answer : ClassName → X) (items : List X) (n : ℕ) (c : ClassName) (otherwise : X) → items ≡ by_class tree answer → class_name tree n ≡ Some c → unwrap_or (slice_get items n) otherwise ≡ answer c
   answer_of answer items n c otherwise e h =
       ap (λ xs. unwrap_or (slice_get xs n) otherwise) e ∙
-      ap (λ o. unwrap_or o otherwise) (row_numbered answer n ∙ ap (option_map answer) h)
+      ap (λ o. unwrap_or o otherwise) (row_by_id answer n ∙ ap (option_map answer) h)
 
   pub marked_of : (rows : List (List Bool)) (n m : ℕ) (c d : ClassName) → rows ≡ by_class tree (assignable_row tree) → class_name tree n ≡ Some c → class_name tree m ≡ Some d → marked_at rows n m ≡ is_class_assignable tree c d
   marked_of rows n m c d e h k = answer_of (is_class_assignable tree c) (unwrap_or (slice_get rows n) []) m d false (answer_of (assignable_row tree) rows n c [] e h) k

@@ -43,9 +43,9 @@ module _ {X : Type 0} (flag : X → Bool) (xs : List X) (i : ℕ) (d : X) (l : i
       let next : suc i ≡ i + 1 = omega arith in
       ap (map flag) (drop-cons xs i d l) ∙ ap (λ n. flag (get_or xs i d) ∷ map flag (drop n xs)) next
 
-  pub one_numbered : (s k t m own : ℕ) (before after all : List ℕ) → own ≡ (if flag (get_or xs i d) then s else k) → t ≡ number_after (flag (get_or xs i d)) s → m ≡ slot_after (flag (get_or xs i d)) k → after ≡ before ++ own ∷ [] →
+  pub one_by_id : (s k t m own : ℕ) (before after all : List ℕ) → own ≡ (if flag (get_or xs i d) then s else k) → t ≡ number_after (flag (get_or xs i d)) s → m ≡ slot_after (flag (get_or xs i d)) k → after ≡ before ++ own ∷ [] →
       before ++ static_by_id s k (map flag (drop i xs)) ≡ all → after ++ static_by_id t m (map flag (drop (i + 1) xs)) ≡ all
-  one_numbered s k t m own before after all o es ek a h =
+  one_by_id s k t m own before after all o es ek a h =
       let b = flag (get_or xs i d) in
       let rest = map flag (drop (i + 1) xs) in
       ap (λ ns. ns ++ static_by_id t m rest) a ∙ append_assoc before (own ∷ []) (static_by_id t m rest) ∙ ap (λ n. before ++ n ∷ static_by_id t m rest) o ∙

@@ -23,9 +23,9 @@ use Rattle.class_layout.specs.declared.kinds.SlotKind.{SlotKind}
 use Rattle.class_layout.specs.declared.kinds.SlotKind.TheVariants as Kind
 use Rattle.class_layout.specs.ByClass.{by_class}
 use Rattle.class_layout.specs.Kinds.{kind_at, kind_of, instance_kind, own_kinds, slot_kinds, chain_kinds, is_reference_kind}
-use Rattle.resolved_code.specs.Numbered.{class_name}
+use Rattle.resolved_code.specs.ById.{class_name}
 use Rattle.resolved_code.proofs.Numbers.Classes.{not_declared, among_numbers}
-use Rattle.class_layout.proofs.AncestorLaws.{answer_at, row_numbered}
+use Rattle.class_layout.proofs.AncestorLaws.{answer_at, row_by_id}
 
 -- the kinds of keyed fields
 abbrev kinds_of_keyed : List (FieldKey × DeclaredType) → List SlotKind
@@ -121,10 +121,10 @@ module _ (tree : Tree) where
   is_reference_in slot row = option_map_or is_reference_kind (slice_get (unwrap_or row []) slot) false
 
   -- by the number of the class; no slot holds a reference where no class has it
-  pub reference_numbered : (rows : List (List SlotKind)) (n slot : ℕ) → rows ≡ by_class tree (slot_kinds tree)
+  pub reference_by_id : (rows : List (List SlotKind)) (n slot : ℕ) → rows ≡ by_class tree (slot_kinds tree)
       → option_map_or is_reference_kind (slice_get (unwrap_or (slice_get rows n) []) slot) false ≡ option_map_or (λ c. is_reference_slot tree c slot) (class_name tree n) false
-  reference_numbered rows n slot is =
-      ap (λ (xs : List (List SlotKind)). is_reference_in slot (slice_get xs n)) is ∙ ap (is_reference_in slot) (row_numbered tree (slot_kinds tree) n) ∙ by_name (class_name tree n)
+  reference_by_id rows n slot is =
+      ap (λ (xs : List (List SlotKind)). is_reference_in slot (slice_get xs n)) is ∙ ap (is_reference_in slot) (row_by_id tree (slot_kinds tree) n) ∙ by_name (class_name tree n)
     where
       by_name : (o : Option ClassName) → is_reference_in slot (option_map (slot_kinds tree) o) ≡ option_map_or (λ c. is_reference_slot tree c slot) o false
       by_name None = refl

@@ -16,7 +16,7 @@ use Rattle.cil_model.specs.Chains.{base_of, listed_by, is_interface}
 use Rattle.cil_model.specs.Legality.{IsLegal}
 use Rattle.name_tables.specs.Numbers.{class_number, declarations}
 use Rattle.name_tables.proofs.NumberLaws.{numbers_within, numbers_of_unknown}
-use Rattle.resolved_code.specs.Numbered.{class_name, element_at, type_at}
+use Rattle.resolved_code.specs.ById.{class_name, element_at, type_at}
 use Rattle.resolved_code.specs.Resolved.{AllAlike, AreResolved, IsResolvedField, IsResolvedClass}
 use Rattle.resolved_code.proofs.ListLaws.RelatedLists.{AlikeTo, alike_to}
 use Rattle.resolved_code.specs.declared.types.ResolvedElement.{ResolvedElement}
@@ -35,10 +35,10 @@ use Rattle.class_layout.proofs.Indices.{push_takes}
 
 -- ---- resolved fields, by whether each is static
 
-pub numbered_alike : (s i : ℕ) (fs : List Field) → static_by_id s i (map (λ (f : Field). f.is_static) fs) ≡ fields_by_id s i fs
-numbered_alike s i [] = refl
-numbered_alike s i (f ∷ fs) =
-    ap (λ ns. (if f.is_static then s else i) ∷ ns) (numbered_alike (number_after f.is_static s) (if f.is_static then i else i + 1) fs)
+pub by_id_alike : (s i : ℕ) (fs : List Field) → static_by_id s i (map (λ (f : Field). f.is_static) fs) ≡ fields_by_id s i fs
+by_id_alike s i [] = refl
+by_id_alike s i (f ∷ fs) =
+    ap (λ ns. (if f.is_static then s else i) ∷ ns) (by_id_alike (number_after f.is_static s) (if f.is_static then i else i + 1) fs)
 
 pub statics_alike : (s : ℕ) (fs : List Field) → statics_by_flag s (map (λ (f : Field). f.is_static) fs) ≡ statics_after s fs
 statics_alike s [] = refl

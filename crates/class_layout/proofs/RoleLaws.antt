@@ -214,15 +214,15 @@ module _ (tree : Tree) (k : MethodIdentity) (i : ℕ) (has_id : identity_number 
   abbrev own_test : Method → Bool
   own_test m = same_called (k, false) (called_of m)
 
-  abbrev own_numbered : ResolvedMethod → Bool
-  own_numbered r = (i == r.identity) && not (is_static_by_id r.kind)
+  abbrev own_by_id : ResolvedMethod → Bool
+  own_by_id r = (i == r.identity) && not (is_static_by_id r.kind)
 
-  own_found : (index : ℕ) (ms : List Method) (rs : List ResolvedMethod) → all_known ms → AllAlike (IsResolvedMethod tree) ms rs → position_from own_numbered index rs ≡ position_from own_test index ms
+  own_found : (index : ℕ) (ms : List Method) (rs : List ResolvedMethod) → all_known ms → AllAlike (IsResolvedMethod tree) ms rs → position_from own_by_id index rs ≡ position_from own_test index ms
   own_found index [] [] known h = refl
   own_found index (m ∷ ms) (r ∷ rs) known h =
       let object : not (is_static_by_id r.kind) ≡ same_flag false (is_static m.kind) = ap not (kinds_alike tree m.kind r.kind h.0.kind).1 ∙ flag_of_false (is_static m.kind) in
-      let test : own_numbered r ≡ own_test m = ap (λ b. b && not (is_static_by_id r.kind)) (test_alike m r (known 0 m refl) h.0) ∙ ap (λ b. same_identity k (identity_of m) && b) object in
-      ap (λ b. cond b (Some index) (position_from own_numbered (index + 1) rs)) test ∙ ap (λ o. cond (own_test m) (Some index) o) (own_found (index + 1) ms rs (λ p. known (suc p)) h.1)
+      let test : own_by_id r ≡ own_test m = ap (λ b. b && not (is_static_by_id r.kind)) (test_alike m r (known 0 m refl) h.0) ∙ ap (λ b. same_identity k (identity_of m) && b) object in
+      ap (λ b. cond b (Some index) (position_from own_by_id (index + 1) rs)) test ∙ ap (λ o. cond (own_test m) (Some index) o) (own_found (index + 1) ms rs (λ p. known (suc p)) h.1)
   own_found index [] (r ∷ rs) known h = absurd h
   own_found index (m ∷ ms) [] known h = absurd h
 

@@ -23,7 +23,7 @@ use Rattle.name_tables.proofs.Lists.{option_map_of_map}
 use Rattle.resolved_code.specs.Found.{is_virtual_found, slot_by_id}
 use Rattle.resolved_code.proofs.Numbers.Methods.{found_by_number, nothing_found}
 use Rattle.resolved_code.proofs.Numbers.Slots.{IsTied, tied, same_slot}
-use Rattle.resolved_code.specs.Numbered.{class_name}
+use Rattle.resolved_code.specs.ById.{class_name}
 use Rattle.class_layout.specs.ByClass.{by_class, interface_numbers}
 use Rattle.class_layout.specs.declared.targets.Targets.{Targets}
 use Rattle.class_layout.specs.Targets.{chain_at, implementation_over, implementation_by_id, own_method, class_implementation, is_implementer, interface_implementation, target_number, target_row, target_rows, targets_of, target_in}
@@ -245,9 +245,9 @@ module _ (tree : Tree) where
       by_kind true = ap (λ o. option_map target_method (option_and_then (interface_implementation tree (by_class tree (interface_numbers tree)) (identity_of m) (chain_numbers tree d)) o)) e ∙ interface_known (identity_of m) d c n e
       by_kind false = class_known (identity_of m) d c
 
-  row_tells : (c d : ClassName) (n class : ℕ) (m : Method) (method : MemberNumber) → class_number tree c ≡ Some n → class_name tree class ≡ Some d → target_method method ≡ Some (c, m) →
+  row_decides : (c d : ClassName) (n class : ℕ) (m : Method) (method : MemberNumber) → class_number tree c ≡ Some n → class_name tree class ≡ Some d → target_method method ≡ Some (c, m) →
       option_map target_method (target_in class method (target_row tree c m)) ≡ option_map Some (target tree d c m)
-  row_tells c d n class m method e named at = by_kind (is_virtual m.kind)
+  row_decides c d n class m method e named at = by_kind (is_virtual m.kind)
     where
       by_kind : (b : Bool) → option_map target_method (target_in class method (if b then Some (by_class tree (target_number tree c (identity_of m))) else None)) ≡
           option_map Some (if b then (if is_interface tree c then interface_target tree m.name m.signature d c else class_target tree m.name m.signature d c) else Some (c, m))
@@ -283,7 +283,7 @@ module _ (tree : Tree) where
           let entry : option_map targets_of (slice_get (unwrap_or (slice_get rows method.class) []) method.index) ≡ Some (target_row tree a y) =
           sym (slice_get-map targets_of (unwrap_or (slice_get rows method.class) []) method.index) ∙ ap (λ xs. slice_get xs method.index) (mapped_row rows method.class ∙ row) ∙
           slice_get-map (target_row tree a) (methods_declared tree a) method.index ∙ ap (option_map (target_row tree a)) own in
-          ap (λ o. option_map target_method (option_and_then (target_in class method) o)) entry ∙ row_tells a d method.class class y method number named holds
+          ap (λ o. option_map target_method (option_and_then (target_in class method) o)) entry ∙ row_decides a d method.class class y method number named holds
 
       by_entry : (o : Option (ClassName × Declaration)) → slice_get (declarations tree) method.class ≡ o → option_and_then {U = ClassName × Method} (λ (e : ClassName × Declaration). option_map (λ x. (e.0, x)) (slice_get e.1.methods method.index)) o ≡ Some (c, m) → Tells rows class method d c m
       by_entry None h g = absurd (none_is_some (c, m) g)

@@ -7,7 +7,7 @@ ghost use Rattle.cil_model.specs.declared.types.DeclaredType.{DeclaredType};
 ghost use Rattle.cil_model.specs.Assignable.{is_assignable};
 ghost use Rattle.cil_model.specs.Declarations.{Declaration};
 ghost use Rattle.name_tables.specs.Numbers.{declarations};
-ghost use Rattle.resolved_code.specs.Numbered.{type_at};
+ghost use Rattle.resolved_code.specs.ById.{type_at};
 ghost use Rattle.class_layout.specs.ByClass.{by_class, assignable_row, with_interfaces, marked_at};
 
 use crate::classes::Classes;

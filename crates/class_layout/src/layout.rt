@@ -11,7 +11,7 @@ ghost use Rattle.cil_model.specs.declared.trees.Field.{Field};
 ghost use Rattle.cil_model.specs.declared.trees.Method.{Method};
 ghost use Rattle.cil_model.specs.Slots.{target};
 ghost use Rattle.name_tables.specs.Numbers.{field_at, method_at};
-ghost use Rattle.resolved_code.specs.Numbered.{class_name, type_at};
+ghost use Rattle.resolved_code.specs.ById.{class_name, type_at};
 ghost use Rattle.resolved_code.specs.Resolved.{AreResolved};
 
 use crate::ancestry::Ancestry;

@@ -35,14 +35,14 @@ fn add_repeated(
 ) -> Result<(), AllocError> {
     let (count, text) = repeated.split_once(" ").unwrap_or(("", ""));
     for number in 0..number_of(Some(count)) {
-        add_numbered(alloc, bytes, text, number)?;
+        add_number_suffix(alloc, bytes, text, number)?;
         bytes.extend_from_slice(end.as_bytes())?;
     }
     Ok(())
 }
 
 /// Adds the text with a number in place of each `#`, and the next one in that of each `#+1`.
-fn add_numbered(
+fn add_number_suffix(
     alloc: Global,
     bytes: &mut Vec<u8>,
     text: &str,

@@ -47,16 +47,16 @@ use Rattle.run_files.specs.RunFiles.{run_file}
 use Rattle.run_files.specs.declared.file.RunFile.{RunFile}
 
 -- a worker's own event names a thread that a machine can have
-own_numbered : (workers worker : ℕ) (e : Event) → IsOwn workers worker e → has_thread_number e ≡ true
-own_numbered workers worker (Step thread) own = lt-ltb thread MOST_THREADS own.0
-own_numbered workers worker (Ack thread) own = lt-ltb thread MOST_THREADS own.0
-own_numbered workers worker Gc own = refl
+own_has_number : (workers worker : ℕ) (e : Event) → IsOwn workers worker e → has_thread_number e ≡ true
+own_has_number workers worker (Step thread) own = lt-ltb thread MOST_THREADS own.0
+own_has_number workers worker (Ack thread) own = lt-ltb thread MOST_THREADS own.0
+own_has_number workers worker Gc own = refl
 
 -- so do all events of a history
-pub all_numbered : (workers : ℕ) (h : List Entry) → All (IsOwnOf workers) h → list_all has_thread_number (events_of h) ≡ true
-all_numbered workers [] all = refl
-all_numbered workers (e ∷ es) all =
-    rw (own_numbered workers e.worker e.event (All-head (IsOwnOf workers) e es all)) (all_numbered workers es (All-tail (IsOwnOf workers) e es all))
+pub all_have_numbers : (workers : ℕ) (h : List Entry) → All (IsOwnOf workers) h → list_all has_thread_number (events_of h) ≡ true
+all_have_numbers workers [] all = refl
+all_have_numbers workers (e ∷ es) all =
+    rw (own_has_number workers e.worker e.event (All-head (IsOwnOf workers) e es all)) (all_have_numbers workers es (All-tail (IsOwnOf workers) e es all))
 
 not_counted : (b : Bool) (n : ℕ) → cond b 1 0 + n ≡ 0 → (b ≡ false) × (n ≡ 0)
 not_counted true n none = absurd (omega (arith, none))

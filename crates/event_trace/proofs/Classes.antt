@@ -6,7 +6,7 @@ use Rattle.cil_model.specs.declared.trees.Class.{Class}
 use Rattle.cil_model.specs.declared.trees.Tree.{Tree}
 use Rattle.cil_model.specs.declared.types.ClassName.{ClassName}
 use Rattle.name_tables.specs.Numbers.{source_entry}
-use Rattle.interleaving_core.specs.simulation.resolved_code.Numbered.{class_name}
+use Rattle.interleaving_core.specs.simulation.resolved_code.ById.{class_name}
 
 -- what follows a list
 get_after : {X : Type 0} (xs ys : List X) (n k : ℕ) → n ≡ length xs + k → slice_get (xs ++ ys) n ≡ slice_get ys k

@@ -4,7 +4,7 @@ use Rattle.std.specs.List.{count_by}
 use Rattle.std.specs.Option.{option_map_or}
 use Rattle.cil_model.specs.declared.trees.Method.{Method}
 use Rattle.cil_model.specs.declared.types.ClassName.{ClassName}
-use Rattle.interleaving_core.specs.simulation.resolved_code.Numbered.{class_name}
+use Rattle.interleaving_core.specs.simulation.resolved_code.ById.{class_name}
 use Rattle.interleaving_core.specs.simulation.threads_monitors.Threads.{is_live, is_live_at}
 use Rattle.interleaving_core.specs.simulation.MachineStates.{MachineState}
 use Rattle.interleaving_core.specs.Positions.{position_at}

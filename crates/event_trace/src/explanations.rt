@@ -1,7 +1,7 @@
 //! The report of a machine whose threads have not all ended.
 
 ghost use Rattle.std.specs.Prelude.{◌≡◌, ◌++◌, Bool, IfOk, List, OnOk, decimal, length, map, option_and_then, option_map, string_bytes};
-ghost use Rattle.interleaving_core.specs.simulation.resolved_code.Numbered.{class_name};
+ghost use Rattle.interleaving_core.specs.simulation.resolved_code.ById.{class_name};
 ghost use Rattle.name_tables.specs.BuiltInTable.{built_in_entry};
 ghost use Rattle.cil_model.specs.Declarations.{built_ins};
 ghost use Rattle.event_trace.specs.MethodPositions.{ArePositionsOf, owner_name};

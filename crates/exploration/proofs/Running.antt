@@ -156,22 +156,22 @@ module _ (known : MachineState → Type 0) (closed : IsClosed known) where
 
     runs_are_seen : (last : State) (events : List Event) (reports : List Report) → length reports ≡ length events → (c : MachineState) (s : State) → IsAlone c s → (d end : MachineState) → IsBeside d s → RefusesBeyondRoom d s (zip events reports) end →
         run tree limits s (thread_part (zip events reports)) ≡ RunsTo (step_reports (zip events reports)) last → KeepBudgets reports → IsSeen tree limits known last × AreOrdinary reports
-    runs_are_seen last [] [] each c s alone d end beside refuses comes keep =
-        (record { machine_state = c; program = alone.program; within = alone.within; represents = subst (Represents c) (same_state [] [] s last comes) alone.whole.represents; covered = alone.covered }, tt)
-    runs_are_seen last [] (r ∷ rs) each c s alone d end beside refuses comes keep = absurd (omega (arith, each))
-    runs_are_seen last (e ∷ es) [] each c s alone d end beside refuses comes keep = absurd (omega (arith, each))
-    runs_are_seen last (Ack t ∷ es) (r ∷ rs) each c s alone d end beside (next, transition, any, later) comes keep =
+    runs_are_seen last [] [] each c s alone d end beside refuses gives keep =
+        (record { machine_state = c; program = alone.program; within = alone.within; represents = subst (Represents c) (same_state [] [] s last gives) alone.whole.represents; covered = alone.covered }, tt)
+    runs_are_seen last [] (r ∷ rs) each c s alone d end beside refuses gives keep = absurd (omega (arith, each))
+    runs_are_seen last (e ∷ es) [] each c s alone d end beside refuses gives keep = absurd (omega (arith, each))
+    runs_are_seen last (Ack t ∷ es) (r ∷ rs) each c s alone d end beside (next, transition, any, later) gives keep =
         let kept = acknowledgement_keeps d s beside.represents t (next, r) transition in
         let births = acknowledgement_within d s t beside.births (next, r) transition in
-        let seen = runs_are_seen last es rs (omega (arith, each)) c s alone next end (beside_next d next s (same_program d (next, r) (Ack t) transition) (beside.program, beside.within) kept births) (later s refl) comes keep.1 in
+        let seen = runs_are_seen last es rs (omega (arith, each)) c s alone next end (beside_next d next s (same_program d (next, r) (Ack t) transition) (beside.program, beside.within) kept births) (later s refl) gives keep.1 in
         (seen.0, (keep.0, acknowledgement_granted d t (next, r) transition, seen.1))
-    runs_are_seen last (Gc ∷ es) (r ∷ rs) each c s alone d end beside (next, transition, any, later) comes keep =
+    runs_are_seen last (Gc ∷ es) (r ∷ rs) each c s alone d end beside (next, transition, any, later) gives keep =
         let kept = collection_keeps d s beside.represents (next, r) transition in
         let births = collection_within d s beside.represents beside.births (next, r) transition in
-        let seen = runs_are_seen last es rs (omega (arith, each)) c s alone next end (beside_next d next s (same_program d (next, r) Gc transition) (beside.program, beside.within) kept births) (later s refl) comes keep.1 in
+        let seen = runs_are_seen last es rs (omega (arith, each)) c s alone next end (beside_next d next s (same_program d (next, r) Gc transition) (beside.program, beside.within) kept births) (later s refl) gives keep.1 in
         (seen.0, (keep.0, collection_granted d (next, r) transition, seen.1))
-    runs_are_seen last (Step t ∷ es) (r ∷ rs) each c s alone d end beside (next, transition, refused, later) comes keep =
-        let first = first_of tree limits s (t, is_refusal r) (thread_part (zip es rs)) (r ∷ step_reports (zip es rs)) last comes in
+    runs_are_seen last (Step t ∷ es) (r ∷ rs) each c s alone d end beside (next, transition, refused, later) gives keep =
+        let first = first_of tree limits s (t, is_refusal r) (thread_part (zip es rs)) (r ∷ step_reports (zip es rs)) last gives in
         let reports : r ≡ first.report = head_of r first.report (step_reports (zip es rs)) first.later first.are in
         let rest : step_reports (zip es rs) ≡ first.later = tail_of r first.report (step_reports (zip es rs)) first.later first.are in
         let answers : step tree limits s t (is_refusal r) ≡ Answers r first.after = first.answers ∙ ap (λ q. Answers q first.after) (sym reports) in
@@ -227,4 +227,4 @@ module _ (tree : Tree) (limits : Limits) where
       (record { program = of.0; within = of.1; whole = opened_whole tree limits each_alike accepted in_range c opened s begins; covered = covered })
       c is.last (record { program = of.0; within = of.1; represents = represents; births = opened_within tree limits c opened s })
       (subst (λ (x : MachineState). RefusesBeyondRoom x s (zip events reports) is.last) machine (subst (λ (u : State). RefusesBeyondRoom is.machine u (zip events reports) is.last) state is.refuses))
-      (ap (λ u. run tree limits u (thread_part (zip events reports))) (sym state) ∙ is.comes) keep
+      (ap (λ u. run tree limits u (thread_part (zip events reports))) (sym state) ∙ is.gives) keep

@@ -98,10 +98,10 @@ module _ (c : MachineState) (ts : List Thread) (agree : Agree (IsThreadLagging c
   d = record c { threads = ts }
 
   -- the same transition of the first
-  abbrev Comes' : Option (MachineState × Report) → Type 0
-  Comes' transition = (x : MachineState × Report) × (transition ≡ Some x) × TransitionsAlike x y
+  abbrev Reaches' : Option (MachineState × Report) → Type 0
+  Reaches' transition = (x : MachineState × Report) × (transition ≡ Some x) × TransitionsAlike x y
 
-  counts : (b : MachineState) (us : List Thread) → Agree (IsThreadLagging b.tree) b.threads us → (e : Effect) (n : Frames) → Some (count_step (record b { threads = us }) t left' e n) ≡ Some y → Comes' (Some (count_step b t left e n))
+  counts : (b : MachineState) (us : List Thread) → Agree (IsThreadLagging b.tree) b.threads us → (e : Effect) (n : Frames) → Some (count_step (record b { threads = us }) t left' e n) ≡ Some y → Reaches' (Some (count_step b t left e n))
   counts b us h e n is =
       let same = same_Some (count_step (record b { threads = us }) t left' e n) y is in (
         count_step b t left e n,
@@ -120,14 +120,14 @@ module _ (c : MachineState) (ts : List Thread) (agree : Agree (IsThreadLagging c
       (option_map_or (λ x. Some (threads, c.objects, Raises x)) fault
       (option_map (λ thread. option_map_or (λ f. (threads, c.objects, Raises f)) fault (threads ++ thread ∷ [], stored_int (mutator_of c t).phase c.objects a 0 (n + 1), Continues)) new))
 
-  by_fault : (n : ℕ) (a : Addr) (fault : Option Fault) (new : Option Thread) → start_transition left' n ts a fault new ≡ Some y → Comes' (start_transition left n c.threads a fault new)
+  by_fault : (n : ℕ) (a : Addr) (fault : Option Fault) (new : Option Thread) → start_transition left' n ts a fault new ≡ Some y → Reaches' (start_transition left n c.threads a fault new)
   by_fault n a (Some f) new h = counts c ts agree (Raises f) m h
   by_fault n a None None h = none_is_some y h
   by_fault n a None (Some thread) h =
       counts (record c { threads = c.threads ++ thread ∷ []; posts = seat_thread Continues c.posts n t; objects = stored_int (mutator_of c t).phase c.objects a 0 (n + 1) }) (ts ++ thread ∷ [])
       (agree_append (IsThreadLagging c.tree) c.threads ts agree (thread ∷ []) (thread ∷ []) (thread_itself c.tree thread, tt)) Continues (after_request Continues m) h
 
-  start_alike : (a : Addr) → finish d t left' m (Starts a) ≡ Some y → Comes' (finish c t left m (Starts a))
+  start_alike : (a : Addr) → finish d t left' m (Starts a) ≡ Some y → Reaches' (finish c t left m (Starts a))
   start_alike a h =
       let new : Option Thread = thread_for c.tree c.limits c.objects a in
       by_fault (length c.threads) a (fault_by (length c.threads) c.objects a) new
@@ -139,7 +139,7 @@ module _ (c : MachineState) (ts : List Thread) (agree : Agree (IsThreadLagging c
   waits_alike None = refl
   waits_alike (Some n) = ap (λ b. if b then Blocks else Continues) (sym (live_alike c.tree c.threads ts agree n))
 
-  join_alike : (a : Addr) → finish d t left' m (Joins a) ≡ Some y → Comes' (finish c t left m (Joins a))
+  join_alike : (a : Addr) → finish d t left' m (Joins a) ≡ Some y → Reaches' (finish c t left m (Joins a))
   join_alike a h =
       let same : join_effect ts c.objects a ≡ join_effect c.threads c.objects a = ap (λ e. if a.number == 0 then Raises NullReference else e) (waits_alike (thread_on c.objects a)) in
       counts c ts agree (join_effect c.threads c.objects a) (after_request (join_effect c.threads c.objects a) m) (subst (λ e. Some (answer_step d t left' m e) ≡ Some y) same h)

@@ -19,7 +19,7 @@ use Rattle.cil_model.proofs.Lists.{none_is_some}
 use Rattle.name_tables.specs.Numbers.{declarations, class_number, source_entry}
 use Rattle.name_tables.proofs.NumberLaws.{HasId, has_id}
 use Rattle.resolved_code.proofs.Numbers.Classes.{number_of_index}
-use Rattle.resolved_code.specs.Numbered.{class_name}
+use Rattle.resolved_code.specs.ById.{class_name}
 use Rattle.resolved_code.specs.Resolved.{AreResolved, IsResolvedClass}
 use Rattle.resolved_code.proofs.ListLaws.RelatedLists.{AlikeTo, alike_to, alike_beyond, alike_length}
 use Rattle.resolved_code.specs.declared.classes.ResolvedClass.{ResolvedClass}

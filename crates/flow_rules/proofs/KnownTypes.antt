@@ -8,7 +8,7 @@ use Rattle.cil_model.specs.declared.types.DeclaredType.{DeclaredType}
 use Rattle.cil_model.specs.declared.trees.Tree.{Tree}
 use Rattle.cil_model.specs.Declarations.{object_name}
 use Rattle.cil_model.specs.Assignable.{is_class_assignable}
-use Rattle.resolved_code.specs.Numbered.{class_name, element_at, type_at}
+use Rattle.resolved_code.specs.ById.{class_name, element_at, type_at}
 use Rattle.resolved_code.specs.TypeTests.{IsResultOf}
 use Rattle.resolved_code.specs.declared.types.ResolvedElement.{ResolvedElement}
 use Rattle.resolved_code.specs.declared.types.ResolvedElement.TheVariants.{Int32, Int64, Object, String, Class}

@@ -18,7 +18,7 @@ use Rattle.cil_model.specs.Declarations.{Declaration}
 use Rattle.cil_model.proofs.Lists.{none_is_some, find_passes}
 use Rattle.cil_model.proofs.SameLaws.{both_first, both_second, same_type_equal, same_signature_equal}
 use Rattle.name_tables.specs.Numbers.{declarations, member_at, method_at}
-use Rattle.resolved_code.specs.Numbered.{class_name, element_at, type_at, AreTypes}
+use Rattle.resolved_code.specs.ById.{class_name, element_at, type_at, AreTypes}
 use Rattle.resolved_code.specs.declared.types.ResolvedElement.{ResolvedElement}
 use Rattle.resolved_code.specs.declared.types.ResolvedElement.TheVariants.{Int32, Int64, Object, String, Class}
 use Rattle.resolved_code.specs.declared.types.ResolvedType.{ResolvedType}

@@ -12,7 +12,7 @@ ghost use Rattle.cil_model.specs.Assignable.{type_of_class};
 ghost use Rattle.cil_model.specs.Bodies.{constructor_reference, virtual_reference};
 ghost use Rattle.cil_model.specs.TypeTree as OnStack;
 ghost use Rattle.cil_model.specs.FlowRules.{take_operands, give, is_concrete};
-ghost use Rattle.resolved_code.specs.Numbered.{class_name};
+ghost use Rattle.resolved_code.specs.ById.{class_name};
 ghost use Rattle.resolved_code.specs.Resolved.{IsField, IsMethod};
 ghost use Rattle.flow_rules.specs.Flow.{IsAfter, flow_of};
 ghost use Rattle.flow_rules.specs.Members.{GivesType, IsCallable, is_abstract_kind, operands_named};

@@ -10,7 +10,7 @@ ghost use Rattle.cil_model.specs.Chains.{base_of, longest_chain};
 ghost use Rattle.cil_model.specs.TypeTree.{ancestor, parent, parent_at, parent_element, IsBelow};
 ghost use Rattle.cil_model.specs.TypeTree as OnStack;
 ghost use Rattle.cil_model.specs.Legality.{IsLegal};
-ghost use Rattle.resolved_code.specs.Numbered.{class_name};
+ghost use Rattle.resolved_code.specs.ById.{class_name};
 ghost use Rattle.resolved_code.specs.declared.types.ResolvedElement.TheVariants.{Object, Class};
 ghost use Rattle.flow_rules.specs.declared.entries.StackEntry.TheVariants.{Declared, Null};
 ghost use Rattle.flow_rules.specs.Named.{type_named, element_named, class_named, is_known};

@@ -119,18 +119,18 @@ known_between last t row i d h k ordered early late =
 -- ---- the latest of all ends
 
 pub latest_at_first : (ends : List ℕ) → IsLatest ends 0 0
-latest_at_first ends = record { covers = λ s h. absurd (omega (arith, h)); comes = λ h. absurd (omega (arith, h)) }
+latest_at_first ends = record { covers = λ s h. absurd (omega (arith, h)); is_end = λ h. absurd (omega (arith, h)) }
 
 pub latest_as_before : (ends : List ℕ) (n latest : ℕ) → IsLatest ends n latest → slice_index_or ends n 0 ≤ latest → IsLatest ends (n + 1) latest
 latest_as_before ends n latest l h = record {
   covers = below_more (λ s. slice_index_or ends s 0 ≤ latest) n l.covers h;
-  comes = λ some. let found = l.comes some in (found.0, omega (arith, found.1), found.2);
+  is_end = λ some. let found = l.is_end some in (found.0, omega (arith, found.1), found.2);
 }
 
 pub latest_here : (ends : List ℕ) (n latest : ℕ) → IsLatest ends n latest → latest < slice_index_or ends n 0 → IsLatest ends (n + 1) (slice_index_or ends n 0)
 latest_here ends n latest l h = record {
   covers = below_more (λ s. slice_index_or ends s 0 ≤ slice_index_or ends n 0) n (λ s k. let low : slice_index_or ends s 0 ≤ latest = l.covers s k in omega (arith, low, h)) (omega arith);
-  comes = λ some. (n, omega arith, refl);
+  is_end = λ some. (n, omega arith, refl);
 }
 
 pub reach_more : (ends reach : List ℕ) (latest : ℕ) → IsReach ends reach → IsLatest ends (length reach + 1) latest → IsReach ends (reach ++ latest ∷ [])
@@ -147,7 +147,7 @@ no_ends (suc n) (suc s) = no_ends n s
 -- a fact of each time that the reach is beyond
 pub reach_sought : (P : ℕ → Type 0) (ends old reach : List ℕ) (t : ℕ) → ((s : ℕ) → slice_index_or old s 0 ≡ 0) → HoldsTill P old ends → IsReach ends reach → t < length reach → t < slice_index_or reach t 0 → P t
 reach_sought P ends old reach t empty holds r inside high =
-    let found = (r t inside).comes (omega (arith, high)) in
+    let found = (r t inside).is_end (omega (arith, high)) in
     holds found.0 t (omega (arith, found.1)) (omega (arith, empty found.0)) (omega (arith, high, found.2))
 
 -- ---- some of a list
@@ -175,8 +175,8 @@ any_same inside p q same [] h = refl
 any_same inside p q same (x ∷ xs) h = ap (λ b. b || list_any p xs) (same x (both_first _ _ h)) ∙ ap (λ b. q x || b) (any_same inside p q same xs (both_second _ _ h))
 
 -- some number passes exactly at the times before an end
-pub reach_tells : (p : ℕ → Bool) (keys : List ℕ) (t end : ℕ) → (t < end → list_any p keys ≡ true) → (end ≤ t → (index : ℕ) → index < length keys → p (slice_index_or keys index 0) ≡ false) → list_any p keys ≡ nat_lt t end
-reach_tells p keys t end beyond up_to = by_time (nat_lt t end) refl
+pub reach_decides : (p : ℕ → Bool) (keys : List ℕ) (t end : ℕ) → (t < end → list_any p keys ≡ true) → (end ≤ t → (index : ℕ) → index < length keys → p (slice_index_or keys index 0) ≡ false) → list_any p keys ≡ nat_lt t end
+reach_decides p keys t end beyond up_to = by_time (nat_lt t end) refl
   where
     by_any : end ≤ t → (b : Bool) → list_any p keys ≡ b → b ≡ false
     by_any late false e = refl

@@ -183,7 +183,7 @@ nothing_met bases old first = record {
   newly = λ class e. inl e;
 }
 
-module _ (bases : List (Option ℕ)) (old : List Bool) (first : ℕ) (met : List Bool) (path : List ℕ) (next : Option ℕ) (is : HasMet bases old first met path next) (class : ℕ) (comes : next ≡ Some class) (within : class < length met) (new : is_met met class ≡ false) where
+module _ (bases : List (Option ℕ)) (old : List Bool) (first : ℕ) (met : List Bool) (path : List ℕ) (next : Option ℕ) (is : HasMet bases old first met path next) (class : ℕ) (is_end : next ≡ Some class) (within : class < length met) (new : is_met met class ≡ false) where
   was_new : (b : Bool) → is_met old class ≡ b → b ≡ false
   was_new false e = refl
   was_new true e = absurd (not_both (is_met met class) (is.kept class e) new)
@@ -197,7 +197,7 @@ module _ (bases : List (Option ℕ)) (old : List Bool) (first : ℕ) (met : List
   pub one_more_met : HasMet bases old first (slice_set met class true) (path ++ class ∷ []) (base_in bases class)
   one_more_met = record {
     width = length-set met class true ∙ is.width;
-    on_path = path_on bases (Some first) path class (subst (IsPath bases (Some first) path) comes is.on_path);
+    on_path = path_on bases (Some first) path class (subst (IsPath bases (Some first) path) is_end is.on_path);
     once = λ c. elim (one_cases class c) [
       | inl e ↦ (let none = ap (times path) (sym e.0) ∙ not_on_path in omega (arith, none, e.1, times_push path class c))
       | inr e ↦ (let once = is.once c in omega (arith, once, e.1, times_push path class c))

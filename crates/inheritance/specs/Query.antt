@@ -48,7 +48,7 @@ HoldsTill P old new = (s t : ℕ) → s ≤ t → slice_index_or old s 0 ≤ t �
 -- the latest of the given number of ends, the first ones; 0 where none is later
 pub record IsLatest (ends : List ℕ) (count latest : ℕ) : Type 0 where
   pub covers : (s : ℕ) → s < count → slice_index_or ends s 0 ≤ latest
-  pub comes : 0 < latest → (s : ℕ) × (s < count) × (slice_index_or ends s 0 ≡ latest)
+  pub is_end : 0 < latest → (s : ℕ) × (s < count) × (slice_index_or ends s 0 ≡ latest)
 
 -- the latest of all ends up to each time
 abbrev pub IsReach : List ℕ → List ℕ → Type 0

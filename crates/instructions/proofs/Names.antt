@@ -7,7 +7,7 @@ use Rattle.cil_model.specs.declared.types.Element.{Element}
 use Rattle.cil_model.specs.declared.trees.Tree.{Tree}
 use Rattle.cil_model.specs.Declarations.{object_name}
 use Rattle.cil_model.specs.Assignable.{element_of_class, type_of_class}
-use Rattle.resolved_code.specs.Numbered.{class_name, element_at, type_at}
+use Rattle.resolved_code.specs.ById.{class_name, element_at, type_at}
 use Rattle.resolved_code.specs.declared.types.ResolvedElement.{ResolvedElement}
 use Rattle.resolved_code.specs.declared.types.ResolvedElement.TheVariants.{Int32, Int64, Object, String, Class}
 use Rattle.resolved_code.specs.declared.types.ResolvedType.{ResolvedType}
@@ -51,7 +51,7 @@ module _ (tree : Tree) where
 pub record Deciding (tree : Tree) (o : Objects) (a : Addr) (to : ResolvedType) : Type 0 where
   pub required : DeclaredType
   pub own : DeclaredType
-  pub wanted_is : type_at tree to ≡ Some required
+  pub required_is : type_at tree to ≡ Some required
   pub own_is : type_of_address tree o a ≡ Some own
   pub decided : may_be_used_as tree o (Ref a) to ≡ Some (is_assignable tree own required)
 
@@ -70,7 +70,7 @@ deciding tree o a to apart there = by_types (type_at tree to) refl (type_of_addr
     by_types (Some t) e (Some own) f h = record {
       required = t;
       own = own;
-      wanted_is = e;
+      required_is = e;
       own_is = f;
       decided = ap (λ x. decides x (type_of_address tree o a)) e ∙ ap (decides (Some t)) f ∙ ap (λ (b : Bool). if b then Some true else Some (is_assignable tree own t)) apart;
     }

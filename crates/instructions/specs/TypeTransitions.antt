@@ -9,7 +9,7 @@ use Rattle.cil_model.specs.declared.trees.Tree.{Tree}
 use Rattle.cil_model.specs.declared.reports.Fault.TheVariants.{InvalidCast, ArrayTypeMismatch}
 use Rattle.cil_model.specs.Declarations.{plain}
 use Rattle.cil_model.specs.Assignable.{array_of, type_of_class, is_assignable}
-use Rattle.resolved_code.specs.Numbered.{class_name, type_at}
+use Rattle.resolved_code.specs.ById.{class_name, type_at}
 use Rattle.resolved_code.specs.declared.types.ResolvedElement.{ResolvedElement}
 use Rattle.resolved_code.specs.declared.types.ResolvedElement.TheVariants.{Int32 as ResolvedInt32, Int64 as ResolvedInt64, Object as ResolvedObject, String as ResolvedString, Class as ClassById}
 use Rattle.resolved_code.specs.declared.types.ResolvedType.{ResolvedType}

@@ -13,5 +13,5 @@ pub record IsInstructed (c : MachineState) (t : ℕ) (outcome : InstructionOutco
   pub answer : Answer
   pub there : slice_get c.threads t ≡ Some (live_thread left frames)
   pub done : IsDone c.tree (mutator_of c t) frames c.objects c.statics c.printed answer
-  pub comes : answer.outcome ≡ outcome
+  pub gives : answer.outcome ≡ outcome
   pub is : after ≡ left_by c t left answer

@@ -15,7 +15,7 @@ use Rattle.resolved_code.specs.declared.classes.ResolvedClass.{ResolvedClass}
 use Rattle.resolved_code.proofs.ListLaws.RelatedLists.{alike_length}
 use Rattle.resolved_code.proofs.LegalPrograms.Limits.{source_methods_few}
 use Rattle.loaded_program.specs.AllMethods.{owned_methods, all_methods}
-use Rattle.loaded_program.specs.Numbered.{running_counts}
+use Rattle.loaded_program.specs.ResolvedKinds.{running_counts}
 use Rattle.loaded_program.proofs.FlatLaws.{owned_count}
 
 -- the methods of the source's classes

@@ -49,8 +49,8 @@ owned_at e p m at = slice_get-map (λ m. (e.0, m)) e.1.methods p ∙ ap (option_
 abbrev of_class : ℕ → ClassName × Declaration → Option (ClassName × Method)
 of_class p e = option_map (λ x. (e.0, x)) (slice_get e.1.methods p)
 
-pub numbered_at : (tree : Tree) (n p : ℕ) (e : ClassName × Declaration) (m : Method) → slice_get (declarations tree) n ≡ Some e → slice_get e.1.methods p ≡ Some m → method_at tree (n, p) ≡ Some (e.0, m)
-numbered_at tree n p e m at found = ap (option_and_then (of_class p)) at ∙ ap (option_map (λ (x : Method). (e.0, x))) found
+pub id_at : (tree : Tree) (n p : ℕ) (e : ClassName × Declaration) (m : Method) → slice_get (declarations tree) n ≡ Some e → slice_get e.1.methods p ≡ Some m → method_at tree (n, p) ≡ Some (e.0, m)
+id_at tree n p e m at found = ap (option_and_then (of_class p)) at ∙ ap (option_map (λ (x : Method). (e.0, x))) found
 
 -- ---- methods of all classes
 

@@ -21,7 +21,7 @@ use Rattle.cil_model.specs.Chains.{is_interface}
 use Rattle.cil_model.specs.Declarations.{Declaration}
 use Rattle.cil_model.specs.Slots.{target, class_target, interface_target}
 use Rattle.name_tables.specs.Numbers.{declarations}
-use Rattle.resolved_code.specs.Numbered.{class_name}
+use Rattle.resolved_code.specs.ById.{class_name}
 use Rattle.loaded_program.specs.AllMethods.{all_methods}
 use Rattle.loaded_program.specs.declared.linked_methods.LinkedMethod.{LinkedMethod}
 use Rattle.loaded_program.specs.declared.linked_methods.Targets.{Targets}

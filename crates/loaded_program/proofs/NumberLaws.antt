@@ -19,7 +19,7 @@ use Rattle.name_tables.proofs.NumberLaws.{HasId, has_id, none_is_some, position_
 use Rattle.resolved_code.proofs.ListLaws.Repeats.{has_repeat-map}
 use Rattle.loaded_program.specs.AllMethods.{owned_methods, all_methods, first_numbers}
 use Rattle.loaded_program.specs.MethodNumbers.{number_of}
-use Rattle.loaded_program.proofs.FlatLaws.{numbered_at, first_is_there, number_after}
+use Rattle.loaded_program.proofs.FlatLaws.{id_at, first_is_there, number_after}
 
 -- ---- lists in which no item stands twice
 
@@ -128,18 +128,18 @@ module _ (tree : Tree) where
       by_number None e = absurd (none_is_some found.1 (sym (ap (λ z. slice_get (listed_by (λ (d : Declaration). d.methods) z) k) e) ∙ h))
       by_number (Some n) (d, e, at) =
           let own : slice_get d.methods k ≡ Some found.1 = sym (ap (λ z. slice_get (listed_by (λ (y : Declaration). y.methods) z) k) e) ∙ h in
-          by_first n (numbered_at tree n k (found.0, d) found.1 at own) (slice_get (first_numbers 0 (declarations tree)) n) refl
+          by_first n (id_at tree n k (found.0, d) found.1 at own) (slice_get (first_numbers 0 (declarations tree)) n) refl
 
   -- it has a number, and stands there
-  pub declared_is_numbered : IsLegal tree → (k : ℕ) (found : ClassName × Method) → slice_get (methods_declared tree found.0) k ≡ Some found.1 → (n : ℕ) × (number_of tree found ≡ Some n) × (slice_get (all_methods tree) n ≡ Some found)
-  declared_is_numbered legal k found h =
+  pub declared_has_id : IsLegal tree → (k : ℕ) (found : ClassName × Method) → slice_get (methods_declared tree found.0) k ≡ Some found.1 → (n : ℕ) × (number_of tree found ≡ Some n) × (slice_get (all_methods tree) n ≡ Some found)
+  declared_has_id legal k found h =
       let index : (n : ℕ) × (slice_get (all_methods tree) n ≡ Some found) = index_of_declared k found h in
       (index.0, number_of_index legal index.0 found index.1, index.1)
 
   -- the number of a method that is declared is its index
   pub index_of_number : IsLegal tree → (k : ℕ) (found : ClassName × Method) → slice_get (methods_declared tree found.0) k ≡ Some found.1 → (n : ℕ) → number_of tree found ≡ Some n → slice_get (all_methods tree) n ≡ Some found
   index_of_number legal k found h n e =
-      let known : (m : ℕ) × (number_of tree found ≡ Some m) × (slice_get (all_methods tree) m ≡ Some found) = declared_is_numbered legal k found h in
+      let known : (m : ℕ) × (number_of tree found ≡ Some m) × (slice_get (all_methods tree) m ≡ Some found) = declared_has_id legal k found h in
       let both : Some known.0 ≡ Some n = sym known.1 ∙ e in
       let same : known.0 ≡ n = cc in
       ap (slice_get (all_methods tree)) (sym same) ∙ known.2

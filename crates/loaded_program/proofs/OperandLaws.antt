@@ -9,7 +9,7 @@ use Rattle.cil_model.specs.Fields.{instance_slot, static_slot, slot_types}
 use Rattle.name_tables.specs.declared.lookups.MemberNumber.{MemberNumber}
 use Rattle.name_tables.specs.Numbers.{field_at, method_at}
 use Rattle.resolved_code.specs.Resolved.{BothAlike}
-use Rattle.resolved_code.specs.Numbered.{class_name}
+use Rattle.resolved_code.specs.ById.{class_name}
 use Rattle.resolved_code.specs.declared.types.ResolvedType.{ResolvedType}
 use Rattle.object_memory.specs.declared.kinds.ArrayElement.{ArrayElement}
 use Rattle.object_memory.specs.declared.kinds.ElementType.{ElementType}
@@ -109,12 +109,12 @@ sized tree member n e =
     record { class = class.0; class_is = class.1; size_is = size.0; fits = size.1 }
 
 -- the method of a number, and its flat number
-pub record Numbered (tree : Tree) (member : MemberNumber) (n : ℕ) : Type 0 where
+pub record HasFlatNumber (tree : Tree) (member : MemberNumber) (n : ℕ) : Type 0 where
   pub found : ClassName × Method
   pub found_is : method_at tree (member.class, member.index) ≡ Some found
   pub number_is : flat_number tree member.class member.index ≡ n
 
-pub has_id : (tree : Tree) (member : MemberNumber) (n : ℕ) → number_at tree member ≡ Some n → Numbered tree member n
+pub has_id : (tree : Tree) (member : MemberNumber) (n : ℕ) → number_at tree member ≡ Some n → HasFlatNumber tree member n
 has_id tree member n e =
     let found = map_some (λ (found : ClassName × Method). flat_number tree member.class member.index) (method_at tree (member.class, member.index)) n e in
     record { found = found.0; found_is = found.1; number_is = found.2 }

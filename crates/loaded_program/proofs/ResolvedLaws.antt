@@ -17,7 +17,7 @@ use Rattle.cil_model.specs.Bodies.{code_of, argument_types}
 use Rattle.cil_model.specs.Chains.{is_static}
 use Rattle.cil_model.specs.Assignable.{type_of_class}
 use Rattle.cil_model.specs.Declarations.{Declaration}
-use Rattle.resolved_code.specs.Numbered.{class_name, element_at, type_at, AreTypes}
+use Rattle.resolved_code.specs.ById.{class_name, element_at, type_at, AreTypes}
 use Rattle.resolved_code.specs.Resolved.{AllAlike, IsBody, IsResolvedKind, IsResolvedMethod, IsResolvedClass}
 use Rattle.resolved_code.specs.declared.types.ResolvedElement.{ResolvedElement}
 use Rattle.resolved_code.specs.declared.types.ResolvedElement.TheVariants.{Int32, Int64, Object, String, Class}
@@ -28,7 +28,7 @@ use Rattle.resolved_code.specs.declared.classes.ResolvedKind.TheVariants as Kind
 use Rattle.resolved_code.specs.declared.classes.ResolvedMethod.{ResolvedMethod}
 use Rattle.resolved_code.specs.declared.classes.ResolvedClass.{ResolvedClass}
 use Rattle.loaded_program.specs.AllMethods.{first_numbers}
-use Rattle.loaded_program.specs.Numbered.{resolved_kind_at, kind_of_resolved, resolved_locals, with_object, operand_count, running_counts}
+use Rattle.loaded_program.specs.ResolvedKinds.{resolved_kind_at, kind_of_resolved, resolved_locals, with_object, operand_count, running_counts}
 use Rattle.loaded_program.specs.Prepared.{kind_at, kind_of_type, local_kinds}
 use Rattle.resolved_code.proofs.ListLaws.RelatedLists.{alike_length}
 

@@ -5,7 +5,7 @@ pub use Rattle.resolved_code.specs as resolved_code
 pub use Rattle.class_layout.specs as class_layout
 pub use Rattle.object_memory.specs as object_memory
 pub mod AllMethods
-pub mod Numbered
+pub mod ResolvedKinds
 pub mod Prepared
 pub mod MethodNumbers
 pub mod Operands

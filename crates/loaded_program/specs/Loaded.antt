@@ -10,7 +10,7 @@ use Rattle.cil_model.specs.Declarations.{Declaration}
 use Rattle.cil_model.specs.Slots.{target}
 use Rattle.name_tables.specs.Numbers.{declarations}
 use Rattle.resolved_code.specs.Resolved.{AllAlike, IsOperation}
-use Rattle.resolved_code.specs.Numbered.{class_name}
+use Rattle.resolved_code.specs.ById.{class_name}
 use Rattle.resolved_code.specs.declared.classes.ResolvedKind.{ResolvedKind}
 use Rattle.resolved_code.specs.declared.classes.ResolvedKind.TheVariants.{Static, Instance, Virtual, Abstract}
 use Rattle.resolved_code.specs.declared.operations.Operation.{Operation}

@@ -6,10 +6,10 @@ ghost use Rattle.cil_model.specs.declared.trees.Method.{Method};
 ghost use Rattle.cil_model.specs.declared.trees.Tree.{Tree};
 ghost use Rattle.cil_model.specs.Declarations.{Declaration};
 ghost use Rattle.name_tables.specs.Numbers.{declarations, method_at};
-ghost use Rattle.resolved_code.specs.Numbered.{type_at};
+ghost use Rattle.resolved_code.specs.ById.{type_at};
 ghost use Rattle.resolved_code.specs.Resolved.{AllAlike, IsResolvedMethod};
 ghost use Rattle.loaded_program.specs.AllMethods.{owned_methods};
-ghost use Rattle.loaded_program.specs.Numbered.{kind_of_resolved, resolved_locals, operand_count};
+ghost use Rattle.loaded_program.specs.ResolvedKinds.{kind_of_resolved, resolved_locals, operand_count};
 ghost use Rattle.loaded_program.specs.Prepared.{kind_of_type, IsTableMethod};
 
 use crate::actions::{Action, action_at};

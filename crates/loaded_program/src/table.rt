@@ -8,7 +8,7 @@ ghost use Rattle.cil_model.specs.declared.trees.Tree.{Tree};
 ghost use Rattle.name_tables.specs.Numbers.{declarations, method_at};
 ghost use Rattle.resolved_code.specs.Resolved.{AllAlike, AreResolved, BothAlike};
 ghost use Rattle.loaded_program.specs.AllMethods.{all_methods, flat_number, first_numbers};
-ghost use Rattle.loaded_program.specs.Numbered.{running_counts};
+ghost use Rattle.loaded_program.specs.ResolvedKinds.{running_counts};
 ghost use Rattle.loaded_program.specs.Prepared.{IsTableMethod};
 
 use crate::methods::{TableMethod, class_methods};

@@ -29,8 +29,8 @@ passes_at p (y ∷ ys) (suc i) x e h = ap (λ b. p y || b) (passes_at p ys i x e
     or_true false = refl
 
 module _ (tree : Tree) where
-  pub base_numbered : (c : ClassName) (n : ℕ) → class_number tree c ≡ Some n → base_of tree c ≡ base_at tree n
-  base_numbered c n e =
+  pub base_has_id : (c : ClassName) (n : ℕ) → class_number tree c ≡ Some n → base_of tree c ≡ base_at tree n
+  base_has_id c n e =
       let found : FoundAt tree c n = found_at tree c n e in
       ap (option_and_then (λ (d : Declaration). d.base)) found.1 ∙ sym (ap (option_and_then (λ (y : ClassName × Declaration). y.1.base)) found.2)
 
@@ -43,10 +43,10 @@ module _ (tree : Tree) where
       ap (λ d. list_any (same_class c) (chain_within tree (longest_chain tree) (option_and_then (λ (x : Declaration). x.base) d))) (not_declared tree c e)
 
   pub no_base : (c : ClassName) (n : ℕ) → class_number tree c ≡ Some n → base_at tree n ≡ None → is_own_base tree c ≡ false
-  no_base c n e f = ap (λ b. list_any (same_class c) (chain_within tree (longest_chain tree) b)) (base_numbered c n e ∙ f)
+  no_base c n e f = ap (λ b. list_any (same_class c) (chain_within tree (longest_chain tree) b)) (base_has_id c n e ∙ f)
 
   pub own_number : (c b : ClassName) (n : ℕ) → class_number tree c ≡ Some n → base_at tree n ≡ Some b → list_any (λ m. m == n) (chain_numbers tree b) ≡ is_own_base tree c
-  own_number c b n e f = among_numbers tree c n e (chain_of tree b) ∙ sym (ap (λ o. list_any (same_class c) (chain_within tree (longest_chain tree) o)) (base_numbered c n e ∙ f))
+  own_number c b n e f = among_numbers tree c n e (chain_of tree b) ∙ sym (ap (λ o. list_any (same_class c) (chain_within tree (longest_chain tree) o)) (base_has_id c n e ∙ f))
 
   -- the class is met again from its base on
   pub own_line : (c : ClassName) (n : ℕ) → class_number tree c ≡ Some n → is_own_base tree c ≡ list_any (λ m. m == n) (line_of tree (base_in (base_numbers tree) n))

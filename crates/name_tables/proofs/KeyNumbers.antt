@@ -88,8 +88,8 @@ module _ {K : Type 0} (same : K → K → Bool) (laws : IsEquivalence same) wher
             let turned : same item.0 x ≡ true = laws.symm item.0 x ∙ item.2 in
             absurd (lost (sym (laws.congr q item.0 x meets ∙ turned) ∙ h))
 
-    pub number_tells : (q x : K) → is_known keys x ≡ true → (number q == number x) ≡ same q x
-    number_tells q x known = by_test (same q x) refl
+    pub number_decides : (q x : K) → is_known keys x ≡ true → (number q == number x) ≡ same q x
+    number_decides q x known = by_test (same q x) refl
       where
         by_test : (b : Bool) → same q x ≡ b → (number q == number x) ≡ b
         by_test true h = same_numbers q x h
@@ -98,7 +98,7 @@ module _ {K : Type 0} (same : K → K → Bool) (laws : IsEquivalence same) wher
     pub index_by_number : (q : K) (row : List K) (i : ℕ) → list_all (is_known keys) row ≡ true → position_from (λ k. number q == k) i (map number row) ≡ position_from (same q) i row
     index_by_number q [] i h = refl
     index_by_number q (x ∷ xs) i h =
-        ap (λ b. cond b (Some i) (position_from (λ k. number q == k) (i + 1) (map number xs))) (number_tells q x (both_first _ _ h)) ∙
+        ap (λ b. cond b (Some i) (position_from (λ k. number q == k) (i + 1) (map number xs))) (number_decides q x (both_first _ _ h)) ∙
         ap (λ o. cond (same q x) (Some i) o) (index_by_number q xs (i + 1) (both_second _ _ h))
 
     -- the key at the index that is its number has that number again
@@ -110,9 +110,9 @@ module _ {K : Type 0} (same : K → K → Bool) (laws : IsEquivalence same) wher
         let again : number item.0 ≡ number x = ap (λ o. unwrap_or o (length keys)) (position_from-congr (same item.0) (same x) (λ z. sym (laws.congr x item.0 z item.2)) 0 keys) in
         ap (λ n. option_map number (slice_get keys n)) there ∙ ap (option_map number) item.1 ∙ ap Some again
 
-    numbered_in_row : (row : List K) → list_all (is_known keys) row ≡ true → (n i index : ℕ) → position_from (λ k. n == k) i (map number row) ≡ Some index → option_map number (slice_get keys n) ≡ Some n
-    numbered_in_row [] known n i index e = absurd (none-some index e)
-    numbered_in_row (x ∷ xs) known n i index e = by_test (numbered_in_row xs (both_second _ _ known) n (i + 1) index) (eqb_tells n (number x))
+    id_in_row : (row : List K) → list_all (is_known keys) row ≡ true → (n i index : ℕ) → position_from (λ k. n == k) i (map number row) ≡ Some index → option_map number (slice_get keys n) ≡ Some n
+    id_in_row [] known n i index e = absurd (none-some index e)
+    id_in_row (x ∷ xs) known n i index e = by_test (id_in_row xs (both_second _ _ known) n (i + 1) index) (eqb_tells n (number x))
       where
         by_test : (position_from (λ k. n == k) (i + 1) (map number xs) ≡ Some index → option_map number (slice_get keys n) ≡ Some n) → ((n == number x) ≡ true) × (n ≡ number x) ⊎ ((n == number x) ≡ false) × (n ≢ number x) → option_map number (slice_get keys n) ≡ Some n
         by_test further (inl h) = subst (λ m. option_map number (slice_get keys m) ≡ Some m) (sym h.1) (number_again x (both_first _ _ known))
@@ -131,9 +131,9 @@ module _ {K : Type 0} (same : K → K → Bool) (laws : IsEquivalence same) wher
       ap (position_from (λ k. number_in same keys q == k) 0) (row_at row_in (number_in same keys) rows n) ∙
       index_by_number keys q (slice_index_or (map row_in rows) n []) 0 (ap (λ ks. list_all (is_known ks) (slice_index_or (map row_in rows) n [])) e ∙ known_in_rows row_in rows n)
 
-  pub numbered_in_rows : {R : Type 0} (row_in : R → List K) (rows : List R) (keys : List K) (declared : List (List ℕ)) → keys ≡ flat_map row_in rows → declared ≡ map (λ r. map (number_in same keys) (row_in r)) rows → HaveIds same keys declared
-  numbered_in_rows row_in rows keys declared e d = λ n class index found.
-      numbered_in_row keys (slice_index_or (map row_in rows) class []) (ap (λ ks. list_all (is_known ks) (slice_index_or (map row_in rows) class [])) e ∙ known_in_rows row_in rows class) n 0 index
+  pub id_in_rows : {R : Type 0} (row_in : R → List K) (rows : List R) (keys : List K) (declared : List (List ℕ)) → keys ≡ flat_map row_in rows → declared ≡ map (λ r. map (number_in same keys) (row_in r)) rows → HaveIds same keys declared
+  id_in_rows row_in rows keys declared e d = λ n class index found.
+      id_in_row keys (slice_index_or (map row_in rows) class []) (ap (λ ks. list_all (is_known ks) (slice_index_or (map row_in rows) class [])) e ∙ known_in_rows row_in rows class) n 0 index
       (sym (ap (λ ds. position_from (λ k. n == k) 0 (slice_index_or ds class [])) d ∙ ap (position_from (λ k. n == k) 0) (row_at row_in (number_in same keys) rows class)) ∙ found)
 
 pub number_within : {K : Type 0} (same : K → K → Bool) (keys : List K) (q : K) → number_in same keys q < length keys + 1

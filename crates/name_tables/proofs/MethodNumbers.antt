@@ -22,7 +22,7 @@ use Rattle.name_tables.specs.Methods.{identity_number, method_index, has_virtual
 use Rattle.name_tables.specs.Numbers.{declarations}
 use Rattle.name_tables.specs.Sameness.{MethodIdentity, same_identity, identity_of, same_called, called_of, same_call}
 use Rattle.name_tables.specs.SamenessLaws.{identity_equivalence}
-use Rattle.name_tables.proofs.KeyNumbers.{is_known, known_in_rows, number_tells, index_by_number, row_at, number_of_view}
+use Rattle.name_tables.proofs.KeyNumbers.{is_known, known_in_rows, number_decides, index_by_number, row_at, number_of_view}
 use Rattle.name_tables.proofs.Lists.{map_of_map}
 use Rattle.name_tables.proofs.MemberLaws.{index_at}
 use Rattle.name_tables.proofs.NumberLaws.{position_from-map}
@@ -107,14 +107,14 @@ module _ (tree : Tree) (keys : List MethodKey) (known : map method_of_key keys �
   pub virtuals_by_numbers : (rows : List (List ℕ)) → rows ≡ map (λ (e : ClassName × Declaration). map number (virtuals_of e.1)) (declarations tree) → (k : MethodIdentity) (class : ℕ) → lines.index_in rows (number k) class ≡ virtual_index tree k class
   virtuals_by_numbers rows are k class = indices_by_numbers (λ (e : ClassName × Declaration). virtuals_of e.1) known_virtuals rows are k class
 
-  call_tells : (k : MethodIdentity × Bool) (m : Method) → known_to_all (identity_of m) ≡ true → same_call (call_of number k) (call_of number (called_of m)) ≡ same_called k (called_of m)
-  call_tells k m h = ap (λ b. b && same_flag k.1 (called_of m).1) (number_tells same_identity identity_equivalence all k.0 (identity_of m) h)
+  call_decides : (k : MethodIdentity × Bool) (m : Method) → known_to_all (identity_of m) ≡ true → same_call (call_of number k) (call_of number (called_of m)) ≡ same_called k (called_of m)
+  call_decides k m h = ap (λ b. b && same_flag k.1 (called_of m).1) (number_decides same_identity identity_equivalence all k.0 (identity_of m) h)
 
   call_indices : (k : MethodIdentity × Bool) (ms : List Method) (i : ℕ) → list_all known_to_all (map identity_of ms) ≡ true →
       position_from (same_call (call_of number k)) i (map (λ (m : Method). call_of number (called_of m)) ms) ≡ position_from (λ m. same_called k (called_of m)) i ms
   call_indices k [] i h = refl
   call_indices k (m ∷ ms) i h =
-      ap (λ b. cond b (Some i) (position_from (same_call (call_of number k)) (i + 1) (map (λ (x : Method). call_of number (called_of x)) ms))) (call_tells k m (both_first _ _ h)) ∙
+      ap (λ b. cond b (Some i) (position_from (same_call (call_of number k)) (i + 1) (map (λ (x : Method). call_of number (called_of x)) ms))) (call_decides k m (both_first _ _ h)) ∙
       ap (λ o. cond (same_called k (called_of m)) (Some i) o) (call_indices k ms (i + 1) (both_second _ _ h))
 
   pub calls_by_numbers : (rows : List (List CallNumber)) → rows ≡ map (λ (e : ClassName × Declaration). map (λ (m : Method). call_of number (called_of m)) e.1.methods) (declarations tree) → (k : MethodIdentity × Bool) (class : ℕ) →

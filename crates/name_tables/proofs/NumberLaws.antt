@@ -158,9 +158,9 @@ module _ (tree : Tree) where
   module _ {X : Type 0} (at : ClassName → Option X) (index : ℕ → Option ℕ) (member : ℕ × ℕ → Option (ClassName × X))
       (absent : (c : ClassName) → declaration_of tree c ≡ None → at c ≡ None)
       (present : (c : ClassName) (d : Declaration) (n : ℕ) → declaration_of tree c ≡ Some d → slice_get (declarations tree) n ≡ Some (c, d) → option_map (λ p. member (n, p)) (index n) ≡ option_map (λ x. Some (c, x)) (at c)) where
-    pub nearest_is_numbered : (cs : List ClassName) → option_map member (nearest_number index (filter_map (class_number tree) cs)) ≡ option_map Some (nearest at cs)
-    nearest_is_numbered [] = refl
-    nearest_is_numbered (c ∷ cs) = by_number (nearest_is_numbered cs) (class_number tree c) (has_id c)
+    pub nearest_has_id : (cs : List ClassName) → option_map member (nearest_number index (filter_map (class_number tree) cs)) ≡ option_map Some (nearest at cs)
+    nearest_has_id [] = refl
+    nearest_has_id (c ∷ cs) = by_number (nearest_has_id cs) (class_number tree c) (has_id c)
       where
         by_found : option_map member (nearest_number index (filter_map (class_number tree) cs)) ≡ option_map Some (nearest at cs) → (n : ℕ) (o : Option ℕ) (f : Option X) → option_map (λ p. member (n, p)) o ≡ option_map (λ x. Some (c, x)) f →
             option_map member (option_map_or (λ p. Some (n, p)) o (nearest_number index (filter_map (class_number tree) cs))) ≡ option_map Some (option_map_or (λ x. Some (c, x)) f (nearest at cs))
@@ -194,17 +194,17 @@ module _ (tree : Tree) where
 
   -- ---- fields and methods
 
-  pub field_is_numbered : (is_static : Bool) (r : FieldReference) → option_map (field_at tree) (field_number tree is_static r) ≡ option_map Some (find_field tree is_static r)
-  field_is_numbered is_static r =
+  pub field_has_id : (is_static : Bool) (r : FieldReference) → option_map (field_at tree) (field_number tree is_static r) ≡ option_map Some (find_field tree is_static r)
+  field_has_id is_static r =
       let f : Field = record { is_static = is_static; field_type = r.field_type; name = r.name } in
-      nearest_is_numbered _ (index_in (λ d. d.fields) (same_field f) tree) (field_at tree)
+      nearest_has_id _ (index_in (λ d. d.fields) (same_field f) tree) (field_at tree)
       (in_absent (λ d. d.fields) (same_field f) (λ g. same_field g f) (λ g. field_equivalence.symm f g))
       (in_present (λ d. d.fields) (same_field f) (λ g. same_field g f) (λ g. field_equivalence.symm f g)) (chain_of tree r.owner)
 
-  pub method_is_numbered : (is_instance : Bool) (r : MethodReference) → option_map (method_at tree) (method_number tree is_instance r) ≡ option_map Some (find_method tree is_instance r)
-  method_is_numbered is_instance r =
+  pub method_has_id : (is_instance : Bool) (r : MethodReference) → option_map (method_at tree) (method_number tree is_instance r) ≡ option_map Some (find_method tree is_instance r)
+  method_has_id is_instance r =
       let k : MethodIdentity × Bool = (record { name = r.name; signature = r.signature }, not is_instance) in
-      nearest_is_numbered _ (index_in (λ d. d.methods) (λ m. same_called k (called_of m)) tree) (method_at tree)
+      nearest_has_id _ (index_in (λ d. d.methods) (λ m. same_called k (called_of m)) tree) (method_at tree)
       (in_absent (λ d. d.methods) (λ m. same_called k (called_of m)) (λ m. same_called (called_of m) k) (λ m. called_equivalence.symm k (called_of m)))
       (in_present (λ d. d.methods) (λ m. same_called k (called_of m)) (λ m. same_called (called_of m) k) (λ m. called_equivalence.symm k (called_of m))) (classes_searched tree r.name r.owner)
 

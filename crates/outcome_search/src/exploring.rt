@@ -81,19 +81,26 @@ fn explore_machines<M: First>(
     ensures complete { IfOk result (λ e. e.is_complete ≡ true → IsOutcomeList M.first (map outcome_found e.found.items)) }
     ensures real { IfOk result (λ e. (n : ℕ) (f : AnyFound) → slice_get e.found.items n ≡ Some f → IsReal M.first f) }
 {
-    keep_freed_memory(alloc)?;
     let mut replayer: Replayer<M> = Replayer::new(alloc, machine);
     let mut other: Replayer<M> = Replayer::new(alloc, other);
-    let search = search(&mut replayer, alloc, bounds)?;
-    let found = confirm(&mut replayer, alloc, search.found)?;
-    let is_complete = has_found_all(
-        &mut replayer,
-        &mut other,
-        alloc,
-        &search.paths,
-        search.stop,
-        &found,
-    )?;
+    search_and_check(&mut replayer, &mut other, alloc, bounds)
+}
+
+/// Finds every outcome of a program, and checks that it has found all. It fails only if memory runs out.
+fn search_and_check<M: First>(
+    replayer: &mut Replayer<M>,
+    other: &mut Replayer<M>,
+    alloc: Global,
+    bounds: Bounds,
+) -> Result<Exploration, NoMemory>
+    requires { IsLegal M.first.tree }
+    ensures complete { IfOk result (λ e. e.is_complete ≡ true → IsOutcomeList M.first (map outcome_found e.found.items)) }
+    ensures real { IfOk result (λ e. (n : ℕ) (f : AnyFound) → slice_get e.found.items n ≡ Some f → IsReal M.first f) }
+{
+    keep_freed_memory(alloc)?;
+    let search = search(replayer, alloc, bounds)?;
+    let found = confirm(replayer, alloc, search.found)?;
+    let is_complete = has_found_all(replayer, other, alloc, &search.paths, search.stop, &found)?;
     Ok(Exploration {
         found,
         states: search.states,

@@ -146,10 +146,7 @@ impl Nodes {
     pub fn events(&self, alloc: Global, index: u32) -> Result<Vec<Event>, NoMemory> {
         let moves = self.moves(alloc, index)?;
         let mut events = Vec::with_capacity(alloc, self.steps(index))?;
-        for step in moves.iter().rev() {
-            push_steps(&mut events, step.thread, step.count)?;
-            push_steps(&mut events, step.newest, step.more)?;
-        }
+        push_events(&mut events, moves.as_slice())?;
         Ok(events)
     }
 
@@ -157,18 +154,32 @@ impl Nodes {
     /// that a change of threads is one of the search.
     pub fn schedule(&self, alloc: Global, index: u32) -> Result<Vec<Event>, NoMemory> {
         let moves = self.moves(alloc, index)?;
-        let mut pending = [0; MOST_THREADS];
         let mut events = Vec::with_capacity(alloc, self.steps(index))?;
-        for step in moves.iter().rev() {
-            push_pending(&mut events, &mut pending, step.thread)?;
-            push_steps(&mut events, step.thread, step.count)?;
-            if let Some(count) = pending.get_mut(usize::from(step.newest)) {
-                *count = step.more.max(*count);
-            }
-        }
-        push_all_pending(&mut events, &mut pending)?;
+        push_schedule(&mut events, moves.as_slice())?;
         Ok(events)
     }
+}
+
+/// Appends the events of moves, the last one first.
+fn push_events(events: &mut Vec<Event>, moves: &[Move]) -> Result<(), NoMemory> {
+    for step in moves.iter().rev() {
+        push_steps(events, step.thread, step.count)?;
+        push_steps(events, step.newest, step.more)?;
+    }
+    Ok(())
+}
+
+/// Appends the schedule that is shown for moves, the last one first.
+fn push_schedule(events: &mut Vec<Event>, moves: &[Move]) -> Result<(), NoMemory> {
+    let mut pending = [0; MOST_THREADS];
+    for step in moves.iter().rev() {
+        push_pending(events, &mut pending, step.thread)?;
+        push_steps(events, step.thread, step.count)?;
+        if let Some(count) = pending.get_mut(usize::from(step.newest)) {
+            *count = step.more.max(*count);
+        }
+    }
+    push_all_pending(events, &mut pending)
 }
 
 /// Appends the pending steps of each thread, of which none are pending afterwards.

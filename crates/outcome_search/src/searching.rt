@@ -199,21 +199,48 @@ impl Searching {
         requires { IsLegal M.first.tree }
     {
         if !self.states.is_expanded(node.state) {
-            let events = self.nodes.events(alloc, index)?;
-            let walks = Walks {
-                events: events.as_slice(),
-                start: node.state,
-                last: node.last.thread,
-                most_states: self.bounds.states,
-            };
-            walks.find_edges(&mut self.states, replayer, alloc)?;
+            self.find_edges(replayer, alloc, node, index)?;
         }
         if self.states.is_terminal(node.state) {
-            replayer.replay(alloc, self.nodes.events(alloc, index)?.as_slice())?;
-            self.add_outcome(replayer, alloc, node, index)?;
+            self.find_outcome(replayer, alloc, node, index)?;
         }
         self.find_successors(node.state);
         Ok(())
+    }
+
+    /// Finds the edges of the state of a node.
+    fn find_edges<M: First>(
+        &mut self,
+        replayer: &mut Replayer<M>,
+        alloc: Global,
+        node: Node,
+        index: u32,
+    ) -> Result<(), NoMemory>
+        requires { IsLegal M.first.tree }
+    {
+        let events = self.nodes.events(alloc, index)?;
+        let walks = Walks {
+            events: events.as_slice(),
+            start: node.state,
+            last: node.last.thread,
+            most_states: self.bounds.states,
+        };
+        walks.find_edges(&mut self.states, replayer, alloc)
+    }
+
+    /// Brings the machine to the state of a node, and adds its outcome.
+    fn find_outcome<M: First>(
+        &mut self,
+        replayer: &mut Replayer<M>,
+        alloc: Global,
+        node: Node,
+        index: u32,
+    ) -> Result<(), NoMemory>
+        requires { IsLegal M.first.tree }
+    {
+        let events = self.nodes.events(alloc, index)?;
+        replayer.replay(alloc, events.as_slice())?;
+        self.add_outcome(replayer, alloc, node, index)
     }
 
     /// Marks the states to which the edges of a state lead as found. The search stops if there are too many, or if an edge leads out.
@@ -247,20 +274,33 @@ impl Searching {
         node: Node,
         index: u32,
     ) -> Result<(), NoMemory> {
-        for found in &self.found {
-            if replayer.shows(alloc, found)? {
-                return Ok(());
-            }
+        if self.knows(replayer, alloc)? {
+            return Ok(());
         }
         let events = self.nodes.schedule(alloc, index)?;
         let found = replayer.outcome(alloc, events, node.preemptions as usize)?;
         self.found.push(found)?;
+        self.stop_at_goal();
+        Ok(())
+    }
+
+    /// Whether the outcome of the machine's state is known.
+    fn knows<M: First>(&self, replayer: &Replayer<M>, alloc: Global) -> Result<bool, NoMemory> {
+        for found in &self.found {
+            if replayer.shows(alloc, found)? {
+                return Ok(true);
+            }
+        }
+        Ok(false)
+    }
+
+    /// The search stops if an outcome of the kind that it looks for is found.
+    fn stop_at_goal(&mut self) {
         if let Some(goal) = self.bounds.until {
             if self.has_reached(goal) {
                 self.stop = Some(Stop::Goal(goal));
             }
         }
-        Ok(())
     }
 
     /// Whether an outcome of this kind is found.

@@ -29,6 +29,7 @@ pub struct Walks<'a> {
 }
 
 /// The result of a step of a thread and of the local instructions after it.
+#[derive(Clone, Copy)]
 enum Lead {
     /// The thread used up its budget or was refused memory.
     Out(Stop),

@@ -88,5 +88,5 @@ step_reports events = filter_map (λ (e : Event × Report). report_of_step e.0 e
 pub record IsStateAfter (tree : Tree) (limits : Limits) (events : List (Event × Report)) (s : State) : Type 0 where
   pub first : State
   pub begins : initial_state tree limits ≡ Some first
-  pub comes : run tree limits first (thread_part events) ≡ RunsTo (step_reports events) s
+  pub gives : run tree limits first (thread_part events) ≡ RunsTo (step_reports events) s
   pub refuses : RefusesBeyondRoom tree limits first (thread_part events)

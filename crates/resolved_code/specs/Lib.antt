@@ -1,5 +1,5 @@
 pub use Rattle.name_tables.specs as name_tables
-pub mod Numbered
+pub mod ById
 pub mod TypeTests
 pub mod Identities
 pub mod Resolved

@@ -27,7 +27,7 @@ use Rattle.name_tables.specs.declared.lookups.MemberNumber.{MemberNumber}
 use Rattle.name_tables.specs.Numbers.{declarations, field_at, method_at}
 use Rattle.name_tables.specs.Sameness.{identity_of}
 use Rattle.resolved_code.specs.Identities.{identity_number}
-use Rattle.resolved_code.specs.Numbered.{class_name, type_at, AreTypes}
+use Rattle.resolved_code.specs.ById.{class_name, type_at, AreTypes}
 use Rattle.resolved_code.specs.declared.types.ResolvedType.{ResolvedType}
 use Rattle.resolved_code.specs.declared.operations.Operation.{Operation}
 use Rattle.resolved_code.specs.declared.operations.Operation.TheVariants as Resolved

@@ -3,7 +3,7 @@ use Rattle.std.specs.Prelude.{◌≡◌, ◌==◌, nat_lt, Bool, true, false, �
 use Rattle.cil_model.specs.declared.types.ClassName.{ClassName}
 use Rattle.cil_model.specs.declared.trees.Tree.{Tree}
 use Rattle.cil_model.specs.Assignable.{is_class_assignable}
-use Rattle.resolved_code.specs.Numbered.{class_name}
+use Rattle.resolved_code.specs.ById.{class_name}
 use Rattle.resolved_code.specs.declared.types.ResolvedElement.{ResolvedElement}
 use Rattle.resolved_code.specs.declared.types.ResolvedElement.TheVariants.{Int32, Int64, Object, String, Class}
 use Rattle.resolved_code.specs.declared.types.ResolvedType.{ResolvedType}

@@ -4,7 +4,7 @@ ghost use Rattle.std.specs.Prelude.{◌≡◌, Some};
 ghost use Rattle.cil_model.specs.declared.trees.Tree.{Tree};
 ghost use Rattle.cil_model.specs.declared.types.DeclaredType.{DeclaredType};
 ghost use Rattle.cil_model.specs.Assignable.{is_assignable};
-ghost use Rattle.resolved_code.specs.Numbered.{type_at};
+ghost use Rattle.resolved_code.specs.ById.{type_at};
 ghost use Rattle.resolved_code.specs.TypeTests.{is_object, element_test, type_test, IsResultOf};
 
 use crate::types::{ResolvedElement, ResolvedType};

@@ -25,20 +25,20 @@ use Rattle.schedule_text.proofs.ItemLemmas.{same_item}
 
 -- ---- greatest numbers represent no good ones
 
-thread_of_numbered : (thread : ℕ) → has_thread_number (Step (min thread 255)) ≡ true → min thread 255 ≡ thread
-thread_of_numbered thread e = let h : min thread 255 < MOST_THREADS = ltb-true _ _ e in omega arith
+thread_with_number : (thread : ℕ) → has_thread_number (Step (min thread 255)) ≡ true → min thread 255 ≡ thread
+thread_with_number thread e = let h : min thread 255 < MOST_THREADS = ltb-true _ _ e in omega arith
 
 uncapped_event : (event : Event) → has_thread_number (capped_event event) ≡ true → capped_event event ≡ event
-uncapped_event (Step thread) e = ap Step (thread_of_numbered thread e)
-uncapped_event (Ack thread) e = ap Ack (thread_of_numbered thread e)
+uncapped_event (Step thread) e = ap Step (thread_with_number thread e)
+uncapped_event (Ack thread) e = ap Ack (thread_with_number thread e)
 uncapped_event Gc e = refl
 
-unnumbered : (thread : ℕ) → nat_lt (min thread 255) MOST_THREADS ≡ false → nat_lt thread MOST_THREADS ≡ false
-unnumbered thread e = let h : MOST_THREADS ≤ min thread 255 = ltb-false _ _ e in le-ltb thread MOST_THREADS (omega arith)
+without_number : (thread : ℕ) → nat_lt (min thread 255) MOST_THREADS ≡ false → nat_lt thread MOST_THREADS ≡ false
+without_number thread e = let h : MOST_THREADS ≤ min thread 255 = ltb-false _ _ e in le-ltb thread MOST_THREADS (omega arith)
 
 uncapped_fault : (event : Event) → has_thread_number (capped_event event) ≡ false → has_thread_number event ≡ false
-uncapped_fault (Step thread) e = unnumbered thread e
-uncapped_fault (Ack thread) e = unnumbered thread e
+uncapped_fault (Step thread) e = without_number thread e
+uncapped_fault (Ack thread) e = without_number thread e
 uncapped_fault Gc e = e
 
 -- an item that is good as the program holds it is the item that is written

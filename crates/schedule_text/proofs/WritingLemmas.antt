@@ -208,10 +208,10 @@ all_alike (suc count) event =
     once true e = e ∙ or_true (count == 0)
     once false e = refl
 
-pub all_numbered : (items : List Item) → list_all has_thread_number (events_of items) ≡ list_all has_good_events items
-all_numbered [] = refl
-all_numbered (item ∷ items) =
-    list_all-append has_thread_number (replicate item.count item.event) (events_of items) ∙ ap₂ (λ a b. a && b) (all_alike item.count item.event) (all_numbered items)
+pub all_have_numbers : (items : List Item) → list_all has_thread_number (events_of items) ≡ list_all has_good_events items
+all_have_numbers [] = refl
+all_have_numbers (item ∷ items) =
+    list_all-append has_thread_number (replicate item.count item.event) (events_of items) ∙ ap₂ (λ a b. a && b) (all_alike item.count item.event) (all_have_numbers items)
 
 -- the events so far with those of one item more
 pub events_more : (items : List Item) (i : ℕ) (d : Item) → i < length items → length (events_of (take (i + 1) items)) ≡ length (events_of (take i items)) + (get_or items i d).count

@@ -33,7 +33,7 @@ pub record OwesAfter (tree : Tree) (limits : Limits) (events : List Event) (repo
   pub before : State
   pub began : RunsUpTo tree limits first earlier before
   pub now : State
-  pub comes : RunsUpTo tree limits first (zip events reports) now
+  pub gives : RunsUpTo tree limits first (zip events reports) now
   pub owes : OwesWords tree before now words
 
 -- where the last event ends a cycle, no more words are in use than are owed, all in one space

@@ -15,7 +15,7 @@ use Rattle.interpreter.specs.reference_machine.Values.{ObjectName, Born, Literal
 use Rattle.interpreter.specs.reference_machine.States.{Monitor as StateMonitor, Free as IsFree, Held as IsHeld, Contents, Instance as IsInstance, Array as IsArray, HeapObject, Frame as StateFrame, Thread as StateThread, State, entry_at}
 use Rattle.reference_machine.specs.TypedStates.{IsTyped}
 use Rattle.simulation.specs.Counts.{IsCounted}
-use Rattle.interpreter.specs.resolved_code.Numbered.{class_name, type_at}
+use Rattle.interpreter.specs.resolved_code.ById.{class_name, type_at}
 use Rattle.interpreter.specs.object_memory.declared.addresses.Addr.{Addr}
 use Rattle.interpreter.specs.object_memory.declared.addresses.TheConstants.{ADDRESSES}
 use Rattle.interpreter.specs.object_memory.declared.kinds.Kind.{Kind}

@@ -58,7 +58,7 @@ RefusesBeyondRoom c s (e ∷ es) last =
 -- afterwards. Threads keep their budgets.
 pub record RunsAlike (old new : MachineState) (events : List (Event × Report)) (s : State) : Type 0 where
   pub state : State
-  pub comes : run old.tree old.limits s (thread_part events) ≡ RunsTo (step_reports events) state
+  pub gives : run old.tree old.limits s (thread_part events) ≡ RunsTo (step_reports events) state
   pub refuses : RefusesBeyondRoom old s events new
   pub represents : Represents new state
   pub budgets : KeepsBudgets old new events
@@ -73,7 +73,7 @@ pub record IsRunOf (tree : Tree) (limits : Limits) (events : List Event) (report
   pub each : length reports ≡ length events
   pub first : State
   pub begins : initial_state tree limits ≡ Some first
-  pub comes : run tree limits first (thread_part (zip events reports)) ≡ RunsTo (step_reports (zip events reports)) s
+  pub gives : run tree limits first (thread_part (zip events reports)) ≡ RunsTo (step_reports (zip events reports)) s
   pub machine : MachineState
   pub opened : initial_machine_state tree limits ≡ Some machine
   pub last : MachineState

@@ -14,7 +14,7 @@ ghost use Rattle.interpreter.specs.cil_model.Chains.{methods_declared};
 ghost use Rattle.interpreter.specs.cil_model.Fields.{FieldKey, instance_slot, slot_types, static_fields, static_slot};
 ghost use Rattle.interpreter.specs.cil_model.Legality.{IsLegal};
 ghost use Rattle.interpreter.specs.cil_model.Mentions.{literals_of};
-ghost use Rattle.interpreter.specs.resolved_code.Numbered.{class_name};
+ghost use Rattle.interpreter.specs.resolved_code.ById.{class_name};
 
 /// A method that a class declares, a built-in one too, has few arguments, and its code few instructions and locals and a low stack.
 pub fn methods_are_small()

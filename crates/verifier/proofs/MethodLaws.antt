@@ -18,7 +18,7 @@ use Rattle.resolved_code.specs.Resolved.{BothAlike, IsBody, IsResolvedMethod}
 use Rattle.resolved_code.specs.declared.classes.Body.{Body}
 use Rattle.resolved_code.specs.declared.classes.ResolvedMethod.{ResolvedMethod}
 use Rattle.resolved_code.specs.declared.types.ResolvedType.{ResolvedType}
-use Rattle.resolved_code.specs.Numbered.{class_name}
+use Rattle.resolved_code.specs.ById.{class_name}
 use Rattle.verifier.specs.Answers.{typing_of, IsTypingAnswer}
 use Rattle.verifier.specs.declared.failures.TypingError.{TypingError}
 use Rattle.verifier.specs.declared.failures.TypingError.TheVariants as OfMethod

@@ -9,7 +9,7 @@ ghost use Rattle.cil_model.specs.Bodies.{argument_types};
 ghost use Rattle.cil_model.specs.Chains.{is_static};
 ghost use Rattle.flow_rules.specs.Named.{types_named};
 ghost use Rattle.resolved_code.specs.Resolved.{IsResolvedKind, IsResolvedMethod};
-ghost use Rattle.resolved_code.specs.Numbered.{class_name};
+ghost use Rattle.resolved_code.specs.ById.{class_name};
 
 use cil_model::memory::NoMemory;
 use flow_rules::type_tree::type_of_class;

@@ -163,9 +163,9 @@ module _ (m : Spaces) (k : Kind) (n : ℕ) where
   born_flags InNew = (refl, refl)
 
   -- nothing comes in the new block before there are copies
-  none_comes : (space : BirthSpace) → (space ≡ InOld) ⊎ (space ≡ Listed) → (give_birth space m k n).new.cells ≡ m.new.cells
-  none_comes space (inl is) = ap (λ x. (give_birth x m k n).new.cells) is
-  none_comes space (inr is) = ap (λ x. (give_birth x m k n).new.cells) is
+  none_added : (space : BirthSpace) → (space ≡ InOld) ⊎ (space ≡ Listed) → (give_birth space m k n).new.cells ≡ m.new.cells
+  none_added space (inl is) = ap (λ x. (give_birth x m k n).new.cells) is
+  none_added space (inr is) = ap (λ x. (give_birth x m k n).new.cells) is
 
   -- what was grey is grey
   grey_before : (space : BirthSpace) (a : Addr) → IsListed m.grey a → IsListed (give_birth space m k n).grey a
@@ -328,7 +328,7 @@ module _ (tree : Tree) (hold : Hold) (posted : Phase) (has_round : Bool) (words 
     old_words = subst (λ w. w ≤ words) (sym (born_words m k n space).0) sound.blocks.old_words;
     new_words = subst (λ w. w ≤ (if is_of_cycle posted then words else 0)) (sym (born_words m k n space).1) sound.blocks.new_words;
     grows = λ e. (let b = born_words m k n space in let g = sound.blocks.grows e in omega (arith, b.0, b.1, g));
-    none_new = λ e. none_comes m k n space (suits.early e) ∙ sound.blocks.none_new e;
+    none_new = λ e. none_added m k n space (suits.early e) ∙ sound.blocks.none_new e;
     none_grey = λ e. ap (λ x. (give_birth x m k n).grey) (suits.between e) ∙ sound.blocks.none_grey e;
   }
 

@@ -36,14 +36,14 @@ module _ (c : MachineState) (after : MachineState × Report) where
 
       itself : (e : Event) (h : IsTransition c e after) → run c.tree c.limits s (thread_part ((e, after.1) ∷ [])) ≡ RunsTo (step_reports ((e, after.1) ∷ [])) s →
           RefusesBeyondRoom c s ((e, after.1) ∷ []) after.0 → Represents after.0 s → RunsAlike c after.0 ((e, after.1) ∷ []) s
-      itself e h comes refuses represents = record { state = s; comes = comes; refuses = refuses; represents = represents; budgets = kept e h }
+      itself e h gives refuses represents = record { state = s; gives = gives; refuses = refuses; represents = represents; budgets = kept e h }
 
       by_event : (e : Event) → IsTransition c e after → RunsAlike c after.0 ((e, after.1) ∷ []) s
       by_event (Ack t) h = itself (Ack t) h refl (after.0, h, tt, λ next is. refl) (acknowledgement_keeps c s r t after h)
       by_event Gc h = itself Gc h refl (after.0, h, tt, λ next is. refl) (collection_keeps c s r after h)
       by_event (Step t) h =
           let one = step_is_followed c s r t after h in
-          record { state = one.0; comes = ap (λ o. followed_by o (λ u. run c.tree c.limits u [])) one.1; refuses = (after.0, h, step_is_refused c s r t after h, λ next is. refl); represents = one.2; budgets = kept (Step t) h }
+          record { state = one.0; gives = ap (λ o. followed_by o (λ u. run c.tree c.limits u [])) one.1; refuses = (after.0, h, step_is_refused c s r t after h, λ next is. refl); represents = one.2; budgets = kept (Step t) h }
 
 -- ---- births beyond the room, of one list and then of another
 
@@ -76,12 +76,12 @@ joined c d n es fs same first more s r =
     let one = first s r in
     let two = more one.state one.represents in
     let later : run c.tree c.limits one.state (thread_part fs) ≡ RunsTo (step_reports fs) two.state =
-    ap (λ x. run x c.limits one.state (thread_part fs)) (sym same.0) ∙ (ap (λ x. run d.tree x one.state (thread_part fs)) (sym same.1) ∙ two.comes) in
+    ap (λ x. run x c.limits one.state (thread_part fs)) (sym same.0) ∙ (ap (λ x. run d.tree x one.state (thread_part fs)) (sym same.1) ∙ two.gives) in
     record {
       state = two.state;
-      refuses = refuses_after d n one.state fs two.refuses es c s (step_reports es) one.comes one.refuses;
-      comes = ap (run c.tree c.limits s) (filter_map-append (λ (e : Event × Report). request_of e.0 e.1) es fs)
-          ∙ (runs_on c.tree c.limits (thread_part es) (thread_part fs) s one.state two.state (step_reports es) (step_reports fs) one.comes later
+      refuses = refuses_after d n one.state fs two.refuses es c s (step_reports es) one.gives one.refuses;
+      gives = ap (run c.tree c.limits s) (filter_map-append (λ (e : Event × Report). request_of e.0 e.1) es fs)
+          ∙ (runs_on c.tree c.limits (thread_part es) (thread_part fs) s one.state two.state (step_reports es) (step_reports fs) one.gives later
           ∙ ap (λ rs. RunsTo rs two.state) (sym (filter_map-append (λ (e : Event × Report). report_of_step e.0 e.1) es fs)));
       represents = two.represents;
       budgets = keeps_after c d n es fs one.budgets two.budgets;
@@ -115,7 +115,7 @@ transitions_program c d (e ∷ es) [] h = elim h [ ]
 
 -- each list of events is followed
 pub transitions_follow : (c d : MachineState) (es : List Event) (rs : List Report) → AreTransitions c es d rs → FollowsReference c d (zip es rs)
-transitions_follow c d [] rs h = λ s r. subst (λ x. RunsAlike c x [] s) (sym h.0) (record { state = s; comes = refl; refuses = refl; represents = r; budgets = record { counted = λ t. none_made (steps_left_of c t); live = live_have_steps c s r } })
+transitions_follow c d [] rs h = λ s r. subst (λ x. RunsAlike c x [] s) (sym h.0) (record { state = s; gives = refl; refuses = refl; represents = r; budgets = record { counted = λ t. none_made (steps_left_of c t); live = live_have_steps c s r } })
 transitions_follow c d (e ∷ es) (r ∷ rs) h =
     joined c h.0 d ((e, r) ∷ []) (zip es rs) (same_program c (h.0, r) e h.1) (transition_follows c (h.0, r) e h.1) (transitions_follow h.0 d es rs h.2)
 transitions_follow c d (e ∷ es) [] h = elim h [ ]

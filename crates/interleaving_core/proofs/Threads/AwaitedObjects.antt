@@ -25,7 +25,7 @@ use Rattle.simulation.specs.reference_machine.Waits.{action_found, called_action
 use Rattle.simulation.proofs.reference_machine.Programs.ActingMembers.{acting_is_not_virtual}
 use Rattle.name_tables.specs.declared.lookups.MemberNumber.{MemberNumber}
 use Rattle.name_tables.specs.Numbers.{method_at}
-use Rattle.resolved_code.specs.Numbered.{class_name}
+use Rattle.resolved_code.specs.ById.{class_name}
 use Rattle.resolved_code.specs.Resolved.{IsMethod, IsOperation, call, call_virtual}
 use Rattle.resolved_code.specs.declared.operations.Operation.{Operation}
 use Rattle.resolved_code.specs.declared.operations.Operation.TheVariants as Resolved

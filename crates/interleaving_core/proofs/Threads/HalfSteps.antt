@@ -81,14 +81,14 @@ module _ (c : MachineState) (t : ℕ) (outcome : InstructionOutcome) (after : Ma
       let second : finish (left_by c t half.left half.answer) t half.left half.answer.frames outcome ≡ Some (final, report) =
       subst (λ (x : MachineState). finish x t half.left half.answer.frames outcome ≡ Some (final, report)) half.is (counts half.left half.answer.frames thread_left) in
       let whole : finish_step c t half.left half.answer half.answer.outcome ≡ Some (final, report) =
-      subst (λ (x : InstructionOutcome). finish_step c t half.left half.answer x ≡ Some (final, report)) (sym half.comes) second in
+      subst (λ (x : InstructionOutcome). finish_step c t half.left half.answer x ≡ Some (final, report)) (sym half.gives) second in
       let transition : IsStatusTransition c t half.left (Live half.frames) (final, report) = (half.answer, half.done, whole) in
       subst (λ (x : Option Thread). IsThreadTransition c t x (final, report)) (sym half.there) transition
 
   -- where the rest is refused all is as it was
   pub refused_back : (object : Addr) → outcome ≡ Starts object → after ≡ c
   refused_back object starts =
-      let same = start_changes_nothing half.frames c.objects c.statics c.printed c.tree (mutator_of c t) half.answer object half.done (half.comes ∙ starts) in
+      let same = start_changes_nothing half.frames c.objects c.statics c.printed c.tree (mutator_of c t) half.answer object half.done (half.gives ∙ starts) in
       half.is ∙ ap (left_by c t half.left) same ∙ ap (λ (x : List Thread). record c { threads = x }) (set_itself c.threads t (live_thread half.left half.frames) half.there)
 
 -- ---- what was asked for can be answered
@@ -102,7 +102,7 @@ same_frames left l m n e = same_live m n (ap (λ (x : Thread). x.thread_status) 
 module _ (c : MachineState) (t : ℕ) (outcome : InstructionOutcome) (after : MachineState) (half : IsInstructed c t outcome after) (answerable : IsAnswerable c t half.left half.answer half.answer.outcome) where
   pub can_finish : (left : ℕ) (m : Frames) → slice_get after.threads t ≡ Some (live_thread left m) → CanFinish after t m outcome
   can_finish left m is =
-      let asked : CanFinish (left_by c t half.left half.answer) t half.answer.frames outcome = subst (IsAnswerable c t half.left half.answer) half.comes answerable in
+      let asked : CanFinish (left_by c t half.left half.answer) t half.answer.frames outcome = subst (IsAnswerable c t half.left half.answer) half.gives answerable in
       let there : CanFinish after t half.answer.frames outcome = subst (λ (x : MachineState). CanFinish x t half.answer.frames outcome) (sym half.is) asked in
       let same : half.answer.frames ≡ m =
       same_frames half.left left half.answer.frames m (same_Some (live_thread half.left half.answer.frames) (live_thread left m) (sym (thread_left c t outcome after half) ∙ is)) in

@@ -101,7 +101,7 @@ module _ (c : MachineState) (t i : ℕ) (same : i ≡ t) (thread : Thread) (read
         answer = answer_of done.0 o statics printed outcome;
         there = there.2;
         done = subst (λ u. IsDone c.tree u there.1 c.objects c.statics c.printed (answer_of done.0 o statics printed outcome)) own done.2;
-        comes = refl;
+        gives = refl;
         is = ap (λ (k : ℕ). record c { threads = slice_set c.threads k new; objects = o; statics = statics; printed = printed }) same
             ∙ ap (λ (x : Thread). record c { threads = slice_set c.threads t x; objects = o; statics = statics; printed = printed }) new_is;
       }

@@ -90,7 +90,7 @@ module _ (c : MachineState) (t left : ℕ) (m : Frames) (there : slice_get c.thr
 pub start_refused : (c : MachineState) (t : ℕ) (outcome : InstructionOutcome) (middle : MachineState) (half : IsInstructed c t outcome middle) → IsAnswerable c t half.left half.answer half.answer.outcome →
     (object : Addr) → outcome ≡ Starts object → start_fault middle.threads middle.objects object ≡ None → TakesMemory c (Step t)
 start_refused c t outcome middle half answerable object starts free =
-    let is : half.answer.outcome ≡ Starts object = half.comes ∙ starts in
+    let is : half.answer.outcome ≡ Starts object = half.gives ∙ starts in
     let free' : start_fault (left_by c t half.left half.answer).threads half.answer.objects object ≡ None = subst (λ (x : MachineState). start_fault x.threads x.objects object ≡ None) half.is free in
     let more = one_more c t half.left half.answer object (subst (IsAnswerable c t half.left half.answer) is answerable) free' in
     (more.0, transition_is c t half.left half.frames half.there half.answer half.done more.0 (subst (λ (o : InstructionOutcome). finish_step c t half.left half.answer o ≡ Some more.0) (sym is) more.1), inr (inl more.2))

@@ -31,8 +31,8 @@ use Rattle.simulation.specs.interpreter.declared.outcomes.InstructionOutcome.The
 use Rattle.cil_model.proofs.Lists.{none_is_some}
 
 -- an outcome for the thread itself, or a wait, is no start
-comes_not : {A : Type 0} (e : Effect) (object : Addr) → OwnEffect e ≡ Starts object → A
-comes_not {A} e object h = absurd (lost h)
+is_no_start : {A : Type 0} (e : Effect) (object : Addr) → OwnEffect e ≡ Starts object → A
+is_no_start {A} e object h = absurd (lost h)
   where
     lost : OwnEffect e ≡ Starts object → ⊥
     lost k = cc
@@ -54,8 +54,8 @@ module _ (m : Frames) (o : Objects) (statics : List Value) (printed : List ℕ) 
   -- ---- what results in an effect asks for nothing
 
   other_outcome : {A : Type 0} (answer other : Answer) (e : Effect) (object : Addr) → Some answer ≡ Some other → other.outcome ≡ OwnEffect e → answer.outcome ≡ Starts object → A
-  other_outcome answer other e object is comes starts =
-      comes_not e object (sym comes ∙ sym (ap (λ (x : Answer). x.outcome) (same_Some answer other is)) ∙ starts)
+  other_outcome answer other e object is gives starts =
+      is_no_start e object (sym gives ∙ sym (ap (λ (x : Answer). x.outcome) (same_Some answer other is)) ∙ starts)
 
   frames_keep : (transition : Transition) → KeepsAll (of_frames o statics printed transition)
   frames_keep None answer object is starts = none_is_some answer (sym is)
@@ -80,7 +80,7 @@ module _ (m : Frames) (o : Objects) (statics : List Value) (printed : List ℕ) 
   -- a call that results in an effect
   effect_keeps : (n : Frames) (p : Objects) (w : List ℕ) (e : Effect) → KeepsCall (Some (call_answer n p w (OwnEffect e)))
   effect_keeps n p w e t object is starts =
-      comes_not e object (sym (ap (λ (x : CallAnswer). x.outcome) (same_Some t (call_answer n p w (OwnEffect e)) is)) ∙ starts)
+      is_no_start e object (sym (ap (λ (x : CallAnswer). x.outcome) (same_Some t (call_answer n p w (OwnEffect e)) is)) ∙ starts)
 
   none_keeps : KeepsCall None
   none_keeps t object is starts = none_is_some t (sym is)

@@ -79,4 +79,4 @@ module _ (tree : Tree) (limits : Limits) where
       IsStateAfter tree limits (zip events reports) s → IsStateAfter tree limits (zip events reports') s' → (step_reports (zip events reports) ≡ step_reports (zip events reports')) × (s ≡ s')
   runs_are_one events reports reports' each each' s s' h h' =
       let same : h'.first ≡ h.first = same_Some h'.first h.first (sym h'.begins ∙ h.begins) in
-      one_from events reports reports' each each' h.first s s' (h.comes, h.refuses) (subst (λ x. RunsUpTo x (zip events reports') s') same (h'.comes, h'.refuses))
+      one_from events reports reports' each each' h.first s s' (h.gives, h.refuses) (subst (λ x. RunsUpTo x (zip events reports') s') same (h'.gives, h'.refuses))

@@ -92,5 +92,5 @@ module _ (instruction_typed : InstructionsAreTyped) (tree : Tree) (limits : Limi
   pub never_stuck : (requests : List StepRequest) → (first : State) × (reports : List Report) × (s : State) × (initial_state tree limits ≡ Some first) × (run tree limits first requests ≡ RunsTo reports s) × IsTyped tree s
   never_stuck requests =
       let opened = opens tree limits accepted in
-      let comes = run_typed requests opened.0 opened.2 in
-      (opened.0, comes.0, comes.1, opened.1, comes.2, comes.3)
+      let gives = run_typed requests opened.0 opened.2 in
+      (opened.0, gives.0, gives.1, opened.1, gives.2, gives.3)

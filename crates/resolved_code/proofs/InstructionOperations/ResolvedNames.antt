@@ -25,7 +25,7 @@ use Rattle.cil_model.proofs.Lists.{none_is_some, find_passes}
 use Rattle.cil_model.proofs.SameLaws.{same_text_equal}
 use Rattle.name_tables.specs.declared.lookups.MemberNumber.{MemberNumber}
 use Rattle.name_tables.specs.Numbers.{class_number, field_number, method_number, field_at, method_at, declarations}
-use Rattle.name_tables.proofs.NumberLaws.{HasId, has_id, field_is_numbered, method_is_numbered, found_at_index, found_some}
+use Rattle.name_tables.proofs.NumberLaws.{HasId, has_id, field_has_id, method_has_id, found_at_index, found_some}
 use Rattle.resolved_code.specs.declared.types.ResolvedElement.{ResolvedElement}
 use Rattle.resolved_code.specs.declared.types.ResolvedElement.TheVariants.{Int32, Int64, Object, String, Class}
 use Rattle.resolved_code.specs.declared.types.ResolvedType.{ResolvedType}
@@ -37,7 +37,7 @@ use Rattle.resolved_code.specs.declared.classes.ResolvedKind.TheVariants as Kind
 use Rattle.resolved_code.specs.declared.classes.ResolvedMethod.{ResolvedMethod}
 use Rattle.resolved_code.specs.declared.classes.ResolvedClass.{ResolvedClass}
 use Rattle.resolved_code.specs.declared.classes.Body.{Body}
-use Rattle.resolved_code.specs.Numbered.{class_name, element_at, type_at, AreTypes}
+use Rattle.resolved_code.specs.ById.{class_name, element_at, type_at, AreTypes}
 use Rattle.name_tables.specs.Sameness.{identity_of}
 use Rattle.resolved_code.specs.Identities.{identity_number}
 use Rattle.resolved_code.specs.Resolved.{AllAlike, IsField, IsMethod, IsOperation, IsResolvedField, IsBody, IsResolvedKind, IsResolvedMethod, IsResolvedClass, AreResolved}
@@ -114,14 +114,14 @@ module _ (tree : Tree) where
   -- ---- operands
 
   pub field_refines : (is_static : Bool) (r : FieldReference) (m : MemberNumber) → field_rule tree is_static r ≡ Some m → IsField tree is_static r m
-  field_refines is_static r m h = mapped (IsField tree is_static r) member_of (field_number tree is_static r) m h (λ p e. by_found p e (find_field tree is_static r) refl (sym (ap (option_map (field_at tree)) e) ∙ field_is_numbered tree is_static r))
+  field_refines is_static r m h = mapped (IsField tree is_static r) member_of (field_number tree is_static r) m h (λ p e. by_found p e (find_field tree is_static r) refl (sym (ap (option_map (field_at tree)) e) ∙ field_has_id tree is_static r))
     where
       by_found : (p : ℕ × ℕ) → field_number tree is_static r ≡ Some p → (f : Option (ClassName × Field)) → find_field tree is_static r ≡ f → Some (field_at tree p) ≡ option_map Some f → IsField tree is_static r (member_of p)
       by_found p e None k g = none_is_some (field_at tree p) (sym g)
       by_found p e (Some x) k g = record { declared_in = x.0; found = x.1; finds = k; has_id = (let s : field_at tree p ≡ Some x = cc in s) }
 
   pub method_refines : (is_instance : Bool) (r : MethodReference) (m : MemberNumber) → method_rule tree is_instance r ≡ Some m → IsMethod tree is_instance r m
-  method_refines is_instance r m h = mapped (IsMethod tree is_instance r) member_of (method_number tree is_instance r) m h (λ p e. by_found p e (find_method tree is_instance r) refl (sym (ap (option_map (method_at tree)) e) ∙ method_is_numbered tree is_instance r))
+  method_refines is_instance r m h = mapped (IsMethod tree is_instance r) member_of (method_number tree is_instance r) m h (λ p e. by_found p e (find_method tree is_instance r) refl (sym (ap (option_map (method_at tree)) e) ∙ method_has_id tree is_instance r))
     where
       by_found : (p : ℕ × ℕ) → method_number tree is_instance r ≡ Some p → (f : Option (ClassName × Method)) → find_method tree is_instance r ≡ f → Some (method_at tree p) ≡ option_map Some f → IsMethod tree is_instance r (member_of p)
       by_found p e None k g = none_is_some (method_at tree p) (sym g)

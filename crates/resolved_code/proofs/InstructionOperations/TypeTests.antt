@@ -12,7 +12,7 @@ use Rattle.name_tables.proofs.NumberLaws.{none_is_some}
 use Rattle.resolved_code.specs.declared.types.ResolvedElement.{ResolvedElement}
 use Rattle.resolved_code.specs.declared.types.ResolvedElement.TheVariants.{Int32, Int64, Object, String, Class}
 use Rattle.resolved_code.specs.declared.types.ResolvedType.{ResolvedType}
-use Rattle.resolved_code.specs.Numbered.{class_name, element_at, type_at}
+use Rattle.resolved_code.specs.ById.{class_name, element_at, type_at}
 use Rattle.resolved_code.specs.declared.type_tests.TypeTest.TheVariants.{Answered}
 use Rattle.resolved_code.specs.TypeTests.{is_object, element_test, type_test, IsResultOf}
 use Rattle.resolved_code.proofs.InstructionOperations.ArrayTypes.{with_same_count, with_fewer, with_more}

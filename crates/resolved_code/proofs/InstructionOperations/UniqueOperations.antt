@@ -27,8 +27,8 @@ use Rattle.cil_model.proofs.Lists.{none_is_some, once_kept, passes_not}
 use Rattle.cil_model.proofs.SameLaws.{never, same_method_name_itself, same_signature_itself, same_text_itself, text_equivalence}
 use Rattle.name_tables.specs.Numbers.{class_number, declarations, field_number, member_at, method_number, source_entry}
 use Rattle.name_tables.specs.declared.lookups.MemberNumber.{MemberNumber}
-use Rattle.name_tables.proofs.NumberLaws.{field_is_numbered, method_is_numbered}
-use Rattle.resolved_code.specs.Numbered.{class_name, element_at, type_at}
+use Rattle.name_tables.proofs.NumberLaws.{field_has_id, method_has_id}
+use Rattle.resolved_code.specs.ById.{class_name, element_at, type_at}
 use Rattle.resolved_code.specs.Resolved.{IsField, IsMethod, IsOperation}
 use Rattle.resolved_code.specs.Rules.{all_some, element_rule, field_rule, member_of, method_rule, operation_rule, type_rule, with_owner}
 use Rattle.resolved_code.specs.declared.operations.Operation.{Operation}
@@ -163,12 +163,12 @@ module _ (tree : Tree) (legal : IsLegal tree) where
   field_is : (is_static : Bool) (r : FieldReference) (m : MemberNumber) → IsField tree is_static r m → field_rule tree is_static r ≡ Some m
   field_is is_static r m f =
       found_is (λ d. d.fields) same_name (λ x. same_text_itself x.name) (λ n e there. (or_parts _ _ (passes_not duplicates (declarations tree) n e all_once there)).0)
-      (field_number tree is_static r) (find_field tree is_static r) (field_is_numbered tree is_static r) (f.declared_in, f.found) f.finds m f.has_id
+      (field_number tree is_static r) (find_field tree is_static r) (field_has_id tree is_static r) (f.declared_in, f.found) f.finds m f.has_id
 
   method_is : (is_instance : Bool) (r : MethodReference) (m : MemberNumber) → IsMethod tree is_instance r m → method_rule tree is_instance r ≡ Some m
   method_is is_instance r m f =
       found_is (λ d. d.methods) same_method (λ x. and_from _ _ (same_method_name_itself x.name) (same_signature_itself x.signature)) (λ n e there. (or_parts _ _ (passes_not duplicates (declarations tree) n e all_once there)).1)
-      (method_number tree is_instance r) (find_method tree is_instance r) (method_is_numbered tree is_instance r) (f.declared_in, f.found) f.finds m f.has_id
+      (method_number tree is_instance r) (find_method tree is_instance r) (method_has_id tree is_instance r) (f.declared_in, f.found) f.finds m f.has_id
 
   with_owner_is : (c : ClassName) (make : ℕ → MemberNumber → Operation) (o : Option MemberNumber) (owner : ℕ) (m : MemberNumber) → class_name tree owner ≡ Some c → o ≡ Some m → with_owner tree c make o ≡ Some (make owner m)
   with_owner_is c make o owner m named is =

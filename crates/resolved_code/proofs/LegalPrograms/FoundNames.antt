@@ -37,7 +37,7 @@ use Rattle.cil_model.proofs.Legal.{names_found}
 use Rattle.name_tables.specs.Sameness.{same_field, same_called, called_of}
 use Rattle.name_tables.specs.Numbers.{class_number, index_in, nearest_number, field_number, method_number, field_at, method_at, declarations, source_entry}
 use Rattle.name_tables.proofs.FirstIndices.{is_some-position_from}
-use Rattle.name_tables.proofs.NumberLaws.{declared_at_none, field_is_numbered, method_is_numbered, numbers_of_unknown}
+use Rattle.name_tables.proofs.NumberLaws.{declared_at_none, field_has_id, method_has_id, numbers_of_unknown}
 use Rattle.name_tables.specs.declared.lookups.MemberNumber.{MemberNumber}
 use Rattle.resolved_code.specs.declared.operations.Operation.{Operation}
 use Rattle.resolved_code.specs.Rules.{all_some, if_named, element_rule, type_rule, types_rule, member_of, with_owner, operation_rule, operations_rule, body_rule, kind_rule, resolved_method_rule, resolved_field_rule, class_rule, classes_rule}
@@ -149,7 +149,7 @@ module _ (tree : Tree) where
   -- ---- members
 
   field_there : (is_static : Bool) (r : FieldReference) → is_some (find_field tree is_static r) ≡ true → is_some (field_number tree is_static r) ≡ true
-  field_there is_static r h = found_alike (field_at tree) Some (field_number tree is_static r) (find_field tree is_static r) (field_is_numbered tree is_static r) h
+  field_there is_static r h = found_alike (field_at tree) Some (field_number tree is_static r) (find_field tree is_static r) (field_has_id tree is_static r) h
 
   field_owner : (is_static : Bool) (r : FieldReference) → is_some (field_number tree is_static r) ≡ true → is_known r.owner ≡ true
   field_owner is_static r h = by_number (class_number tree r.owner) refl
@@ -159,7 +159,7 @@ module _ (tree : Tree) where
       by_number (Some n) e = refl
 
   method_there : (is_instance : Bool) (r : MethodReference) → is_some (find_method tree is_instance r) ≡ true → is_some (method_number tree is_instance r) ≡ true
-  method_there is_instance r h = found_alike (method_at tree) Some (method_number tree is_instance r) (find_method tree is_instance r) (method_is_numbered tree is_instance r) h
+  method_there is_instance r h = found_alike (method_at tree) Some (method_number tree is_instance r) (find_method tree is_instance r) (method_has_id tree is_instance r) h
 
   none_searched : (name : MethodName) (owner : ClassName) → class_number tree owner ≡ None → filter_map (class_number tree) (classes_searched tree name owner) ≡ []
   none_searched Constructor owner e = ap (λ o. cons_option o []) e

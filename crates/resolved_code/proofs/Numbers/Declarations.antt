@@ -8,7 +8,7 @@ use Rattle.cil_model.specs.Chains.{listed_by, fields_declared, methods_declared}
 use Rattle.cil_model.specs.Declarations.{Declaration, declaration_of}
 use Rattle.name_tables.specs.Numbers.{class_number, member_at, field_at, method_at}
 use Rattle.name_tables.proofs.NumberLaws.{HasId, has_id, none_is_some}
-use Rattle.resolved_code.specs.Numbered.{class_name}
+use Rattle.resolved_code.specs.ById.{class_name}
 
 module _ (tree : Tree) (c : ClassName) where
   pub class_has_number : (d : Declaration) → declaration_of tree c ≡ Some d → (n : ℕ) × (class_number tree c ≡ Some n) × (class_name tree n ≡ Some c)

@@ -136,8 +136,8 @@ module _ (tree : Tree) where
   abbrev leaves : ClassName → ClassName → Method → Bool
   leaves d c m = is_virtual m.kind && is_filled_abstract (class_target tree m.name m.signature d c)
 
-  leaves_numbered : (d c : ClassName) (ms : List Method) → list_any (leaves d c) ms ≡ list_any (λ (m : Method). is_virtual m.kind && is_left_open tree (identity_of m) (chain_numbers tree d) (chain_numbers tree c)) ms
-  leaves_numbered d c ms = list_any_congr (leaves d c) (λ (m : Method). is_virtual m.kind && is_left_open tree (identity_of m) (chain_numbers tree d) (chain_numbers tree c)) (λ m. ap (λ b. is_virtual m.kind && b) (target_open (identity_of m) d c)) ms
+  same_leaves : (d c : ClassName) (ms : List Method) → list_any (leaves d c) ms ≡ list_any (λ (m : Method). is_virtual m.kind && is_left_open tree (identity_of m) (chain_numbers tree d) (chain_numbers tree c)) ms
+  same_leaves d c ms = list_any_congr (leaves d c) (λ (m : Method). is_virtual m.kind && is_left_open tree (identity_of m) (chain_numbers tree d) (chain_numbers tree c)) (λ m. ap (λ b. is_virtual m.kind && b) (target_open (identity_of m) d c)) ms
 
   open_along : (d : ClassName) (cs : List ClassName) → list_any (λ c. list_any (leaves d c) (methods_declared tree c)) cs ≡ list_any (class_leaves_open tree (chain_numbers tree d)) (filter_map (class_number tree) cs)
   open_along d [] = refl
@@ -150,7 +150,7 @@ module _ (tree : Tree) where
       by_number (Some n) e further =
           let found : (x : Declaration) × (declaration_of tree c ≡ Some x) × (slice_get (declarations tree) n ≡ Some (c, x)) = subst (HasId tree c) e (has_id tree c) in
           let here : list_any (leaves d c) (methods_declared tree c) ≡ class_leaves_open tree (chain_numbers tree d) n =
-          leaves_numbered d c (methods_declared tree c) ∙ ap (λ z. list_any (λ (m : Method). is_virtual m.kind && is_left_open tree (identity_of m) (chain_numbers tree d) (chain_numbers tree c)) (listed_by (λ x. x.methods) z)) found.1 ∙
+          same_leaves d c (methods_declared tree c) ∙ ap (λ z. list_any (λ (m : Method). is_virtual m.kind && is_left_open tree (identity_of m) (chain_numbers tree d) (chain_numbers tree c)) (listed_by (λ x. x.methods) z)) found.1 ∙
           sym (ap (λ z. option_map_or (λ (y : ClassName × Declaration). list_any (λ (m : Method). is_virtual m.kind && is_left_open tree (identity_of m) (chain_numbers tree d) (chain_numbers tree y.0)) y.1.methods) z false) found.2) in
           ap (λ b. b || list_any (λ x. list_any (leaves d x) (methods_declared tree x)) cs) here ∙ ap (λ b. class_leaves_open tree (chain_numbers tree d) n || b) further
 

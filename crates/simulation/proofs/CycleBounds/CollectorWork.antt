@@ -155,19 +155,19 @@ module _ (c : MachineState) (sound : IsSound (posting Mark c)) where
         by_test false = record { old = refl; new = refl }
 
   -- a round is posted where none was, or where something was marked since
-  round_wanted : (scanned none has_round answered has_marked : Bool) → scanned ≡ true → none ≡ true → (scanned && (none && (has_round && (answered && not has_marked)))) ≡ false → (has_round && not answered) ≡ false →
+  round_required : (scanned none has_round answered has_marked : Bool) → scanned ≡ true → none ≡ true → (scanned && (none && (has_round && (answered && not has_marked)))) ≡ false → (has_round && not answered) ≡ false →
       round_left has_marked has_round ≡ 1
-  round_wanted scanned none has_round answered true a b open_still done = refl
-  round_wanted scanned none false answered false a b open_still done = refl
-  round_wanted scanned none true false false a b open_still done = absurd cc
-  round_wanted true true true true false a b open_still done = absurd cc
-  round_wanted false none true true false a b open_still done = absurd cc
-  round_wanted true false true true false a b open_still done = absurd cc
+  round_required scanned none has_round answered true a b open_still done = refl
+  round_required scanned none false answered false a b open_still done = refl
+  round_required scanned none true false false a b open_still done = absurd cc
+  round_required true true true true false a b open_still done = absurd cc
+  round_required false none true true false a b open_still done = absurd cc
+  round_required true false true true false a b open_still done = absurd cc
 
   round_takes : c.progress.scanned_statics ≡ true → is_none_grey c.objects.spaces.grey ≡ true → is_closed c.progress c.objects marking.posts ≡ false → (c.posts.has_round && not (all_answered marking.posts)) ≡ false →
       1 + work_left (round_posted marking) ≤ work_left marking
   round_takes scanned none more answered =
-      let one = round_wanted c.progress.scanned_statics (is_none_grey c.objects.spaces.grey) c.posts.has_round (all_answered marking.posts) c.objects.spaces.has_marked scanned none more answered in
+      let one = round_required c.progress.scanned_statics (is_none_grey c.objects.spaces.grey) c.posts.has_round (all_answered marking.posts) c.objects.spaces.has_marked scanned none more answered in
       let then_left : round_left false true ≡ 0 = refl in
       omega (arith, one, then_left)
 

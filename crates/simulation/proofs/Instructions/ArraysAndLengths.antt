@@ -18,7 +18,7 @@ use Rattle.interpreter.specs.reference_machine.Arithmetic.{as_index}
 use Rattle.interpreter.specs.reference_machine.States.{Array as IsArray, Frame as StateFrame, State, array_at, next_name, with_birth as with_state_birth}
 use Rattle.interpreter.specs.reference_machine.Effects.{Setting, Raises as StateRaises, when_some as state_given, not_null, onward as onward_frame, after}
 use Rattle.interpreter.specs.reference_machine.Steps.{execute, next, new_array}
-use Rattle.interpreter.specs.resolved_code.Numbered.{class_name, element_at, type_at}
+use Rattle.interpreter.specs.resolved_code.ById.{class_name, element_at, type_at}
 use Rattle.interpreter.specs.resolved_code.declared.operations.Operation.TheVariants as Resolved
 use Rattle.interpreter.specs.resolved_code.declared.types.ResolvedElement.{ResolvedElement}
 use Rattle.interpreter.specs.resolved_code.declared.types.ResolvedElement.TheVariants.{Int32 as ResolvedInt32, Int64 as ResolvedInt64, Object as ResolvedObject, String as ResolvedString, Class as ClassById}

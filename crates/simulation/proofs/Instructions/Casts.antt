@@ -9,7 +9,7 @@ use Rattle.interpreter.specs.reference_machine.States.{Frame as StateFrame, Stat
 use Rattle.interpreter.specs.reference_machine.Effects.{Setting, Effect as StateEffect, Raises as StateRaises, when_some as given_state}
 use Rattle.interpreter.specs.reference_machine.Steps.{execute, next, cast, may_hold}
 use Rattle.interpreter.proofs.reference_machine.TypedStates.RunningFrames.{IsTypedEffect}
-use Rattle.interpreter.specs.resolved_code.Numbered.{type_at}
+use Rattle.interpreter.specs.resolved_code.ById.{type_at}
 use Rattle.interpreter.specs.resolved_code.declared.types.ResolvedType.{ResolvedType}
 use Rattle.interpreter.specs.resolved_code.declared.operations.Operation.{Operation}
 use Rattle.interpreter.specs.resolved_code.declared.operations.Operation.TheVariants as Resolved

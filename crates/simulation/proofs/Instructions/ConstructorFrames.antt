@@ -35,7 +35,7 @@ use Rattle.simulation.proofs.Instructions.Correspondence.{IsSetting}
 use Rattle.simulation.proofs.Instructions.FrameProgress.{own_frame, index_is_small, room_left}
 use Rattle.simulation.proofs.ListLaws.InsertedItems.{drop_inserted, reverse_inserted, length_inserted}
 use Rattle.simulation.proofs.Memory.InitialValues.{locals_refine}
-use Rattle.simulation.proofs.Instructions.Constructors.{constructor, arguments_count, few_arguments, few_locals, is_numbered}
+use Rattle.simulation.proofs.Instructions.Constructors.{constructor, arguments_count, few_arguments, few_locals, constructor_has_id}
 use Rattle.simulation.proofs.Memory.MemoryModels.{MemoryModel, IsBirth}
 
 -- ---- tests on numbers
@@ -98,7 +98,7 @@ module _ (here : Setting) (model : MemoryModel here.tree) (name : Names) (m : Fr
 
     -- the frames in the constructor
     abbrev pub frames_in : Frames
-    frames_in = with_call caller (is_numbered here.tree legal c parameters number is).0 count (local_kinds built) (Some a)
+    frames_in = with_call caller (constructor_has_id here.tree legal c parameters number is).0 count (local_kinds built) (Some a)
 
     object_fits : nat_lt 0 count && (nat_lt (size m.running) m.room && nat_le (length parameters) (length m.running.stack)) ≡ true
     object_fits =
@@ -116,9 +116,9 @@ module _ (here : Setting) (model : MemoryModel here.tree) (name : Names) (m : Fr
         and_from _ _ (and_from _ _ shallow there) (le-leb (count + length (local_kinds built)) m.room low)
 
     -- the constructor's frame is entered
-    pub constructs_is : construct_transition (called_as (c, built) (is_numbered here.tree legal c parameters number is).0) a m ≡ Some (frames_in, Continues)
+    pub constructs_is : construct_transition (called_as (c, built) (constructor_has_id here.tree legal c parameters number is).0) a m ≡ Some (frames_in, Continues)
     constructs_is =
-        let callee : Called = called_as (c, built) (is_numbered here.tree legal c parameters number is).0 in
+        let callee : Called = called_as (c, built) (constructor_has_id here.tree legal c parameters number is).0 in
         let fewer : count - 1 ≡ length parameters = omega (arith, counted) in
         ap (λ n. if nat_lt 0 count && (nat_lt (size m.running) m.room && nat_le n (length m.running.stack)) then following (with_inserted m n (Ref a)) (enter_callee callee (Some a)) else None) fewer ∙
         ap (λ b. if b then following (with_inserted m (length parameters) (Ref a)) (enter_callee callee (Some a)) else None) object_fits ∙
@@ -161,7 +161,7 @@ module _ (here : Setting) (model : MemoryModel here.tree) (name : Names) (m : Fr
       frames_refine code has = record {
         frames = (
           record {
-            method = (is_numbered here.tree legal c parameters number is).2;
+            method = (constructor_has_id here.tree legal c parameters number is).2;
             pc = refl;
             arguments = arguments_refine;
             locals = locals_refine birth.names built code has;

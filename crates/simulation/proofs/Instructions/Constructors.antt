@@ -23,14 +23,14 @@ use Rattle.interpreter.proofs.reference_machine.Programs.BuiltInMembers.{IsMembe
 use Rattle.interpreter.proofs.reference_machine.Programs.FoundMethods.{IsFound, found}
 use Rattle.interpreter.specs.name_tables.declared.lookups.MemberNumber.{MemberNumber}
 use Rattle.interpreter.specs.name_tables.Numbers.{declarations, method_at}
-use Rattle.interpreter.specs.resolved_code.Numbered.{class_name}
+use Rattle.interpreter.specs.resolved_code.ById.{class_name}
 use Rattle.interpreter.specs.resolved_code.Resolved.{IsMethod}
 use Rattle.simulation.proofs.ProgramSizes.ClassesAndFields.{class_number_small, slots_few}
 use Rattle.simulation.proofs.ProgramSizes.Methods.{arguments_few, locals_few}
 use Rattle.interpreter.specs.loaded_program.AllMethods.{all_methods}
 use Rattle.interpreter.specs.loaded_program.MethodNumbers.{number_of}
 use Rattle.interpreter.specs.loaded_program.Prepared.{local_kinds}
-use Rattle.interpreter.proofs.loaded_program.NumberLaws.{declared_is_numbered}
+use Rattle.interpreter.proofs.loaded_program.NumberLaws.{declared_has_id}
 use Rattle.interpreter.specs.loaded_program.Operands.{class_in, slots_at}
 use Rattle.simulation.proofs.Memory.InitialValues.{locals_low}
 use Rattle.interpreter.proofs.cil_model.Lists.{none_is_some}
@@ -69,8 +69,8 @@ module _ (tree : Tree) (legal : IsLegal tree) (c : ClassName) (parameters : List
   pub finds_own : find_method tree true (constructor_reference c parameters) ≡ Some (c, constructor)
   finds_own = is.finds ∙ ap (λ k. Some (k, constructor)) (sym is_own)
 
-  pub numbered_own : method_at tree (number.class, number.index) ≡ Some (c, constructor)
-  numbered_own = is.has_id ∙ ap (λ k. Some (k, constructor)) (sym is_own)
+  pub own_has_id : method_at tree (number.class, number.index) ≡ Some (c, constructor)
+  own_has_id = is.has_id ∙ ap (λ k. Some (k, constructor)) (sym is_own)
 
   is_found : IsFound tree true (constructor_reference c parameters) c constructor
   is_found = found tree legal true (constructor_reference c parameters) c constructor finds_own
@@ -78,7 +78,7 @@ module _ (tree : Tree) (legal : IsLegal tree) (c : ClassName) (parameters : List
   -- ---- the class
 
   pub class_named : class_name tree number.class ≡ Some c
-  class_named = class_of_number tree number.class number.index c constructor numbered_own
+  class_named = class_of_number tree number.class number.index c constructor own_has_id
 
   pub class_is_in : class_in number ≡ Some number.class
   class_is_in = ap (λ b. if b then Some number.class else None) (lt-ltb number.class (2 ^ 16) (class_number_small tree legal number.class c class_named))
@@ -112,5 +112,5 @@ module _ (tree : Tree) (legal : IsLegal tree) (c : ClassName) (parameters : List
 
   -- ---- its number
 
-  pub is_numbered : (n : ℕ) × (number_of tree (c, constructor) ≡ Some n) × (slice_get (all_methods tree) n ≡ Some (c, constructor))
-  is_numbered = declared_is_numbered tree legal is_found.declared.0 (c, constructor) is_found.declared.1
+  pub constructor_has_id : (n : ℕ) × (number_of tree (c, constructor) ≡ Some n) × (slice_get (all_methods tree) n ≡ Some (c, constructor))
+  constructor_has_id = declared_has_id tree legal is_found.declared.0 (c, constructor) is_found.declared.1

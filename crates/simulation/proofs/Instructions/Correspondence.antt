@@ -104,13 +104,13 @@ module _ (here : Setting) (model : MemoryModel here.tree) (name : Names) (m : Fr
     pub memory : LeavesMemory a
 
   -- the outcome of an instruction, and the same of the reference machine
-  abbrev pub ComesAlike : InstructionOutcome → Answer → StateEffect → Type 0
-  ComesAlike (OwnEffect Continues) a e = GoesAlike a e
-  ComesAlike (OwnEffect Returns) a e = (e ≡ Goes [] s) × LeavesMemory a
-  ComesAlike (OwnEffect Blocks) a e = (e ≡ StateBlocks) × (a.frames ≡ m) × LeavesMemory a
-  ComesAlike (OwnEffect (Raises x)) a e = (e ≡ StateRaises x) × LeavesMemory a
-  ComesAlike (Starts object) a e = AsksFor Start object a e
-  ComesAlike (Joins object) a e = AsksFor Join object a e
+  abbrev pub EffectsAlike : InstructionOutcome → Answer → StateEffect → Type 0
+  EffectsAlike (OwnEffect Continues) a e = GoesAlike a e
+  EffectsAlike (OwnEffect Returns) a e = (e ≡ Goes [] s) × LeavesMemory a
+  EffectsAlike (OwnEffect Blocks) a e = (e ≡ StateBlocks) × (a.frames ≡ m) × LeavesMemory a
+  EffectsAlike (OwnEffect (Raises x)) a e = (e ≡ StateRaises x) × LeavesMemory a
+  EffectsAlike (Starts object) a e = AsksFor Start object a e
+  EffectsAlike (Joins object) a e = AsksFor Join object a e
 
   -- an object is born on the reference machine, whose cell exceeds the room of the machine
   pub record HasNoOwnRoom (e : StateEffect) : Type 0 where
@@ -125,7 +125,7 @@ module _ (here : Setting) (model : MemoryModel here.tree) (name : Names) (m : Fr
   pub record DoesAlike (transition : MachineTransition) (e : StateEffect) : Type 0 where
     pub answer : Answer
     pub is : transition ≡ Some answer
-    pub alike : here.is_refused ≡ is_refused_outcome answer.outcome → ComesAlike answer.outcome answer e
+    pub alike : here.is_refused ≡ is_refused_outcome answer.outcome → EffectsAlike answer.outcome answer e
     pub refuses : here.is_refused ≡ false → is_refused_outcome answer.outcome ≡ true → HasNoOwnRoom e ⊎ (e ≡ StateRaises OutOfMemory)
 
 -- each instruction does, in each kind of memory

@@ -15,7 +15,7 @@ use Rattle.interpreter.specs.reference_machine.Effects.{Setting, when_some as st
 use Rattle.interpreter.specs.reference_machine.Steps.{execute, key_of, next}
 use Rattle.interpreter.specs.reference_machine.TypedStates.{IsTypedContents}
 use Rattle.interpreter.proofs.reference_machine.TypedStates.StateChanges.{contents_typed}
-use Rattle.interpreter.specs.resolved_code.Numbered.{class_name}
+use Rattle.interpreter.specs.resolved_code.ById.{class_name}
 use Rattle.interpreter.specs.resolved_code.Resolved.{IsField}
 use Rattle.interpreter.specs.resolved_code.declared.operations.Operation.{Operation}
 use Rattle.interpreter.specs.resolved_code.declared.operations.Operation.TheVariants as Resolved

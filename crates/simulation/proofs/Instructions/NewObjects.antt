@@ -42,7 +42,7 @@ use Rattle.simulation.proofs.Instructions.Correspondence.{IsSetting, GoesAlike, 
 use Rattle.simulation.proofs.Instructions.FrameProgress.{own_frame, leaves_is, onward_alike}
 use Rattle.simulation.proofs.Instructions.StackOperands.{fine}
 use Rattle.simulation.proofs.Memory.Allocation.{by_birth, birth_goes, memory_after}
-use Rattle.simulation.proofs.Instructions.Constructors.{constructor, finds_own, numbered_own, class_named, class_is_in, slots_are_at, plain_has_none, is_numbered}
+use Rattle.simulation.proofs.Instructions.Constructors.{constructor, finds_own, own_has_id, class_named, class_is_in, slots_are_at, plain_has_none, constructor_has_id}
 use Rattle.simulation.proofs.Instructions.ConstructorFrames.{depth_is, frames_in, constructs_is, frames_refine}
 use Rattle.simulation.proofs.Memory.NewObjectContents.{new_instance_refines}
 use Rattle.std.proofs.lemmas.List.{length-replicate}
@@ -120,7 +120,7 @@ module _ (here : Setting) (model : MemoryModel here.tree) (name : Names) (m : Fr
 
   transition_is : operation_transition here.tree (mutator_in here model) (Resolved.NewObject number) m o statics printed ≡ as_transition (make_object here.tree (mutator_in here model) number.class slots (c, built) m o)
   transition_is =
-      new_does here.tree (mutator_in here model) m o statics printed number (c, built) (numbered_own here.tree legal c parameters number is) number.class slots (class_is_in here.tree legal c parameters number is)
+      new_does here.tree (mutator_in here model) m o statics printed number (c, built) (own_has_id here.tree legal c parameters number is) number.class slots (class_is_in here.tree legal c parameters number is)
       (slots_are_at here.tree legal c parameters number is)
 
   -- ---- refusals
@@ -190,7 +190,7 @@ module _ (here : Setting) (model : MemoryModel here.tree) (name : Names) (m : Fr
 
   module _ (deep : is_full m ≡ false) (typed_birth : IsTypedEffect here.tree (state_birth here s f below contents entered_by)) where
     framed_born : (birth_transition : Objects) (a : Addr) → object_born model.phase o (Instance number.class) slots ≡ (birth_transition, Some a) →
-        Alike (constructs (called_as (c, built) (is_numbered here.tree legal c parameters number is).0) m (birth_transition, Some a)) (state_birth here s f below contents entered_by)
+        Alike (constructs (called_as (c, built) (constructor_has_id here.tree legal c parameters number is).0) m (birth_transition, Some a)) (state_birth here s f below contents entered_by)
     framed_born birth_transition a e =
         record {
           answer = answer;
@@ -234,17 +234,17 @@ module _ (here : Setting) (model : MemoryModel here.tree) (name : Names) (m : Fr
         by_code None t = elim t [ ]
         by_code (Some code) t = (new_frame c built code (Reference (next_name s) ∷ arguments) (Some (next_name s)), after f rest ∷ below, refl)
 
-    framed_alike : Alike (bears model.phase o (Instance number.class) slots (constructs (called_as (c, built) (is_numbered here.tree legal c parameters number is).0) m)) (state_birth here s f below contents entered_by)
+    framed_alike : Alike (bears model.phase o (Instance number.class) slots (constructs (called_as (c, built) (constructor_has_id here.tree legal c parameters number is).0) m)) (state_birth here s f below contents entered_by)
     framed_alike =
-        bears_alike (constructs (called_as (c, built) (is_numbered here.tree legal c parameters number is).0) m) (state_birth here s f below contents entered_by)
-        (by_birth here.tree model name o statics s at.memory.fits (Instance number.class) slots (λ w. Alike (constructs (called_as (c, built) (is_numbered here.tree legal c parameters number is).0) m w) (state_birth here s f below contents entered_by)) (refused entered_by enters) framed_born)
+        bears_alike (constructs (called_as (c, built) (constructor_has_id here.tree legal c parameters number is).0) m) (state_birth here s f below contents entered_by)
+        (by_birth here.tree model name o statics s at.memory.fits (Instance number.class) slots (λ w. Alike (constructs (called_as (c, built) (constructor_has_id here.tree legal c parameters number is).0) m w) (state_birth here s f below contents entered_by)) (refused entered_by enters) framed_born)
 
   -- ---- either
 
   -- the depth is looked at before memory
   by_depth : (b : Bool) → is_full m ≡ b →
       IsTypedEffect here.tree (if b then StateRaises StackOverflow else state_birth here s f below contents entered_by) →
-      Alike (if b then Some (m, o, Raises StackOverflow) else bears model.phase o (Instance number.class) slots (constructs (called_as (c, built) (is_numbered here.tree legal c parameters number is).0) m))
+      Alike (if b then Some (m, o, Raises StackOverflow) else bears model.phase o (Instance number.class) slots (constructs (called_as (c, built) (constructor_has_id here.tree legal c parameters number is).0) m))
       (if b then StateRaises StackOverflow else state_birth here s f below contents entered_by)
   by_depth true deep t = too_deep
   by_depth false deep t = framed_alike deep t
@@ -255,7 +255,7 @@ module _ (here : Setting) (model : MemoryModel here.tree) (name : Names) (m : Fr
   by_number t =
       let framed : Bool → StateEffect = λ b. if b then StateRaises StackOverflow else state_birth here s f below contents entered_by in
       let same : is_full m ≡ is_too_deep here s f below = depth_is here model name m o statics printed s f below c parameters number is at in
-      let own = is_numbered here.tree legal c parameters number is in
+      let own = constructor_has_id here.tree legal c parameters number is in
       subst (λ x. Alike (when_some x (λ n. new_object_transition model.phase number.class slots (called_as (c, built) n) m o)) (framed (is_too_deep here s f below))) (sym own.1)
       (subst (λ b. Alike (new_object_transition model.phase number.class slots (called_as (c, built) own.0) m o) (framed b)) same
       (by_depth (is_full m) refl (subst (λ b. IsTypedEffect here.tree (framed b)) (sym same) t)))

@@ -9,7 +9,7 @@ use Rattle.interpreter.specs.cil_model.Slots.{target}
 use Rattle.interpreter.proofs.cil_model.SameLaws.{if_false}
 use Rattle.interpreter.specs.reference_machine.Values.{ObjectName, Born, Literal}
 use Rattle.interpreter.specs.reference_machine.States.{Contents, Instance as IsInstance, Array as IsArray, HeapObject, State, class_of, class_of_contents}
-use Rattle.interpreter.specs.resolved_code.Numbered.{class_name}
+use Rattle.interpreter.specs.resolved_code.ById.{class_name}
 use Rattle.interpreter.specs.object_memory.declared.addresses.Addr.{Addr}
 use Rattle.interpreter.specs.object_memory.declared.kinds.Kind.{Kind}
 use Rattle.interpreter.specs.object_memory.declared.kinds.Kind.TheVariants.{Instance, Array}

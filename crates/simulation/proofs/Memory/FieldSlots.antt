@@ -24,7 +24,7 @@ use Rattle.interpreter.specs.reference_machine.TypedStates.{HasType, HaveFieldTy
 use Rattle.interpreter.proofs.reference_machine.Programs.DeclaredFields.{HasField, field_there, found_type}
 use Rattle.interpreter.proofs.reference_machine.TypedStates.StateChanges.{entry_typed}
 use Rattle.simulation.proofs.ProgramSizes.ClassesAndFields.{instance_slot_small}
-use Rattle.interpreter.specs.resolved_code.Numbered.{class_name}
+use Rattle.interpreter.specs.resolved_code.ById.{class_name}
 use Rattle.interpreter.specs.resolved_code.Resolved.{IsField}
 use Rattle.interpreter.specs.loaded_program.Prepared.{kind_of_type}
 use Rattle.interpreter.specs.loaded_program.Operands.{small, slot_in, slot_at, held_at}

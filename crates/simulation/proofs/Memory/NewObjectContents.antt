@@ -7,7 +7,7 @@ use Rattle.interpreter.specs.cil_model.declared.trees.Tree.{Tree}
 use Rattle.interpreter.specs.cil_model.Chains.{is_thread_class}
 use Rattle.interpreter.specs.cil_model.Fields.{FieldKey, instance_fields, slot_types}
 use Rattle.interpreter.specs.reference_machine.States.{new_instance}
-use Rattle.interpreter.specs.resolved_code.Numbered.{class_name}
+use Rattle.interpreter.specs.resolved_code.ById.{class_name}
 use Rattle.interpreter.specs.object_memory.declared.kinds.Kind.TheVariants.{Instance}
 use Rattle.simulation.specs.Refines.{Names, hidden_words, IsOfContents}
 use Rattle.simulation.proofs.Memory.InitialValues.{words_refine}

@@ -8,7 +8,7 @@ use Rattle.interpreter.specs.cil_model.Fields.{FieldKey}
 use Rattle.interpreter.specs.reference_machine.Values.{ObjectName, Born, Literal, Value as StateValue}
 use Rattle.interpreter.specs.reference_machine.States.{Contents, Instance as IsInstance, Array as IsArray, HeapObject, State, object_at, elements_of_contents, array_at}
 use Rattle.interpreter.specs.instructions.TypeTransitions.{held_type}
-use Rattle.interpreter.specs.resolved_code.Numbered.{type_at}
+use Rattle.interpreter.specs.resolved_code.ById.{type_at}
 use Rattle.interpreter.specs.object_memory.declared.addresses.Addr.{Addr}
 use Rattle.interpreter.specs.object_memory.declared.kinds.Kind.{Kind}
 use Rattle.interpreter.specs.object_memory.declared.kinds.Kind.TheVariants.{Instance, Array}

@@ -16,7 +16,7 @@ use Rattle.interpreter.proofs.cil_model.SameLaws.{never}
 use Rattle.interpreter.specs.reference_machine.Values.{Value as StateValue, Int32 as Int32Value, Int64 as Int64Value, Native as NativeValue, Null, Reference, same_kind}
 use Rattle.interpreter.specs.reference_machine.States.{Contents, Instance as IsInstance, Array as IsArray, State}
 use Rattle.reference_machine.specs.TypedStates.{AllHaveType, HasType, HaveFieldTypes, IsTypedContents}
-use Rattle.interpreter.specs.resolved_code.Numbered.{class_name, element_at, type_at}
+use Rattle.interpreter.specs.resolved_code.ById.{class_name, element_at, type_at}
 use Rattle.interpreter.specs.object_memory.declared.kinds.ArrayElement.{ArrayElement}
 use Rattle.interpreter.specs.object_memory.declared.kinds.ElementType.{ElementType}
 use Rattle.interpreter.specs.object_memory.declared.kinds.ElementType.TheVariants.{Int32 as Int32Type, Int64 as Int64Type, Object as ObjectType, String as StringType, Class as ClassType}

@@ -12,7 +12,7 @@ use Rattle.interpreter.specs.reference_machine.States.{Contents, Instance as IsI
 use Rattle.interpreter.specs.reference_machine.Effects.{Setting, Effect as StateEffect, Sticks, when_some}
 use Rattle.interpreter.specs.reference_machine.BuiltIn.{thread_object}
 use Rattle.interpreter.proofs.reference_machine.TypedStates.RunningFrames.{IsTypedEffect}
-use Rattle.interpreter.specs.resolved_code.Numbered.{class_name}
+use Rattle.interpreter.specs.resolved_code.ById.{class_name}
 use Rattle.interpreter.specs.object_memory.declared.addresses.Addr.{Addr}
 use Rattle.interpreter.specs.object_memory.declared.kinds.Kind.{Kind}
 use Rattle.interpreter.specs.object_memory.declared.kinds.Kind.TheVariants.{Instance, Array}

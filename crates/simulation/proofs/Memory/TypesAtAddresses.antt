@@ -11,7 +11,7 @@ use Rattle.interpreter.specs.reference_machine.Values.{ObjectName, Born, Literal
 use Rattle.interpreter.specs.reference_machine.States.{Contents, Instance as IsInstance, Array as IsArray, HeapObject, Frame as StateFrame, State, array_at, elements_of_contents, type_of, type_of_contents}
 use Rattle.interpreter.specs.reference_machine.Effects.{Setting}
 use Rattle.interpreter.specs.reference_machine.Steps.{may_hold}
-use Rattle.interpreter.specs.resolved_code.Numbered.{type_at}
+use Rattle.interpreter.specs.resolved_code.ById.{type_at}
 use Rattle.interpreter.specs.resolved_code.declared.types.ResolvedType.{ResolvedType}
 use Rattle.interpreter.specs.object_memory.declared.addresses.Addr.{Addr}
 use Rattle.interpreter.specs.object_memory.declared.kinds.ArrayElement.{ArrayElement}

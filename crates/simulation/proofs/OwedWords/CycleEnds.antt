@@ -179,7 +179,7 @@ module _ (each : InstructionsAreAlike) (tree : Tree) (accepted : IsAccepted tree
         of_tree = opened.tree_is;
         of_limits = opened.limits_are;
         split = refl;
-        runs = o.comes;
+        runs = o.gives;
         refuses = subst (λ (s : State). RefusesBeyondRoom h.machine s all h.last) first h.refuses;
       })
 

@@ -16,7 +16,7 @@ use Rattle.collector.specs.Phases.{is_new}
 use Rattle.collector.proofs.Addresses.Tests.{new_is}
 use Rattle.simulation.specs.Refines.{IsHeap, Names}
 use Rattle.simulation.proofs.OwedWords.CycleNames.{IsNamed}
-use Rattle.simulation.proofs.OwedWords.SumsOverNames.{is_listed, numbered_words}
+use Rattle.simulation.proofs.OwedWords.SumsOverNames.{is_listed, words_by_id}
 use Rattle.simulation.proofs.Memory.CellSizes.{cell_size}
 
 -- the number of a name
@@ -69,7 +69,7 @@ module _ (tree : Tree) (name : Names) (o : Objects) (s : State) (spaces : AreSpa
       ]
 
   pub new_words : used_words o.spaces.new.cells ≤ sum_by words names
-  new_words = numbered_words words number names o.spaces.new.start o.spaces.new.cells (record {
+  new_words = words_by_id words number names o.spaces.new.start o.spaces.new.cells (record {
     own = λ a c lies. (let x = is_born a c lies in (
       ap (λ n. words (number_of n)) x.named ∙ x.words_are,
       ap (λ n. is_listed names (number_of n)) x.named ∙ listed a x.born x.named,

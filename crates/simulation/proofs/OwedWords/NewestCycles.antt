@@ -172,7 +172,7 @@ owed_once tree limits events reports words words' o o' =
     let earlier : o.earlier ≡ o'.earlier = begins_once (zip events reports) o.earlier o.later o'.earlier o'.later o.split o'.split in
     let before : o.before ≡ o'.before = same_state (step_reports o.earlier) (step_reports o'.earlier) o.before o'.before
     (sym o.began ∙ (ap (λ l. run tree limits o.first (thread_part l)) earlier ∙ (ap (λ (u : State). run tree limits u (thread_part o'.earlier)) first ∙ o'.began))) in
-    let now : o.now ≡ o'.now = same_state (step_reports (zip events reports)) (step_reports (zip events reports)) o.now o'.now (sym o.comes ∙ (ap (λ (u : State). run tree limits u (thread_part (zip events reports))) first ∙ o'.comes)) in
+    let now : o.now ≡ o'.now = same_state (step_reports (zip events reports)) (step_reports (zip events reports)) o.now o'.now (sym o.gives ∙ (ap (λ (u : State). run tree limits u (thread_part (zip events reports))) first ∙ o'.gives)) in
     let owes : OwesWords tree o'.before o'.now words = subst (λ (u : State). OwesWords tree o'.before u words) now (subst (λ (u : State). OwesWords tree u o.now words) before o.owes) in
     let less = no_more_words tree o'.before o'.now words words' owes o'.owes in
     let more = no_more_words tree o'.before o'.now words' words o'.owes owes in
@@ -200,7 +200,7 @@ module _ (each : InstructionsAreAlike) (tree : Tree) (accepted : IsAccepted tree
   at_first : (xs ys : Events) → all ≡ xs ++ ys → IsAt tree limits all s h.last [] (xs ++ ys) h.machine h.first
   at_first xs ys split =
       let opened = opened_is tree limits h.machine h.opened in
-      subst (λ l. IsAt tree limits all s h.last [] l h.machine h.first) split (record { of_tree = opened.tree_is; of_limits = opened.limits_are; split = refl; runs = h.comes; refuses = h.refuses })
+      subst (λ l. IsAt tree limits all s h.last [] l h.machine h.first) split (record { of_tree = opened.tree_is; of_limits = opened.limits_are; split = refl; runs = h.gives; refuses = h.refuses })
 
   abbrev goes : (done rest : Events) (e : Event) (r : Report) (d next : MachineState) (u after : State) → all ≡ done ++ (e, r) ∷ rest → IsBefore done d u → IsTransition d e (next, r) → IsNext d.tree d.limits u e r after → IsBefore (done ++ (e, r) ∷ []) next after
   goes = λ done rest e r d next u after split k transition is. before_goes each done e r d next u after k transition is
@@ -215,7 +215,7 @@ module _ (each : InstructionsAreAlike) (tree : Tree) (accepted : IsAccepted tree
       let begun = come earlier later split.whole in
       let owed = words_owed begun.state tree (subst (λ (t : Tree). IsTyped t begun.state) begun.there.of_tree begun.holds.represents.typed) s in (
         owed.0,
-        record { earlier = earlier; later = later; split = split; first = h.first; opens = h.begins; before = begun.state; began = begun.ran; now = s; comes = h.comes; owes = owed.1 },
+        record { earlier = earlier; later = later; split = split; first = h.first; opens = h.begins; before = begun.state; began = begun.ran; now = s; gives = h.gives; owes = owed.1 },
       )
 
   -- so there are where a cycle ends

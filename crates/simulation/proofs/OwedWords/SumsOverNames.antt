@@ -90,11 +90,11 @@ module _ (f number : ℕ → ℕ) where
       let test : (a == at) ≡ false = grind (arith, nat_tests, following) in
       (test, ap (λ b. if b then Some c else cell_from (at + size c) cs a) test ∙ is)
 
-  pub numbered_words : (names : List ℕ) (at : ℕ) (cs : List Cell) → HaveIds f number names at cs → used_words cs ≤ sum_by f names
-  numbered_words names at [] h = omega arith
-  numbered_words names at (c ∷ cs) h =
+  pub words_by_id : (names : List ℕ) (at : ℕ) (cs : List Cell) → HaveIds f number names at cs → used_words cs ≤ sum_by f names
+  words_by_id names at [] h = omega arith
+  words_by_id names at (c ∷ cs) h =
       let own = h.own at c (first_lies at c cs) in
-      let rest : used_words cs ≤ sum_by f (others (number at) names) = numbered_words (others (number at) names) (at + size c) cs (record { own = own_later; one = one_later }) in
+      let rest : used_words cs ≤ sum_by f (others (number at) names) = words_by_id (others (number at) names) (at + size c) cs (record { own = own_later; one = one_later }) in
       omega (arith, rest, own.0, own_share f (number at) names own.1, sum_by-cons size c cs)
     where
       own_later : (a : ℕ) (d : Cell) → cell_from (at + size c) cs a ≡ Some d → (f (number a) ≡ size d) × (is_listed (others (number at) names) (number a) ≡ true)

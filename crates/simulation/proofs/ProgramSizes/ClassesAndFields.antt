@@ -17,7 +17,7 @@ use Rattle.interpreter.specs.cil_model.Legality.{IsLegal, is_small_class}
 use Rattle.interpreter.proofs.cil_model.Lists.{none_is_some}
 use Rattle.interpreter.proofs.cil_model.SameLaws.{both_first}
 use Rattle.interpreter.specs.name_tables.Numbers.{declarations, source_entry}
-use Rattle.interpreter.specs.resolved_code.Numbered.{class_name}
+use Rattle.interpreter.specs.resolved_code.ById.{class_name}
 use Rattle.simulation.proofs.ListLaws.TestsAndLengths.{item_passes, all_weaker, found_within}
 use Rattle.resolved_code.proofs.LegalPrograms.Limits.{source_classes_few, static_fields_few, source_classes_small}
 

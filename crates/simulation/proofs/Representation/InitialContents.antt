@@ -21,7 +21,7 @@ use Rattle.interpreter.proofs.reference_machine.Programs.SourceMethods.{kept_fro
 use Rattle.simulation.proofs.MonitorCounts.InitialStates.{initial_counted}
 use Rattle.interpreter.specs.loaded_program.AllMethods.{all_methods}
 use Rattle.interpreter.specs.loaded_program.MethodNumbers.{number_of}
-use Rattle.interpreter.proofs.loaded_program.NumberLaws.{declared_is_numbered}
+use Rattle.interpreter.proofs.loaded_program.NumberLaws.{declared_has_id}
 use Rattle.interpreter.specs.object_memory.declared.monitors.Monitor.TheVariants.{Free}
 use Rattle.interpreter.specs.object_memory.Cells.{literal_number, null}
 use Rattle.interpreter.specs.object_memory.Objects.{no_objects}
@@ -152,7 +152,7 @@ module _ (tree : Tree) (limits : Limits) (accepted : IsAccepted tree) (in_range 
     opened_with (Some code) is =
         let opened : initial_state tree limits ≡ Some (initial_state_at tree limits entry code) =
         ap (λ es. option_and_then (λ (e : ClassName × Method). option_map (initial_state_at tree limits e) (code_of e.1.kind)) (slice_get es 0)) alone ∙ ap (option_map (initial_state_at tree limits entry)) is in
-        let has_id : (n : ℕ) × (number_of tree entry ≡ Some n) × (slice_get (all_methods tree) n ≡ Some entry) = declared_is_numbered tree accepted.legal entry_declared.0 entry entry_declared.1 in (
+        let has_id : (n : ℕ) × (number_of tree entry ≡ Some n) × (slice_get (all_methods tree) n ≡ Some entry) = declared_has_id tree accepted.legal entry_declared.0 entry entry_declared.1 in (
           machine_state_at tree limits entry has_id.0,
           initial_state_at tree limits entry code,
           ap (λ es. option_and_then (λ (e : ClassName × Method). option_map (machine_state_at tree limits e) (number_of tree e)) (slice_get es 0)) alone ∙ ap (option_map (machine_state_at tree limits entry)) has_id.1,

@@ -149,7 +149,7 @@ occurs_after tree limits c d events reports first opens opened r same_tree same_
         each = each;
         first = first;
         begins = opens;
-        comes = ap (λ x. run x limits first (thread_part (zip events reports))) (sym same_tree) ∙ (ap (λ x. run c.tree x first (thread_part (zip events reports))) (sym same_limits) ∙ alike.comes);
+        gives = ap (λ x. run x limits first (thread_part (zip events reports))) (sym same_tree) ∙ (ap (λ x. run c.tree x first (thread_part (zip events reports))) (sym same_limits) ∙ alike.gives);
         machine = c;
         opened = opened;
         last = d;

@@ -238,6 +238,6 @@ module _ (tree : Tree) (limits : Limits) where
         record {
           first = h.first;
           begins = h.begins;
-          comes = h.comes;
+          gives = h.gives;
           refuses = subst (λ (l : Limits). RefusesBeyondOneSpace tree l h.first (thread_part (zip events reports))) first.limits_are (subst (λ (u : Tree). RefusesBeyondOneSpace u h.machine.limits h.first (thread_part (zip events reports))) first.tree_is refuses);
         }

@@ -118,7 +118,7 @@ module _ (tree : Tree) (limits : Limits) (one : (lines : List Line) (i : Instruc
   runs_are_one events reports reports' s s' h h' =
       let states : h'.first ≡ h.first = same_Some h'.first h.first (sym h'.begins ∙ h.begins) in
       let contents : h'.machine ≡ h.machine = same_Some h'.machine h.machine (sym h'.opened ∙ h.opened) in
-      let first : ResultsIn h.machine h.first (zip events reports) s = record { runs = h.comes; last = h.last; refuses = h.refuses } in
+      let first : ResultsIn h.machine h.first (zip events reports) s = record { runs = h.gives; last = h.last; refuses = h.refuses } in
       let other : ResultsIn h.machine h.first (zip events reports') s' =
-      subst (λ (d : MachineState). ResultsIn d h.first (zip events reports') s') contents (subst (λ (u : State). ResultsIn h'.machine u (zip events reports') s') states (record { runs = h'.comes; last = h'.last; refuses = h'.refuses })) in
+      subst (λ (d : MachineState). ResultsIn d h.first (zip events reports') s') contents (subst (λ (u : State). ResultsIn h'.machine u (zip events reports') s') states (record { runs = h'.gives; last = h'.last; refuses = h'.refuses })) in
       one_from events reports reports' h.each h'.each h.machine h.first s s' (of_opened h.machine h.opened) first other

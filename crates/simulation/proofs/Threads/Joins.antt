@@ -23,8 +23,8 @@ use Rattle.simulation.specs.Refines.{IsThread, StatusRefines, Represents}
 use Rattle.simulation.specs.Transitions.{after_request, count_step}
 use Rattle.simulation.proofs.ListLaws.AgreeingLists.{agree_get, agree_beyond}
 use Rattle.simulation.proofs.Instructions.FrameProgress.{next_alike}
-use Rattle.simulation.proofs.Instructions.Correspondence.{GoesAlike, ComesAlike, is_refused_effect}
-use Rattle.simulation.proofs.Threads.StepResults.{Follows, done, comes}
+use Rattle.simulation.proofs.Instructions.Correspondence.{GoesAlike, EffectsAlike, is_refused_effect}
+use Rattle.simulation.proofs.Threads.StepResults.{Follows, done, gives}
 use Rattle.simulation.proofs.Memory.ThreadObjects.{thread_on_is}
 use Rattle.simulation.proofs.Threads.Requests.{here, running, below, instruction, Asks, IsAskedOf, asked_of, rest_agrees, setting}
 use Rattle.simulation.proofs.Threads.LiveThreads.{own_model, own_names}
@@ -56,7 +56,7 @@ module _ (c : MachineState) (s : State) (r : Represents c s) (t left : ℕ) (m :
   abbrev IsJoined : Effect → Type 0
   IsJoined j =
       (false ≡ is_refused_effect j) ×
-      ComesAlike (here c s r t left m there) (own_model c s r t left m there) (own_names c s r t left m there) m c.objects c.statics c.printed s (running c s r t left m there) (below c s r t left m there)
+      EffectsAlike (here c s r t left m there) (own_model c s r t left m there) (own_names c s r t left m there) m c.objects c.statics c.printed s (running c s r t left m there) (below c s r t left m there)
       (OwnEffect j) (answer_of (after_request j m) c.objects c.statics c.printed (OwnEffect j)) (done c s r t left m there false)
 
   module _ (operand : StateValue) (rest : List StateValue) (stack : (running c s r t left m there).stack ≡ operand ∷ rest) where
@@ -91,5 +91,5 @@ module _ (c : MachineState) (s : State) (r : Represents c s) (t left : ℕ) (m :
       join_alike object asks.operand asks.rest asks.stack
       (asked_of c s r t left m there Join (λ rest n. join (here c s r t left m there) s (running c s r t left m there) (below c s r t left m there) rest) (λ v rest. refl) object (answer_of m c.objects c.statics c.printed (Joins object)) asks) in
       subst (λ ts. Follows c s r t (count_step (record c { threads = ts }) t left (join_effect ts c.objects object) (after_request (join_effect ts c.objects object) m))) (sym same)
-      (comes c s r t left m there c.threads (λ x. refl) false (join_effect c.threads c.objects object) joined.0
+      (gives c s r t left m there c.threads (λ x. refl) false (join_effect c.threads c.objects object) joined.0
       (answer_of (after_request (join_effect c.threads c.objects object) m) c.objects c.statics c.printed (OwnEffect (join_effect c.threads c.objects object))) joined.1)

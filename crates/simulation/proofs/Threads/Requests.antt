@@ -78,12 +78,12 @@ module _ (c : MachineState) (s : State) (r : Represents c s) (t left : ℕ) (m :
       by_operand : ((object ≡ null) × (asks.operand ≡ Null)) ⊎ ((n : ObjectName) × (asks.operand ≡ Reference n) × ((own_names c s r t left m there) object.number ≡ Some n)) → IsAskedOf (done c s r t left m there false) (go asks.rest) object
       by_operand (inl (is, operand)) = inl (is, does ∙ ap (λ v. not_null v NullReference (λ n. thread_object here s running below n (go asks.rest n))) operand)
       by_operand (inr (n, operand, named)) =
-          let comes : done c s r t left m there false ≡ thread_object here s running below n (go asks.rest n) = does ∙ ap (λ v. not_null v NullReference (λ k. thread_object here s running below k (go asks.rest k))) operand in
-          let x = thread_object_is here s running below (own_names c s r t left m there) c.objects (own_reads c s r t left m there) object (go asks.rest n) n named (subst (IsTypedEffect c.tree) comes done_typed) in
+          let gives : done c s r t left m there false ≡ thread_object here s running below n (go asks.rest n) = does ∙ ap (λ v. not_null v NullReference (λ k. thread_object here s running below k (go asks.rest k))) operand in
+          let x = thread_object_is here s running below (own_names c s r t left m there) c.objects (own_reads c s r t left m there) object (go asks.rest n) n named (subst (IsTypedEffect c.tree) gives done_typed) in
           inr (
             x.0,
             x.2,
-            comes ∙ x.3 ∙ ap (λ k. go asks.rest k x.2.object) x.1,
+            gives ∙ x.3 ∙ ap (λ k. go asks.rest k x.2.object) x.1,
             named_is_not_null c.tree (own_names c s r t left m there) c.objects s (own_reads c s r t left m there) object.number n named,
             named ∙ ap Some x.1,
           )

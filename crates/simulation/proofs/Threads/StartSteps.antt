@@ -32,7 +32,7 @@ use Rattle.simulation.specs.Transitions.{after_request, count_step, start_thread
 use Rattle.simulation.proofs.ListLaws.AgreeingLists.{agree_append, agree_length, agree_weaken}
 use Rattle.simulation.proofs.Instructions.Correspondence.{is_refused_fault}
 use Rattle.simulation.proofs.ProgramSizes.LimitRanges.{depth_is_some}
-use Rattle.simulation.proofs.Threads.StepResults.{Follows, done, finish, frames_pass, frames_whole, going_pass, comes}
+use Rattle.simulation.proofs.Threads.StepResults.{Follows, done, finish, frames_pass, frames_whole, going_pass, gives}
 use Rattle.simulation.proofs.Representation.NewThreads.{beginning_refines}
 use Rattle.simulation.proofs.Memory.ThreadObjects.{IsThreadObject}
 use Rattle.simulation.proofs.Threads.Requests.{here, running, below, Asks, IsAskedOf, asked_of, popped_frames}
@@ -61,7 +61,7 @@ module _ (c : MachineState) (s : State) (r : Represents c s) (t left : ℕ) (m :
 
   -- a step that ends by a fault
   fault_follows : (fault : Fault) → false ≡ is_refused_fault fault → done c s r t left m there false ≡ StateRaises fault → Follows c s r t (counted_with c.threads (c.threads, c.objects, Raises fault))
-  fault_follows fault refuses e = comes c s r t left m there c.threads (λ x. refl) false (Raises fault) refuses (answer_of m c.objects c.statics c.printed (OwnEffect (Raises fault))) (e, (refl, refl, refl))
+  fault_follows fault refuses e = gives c s r t left m there c.threads (λ x. refl) false (Raises fault) refuses (answer_of m c.objects c.statics c.printed (OwnEffect (Raises fault))) (e, (refl, refl, refl))
 
   module _ (rest : List StateValue) (object : Addr) (number : ℕ) (x : IsThreadObject c.tree (own_names c s r t left m there) c.objects s object number) (named : (own_names c s r t left m there) object.number ≡ Some (Born number)) where
     -- the object identifies its thread

@@ -33,7 +33,7 @@ use Rattle.simulation.proofs.ListLaws.AgreeingLists.{agree_set, agree_weaken}
 use Rattle.simulation.proofs.Representation.MoreNames.{frames_extend, thread_extends}
 use Rattle.simulation.proofs.Memory.NamedAddresses.{memory_beside}
 use Rattle.interpreter.specs.declared.outcomes.InstructionOutcome.TheVariants.{OwnEffect}
-use Rattle.simulation.proofs.Instructions.Correspondence.{LeavesMemory, ComesAlike, is_refused_fault, is_refused_effect}
+use Rattle.simulation.proofs.Instructions.Correspondence.{LeavesMemory, EffectsAlike, is_refused_fault, is_refused_effect}
 use Rattle.simulation.proofs.ProgramSizes.LimitRanges.{budget_is_some}
 use Rattle.simulation.proofs.Threads.NextInstruction.{setting_of, is_alive, is_running}
 use Rattle.simulation.proofs.Threads.LiveThreads.{FitsOwn, KeepsOwnNames, fits_of, names_of, normally, own_memory, own_model, own_names, own_passes, room_of, seat}
@@ -254,10 +254,10 @@ module _ (c : MachineState) (s : State) (r : Represents c s) (t left : ℕ) (m :
         (beside_same c s r t left m there (own_names c s r t left m there) a.objects a.statics s fits_left) refused effect refuses a.frames is pass
 
   -- an instruction that asks nothing of other threads
-  pub comes : (threads : List Thread) → ((x : Thread) → slice_set threads t x ≡ slice_set c.threads t x) → (refused : Bool) (effect : Effect) → refused ≡ is_refused_effect effect → (a : Answer) →
-      ComesAlike (setting_of c t refused) (own_model c s r t left m there) (own_names c s r t left m there) m c.objects c.statics c.printed s (is_alive c s r t left m there).running (is_alive c s r t left m there).below (OwnEffect effect) a (done refused) →
+  pub gives : (threads : List Thread) → ((x : Thread) → slice_set threads t x ≡ slice_set c.threads t x) → (refused : Bool) (effect : Effect) → refused ≡ is_refused_effect effect → (a : Answer) →
+      EffectsAlike (setting_of c t refused) (own_model c s r t left m there) (own_names c s r t left m there) m c.objects c.statics c.printed s (is_alive c s r t left m there).running (is_alive c s r t left m there).below (OwnEffect effect) a (done refused) →
       Follows c s r t (count_step (record c { threads = threads; objects = a.objects; statics = a.statics; printed = a.printed }) t left effect a.frames)
-  comes threads same refused Continues refuses a h =
+  gives threads same refused Continues refuses a h =
       let fits = fits_of c s r t left m there h.names a.objects a.statics a.printed h.state h.memory in
       finish h.names threads c.threads c.posts a.objects a.statics a.printed h.state same fits
       (room_of c s r t left m there h.names a.objects a.statics a.printed h.state h.memory)
@@ -266,8 +266,8 @@ module _ (c : MachineState) (s : State) (r : Represents c s) (t left : ℕ) (m :
       (beside_same c s r t left m there h.names a.objects a.statics h.state fits) refused Continues refuses a.frames
       (h.running, h.waiting, h.is, frames_whole h.names a.objects a.statics h.state fits a.frames (h.running ∷ h.waiting) h.frames)
       (going_pass h.names a.objects a.statics h.state fits a.frames (h.running ∷ h.waiting) h.frames)
-  comes threads same refused Returns refuses a (is, as_it_was) = left_follows a as_it_was threads same refused Returns refuses is (λ fs e. ended_none Done fs e)
-  comes threads same refused Blocks refuses a (is, frames, as_it_was) =
+  gives threads same refused Returns refuses a (is, as_it_was) = left_follows a as_it_was threads same refused Returns refuses is (λ fs e. ended_none Done fs e)
+  gives threads same refused Blocks refuses a (is, frames, as_it_was) =
       let fits = fits_left a as_it_was in
       let refine : AreFrames c.tree c.limits (own_names c s r t left m there) a.frames (is_alive c s r t left m there).thread.frames =
       subst (λ x. AreFrames c.tree c.limits (own_names c s r t left m there) x (is_alive c s r t left m there).thread.frames) (sym frames)
@@ -275,4 +275,4 @@ module _ (c : MachineState) (s : State) (r : Represents c s) (t left : ℕ) (m :
       left_follows a as_it_was threads same refused Blocks refuses
       (is, refl, frames_whole (own_names c s r t left m there) a.objects a.statics s fits a.frames (is_alive c s r t left m there).thread.frames refine)
       (blocked_pass (own_names c s r t left m there) a.objects a.statics s fits a.frames (is_alive c s r t left m there).thread.frames refine)
-  comes threads same refused (Raises x) refuses a (is, as_it_was) = left_follows a as_it_was threads same refused (Raises x) refuses (is, refl) (λ fs e. ended_none (ByFault x) fs e)
+  gives threads same refused (Raises x) refuses a (is, as_it_was) = left_follows a as_it_was threads same refused (Raises x) refuses (is, refl) (λ fs e. ended_none (ByFault x) fs e)

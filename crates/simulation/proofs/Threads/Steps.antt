@@ -23,10 +23,10 @@ use Rattle.simulation.specs.MachineStates.{MachineState, mutator_of}
 use Rattle.simulation.specs.Refines.{IsThread, StatusRefines, Represents}
 use Rattle.simulation.specs.Transitions.{IsStatusTransition, IsThreadTransition, IsTransition, finish_step}
 use Rattle.simulation.proofs.ListLaws.AgreeingLists.{agree_at, agree_get}
-use Rattle.simulation.proofs.Instructions.Correspondence.{InstructionsAreAlike, ComesAlike, is_refused_effect, is_refused_outcome}
+use Rattle.simulation.proofs.Instructions.Correspondence.{InstructionsAreAlike, EffectsAlike, is_refused_effect, is_refused_outcome}
 use Rattle.simulation.specs.Ready.{IsReady, IsAnswerable}
 use Rattle.simulation.proofs.Threads.NextInstruction.{setting_of, is_alive, does_alike, live_is_ready}
-use Rattle.simulation.proofs.Threads.StepResults.{Follows, KeepsOwnRoom, done, comes}
+use Rattle.simulation.proofs.Threads.StepResults.{Follows, KeepsOwnRoom, done, gives}
 use Rattle.simulation.proofs.Threads.Requests.{here, running, below, Asks, asked_of, has_operand, index_below}
 use Rattle.simulation.proofs.Threads.Joins.{joins}
 use Rattle.simulation.proofs.Threads.StartSteps.{start_asked, starts, start_has_thread, start_storable}
@@ -90,29 +90,29 @@ ended_absent c s r t left e there =
 
 module _ (each : InstructionsAreAlike) (c : MachineState) (s : State) (r : Represents c s) (t left : ℕ) (m : Frames) (there : slice_get c.threads t ≡ Some (record { thread_status = Live m; steps_left = left })) where
   -- the same on the reference machine, where memory is refused to both
-  comes_alike : (a : Answer) → IsDone c.tree (mutator_of c t) m c.objects c.statics c.printed a →
-      ComesAlike (setting_of c t (is_refused_outcome a.outcome)) (own_model c s r t left m there) (own_names c s r t left m there) m c.objects c.statics c.printed s (is_alive c s r t left m there).running (is_alive c s r t left m there).below a.outcome a
+  effects_alike : (a : Answer) → IsDone c.tree (mutator_of c t) m c.objects c.statics c.printed a →
+      EffectsAlike (setting_of c t (is_refused_outcome a.outcome)) (own_model c s r t left m there) (own_names c s r t left m there) m c.objects c.statics c.printed s (is_alive c s r t left m there).running (is_alive c s r t left m there).below a.outcome a
       (done c s r t left m there (is_refused_outcome a.outcome))
-  comes_alike a d =
+  effects_alike a d =
       let refused : Bool = is_refused_outcome a.outcome in
       let x = does_alike each c s r t left m there refused d.operation d.at d.constant in
       let same : x.answer ≡ a = same_Some x.answer a (sym x.is ∙ sym d.is) in
       subst (λ (y : Answer). refused ≡ is_refused_outcome y.outcome →
-      ComesAlike (setting_of c t refused) (own_model c s r t left m there) (own_names c s r t left m there) m c.objects c.statics c.printed s (is_alive c s r t left m there).running (is_alive c s r t left m there).below y.outcome y (done c s r t left m there refused))
+      EffectsAlike (setting_of c t refused) (own_model c s r t left m there) (own_names c s r t left m there) m c.objects c.statics c.printed s (is_alive c s r t left m there).running (is_alive c s r t left m there).below y.outcome y (done c s r t left m there refused))
       same x.alike refl
 
   module _ (after : MachineState × Report) where
     -- a live thread's step
     live_follows : (a : Answer) → IsDone c.tree (mutator_of c t) m c.objects c.statics c.printed a → finish_step c t left a a.outcome ≡ Some after → Follows c s r t after
-    live_follows a d is = by_outcome a.outcome (comes_alike a d) is
+    live_follows a d is = by_outcome a.outcome (effects_alike a d) is
       where
         by_outcome : (out : InstructionOutcome) →
-            ComesAlike (setting_of c t (is_refused_outcome out)) (own_model c s r t left m there) (own_names c s r t left m there) m c.objects c.statics c.printed s (is_alive c s r t left m there).running (is_alive c s r t left m there).below out a
+            EffectsAlike (setting_of c t (is_refused_outcome out)) (own_model c s r t left m there) (own_names c s r t left m there) m c.objects c.statics c.printed s (is_alive c s r t left m there).running (is_alive c s r t left m there).below out a
             (done c s r t left m there (is_refused_outcome out)) →
             finish_step c t left a out ≡ Some after → Follows c s r t after
         by_outcome (OwnEffect e) h is' =
             subst (Follows c s r t) (same_Some _ after is')
-            (comes c s r t left m there (slice_set c.threads t (record { thread_status = Live a.frames; steps_left = left })) (λ x. set-set c.threads t (record { thread_status = Live a.frames; steps_left = left }) x)
+            (gives c s r t left m there (slice_set c.threads t (record { thread_status = Live a.frames; steps_left = left })) (λ x. set-set c.threads t (record { thread_status = Live a.frames; steps_left = left }) x)
             (is_refused_effect e) e refl a h)
         by_outcome (Starts object) h is' =
             starts c s r t left m there d.operation d.at d.constant (slice_set c.threads t (record { thread_status = Live m; steps_left = left })) (threads_stay c s r t left m there) object
@@ -151,10 +151,10 @@ module _ (each : InstructionsAreAlike) where
   -- what an instruction asks of other threads can be answered
   pub answerable : (c : MachineState) (s : State) → Represents c s → (t left : ℕ) (m : Frames) → slice_get c.threads t ≡ Some (record { thread_status = Live m; steps_left = left }) →
       (a : Answer) → IsDone c.tree (mutator_of c t) m c.objects c.statics c.printed a → IsAnswerable c t left a a.outcome
-  answerable c s r t left m there a d = by_outcome a.outcome (comes_alike each c s r t left m there a d)
+  answerable c s r t left m there a d = by_outcome a.outcome (effects_alike each c s r t left m there a d)
     where
       by_outcome : (out : InstructionOutcome) →
-          ComesAlike (setting_of c t (is_refused_outcome out)) (own_model c s r t left m there) (own_names c s r t left m there) m c.objects c.statics c.printed s (is_alive c s r t left m there).running (is_alive c s r t left m there).below out a
+          EffectsAlike (setting_of c t (is_refused_outcome out)) (own_model c s r t left m there) (own_names c s r t left m there) m c.objects c.statics c.printed s (is_alive c s r t left m there).running (is_alive c s r t left m there).below out a
           (done c s r t left m there (is_refused_outcome out)) →
           IsAnswerable c t left a out
       by_outcome (OwnEffect e) h = tt

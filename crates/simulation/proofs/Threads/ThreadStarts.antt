@@ -20,7 +20,7 @@ use Rattle.interpreter.specs.reference_machine.TypedStates.{AreTypedFrames}
 use Rattle.interpreter.proofs.reference_machine.TypedStates.RunningFrames.{IsTypedEffect}
 use Rattle.interpreter.specs.loaded_program.AllMethods.{all_methods}
 use Rattle.interpreter.specs.loaded_program.MethodNumbers.{number_of}
-use Rattle.interpreter.proofs.loaded_program.NumberLaws.{declared_is_numbered}
+use Rattle.interpreter.proofs.loaded_program.NumberLaws.{declared_has_id}
 use Rattle.interpreter.specs.object_memory.declared.addresses.Addr.{Addr}
 use Rattle.interpreter.specs.object_memory.declared.values.Value.TheVariants.{Ref}
 use Rattle.interpreter.specs.threads_monitors.Frames.{Frames}
@@ -79,7 +79,7 @@ module _ (c : MachineState) (s : State) (r : Represents c s) (t left : ℕ) (m :
             let thread : StateThread = record { frames = new_frame found.0 found.1 code (Reference (Born number) ∷ []) None ∷ []; steps_left = c.limits.budget; ended = None } in
             let frames : AreTypedFrames c.tree (state_with found code) thread.frames = typed.0.threads (length s.threads) thread (last_is_there s.threads thread) refl in
             let declared : (n : ℕ) × (slice_get (methods_declared c.tree found.0) n ≡ Some found.1) = frames.0.is_declared in
-            let has_id : (n : ℕ) × (number_of c.tree found ≡ Some n) × (slice_get (all_methods c.tree) n ≡ Some found) = declared_is_numbered c.tree r.accepted.legal declared.0 found declared.1 in
+            let has_id : (n : ℕ) × (number_of c.tree found ≡ Some n) × (slice_get (all_methods c.tree) n ≡ Some found) = declared_has_id c.tree r.accepted.legal declared.0 found declared.1 in
             record {
               found = found;
               code = code;

@@ -9,7 +9,7 @@ use Rattle.resolved_code.specs.declared.classes.ResolvedClass.{ResolvedClass}
 use Rattle.resolved_code.specs.declared.classes.ResolvedField.{ResolvedField}
 use Rattle.resolved_code.proofs.ListLaws.RelatedLists.{alike_length}
 use Rattle.class_layout.specs.FieldSlots.{fields_by_id, statics_after, static_by_id, first_slot, field_rows, class_names}
-use Rattle.class_layout.proofs.ResolvedLaws.{IsClass, numbered_alike, slot_alike}
+use Rattle.class_layout.proofs.ResolvedLaws.{IsClass, by_id_alike, slot_alike}
 use Rattle.class_layout.proofs.CountLaws.{AreFieldsOf, drop_at, statics_of, counted_on, statics_fit, fields_of, statics_alike_at, slots_fit}
 use Rattle.class_layout.proofs.slots.all_fields.Goals as goal
 
@@ -64,7 +64,7 @@ loop-class-preserved c =
     let name : ClassName = are.entry.0 in
     let slot : c.first_slot.result ≡ first_slot t name = c.first_slot.ensures.following ∙ slot_alike t _ _ i are.entry c.requires.kinds c.requires.own are.there in
     let row : c.in_ok-field_row.field-0.items ≡ fields_by_id next (first_slot t name) (fields_declared t name) =
-    c.in_ok-field_row.ensures ∙ ap (λ n. static_by_id next n (map (λ (f : ResolvedField). f.is_static) fields)) slot ∙ ap (static_by_id next (first_slot t name)) are.flags ∙ numbered_alike next (first_slot t name) (fields_declared t name) in
+    c.in_ok-field_row.ensures ∙ ap (λ n. static_by_id next n (map (λ (f : ResolvedField). f.is_static) fields)) slot ∙ ap (static_by_id next (first_slot t name)) are.flags ∙ by_id_alike next (first_slot t name) (fields_declared t name) in
     let after : c.statics_after-next.result ≡ statics_after next (fields_declared t name) = c.statics_after-next.ensures ∙ statics_alike_at t i fields are next in
     let before = map (λ row. row.items) c.loop-class.rows.items in
     let rest = drop (i + 1) names in

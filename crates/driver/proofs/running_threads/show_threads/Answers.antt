@@ -7,12 +7,12 @@ use Rattle.driver.specs.Outputs.{output_state}
 use Rattle.driver.specs.Records.{texts_of, texts_over}
 use Rattle.driver.proofs.OutcomeLemmas.{cut_breaks, nothing_written, write_failed}
 use Rattle.driver.proofs.Refusals.{not_run}
-use Rattle.driver.proofs.WorkerLemmas.{all_numbered, has_run_threads, some_record, threads_in_part, threads_then_in_part}
+use Rattle.driver.proofs.WorkerLemmas.{all_have_numbers, has_run_threads, some_record, threads_in_part, threads_then_in_part}
 use Rattle.run_files.specs.RunFiles.{run_file}
 use Rattle.driver.proofs.running_threads.show_threads.Goals as goal
 
 pub record_of-record-requires : goal.record_of-record-requires
-record_of-record-requires g c = all_numbered c.args.workers.count c.in_ok-outcome.outcome.history.entries c.in_ok-outcome.ensures.own
+record_of-record-requires g c = all_have_numbers c.args.workers.count c.in_ok-outcome.outcome.history.entries c.in_ok-outcome.ensures.own
 
 -- no run
 pub returns-in_err-outcome-clause-given_up : goal.returns-in_err-outcome-clause-given_up

@@ -17,4 +17,4 @@ returns-else-is_null c =
     let decided : Deciding c.args.program.now c.args.heap.now c.in-Ref.object c.args.to = deciding c.args.program.now c.args.heap.now c.in-Ref.object c.args.to (sym c.is_null.ensures ∙ c.if-is_null.false) there in
     ap (λ v. may_be_used_as c.args.program.now c.args.heap.now v c.args.to) c.in-Ref.is
     ∙ decided.decided
-    ∙ ap Some (sym (c.assignable.ensures c.args.program.now c.requires.layout decided.own decided.required (c.type_of_address.ensures decided.own decided.own_is) decided.wanted_is))
+    ∙ ap Some (sym (c.assignable.ensures c.args.program.now c.requires.layout decided.own decided.required (c.type_of_address.ensures decided.own decided.own_is) decided.required_is))

@@ -1,6 +1,6 @@
 use Rattle.std.proofs.Common.{sym, ap, ◌∙◌, option_map}
 use Rattle.cil_model.specs.Assignable.{type_of_class}
-use Rattle.resolved_code.specs.Numbered.{class_name}
+use Rattle.resolved_code.specs.ById.{class_name}
 use Rattle.instructions.specs.TypeTransitions.{type_of_kind}
 use Rattle.instructions.proofs.Names.{class_type}
 use Rattle.instructions.proofs.types.type_of_kind.Goals as goal

@@ -8,7 +8,7 @@ use Rattle.loaded_program.specs.declared.methods.TableMethod.{TableMethod}
 use Rattle.loaded_program.specs.AllMethods.{owned_methods}
 use Rattle.loaded_program.specs.Prepared.{IsTableMethod}
 use Rattle.resolved_code.proofs.ListLaws.RelatedLists.{AlikeTo, alike_to, alike_length}
-use Rattle.loaded_program.proofs.FlatLaws.{alike_more, owned_count, owned_at, numbered_at}
+use Rattle.loaded_program.proofs.FlatLaws.{alike_more, owned_count, owned_at, id_at}
 use Rattle.loaded_program.proofs.methods.class_methods.Goals as goal
 
 pub loop-index-preserved : goal.loop-index-preserved
@@ -17,7 +17,7 @@ loop-index-preserved c = λ tree e at same.
     let r = c.index-methods-index.result in
     let read : slice_get c.args.methods.now p ≡ Some r = slice_get_read c.args.methods.now (length c.args.methods.now) p r refl (omega arith) c.index-methods-index.is in
     let found : AlikeTo (IsResolvedMethod tree) e.1.methods p r = alike_to (IsResolvedMethod tree) e.1.methods c.args.methods.now p r same read in
-    let entry : IsTableMethod tree (e.0, found.item) c.in_ok-new.field-0 = c.in_ok-new.ensures tree e.0 found.item (numbered_at tree c.args.class p e found.item at found.there) found.alike in
+    let entry : IsTableMethod tree (e.0, found.item) c.in_ok-new.field-0 = c.in_ok-new.ensures tree e.0 found.item (id_at tree c.args.class p e found.item at found.there) found.alike in
     let P : List TableMethod → Type 0 = λ ys. AllAlike (IsTableMethod tree) (take (p + 1) (owned_methods e)) ys in
     subst P (sym c.in_ok-push.ensures.items) (alike_more (IsTableMethod tree) (owned_methods e) c.loop-index.entries.items p (e.0, found.item) c.in_ok-new.field-0 (c.loop-index.invariant tree e at same) (owned_at e p found.item found.there) entry)
 

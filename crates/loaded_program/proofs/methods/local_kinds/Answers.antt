@@ -1,7 +1,7 @@
 use Rattle.std.proofs.Common.{◌++◌, ◌∷◌, [], map, take, sym, ap, ◌∙◌}
 use Rattle.std.proofs.Math.Seq.{take_all}
 use Rattle.std.proofs.lemmas.List.{take_more, map-append}
-use Rattle.loaded_program.specs.Numbered.{kind_of_resolved}
+use Rattle.loaded_program.specs.ResolvedKinds.{kind_of_resolved}
 use Rattle.loaded_program.proofs.methods.local_kinds.Goals as goal
 
 pub loop-resolved-init : goal.loop-resolved-init

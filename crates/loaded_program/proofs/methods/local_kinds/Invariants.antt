@@ -1,5 +1,5 @@
 use Rattle.std.proofs.Common.{◌≡◌, map, take}
-use Rattle.loaded_program.specs.Numbered.{kind_of_resolved}
+use Rattle.loaded_program.specs.ResolvedKinds.{kind_of_resolved}
 use Rattle.loaded_program.proofs.methods.local_kinds.Given as goal
 
 abbrev pub invariant-loop-resolved : goal.invariant-loop-resolved

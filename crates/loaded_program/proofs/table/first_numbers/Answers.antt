@@ -1,7 +1,7 @@
 use Rattle.std.proofs.Common.{◌≡◌, ◌+◌, List, ◌++◌, length, map, drop, refl, ap, sym, subst, ◌∙◌}
 use Rattle.resolved_code.specs.declared.classes.ResolvedClass.{ResolvedClass}
 use Rattle.resolved_code.specs.declared.classes.ResolvedMethod.{ResolvedMethod}
-use Rattle.loaded_program.specs.Numbered.{running_counts}
+use Rattle.loaded_program.specs.ResolvedKinds.{running_counts}
 use Rattle.loaded_program.proofs.CountLaws.{running_more, counted_more, counted_fit, running_all}
 use Rattle.loaded_program.proofs.table.first_numbers.Goals as goal
 

@@ -1,6 +1,6 @@
 use Rattle.std.proofs.Common.{◌≡◌, ◌++◌, length, map, drop, take}
 use Rattle.std.specs.List.{sum_by}
-use Rattle.loaded_program.specs.Numbered.{running_counts}
+use Rattle.loaded_program.specs.ResolvedKinds.{running_counts}
 use Rattle.loaded_program.proofs.table.first_numbers.Given as goal
 
 abbrev pub invariant-loop-class : goal.invariant-loop-class

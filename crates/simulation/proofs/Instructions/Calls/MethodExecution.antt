@@ -18,7 +18,7 @@ use Rattle.interpreter.specs.Instructions.{of_calls}
 use Rattle.simulation.proofs.Instructions.Calls.Statements.{MethodsRunAlike}
 use Rattle.simulation.proofs.Instructions.Correspondence.{DoesAlike}
 use Rattle.simulation.proofs.Memory.MemoryModels.{mutator_in}
-use Rattle.simulation.proofs.Instructions.Calls.MethodNumbers.{method_numbered}
+use Rattle.simulation.proofs.Instructions.Calls.MethodNumbers.{method_id_is}
 use Rattle.simulation.proofs.Instructions.Calls.NewFrames.{enters_alike}
 use Rattle.simulation.proofs.Instructions.Calls.BuiltInMembers.{acts_alike}
 
@@ -39,5 +39,5 @@ methods_run_alike here model name m o statics printed s f below i operation at f
 
     by_action : (a : Option Action) → IsTypedEffect here.tree (option_map_or (λ x. act here s f below x arguments rest) a framed) →
         DoesAlike here model name m o statics printed s f below (of_calls o statics printed (option_map_or (λ x. act_transition here.tree (mutator_in here model) x m o printed) a called)) (option_map_or (λ x. act here s f below x arguments rest) a framed)
-    by_action None t = enters_alike here model name m o statics printed s f below i operation at found (method_numbered here.tree at.running.accepted.legal class index found placed) enough t
+    by_action None t = enters_alike here model name m o statics printed s f below i operation at found (method_id_is here.tree at.running.accepted.legal class index found placed) enough t
     by_action (Some a) t = acts_alike here model name m o statics printed s f below i operation at a (length (argument_types found.1 found.0)) enough t

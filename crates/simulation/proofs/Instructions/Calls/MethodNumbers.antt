@@ -17,8 +17,8 @@ pub record HasId (tree : Tree) (found : ClassName × Method) : Type 0 where
   pub there : slice_get (all_methods tree) number ≡ Some found
 
 -- that of a method at an index of a class
-pub method_numbered : (tree : Tree) → IsLegal tree → (class index : ℕ) (found : ClassName × Method) → method_at tree (class, index) ≡ Some found → HasId tree found
-method_numbered tree legal class index found at = by_first (slice_get (first_numbers 0 (declarations tree)) class) refl
+pub method_id_is : (tree : Tree) → IsLegal tree → (class index : ℕ) (found : ClassName × Method) → method_at tree (class, index) ≡ Some found → HasId tree found
+method_id_is tree legal class index found at = by_first (slice_get (first_numbers 0 (declarations tree)) class) refl
   where
     by_first : (o : Option ℕ) → slice_get (first_numbers 0 (declarations tree)) class ≡ o → HasId tree found
     by_first None e = absurd (first_is_there tree class index found at (first_numbers 0 (declarations tree)) refl e)

@@ -20,7 +20,7 @@ use Rattle.interpreter.proofs.cil_model.SameLaws.{never, both_second, same_signa
 use Rattle.interpreter.proofs.reference_machine.Programs.MethodTypings.{IsDeclared, target_is_declared}
 use Rattle.interpreter.specs.name_tables.Numbers.{class_number, method_at}
 use Rattle.interpreter.proofs.name_tables.NumberLaws.{HasId, has_id}
-use Rattle.interpreter.proofs.loaded_program.FlatLaws.{numbered_at}
+use Rattle.interpreter.proofs.loaded_program.FlatLaws.{id_at}
 use Rattle.simulation.proofs.Memory.ClassesAtAddresses.{method_by}
 
 -- ---- what fills a slot
@@ -84,7 +84,7 @@ declared_at tree c m (index, h) = by_number (class_number tree c) (has_id tree c
     by_number None e = none_is_some m (sym (ap (λ z. slice_get (listed_by (λ (d : Declaration). d.methods) z) index) e) ∙ h)
     by_number (Some n) (d, e, at) =
         let own : slice_get d.methods index ≡ Some m = sym (ap (λ z. slice_get (listed_by (λ (y : Declaration). y.methods) z) index) e) ∙ h in
-        (n, index, numbered_at tree n index (c, d) m at own)
+        (n, index, id_at tree n index (c, d) m at own)
 
 -- ---- what is chosen
 

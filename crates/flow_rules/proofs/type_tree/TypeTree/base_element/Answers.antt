@@ -2,7 +2,7 @@ use Rattle.std.proofs.Common.{◌≡◌, Option, Some, option_map, ◌∙◌}
 use Rattle.cil_model.specs.declared.trees.Tree.{Tree}
 use Rattle.cil_model.specs.declared.types.ClassName.{ClassName}
 use Rattle.cil_model.specs.Chains.{base_of}
-use Rattle.resolved_code.specs.Numbered.{class_name}
+use Rattle.resolved_code.specs.ById.{class_name}
 use Rattle.flow_rules.specs.Named.{class_named}
 use Rattle.flow_rules.proofs.Classes.{base_at, base_missing, base_known, base_named}
 use Rattle.flow_rules.proofs.type_tree.TypeTree.base_element.Goals as goal

@@ -5,7 +5,7 @@ use Rattle.inheritance.specs.Changes.{changes_of, known_of}
 use Rattle.inheritance.specs.Ledgers.{pair_of}
 use Rattle.inheritance.specs.Query.{is_match, finds_at, at_first, AreNoted, HoldsTill}
 use Rattle.inheritance.proofs.Results.{if_both}
-use Rattle.inheritance.proofs.QueryLaws.{no_ends, none_sought, reach_sought, reach_tells}
+use Rattle.inheritance.proofs.QueryLaws.{no_ends, none_sought, reach_sought, reach_decides}
 use Rattle.inheritance.proofs.inheritance.Inheritance.reach.Goals as goal
 
 pub returns : goal.returns
@@ -27,4 +27,4 @@ returns c = if_both c.reach_of.result c.reach_of.ensures.reach c.reach_of.ensure
     reach_sought found ends c.as_mut_slice.result.now reach t (λ s. ap (λ es. slice_index_or es s 0) (c.as_mut_slice.ensures.value ∙ c.in_ok-ends.ensures.items_if_clones_equal (λ y e. e)) ∙ no_ends c.saturating_mul.result s) till right l high in
     let is_none : (t : ℕ) → t < length reach → slice_index_or reach t 0 ≤ t → (index : ℕ) → index < length keys → test (pair_of (known_of rows (slice_index_or keys index 0) t)) ≡ false = λ t l low index k.
     none_sought test ends reach (changes_of rows (slice_index_or keys index 0)) t (noted index k) (c.args.self.now.ordered (slice_index_or keys index 0)) right width l low in
-    λ t l. reach_tells (λ n. test (pair_of (known_of rows n t))) keys t (slice_index_or reach t 0) (is_beyond t l) (is_none t l))
+    λ t l. reach_decides (λ n. test (pair_of (known_of rows n t))) keys t (slice_index_or reach t 0) (is_beyond t l) (is_none t l))

@@ -6,7 +6,7 @@ use Rattle.name_tables.specs.Keys.{class_of_key, method_of_key, method_name_of, 
 use Rattle.name_tables.specs.Numbers.{nearest_number, index_in, class_number, method_at, method_number}
 use Rattle.name_tables.specs.Sameness.{same_called, called_of}
 use Rattle.name_tables.proofs.Lists.{option_map_of_map}
-use Rattle.name_tables.proofs.NumberLaws.{method_is_numbered}
+use Rattle.name_tables.proofs.NumberLaws.{method_has_id}
 use Rattle.name_tables.proofs.lookups.NameTables.find_call.Goals as goal
 
 pub returns-in-None : goal.returns-in-None
@@ -18,7 +18,7 @@ returns-in-None c =
     c.own_call.ensures ∙ sym (ap (λ n. search_in (filter_map (class_number t) (classes_searched t (method_name_of (option_map (λ x. x.now) n)) o))) c.in-None.is) in
     record {
       number = e;
-      member = sym (option_map_of_map (λ (m : MemberNumber). (m.class, m.index)) (method_at t) c.own_call.result) ∙ ap (option_map (method_at t)) e ∙ method_is_numbered t c.args.is_instance (reference_of_keys c.args.owner c.args.method);
+      member = sym (option_map_of_map (λ (m : MemberNumber). (m.class, m.index)) (method_at t) c.own_call.result) ∙ ap (option_map (method_at t)) e ∙ method_has_id t c.args.is_instance (reference_of_keys c.args.owner c.args.method);
     }
 
 pub returns-in-Some : goal.returns-in-Some
@@ -30,5 +30,5 @@ returns-in-Some c =
     c.nearest_call.ensures ∙ sym (ap (λ n. search_in (filter_map (class_number t) (classes_searched t (method_name_of (option_map (λ x. x.now) n)) o))) c.in-Some.is) in
     record {
       number = e;
-      member = sym (option_map_of_map (λ (m : MemberNumber). (m.class, m.index)) (method_at t) c.nearest_call.result) ∙ ap (option_map (method_at t)) e ∙ method_is_numbered t c.args.is_instance (reference_of_keys c.args.owner c.args.method);
+      member = sym (option_map_of_map (λ (m : MemberNumber). (m.class, m.index)) (method_at t) c.nearest_call.result) ∙ ap (option_map (method_at t)) e ∙ method_has_id t c.args.is_instance (reference_of_keys c.args.owner c.args.method);
     }

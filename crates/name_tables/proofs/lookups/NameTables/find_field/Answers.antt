@@ -4,7 +4,7 @@ use Rattle.name_tables.specs.declared.lookups.MemberNumber.{MemberNumber}
 use Rattle.name_tables.specs.Numbers.{nearest_number, index_in, chain_numbers, field_at, field_number}
 use Rattle.name_tables.specs.Sameness.{same_field}
 use Rattle.name_tables.proofs.Lists.{option_map_of_map}
-use Rattle.name_tables.proofs.NumberLaws.{field_is_numbered}
+use Rattle.name_tables.proofs.NumberLaws.{field_has_id}
 use Rattle.name_tables.proofs.lookups.NameTables.find_field.Goals as goal
 
 pub returns : goal.returns
@@ -15,5 +15,5 @@ returns c =
     c.nearest_field.ensures ∙ ap (nearest_number (index_in (λ d. d.fields) (same_field f) t)) (ap (chain_numbers t) c.of.ensures) in
     record {
       number = e;
-      member = sym (option_map_of_map (λ (m : MemberNumber). (m.class, m.index)) (field_at t) c.nearest_field.result) ∙ ap (option_map (field_at t)) e ∙ field_is_numbered t c.args.is_static c.args.reference.now;
+      member = sym (option_map_of_map (λ (m : MemberNumber). (m.class, m.index)) (field_at t) c.nearest_field.result) ∙ ap (option_map (field_at t)) e ∙ field_has_id t c.args.is_static c.args.reference.now;
     }
