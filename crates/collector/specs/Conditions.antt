@@ -25,19 +25,19 @@ AreThere o values = All (λ v. is_value_there o v ≡ true) values
 -- ---- heaps
 
 -- a heap that is sound while a phase is posted, whichever round is posted and however many words there are
-pub record IsSoundIn (posted : Phase) (p : Progress) (o : Objects) : Type 0 where
+pub record IsSoundIn (posted_phase : Phase) (p : Progress) (o : Objects) : Type 0 where
   pub tree : Tree
   pub has_round : Bool
   pub words : ℕ
-  pub sound : IsSoundHeap tree posted has_round words p o.spaces
+  pub sound : IsSoundHeap tree posted_phase has_round words p o.spaces
 
 -- the same for the tree of a layout
-pub record IsSoundFor (layout : Layout) (posted : Phase) (p : Progress) (o : Objects) : Type 0 where
+pub record IsSoundFor (layout : Layout) (posted_phase : Phase) (p : Progress) (o : Objects) : Type 0 where
   pub tree : Tree
   pub has_round : Bool
   pub words : ℕ
   pub laid : IsLayout tree layout
-  pub sound : IsSoundHeap tree posted has_round words p o.spaces
+  pub sound : IsSoundHeap tree posted_phase has_round words p o.spaces
 
 -- ---- slots
 

@@ -21,9 +21,9 @@ pub data Hold : Type 0 where
   NewOnly : Hold
 
 abbrev pub passes : Hold → Phase → Spaces → Test
-passes AnyLive posted m a = is_live posted m a
-passes MarkedOnly posted m a = is_marked_address m a
-passes NewOnly posted m a = is_new_address m a
+passes AnyLive posted_phase m a = is_live posted_phase m a
+passes MarkedOnly posted_phase m a = is_marked_address m a
+passes NewOnly posted_phase m a = is_new_address m a
 
 -- ---- threads
 
@@ -51,12 +51,12 @@ is_marking Reclaim = false
 -- A thread holds nothing old after its own flip, and nothing unmarked where it answered a round since whose post nothing was marked.
 abbrev pub hold_of : Handshakes → Bool → Seat → Hold
 hold_of h has_marked seat =
-    if is_flipping seat.phase && is_flipping h.posted then NewOnly
-    else if is_marking h.posted && (h.has_round && (seat.answered && not has_marked)) then MarkedOnly
+    if is_flipping seat.phase && is_flipping h.posted_phase then NewOnly
+    else if is_marking h.posted_phase && (h.has_round && (seat.answered && not has_marked)) then MarkedOnly
     else AnyLive
 
 abbrev pub may_hold : Handshakes → Spaces → Seat → Test
-may_hold h m seat a = passes (hold_of h m.has_marked seat) h.posted m a
+may_hold h m seat a = passes (hold_of h m.has_marked seat) h.posted_phase m a
 
 -- ---- static fields
 
@@ -72,17 +72,17 @@ static_hold_of ThreadFlip p number = NewOnly
 static_hold_of Reclaim p number = NewOnly
 
 abbrev pub static_may_hold : Phase → Spaces → Progress → ℕ → Test
-static_may_hold posted m p number a = passes (static_hold_of posted p number) posted m a
+static_may_hold posted_phase m p number a = passes (static_hold_of posted_phase p number) posted_phase m a
 
 -- ---- threads that are late
 
 -- As long as a thread has not acknowledged the posted phase, the collector has not begun its work; in Mark no round is posted, and each marked object
 -- is grey.
-pub record HasNotBegun (posted : Phase) (has_round : Bool) (p : Progress) (m : Spaces) : Type 0 where
+pub record HasNotBegun (posted_phase : Phase) (has_round : Bool) (p : Progress) (m : Spaces) : Type 0 where
   pub nothing : p ≡ no_progress
-  pub no_round : posted ≡ Mark → has_round ≡ false
-  pub all_grey : posted ≡ Mark → (a : Addr) → is_marked_old m a ≡ true → IsListed m.grey a
+  pub no_round : posted_phase ≡ Mark → has_round ≡ false
+  pub all_grey : posted_phase ≡ Mark → (a : Addr) → is_marked_old m a ≡ true → IsListed m.grey a
 
 -- a thread in a phase is late, unless that is the posted one
 abbrev pub IsOnTime : Phase → Phase → Bool → Progress → Spaces → Type 0
-IsOnTime own posted has_round p m = own ≢ posted → HasNotBegun posted has_round p m
+IsOnTime own posted_phase has_round p m = own ≢ posted_phase → HasNotBegun posted_phase has_round p m

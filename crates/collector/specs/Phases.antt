@@ -74,7 +74,7 @@ is_live_object Reclaim m a = is_new m a
 
 -- null and literals are live always
 abbrev pub is_live : Phase → Spaces → Test
-is_live posted m a = is_permanent a || is_live_object posted m a
+is_live posted_phase m a = is_permanent a || is_live_object posted_phase m a
 
 -- whether an object of the old block is still read: any until Allocate is posted, a marked one until Reclaim is
 abbrev pub is_read : Phase → Cell → Bool

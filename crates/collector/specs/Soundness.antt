@@ -17,15 +17,15 @@ use Rattle.collector.specs.declared.progress.Stage.TheVariants.{Loaded, Stored}
 -- ---- blocks
 
 -- No block has more words than these; the second one is there while a cycle is open, no smaller than the first, and holds objects from Allocate on.
-pub record AreBlocks (posted : Phase) (words : ℕ) (m : Spaces) : Type 0 where
+pub record AreBlocks (posted_phase : Phase) (words : ℕ) (m : Spaces) : Type 0 where
   pub few : words ≤ MOST_WORDS
   pub spaces : AreSpaces m
-  pub held : m.is_open ≡ is_of_cycle posted
+  pub held : m.is_open ≡ is_of_cycle posted_phase
   pub old_words : m.old.words ≤ words
-  pub new_words : m.new.words ≤ (if is_of_cycle posted then words else 0)
-  pub grows : is_of_cycle posted ≡ true → m.old.words ≤ m.new.words
-  pub none_new : is_before_copies posted ≡ true → m.new.cells ≡ []
-  pub none_grey : is_of_cycle posted ≡ false → m.grey ≡ []
+  pub new_words : m.new.words ≤ (if is_of_cycle posted_phase then words else 0)
+  pub grows : is_of_cycle posted_phase ≡ true → m.old.words ≤ m.new.words
+  pub none_new : is_before_copies posted_phase ≡ true → m.new.cells ≡ []
+  pub none_grey : is_of_cycle posted_phase ≡ false → m.grey ≡ []
 
 -- ---- the two copies of an object
 
@@ -42,8 +42,8 @@ IsCopiedWord tree m from to zero = to.monitor ≡ from.monitor
 IsCopiedWord tree m from to (suc slot) = IsCopiedSlot tree m from to slot
 
 -- the collector has stored the word that comes next, and the old copy has what was loaded still
-pub record HasStored (posted : Phase) (p : Progress) (m : Spaces) (a : Addr) (from : Cell) (word : ℕ) : Type 0 where
-  pub copying : posted ≡ Copy
+pub record HasStored (posted_phase : Phase) (p : Progress) (m : Spaces) (a : Addr) (from : Cell) (word : ℕ) : Type 0 where
+  pub copying : posted_phase ≡ Copy
   pub here : a.number ≡ m.old.start + p.cursor
   pub next : word ≡ p.copied_words
   pub stored : p.attempt.stage ≡ Stored
@@ -51,34 +51,34 @@ pub record HasStored (posted : Phase) (p : Progress) (m : Spaces) (a : Addr) (fr
 
 -- a word is in the new copy once it is copied, and before its check where that finds what was loaded
 abbrev pub IsInCopy : Phase → Progress → Spaces → Addr → Cell → ℕ → Type 0
-IsInCopy posted p m a from word = HasCopied posted p m a word ⊎ HasStored posted p m a from word
+IsInCopy posted_phase p m a from word = HasCopied posted_phase p m a word ⊎ HasStored posted_phase p m a from word
 
 -- an old object and its new copy, which has the words that are copied
-pub record AreCopies (tree : Tree) (posted : Phase) (p : Progress) (m : Spaces) (a : Addr) (from to : Cell) : Type 0 where
+pub record AreCopies (tree : Tree) (posted_phase : Phase) (p : Progress) (m : Spaces) (a : Addr) (from to : Cell) : Type 0 where
   pub kind : to.kind ≡ from.kind
   pub count : length to.slots ≡ length from.slots
-  pub back : (posted ≢ Reclaim) ⊎ (to.other ≢ None) → to.other ≡ Some a
-  pub words : (word : ℕ) → IsInCopy posted p m a from word → IsCopiedWord tree m from to word
+  pub back : (posted_phase ≢ Reclaim) ⊎ (to.other ≢ None) → to.other ≡ Some a
+  pub words : (word : ℕ) → IsInCopy posted_phase p m a from word → IsCopiedWord tree m from to word
 
-pub record AreCopied (tree : Tree) (posted : Phase) (p : Progress) (m : Spaces) : Type 0 where
-  pub bare : (a : Addr) (c : Cell) → cell_in m.old a ≡ Some c → is_before_copies posted ≡ true → c.other ≡ None
-  pub unmarked : (a : Addr) (c : Cell) → cell_in m.old a ≡ Some c → is_of_cycle posted ≡ false → c.marked ≡ false
-  pub out : (a b : Addr) (c : Cell) → cell_in m.old a ≡ Some c → c.other ≡ Some b → (d : Cell) × (cell_in m.new b ≡ Some d) × AreCopies tree posted p m a c d
+pub record AreCopied (tree : Tree) (posted_phase : Phase) (p : Progress) (m : Spaces) : Type 0 where
+  pub bare : (a : Addr) (c : Cell) → cell_in m.old a ≡ Some c → is_before_copies posted_phase ≡ true → c.other ≡ None
+  pub unmarked : (a : Addr) (c : Cell) → cell_in m.old a ≡ Some c → is_of_cycle posted_phase ≡ false → c.marked ≡ false
+  pub out : (a b : Addr) (c : Cell) → cell_in m.old a ≡ Some c → c.other ≡ Some b → (d : Cell) × (cell_in m.new b ≡ Some d) × AreCopies tree posted_phase p m a c d
   pub back : (a b : Addr) (d : Cell) → cell_in m.new b ≡ Some d → d.other ≡ Some a → (c : Cell) × (cell_in m.old a ≡ Some c) × (c.other ≡ Some b)
-  pub shells : (a : Addr) (c : Cell) → cell_in m.old a ≡ Some c → c.marked ≡ true → HasLooked posted p m a → c.other ≢ None
+  pub shells : (a : Addr) (c : Cell) → cell_in m.old a ≡ Some c → c.marked ≡ true → HasLooked posted_phase p m a → c.other ≢ None
   pub marked_only : (a : Addr) (c : Cell) → cell_in m.old a ≡ Some c → c.other ≢ None → c.marked ≡ true
-  pub old_references : (a : Addr) (c : Cell) → cell_in m.old a ≡ Some c → is_read posted c ≡ true → SlotsPass tree (is_live posted m) c
+  pub old_references : (a : Addr) (c : Cell) → cell_in m.old a ≡ Some c → is_read posted_phase c ≡ true → SlotsPass tree (is_live posted_phase m) c
   pub new_references : (b : Addr) (d : Cell) → cell_in m.new b ≡ Some d → SlotsPass tree (is_new_address m) d
-  pub room : (posted ≡ Mark) ⊎ (posted ≡ Allocate) → HasShellRoom m
+  pub room : (posted_phase ≡ Mark) ⊎ (posted_phase ≡ Allocate) → HasShellRoom m
 
 -- ---- the cursor
 
 -- While objects get their copies and their words, the collector is where an old object begins or after all of them; and only of an object with
 -- another copy it may have copied a part of the words, or have begun with the next one, which takes few attempts.
-pub record HasCursor (posted : Phase) (p : Progress) (m : Spaces) : Type 0 where
-  pub offset : (posted ≡ Allocate) ⊎ (posted ≡ Copy) → IsOffset m.old (m.old.start + p.cursor)
-  pub attempts : posted ≡ Copy → attempt_cost p.attempt ≤ most_spent
-  pub words : posted ≡ Copy → p.copied_words + attempt_cost p.attempt ≢ 0 →
+pub record HasCursor (posted_phase : Phase) (p : Progress) (m : Spaces) : Type 0 where
+  pub offset : (posted_phase ≡ Allocate) ⊎ (posted_phase ≡ Copy) → IsOffset m.old (m.old.start + p.cursor)
+  pub attempts : posted_phase ≡ Copy → attempt_cost p.attempt ≤ most_spent
+  pub words : posted_phase ≡ Copy → p.copied_words + attempt_cost p.attempt ≢ 0 →
       (c : Cell) × (cell_in m.old (record { number = m.old.start + p.cursor }) ≡ Some c) × (c.other ≢ None) × (p.copied_words ≤ length c.slots)
 
 -- ---- what is loaded
@@ -116,10 +116,10 @@ pub record IsCleared (p : Progress) (m : Spaces) : Type 0 where
 
 -- ---- the heap
 
-pub record IsSoundHeap (tree : Tree) (posted : Phase) (has_round : Bool) (words : ℕ) (p : Progress) (m : Spaces) : Type 0 where
-  pub blocks : AreBlocks posted words m
-  pub copies : AreCopied tree posted p m
-  pub cursor : HasCursor posted p m
-  pub loaded : posted ≡ Copy → IsLoaded tree p m
-  pub marks : posted ≡ Mark → AreMarked tree has_round p m
-  pub cleared : posted ≡ Reclaim → IsCleared p m
+pub record IsSoundHeap (tree : Tree) (posted_phase : Phase) (has_round : Bool) (words : ℕ) (p : Progress) (m : Spaces) : Type 0 where
+  pub blocks : AreBlocks posted_phase words m
+  pub copies : AreCopied tree posted_phase p m
+  pub cursor : HasCursor posted_phase p m
+  pub loaded : posted_phase ≡ Copy → IsLoaded tree p m
+  pub marks : posted_phase ≡ Mark → AreMarked tree has_round p m
+  pub cleared : posted_phase ≡ Reclaim → IsCleared p m

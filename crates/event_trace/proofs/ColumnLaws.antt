@@ -121,18 +121,18 @@ line_columns n e r before after =
     let heap = heap_for after e in
     let old = decimal heap.old_words in
     let new = decimal heap.new_words in
-    let posted = phase_text heap.posted in
+    let posted_phase = phase_text heap.posted_phase in
     let own = own_column heap.own in
-    let last = at_front (printable_decimal heap.old_words) (at_front (printable_decimal heap.new_words) (at_front (printable_phase heap.posted) (at_front (printable_own heap.own) no_columns))) in
+    let last = at_front (printable_decimal heap.old_words) (at_front (printable_decimal heap.new_words) (at_front (printable_phase heap.posted_phase) (at_front (printable_own heap.own) no_columns))) in
     let columns =
     at_front (printable_decimal n) (at_front (printable_event e) (at_front (printable_report r) (at_front (printable_instruction_column at)
     (at_front sizes.frames_printable (at_front sizes.height_printable last))))) in (
-      decimal n ∷ event_text e ∷ report_text r ∷ instruction_column at ∷ sizes.frames ∷ sizes.height ∷ old ∷ new ∷ posted ∷ own ∷ [],
+      decimal n ∷ event_text e ∷ report_text r ∷ instruction_column at ∷ sizes.frames ∷ sizes.height ∷ old ∷ new ∷ posted_phase ∷ own ∷ [],
       refl,
       record {
         printable = columns.printable;
         is = ap (λ (cs : List ℕ). decimal n ++ 9 ∷ event_text e ++ 9 ∷ report_text r ++ 9 ∷ instruction_column at ++ 9 ∷ cs ++ 9 ∷ heap_columns heap ++ 10 ∷ []) sizes.are
             ∙ joined (decimal n) (event_text e) (report_text r) (instruction_column at) sizes.frames sizes.height (heap_columns heap)
-            ∙ ap (λ (cs : List ℕ). decimal n ++ 9 ∷ (event_text e ++ 9 ∷ (report_text r ++ 9 ∷ (instruction_column at ++ 9 ∷ (sizes.frames ++ 9 ∷ (sizes.height ++ 9 ∷ cs))))) ++ 10 ∷ []) (heap_joined old new posted own);
+            ∙ ap (λ (cs : List ℕ). decimal n ++ 9 ∷ (event_text e ++ 9 ∷ (report_text r ++ 9 ∷ (instruction_column at ++ 9 ∷ (sizes.frames ++ 9 ∷ (sizes.height ++ 9 ∷ cs))))) ++ 10 ∷ []) (heap_joined old new posted_phase own);
       },
     )

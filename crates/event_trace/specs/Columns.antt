@@ -96,14 +96,14 @@ own_column (Some phase) = phase_text phase
 
 -- the words that objects take in the old space, or the only one, and in the new one, the phase that is posted, and the one of a thread
 abbrev pub heap_columns : HeapColumns → List ℕ
-heap_columns h = decimal h.old_words ++ 9 ∷ decimal h.new_words ++ 9 ∷ phase_text h.posted ++ 9 ∷ own_column h.own
+heap_columns h = decimal h.old_words ++ 9 ∷ decimal h.new_words ++ 9 ∷ phase_text h.posted_phase ++ 9 ∷ own_column h.own
 
 -- their values for a machine state and the thread of an event
 abbrev pub heap_for : MachineState → Event → HeapColumns
 heap_for c e = record {
   old_words = used_space c.objects;
   new_words = used_words c.objects.spaces.new.cells;
-  posted = c.posts.posted;
+  posted_phase = c.posts.posted_phase;
   own = option_and_then (phase_at c.posts) (thread_of e);
 }
 

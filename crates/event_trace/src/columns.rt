@@ -153,7 +153,7 @@ pub(crate) struct HeapColumns {
     /// Those in the new space, 0 where there is none.
     pub(crate) new_words: u32,
     /// The phase that is posted.
-    pub(crate) posted: Phase,
+    pub(crate) posted_phase: Phase,
     /// The phase that a thread has acknowledged.
     pub(crate) own: Option<Phase>,
 }
@@ -170,8 +170,8 @@ impl fmt::Display for HeapColumns {
             new_words,
             ..
         } = self;
-        let posted = PhaseText(self.posted);
+        let posted_phase = PhaseText(self.posted_phase);
         let own = OwnColumn(self.own);
-        write!(f, "{old_words}\t{new_words}\t{posted}\t{own}")
+        write!(f, "{old_words}\t{new_words}\t{posted_phase}\t{own}")
     }
 }

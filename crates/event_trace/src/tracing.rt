@@ -176,7 +176,7 @@ fn heap_for(machine: &Machine, event: Event) -> HeapColumns
     HeapColumns {
         old_words,
         new_words,
-        posted: machine.posted(),
+        posted_phase: machine.posted_phase(),
         own: own_phase(machine, event),
     }
 }

@@ -46,7 +46,7 @@ impl Engine {
     {
         match self.posts.seat(thread) {
             Some(seat) => {
-                self.posts.posted() == Phase::Mark
+                self.posts.posted_phase() == Phase::Mark
                     && seat.phase == Phase::Mark
                     && self.posts.has_round()
                     && !seat.answered
@@ -61,7 +61,7 @@ impl Engine {
     {
         match self.posts.seat(thread) {
             Some(seat) => {
-                self.posts.posted() == Phase::ThreadFlip && seat.phase != Phase::ThreadFlip
+                self.posts.posted_phase() == Phase::ThreadFlip && seat.phase != Phase::ThreadFlip
             }
             None => false,
         }

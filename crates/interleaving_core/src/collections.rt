@@ -38,7 +38,7 @@ impl Engine {
         if !self.posts.all_seen() {
             return Ok(Report::Waiting);
         }
-        match self.posts.posted() {
+        match self.posts.posted_phase() {
             Phase::Idle => self.open_cycle(alloc),
             Phase::Mark => Ok(self.mark_on()),
             Phase::Allocate => Ok(self.look_on()),
@@ -56,7 +56,7 @@ impl Engine {
     fn open_cycle(&mut self, alloc: Global) -> Result<Report, NoMemory>
         requires limits { are_in_range self.old.limits ≡ true }
         requires sound { IsSound (machine_state_of self.old) }
-        requires posted { self.old.posts.posted ≡ IdleOf }
+        requires posted_phase { self.old.posts.posted_phase ≡ IdleOf }
         requires seen { all_seen self.old.posts ≡ true }
         ensures opened { IfOk result (λ report. (machine_state_of self.new ≡ cycle_opened (machine_state_of self.old)) × (report ≡ WorkedOf)) }
         ensures refused { OnErr result (machine_state_of self.new ≡ machine_state_of self.old) }
@@ -97,7 +97,7 @@ impl Engine {
 
     /// Posts the next phase, of which nothing is done yet.
     fn post(&mut self, phase: Phase) -> Report
-        requires next { phase ≡ phase_after self.old.posts.posted }
+        requires next { phase ≡ phase_after self.old.posts.posted_phase }
         requires seen { IsTrue (all_seen self.old.posts) }
         ensures after { machine_state_of self.new ≡ with_next_phase (machine_state_of self.old) }
         ensures report { result ≡ WorkedOf }
@@ -110,7 +110,7 @@ impl Engine {
     /// A step of Mark: the static fields are scanned, then the grey objects word by word, and then come rounds.
     fn mark_on(&mut self) -> Report
         requires sound { IsSound (machine_state_of self.old) }
-        requires posted { self.old.posts.posted ≡ MarkOf }
+        requires posted_phase { self.old.posts.posted_phase ≡ MarkOf }
         requires seen { all_seen self.old.posts ≡ true }
         ensures { (machine_state_of self.new, result) ≡ mark_work (machine_state_of self.old) }
     {
@@ -134,7 +134,7 @@ impl Engine {
 
     /// Nothing is grey: marking is closed, a round waits for its acknowledgements, or the next one is posted.
     fn end_round(&mut self) -> Report
-        requires posted { self.old.posts.posted ≡ MarkOf }
+        requires posted_phase { self.old.posts.posted_phase ≡ MarkOf }
         requires seen { all_seen self.old.posts ≡ true }
         ensures { (machine_state_of self.new, result) ≡ rounds (machine_state_of self.old) }
     {
@@ -152,7 +152,7 @@ impl Engine {
     /// A step of Allocate: the next old object is looked at, and gets its other copy if it is marked.
     fn look_on(&mut self) -> Report
         requires sound { IsSound (machine_state_of self.old) }
-        requires posted { self.old.posts.posted ≡ AllocateOf }
+        requires posted_phase { self.old.posts.posted_phase ≡ AllocateOf }
         requires seen { all_seen self.old.posts ≡ true }
         ensures { (machine_state_of self.new, result) ≡ work AllocateOf (machine_state_of self.old) }
     {
@@ -165,7 +165,7 @@ impl Engine {
     /// A step of Copy: the next word of an object with two copies is copied.
     fn copy_on(&mut self) -> Report
         requires sound { IsSound (machine_state_of self.old) }
-        requires posted { self.old.posts.posted ≡ CopyOf }
+        requires posted_phase { self.old.posts.posted_phase ≡ CopyOf }
         requires seen { all_seen self.old.posts ≡ true }
         ensures { (machine_state_of self.new, result) ≡ work CopyOf (machine_state_of self.old) }
     {
@@ -183,7 +183,7 @@ impl Engine {
     fn flip_on(&mut self) -> Report
         requires sound { IsSound (machine_state_of self.old) }
         requires few { length self.old.store.statics.items < 2 ^ 32 }
-        requires posted { self.old.posts.posted ≡ HeapFlipOf }
+        requires posted_phase { self.old.posts.posted_phase ≡ HeapFlipOf }
         requires seen { all_seen self.old.posts ≡ true }
         ensures { (machine_state_of self.new, result) ≡ work HeapFlipOf (machine_state_of self.old) }
     {
@@ -201,7 +201,7 @@ impl Engine {
     /// retired, and the cycle is over: its block, with no word in use, is kept for the next cycle.
     fn clear_on(&mut self) -> Report
         requires sound { IsSound (machine_state_of self.old) }
-        requires posted { self.old.posts.posted ≡ ReclaimOf }
+        requires posted_phase { self.old.posts.posted_phase ≡ ReclaimOf }
         requires seen { all_seen self.old.posts ≡ true }
         ensures { (machine_state_of self.new, result) ≡ work ReclaimOf (machine_state_of self.old) }
     {

@@ -365,10 +365,10 @@ impl Machine {
     }
 
     /// The phase that the collector has posted: `Idle` between cycles.
-    pub fn posted(&self) -> Phase
-        ensures { result ≡ self.now.posts.posted }
+    pub fn posted_phase(&self) -> Phase
+        ensures { result ≡ self.now.posts.posted_phase }
     {
-        self.engine.posts.posted()
+        self.engine.posts.posted_phase()
     }
 
     /// The phase that a thread has acknowledged, which is the posted one or the one before it. None where it has ended or was never started.

@@ -179,7 +179,7 @@ pub(crate) fn member_of(instruction: &Instruction) -> Option<(&ClassName, Member
             signature,
         } => {
             let member = MemberKey::Method {
-                method: MethodKey::named(name, signature),
+                method: MethodKey::by_name(name, signature),
                 is_static: false,
             };
             Some((owner, member))

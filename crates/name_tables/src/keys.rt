@@ -348,7 +348,7 @@ impl<'a> MethodKey<'a> {
     }
 
     /// A method of this name that is no constructor.
-    pub fn named(name: &'a Text, signature: &'a Signature) -> Self
+    pub fn by_name(name: &'a Text, signature: &'a Signature) -> Self
         ensures { method_of_key result ≡ record { name = Named name.now; signature = signature.now } }
     {
         MethodKey {

@@ -263,7 +263,11 @@ impl<'a> NameTables<'a> {
         ensures number { option_map (λ m. (m.class, m.index)) result ≡ method_number self.now.classes.tree.now true (virtual_reference owner.now name.now signature.now) }
         ensures member { option_map (λ m. method_at self.now.classes.tree.now (m.class, m.index)) result ≡ option_map Some (find_method self.now.classes.tree.now true (virtual_reference owner.now name.now signature.now)) }
     {
-        self.find_call(ClassKey::of(owner), MethodKey::named(name, signature), true)
+        self.find_call(
+            ClassKey::of(owner),
+            MethodKey::by_name(name, signature),
+            true,
+        )
     }
 
     /// The constructor that `newobj` names (ECMA-335 III.4.21).

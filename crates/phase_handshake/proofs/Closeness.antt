@@ -46,7 +46,7 @@ one_before Reclaim = refl
 -- ---- seats
 
 -- a post is open to a thread that is in the phase before
-pub late_is_close : (h : Handshakes) (s : Seat) → phase_after s.phase ≡ h.posted → IsClose h s
+pub late_is_close : (h : Handshakes) (s : Seat) → phase_after s.phase ≡ h.posted_phase → IsClose h s
 late_is_close h s late = inr (late, ap (λ b. not b || (h.has_round && not s.answered)) (ap (is_phase s.phase) (sym late) ∙ one_before s.phase))
 
 -- the seat at an index is there
@@ -87,33 +87,33 @@ module _ (h : Handshakes) (are : AreClose h) where
   joined_close t starter = with_seat t (seat_of h starter) (λ s e. (are.phases starter s e, are.answers starter s e))
 
   -- the seat of a thread that acknowledges
-  after_fits : (s : Seat) → is_open_to h.posted h.has_round s ≡ true → (s.answered ≡ true → h.has_round ≡ true) → IsClose h (seat_after h.posted s) × ((seat_after h.posted s).answered ≡ true → h.has_round ≡ true)
-  after_fits s opened answers = by_test (is_phase s.phase h.posted) refl
+  after_fits : (s : Seat) → is_open_to h.posted_phase h.has_round s ≡ true → (s.answered ≡ true → h.has_round ≡ true) → IsClose h (seat_after h.posted_phase s) × ((seat_after h.posted_phase s).answered ≡ true → h.has_round ≡ true)
+  after_fits s opened answers = by_test (is_phase s.phase h.posted_phase) refl
     where
-      by_test : (b : Bool) → is_phase s.phase h.posted ≡ b → IsClose h (seat_after h.posted s) × ((seat_after h.posted s).answered ≡ true → h.has_round ≡ true)
+      by_test : (b : Bool) → is_phase s.phase h.posted_phase ≡ b → IsClose h (seat_after h.posted_phase s) × ((seat_after h.posted_phase s).answered ≡ true → h.has_round ≡ true)
       by_test true e =
-          let after : seat_after h.posted s ≡ record s { answered = true } = ap (λ b. if b then record s { answered = true } else record s { phase = h.posted }) e in
+          let after : seat_after h.posted_phase s ≡ record s { answered = true } = ap (λ b. if b then record s { answered = true } else record s { phase = h.posted_phase }) e in
           let round : (h.has_round && not s.answered) ≡ true = sym (ap (λ b. not b || (h.has_round && not s.answered)) e) ∙ opened in
-          (inl (ap (λ (x : Seat). x.phase) after ∙ same_phase s.phase h.posted e), λ after_answers. (and_parts h.has_round (not s.answered) round).0)
+          (inl (ap (λ (x : Seat). x.phase) after ∙ same_phase s.phase h.posted_phase e), λ after_answers. (and_parts h.has_round (not s.answered) round).0)
       by_test false e =
-          let after : seat_after h.posted s ≡ record s { phase = h.posted } = ap (λ b. if b then record s { answered = true } else record s { phase = h.posted }) e in
+          let after : seat_after h.posted_phase s ≡ record s { phase = h.posted_phase } = ap (λ b. if b then record s { answered = true } else record s { phase = h.posted_phase }) e in
           (inl (ap (λ (x : Seat). x.phase) after), λ after_answers. answers (sym (ap (λ (x : Seat). x.answered) after) ∙ after_answers))
 
-  pub answered_close : (t : ℕ) (s : Seat) → seat_of h t ≡ Some s → is_open_to h.posted h.has_round s ≡ true → AreClose (record h { seats = slice_set h.seats t (Some (seat_after h.posted s)) })
-  answered_close t s here opened = with_seat t (Some (seat_after h.posted s)) (λ r e. subst (λ (x : Seat). IsClose h x × (x.answered ≡ true → h.has_round ≡ true)) (same_Some (seat_after h.posted s) r e) (after_fits s opened (are.answers t s here)))
+  pub answered_close : (t : ℕ) (s : Seat) → seat_of h t ≡ Some s → is_open_to h.posted_phase h.has_round s ≡ true → AreClose (record h { seats = slice_set h.seats t (Some (seat_after h.posted_phase s)) })
+  answered_close t s here opened = with_seat t (Some (seat_after h.posted_phase s)) (λ r e. subst (λ (x : Seat). IsClose h x × (x.answered ≡ true → h.has_round ≡ true)) (same_Some (seat_after h.posted_phase s) r e) (after_fits s opened (are.answers t s here)))
 
   -- a thread acknowledges
   pub acknowledged_close : (t : ℕ) → AreClose (acknowledge_phase h t)
   acknowledged_close t = by_seat (seat_of h t) refl
     where
       after : Option Seat → Handshakes
-      after o = option_map_or (λ (s : Seat). if is_open_to h.posted h.has_round s then record h { seats = slice_set h.seats t (Some (seat_after h.posted s)) } else h) o h
+      after o = option_map_or (λ (s : Seat). if is_open_to h.posted_phase h.has_round s then record h { seats = slice_set h.seats t (Some (seat_after h.posted_phase s)) } else h) o h
 
       by_seat : (o : Option Seat) → seat_of h t ≡ o → AreClose (after o)
       by_seat None e = are
-      by_seat (Some s) e = by_open (is_open_to h.posted h.has_round s) refl
+      by_seat (Some s) e = by_open (is_open_to h.posted_phase h.has_round s) refl
         where
-          by_open : (b : Bool) → is_open_to h.posted h.has_round s ≡ b → AreClose (if b then record h { seats = slice_set h.seats t (Some (seat_after h.posted s)) } else h)
+          by_open : (b : Bool) → is_open_to h.posted_phase h.has_round s ≡ b → AreClose (if b then record h { seats = slice_set h.seats t (Some (seat_after h.posted_phase s)) } else h)
           by_open true opened = answered_close t s e opened
           by_open false opened = are
 
@@ -156,20 +156,20 @@ module _ (h : Handshakes) (are : AreClose h) where
 
   -- the next phase is posted, once all have seen the posted one
   module _ (seen : all_seen h ≡ true) where
-    was_posted : (t : ℕ) (s : Seat) → seat_of h t ≡ Some s → s.phase ≡ h.posted
-    was_posted t s e = same_phase s.phase h.posted (passes_at (has_seen h.posted) h.seats t s seen (seat_there h t s e))
+    was_posted : (t : ℕ) (s : Seat) → seat_of h t ≡ Some s → s.phase ≡ h.posted_phase
+    was_posted t s e = same_phase s.phase h.posted_phase (passes_at (has_seen h.posted_phase) h.seats t s seen (seat_there h t s e))
 
-    pub phase_close : AreClose (record h { posted = phase_after h.posted })
+    pub phase_close : AreClose (record h { posted_phase = phase_after h.posted_phase })
     phase_close = record {
       indices = are.indices;
-      phases = λ t s e. late_is_close (record h { posted = phase_after h.posted }) s (ap phase_after (was_posted t s e));
+      phases = λ t s e. late_is_close (record h { posted_phase = phase_after h.posted_phase }) s (ap phase_after (was_posted t s e));
       answers = are.answers;
     }
 
     abbrev cycle : Handshakes
-    cycle = record (without_round h) { posted = phase_after h.posted }
+    cycle = record (without_round h) { posted_phase = phase_after h.posted_phase }
 
-    pub cycle_close : AreClose (record (without_round h) { posted = phase_after h.posted })
+    pub cycle_close : AreClose (record (without_round h) { posted_phase = phase_after h.posted_phase })
     cycle_close = record {
       indices = length-map h.seats clear_answer ∙ are.indices;
       phases = λ t s e. close_still t s (seat_before h t s (seat_there cycle t s e));
@@ -183,8 +183,8 @@ module _ (h : Handshakes) (are : AreClose h) where
         decoded_before t s answered (r, here, is) = sym (ap (λ (x : Seat). x.answered) is) ∙ answered
 
     pub next_close : AreClose (posted_next h)
-    next_close = by_test (is_phase (phase_after h.posted) Mark)
+    next_close = by_test (is_phase (phase_after h.posted_phase) Mark)
       where
-        by_test : (b : Bool) → AreClose (record (if b then without_round h else h) { posted = phase_after h.posted })
+        by_test : (b : Bool) → AreClose (record (if b then without_round h else h) { posted_phase = phase_after h.posted_phase })
         by_test true = cycle_close
         by_test false = phase_close

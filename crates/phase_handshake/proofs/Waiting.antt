@@ -68,22 +68,22 @@ module _ (h : Handshakes) where
   or_true false = refl
 
   -- a post is open to a thread whose seat it is open to
-  open_here : (t : ℕ) (s : Seat) → slice_get h.seats t ≡ Some (Some s) → is_open_to h.posted h.has_round s ≡ true → is_open h t ≡ true
-  open_here t s there opened = ap (λ o. option_map_or (is_open_to h.posted h.has_round) o false) (seat_here h t s there) ∙ opened
+  open_here : (t : ℕ) (s : Seat) → slice_get h.seats t ≡ Some (Some s) → is_open_to h.posted_phase h.has_round s ≡ true → is_open h t ≡ true
+  open_here t s there opened = ap (λ o. option_map_or (is_open_to h.posted_phase h.has_round) o false) (seat_here h t s there) ∙ opened
 
-  late_is_open : (s : Seat) → is_phase s.phase h.posted ≡ false → is_open_to h.posted h.has_round s ≡ true
+  late_is_open : (s : Seat) → is_phase s.phase h.posted_phase ≡ false → is_open_to h.posted_phase h.has_round s ≡ true
   late_is_open s late = ap (λ b. not b || (h.has_round && not s.answered)) late
 
-  unanswered_is_open : (s : Seat) → h.has_round ≡ true → s.answered ≡ false → is_open_to h.posted h.has_round s ≡ true
+  unanswered_is_open : (s : Seat) → h.has_round ≡ true → s.answered ≡ false → is_open_to h.posted_phase h.has_round s ≡ true
   unanswered_is_open s round none =
-      ap (λ b. not (is_phase s.phase h.posted) || (b && not s.answered)) round
-      ∙ ap (λ b. not (is_phase s.phase h.posted) || not b) none
-      ∙ or_true (not (is_phase s.phase h.posted))
+      ap (λ b. not (is_phase s.phase h.posted_phase) || (b && not s.answered)) round
+      ∙ ap (λ b. not (is_phase s.phase h.posted_phase) || not b) none
+      ∙ or_true (not (is_phase s.phase h.posted_phase))
 
   waits_for : IsWaiting h → (t : ℕ) × (is_open h t ≡ true)
-  waits_for (inl unseen) = by_seat (fails_at (has_seen h.posted) refl h.seats unseen)
+  waits_for (inl unseen) = by_seat (fails_at (has_seen h.posted_phase) refl h.seats unseen)
     where
-      by_seat : Fails (has_seen h.posted) h.seats → (t : ℕ) × (is_open h t ≡ true)
+      by_seat : Fails (has_seen h.posted_phase) h.seats → (t : ℕ) × (is_open h t ≡ true)
       by_seat (t, (s, (there, late))) = (t, open_here t s there (late_is_open s late))
   waits_for (inr (round, unanswered)) = by_seat (fails_at has_answered refl h.seats unanswered)
     where
@@ -91,11 +91,11 @@ module _ (h : Handshakes) where
       by_seat (t, (s, (there, none))) = (t, open_here t s there (unanswered_is_open s round none))
 
   -- an open post of a seat keeps the collector waiting
-  waits_by : (t : ℕ) (s : Seat) → slice_get h.seats t ≡ Some (Some s) → is_open_to h.posted h.has_round s ≡ true → IsWaiting h
-  waits_by t s there opened = by_test (is_phase s.phase h.posted) refl
+  waits_by : (t : ℕ) (s : Seat) → slice_get h.seats t ≡ Some (Some s) → is_open_to h.posted_phase h.has_round s ≡ true → IsWaiting h
+  waits_by t s there opened = by_test (is_phase s.phase h.posted_phase) refl
     where
-      by_test : (b : Bool) → is_phase s.phase h.posted ≡ b → IsWaiting h
-      by_test false late = inl (false_from_ne_true (all_seen h) (λ all. false≢true (sym late ∙ passes_at (has_seen h.posted) h.seats t s all there)))
+      by_test : (b : Bool) → is_phase s.phase h.posted_phase ≡ b → IsWaiting h
+      by_test false late = inl (false_from_ne_true (all_seen h) (λ all. false≢true (sym late ∙ passes_at (has_seen h.posted_phase) h.seats t s all there)))
       by_test true seen =
           let parts = and_parts h.has_round (not s.answered) (sym (ap (λ b. not b || (h.has_round && not s.answered)) seen) ∙ opened) in
           inr (parts.0, false_from_ne_true (all_answered h) (λ all. false≢true (sym (ap not (passes_at has_answered h.seats t s all there)) ∙ parts.1)))
@@ -104,8 +104,8 @@ module _ (h : Handshakes) where
   waits (t, opened) = by_seat (seat_of h t) refl
     where
       by_seat : (o : Option Seat) → seat_of h t ≡ o → IsWaiting h
-      by_seat None e = absurd (false≢true (sym (ap (λ o. option_map_or (is_open_to h.posted h.has_round) o false) e) ∙ opened))
-      by_seat (Some s) e = waits_by t s (seat_there h t s e) (sym (ap (λ o. option_map_or (is_open_to h.posted h.has_round) o false) e) ∙ opened)
+      by_seat None e = absurd (false≢true (sym (ap (λ o. option_map_or (is_open_to h.posted_phase h.has_round) o false) e) ∙ opened))
+      by_seat (Some s) e = waits_by t s (seat_there h t s e) (sym (ap (λ o. option_map_or (is_open_to h.posted_phase h.has_round) o false) e) ∙ opened)
 
   -- the collector waits exactly while a post is open to a thread
   pub waits_for_open : IsWaiting h ↔ (t : ℕ) × (is_open h t ≡ true)

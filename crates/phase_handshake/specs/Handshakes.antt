@@ -11,7 +11,7 @@ use Rattle.phase_handshake.specs.declared.posts.Seat.{Seat}
 
 -- the phase that is posted, whether a round of marking was posted since the cycle opened, and a seat for each live thread, at its number
 pub record Handshakes : Type 0 where
-  pub posted : Phase
+  pub posted_phase : Phase
   pub has_round : Bool
   pub seats : List (Option Seat)
 
@@ -21,7 +21,7 @@ first_seat = record { phase = Idle; answered = false }
 
 -- and no other thread is live
 abbrev pub first_handshakes : Handshakes
-first_handshakes = record { posted = Idle; has_round = false; seats = Some first_seat ∷ replicate (MOST_THREADS - 1) None }
+first_handshakes = record { posted_phase = Idle; has_round = false; seats = Some first_seat ∷ replicate (MOST_THREADS - 1) None }
 
 -- the seat of a thread; a thread that has ended or was never started has none
 abbrev pub seat_of : Handshakes → ℕ → Option Seat
@@ -52,7 +52,7 @@ own_phase h t = option_map_or (λ (s : Seat). s.phase) (seat_of h t) Idle
 
 -- a thread has seen the posted phase once it has acknowledged it; one that has ended counts as having seen it
 abbrev pub has_seen : Phase → Option Seat → Bool
-has_seen posted seat = option_map_or (λ (s : Seat). is_phase s.phase posted) seat true
+has_seen posted_phase seat = option_map_or (λ (s : Seat). is_phase s.phase posted_phase) seat true
 
 -- a thread that has ended counts as having answered
 abbrev pub has_answered : Option Seat → Bool
@@ -60,7 +60,7 @@ has_answered seat = option_map_or (λ (s : Seat). s.answered) seat true
 
 -- every live thread has seen the posted phase
 abbrev pub all_seen : Handshakes → Bool
-all_seen h = list_all (has_seen h.posted) h.seats
+all_seen h = list_all (has_seen h.posted_phase) h.seats
 
 -- every live thread has answered the posted round
 abbrev pub all_answered : Handshakes → Bool
@@ -78,7 +78,7 @@ without_round h = record h { has_round = false; seats = map clear_answer h.seats
 
 -- the phase after the posted one; rounds are those of a cycle, and stay posted until the next one opens
 abbrev pub posted_next : Handshakes → Handshakes
-posted_next h = record (if is_phase (phase_after h.posted) Mark then without_round h else h) { posted = phase_after h.posted }
+posted_next h = record (if is_phase (phase_after h.posted_phase) Mark then without_round h else h) { posted_phase = phase_after h.posted_phase }
 
 -- one more round
 abbrev pub posted_round : Handshakes → Handshakes
@@ -87,22 +87,22 @@ posted_round h = record h { has_round = true; seats = map clear_answer h.seats }
 -- ---- acknowledgements
 
 -- a post is open to a thread that has not acknowledged the posted phase, or otherwise has not answered the posted round
-abbrev pub is_open_to : (posted : Phase) (has_round : Bool) → Seat → Bool
-is_open_to posted has_round s = not (is_phase s.phase posted) || (has_round && not s.answered)
+abbrev pub is_open_to : (posted_phase : Phase) (has_round : Bool) → Seat → Bool
+is_open_to posted_phase has_round s = not (is_phase s.phase posted_phase) || (has_round && not s.answered)
 
 -- a post is open to the thread of a number; to none that is not live
 abbrev pub is_open : Handshakes → ℕ → Bool
-is_open h t = option_map_or (is_open_to h.posted h.has_round) (seat_of h t) false
+is_open h t = option_map_or (is_open_to h.posted_phase h.has_round) (seat_of h t) false
 
 -- it acknowledges the phase, and where it has done so already it answers the round
 abbrev pub seat_after : Phase → Seat → Seat
-seat_after posted s = if is_phase s.phase posted then record s { answered = true } else record s { phase = posted }
+seat_after posted_phase s = if is_phase s.phase posted_phase then record s { answered = true } else record s { phase = posted_phase }
 
 -- where nothing is open to it, nothing changes
 abbrev pub acknowledge_phase : Handshakes → ℕ → Handshakes
 acknowledge_phase h t =
     option_map_or
-    (λ (s : Seat). if is_open_to h.posted h.has_round s then record h { seats = slice_set h.seats t (Some (seat_after h.posted s)) } else h)
+    (λ (s : Seat). if is_open_to h.posted_phase h.has_round s then record h { seats = slice_set h.seats t (Some (seat_after h.posted_phase s)) } else h)
     (seat_of h t)
     h
 
@@ -120,7 +120,7 @@ leave_handshakes h t = record h { seats = slice_set h.seats t None }
 
 -- a live thread is in the posted phase, or in the one before, and then the post is open to it
 abbrev pub IsClose : Handshakes → Seat → Type 0
-IsClose h s = (s.phase ≡ h.posted) ⊎ ((phase_after s.phase ≡ h.posted) × (is_open_to h.posted h.has_round s ≡ true))
+IsClose h s = (s.phase ≡ h.posted_phase) ⊎ ((phase_after s.phase ≡ h.posted_phase) × (is_open_to h.posted_phase h.has_round s ≡ true))
 
 -- each live thread is close, and none has answered a round that is not posted; the list of seats has an item for each thread number
 pub record AreClose (h : Handshakes) : Type 0 where

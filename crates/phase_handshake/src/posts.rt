@@ -24,7 +24,7 @@ pub struct Seat {
 /// a step of the collector doesn't look at each seat. No call takes memory.
 #[derive(Drop)]
 pub struct Posts {
-    posted: Phase,
+    posted_phase: Phase,
     has_round: bool,
     seats: [Option<Seat>; MOST_THREADS],
     is_seen: bool,
@@ -36,10 +36,10 @@ impl Model for Posts {
 
     ghost Value = { Handshakes };
 
-    ghost view = { λ p. record { posted = p.posted; has_round = p.has_round; seats = p.seats } };
+    ghost view = { λ p. record { posted_phase = p.posted_phase; has_round = p.has_round; seats = p.seats } };
 
-    ghost invariant = { λ p. AreClose (record { posted = p.posted; has_round = p.has_round; seats = p.seats })
-        × (p.is_seen ≡ all_seen (record { posted = p.posted; has_round = p.has_round; seats = p.seats })) };
+    ghost invariant = { λ p. AreClose (record { posted_phase = p.posted_phase; has_round = p.has_round; seats = p.seats })
+        × (p.is_seen ≡ all_seen (record { posted_phase = p.posted_phase; has_round = p.has_round; seats = p.seats })) };
 }
 
 impl Posts {
@@ -53,7 +53,7 @@ impl Posts {
             answered: false,
         });
         Posts {
-            posted: Phase::Idle,
+            posted_phase: Phase::Idle,
             has_round: false,
             seats,
             is_seen: true,
@@ -62,11 +62,11 @@ impl Posts {
 
     /// The phase that is posted. Each live thread has acknowledged it or the one before it; where it has acknowledged the one
     /// before, an acknowledgement of it is still to come.
-    pub fn posted(&self) -> Phase
-        ensures posted { result ≡ self.now.posted }
+    pub fn posted_phase(&self) -> Phase
+        ensures posted_phase { result ≡ self.now.posted_phase }
         ensures close { AreClose self.now }
     {
-        self.posted
+        self.posted_phase
     }
 
     /// Whether a round of marking was posted since the cycle opened. It stays posted until the next cycle opens.
@@ -80,7 +80,7 @@ impl Posts {
     pub fn is_like(&self, other: &Posts) -> bool
         ensures { result ≡ true → self.now ≡ other.now }
     {
-        self.posted == other.posted
+        self.posted_phase == other.posted_phase
             && self.has_round == other.has_round
             && are_same(&self.seats, &other.seats)
     }
@@ -119,11 +119,11 @@ impl Posts {
     /// Posts the next phase, once every live thread has acknowledged the posted one. The phase that opens a cycle takes the
     /// posted round and its answers back; every other one leaves both as they are.
     pub fn post(&mut self, phase: Phase)
-        requires next { phase ≡ phase_after self.old.posted }
+        requires next { phase ≡ phase_after self.old.posted_phase }
         requires seen { IsTrue (all_seen self.old) }
         ensures { self.new ≡ posted_next self.old }
     {
-        self.posted = phase;
+        self.posted_phase = phase;
         if phase == Phase::Mark {
             self.has_round = false;
             take_answers_back(&mut self.seats);
@@ -137,7 +137,7 @@ impl Posts {
     {
         self.has_round = true;
         take_answers_back(&mut self.seats);
-        self.is_seen = have_seen(self.posted, &self.seats);
+        self.is_seen = have_seen(self.posted_phase, &self.seats);
     }
 
     /// Acknowledges for a thread the posted phase, or otherwise, where it has done so, answers the posted round. False where neither
@@ -149,11 +149,11 @@ impl Posts {
         let Some(seat) = self.seat(thread) else {
             return false;
         };
-        if !seat.is_open(self.posted, self.has_round) {
+        if !seat.is_open(self.posted_phase, self.has_round) {
             return false;
         }
-        self.seats[usize::from(thread)] = Some(seat.after(self.posted));
-        self.is_seen = have_seen(self.posted, &self.seats);
+        self.seats[usize::from(thread)] = Some(seat.after(self.posted_phase));
+        self.is_seen = have_seen(self.posted_phase, &self.seats);
         true
     }
 
@@ -165,7 +165,7 @@ impl Posts {
         let seat = self.seat(starter);
         if thread < MOST_THREADS {
             self.seats[thread] = seat;
-            self.is_seen = have_seen(self.posted, &self.seats);
+            self.is_seen = have_seen(self.posted_phase, &self.seats);
         }
     }
 
@@ -175,7 +175,7 @@ impl Posts {
     {
         if usize::from(thread) < MOST_THREADS {
             self.seats[usize::from(thread)] = None;
-            self.is_seen = have_seen(self.posted, &self.seats);
+            self.is_seen = have_seen(self.posted_phase, &self.seats);
         }
     }
 }
@@ -184,24 +184,24 @@ impl Seat {
     ghost use Rattle.phase_handshake.specs.Handshakes.{is_open_to, seat_after};
 
     /// Whether the posted phase or round is open to the seat's thread.
-    fn is_open(self, posted: Phase, has_round: bool) -> bool
-        ensures { result ≡ is_open_to posted has_round self }
+    fn is_open(self, posted_phase: Phase, has_round: bool) -> bool
+        ensures { result ≡ is_open_to posted_phase has_round self }
     {
-        self.phase != posted || (has_round && !self.answered)
+        self.phase != posted_phase || (has_round && !self.answered)
     }
 
     /// The seat once its thread has acknowledged the posted phase, or has answered the round where it had done so.
-    fn after(self, posted: Phase) -> Seat
-        ensures { result ≡ seat_after posted self }
+    fn after(self, posted_phase: Phase) -> Seat
+        ensures { result ≡ seat_after posted_phase self }
     {
-        if self.phase == posted {
+        if self.phase == posted_phase {
             Seat {
                 answered: true,
                 ..self
             }
         } else {
             Seat {
-                phase: posted,
+                phase: posted_phase,
                 ..self
             }
         }
@@ -209,17 +209,17 @@ impl Seat {
 }
 
 /// Whether every live thread has acknowledged the posted phase.
-fn have_seen(posted: Phase, seats: &[Option<Seat>]) -> bool
-    ensures { result ≡ list_all (has_seen posted) seats.now }
+fn have_seen(posted_phase: Phase, seats: &[Option<Seat>]) -> bool
+    ensures { result ≡ list_all (has_seen posted_phase) seats.now }
 {
-    seats.iter().all(|seat| has_seen(posted, seat))
+    seats.iter().all(|seat| has_seen(posted_phase, seat))
 }
 
 /// Whether a thread has acknowledged the posted phase, if it is live.
-fn has_seen(posted: Phase, seat: &Option<Seat>) -> bool
-    ensures { result ≡ has_seen posted seat.now }
+fn has_seen(posted_phase: Phase, seat: &Option<Seat>) -> bool
+    ensures { result ≡ has_seen posted_phase seat.now }
 {
-    seat.is_none_or(|seat| seat.phase == posted)
+    seat.is_none_or(|seat| seat.phase == posted_phase)
 }
 
 /// Whether a thread has answered, if it is live.

@@ -229,7 +229,7 @@ fn posted_after(
     for run in runs.iter().take(count) {
         step_often(alloc, &mut machine, run.entry.event, run.times)?;
     }
-    Ok(machine.posted())
+    Ok(machine.posted_phase())
 }
 
 /// Runs two threads by two workers, one of which is held at a pass, and returns the phase for whose acknowledgement the collector waited

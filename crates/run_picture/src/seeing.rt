@@ -31,7 +31,7 @@ pub(crate) struct Before {
     /// Whether the step is to enter a monitor that another thread holds.
     is_blocked: bool,
     /// The phase that the collector had posted.
-    posted: Phase,
+    posted_phase: Phase,
     /// The number of bytes that were printed.
     printed: usize,
 }
@@ -42,7 +42,7 @@ impl Before {
             position: None,
             monitor: None,
             is_blocked: false,
-            posted: machine.posted(),
+            posted_phase: machine.posted_phase(),
             printed: machine.console().len(),
         };
         match event {
@@ -273,8 +273,8 @@ impl Gathering {
         machine: &Machine,
         done: &Done,
     ) -> Result<(), AllocError> {
-        let posted = machine.posted();
-        if posted == Phase::ThreadFlip && posted != done.before.posted {
+        let posted_phase = machine.posted_phase();
+        if posted_phase == Phase::ThreadFlip && posted_phase != done.before.posted_phase {
             self.monitors.forward(alloc, machine)?;
         }
         if done.is_drawn {
@@ -293,7 +293,7 @@ fn see_machine(scene: &mut Scene, machine: &Machine, at: usize, starter: Option<
         scene.start(Lane::new(at, starter));
         see_phase(scene, lane, at, machine.phase_of(lane as u8));
     }
-    see_phase(scene, COLLECTOR, at, Some(machine.posted()));
+    see_phase(scene, COLLECTOR, at, Some(machine.posted_phase()));
     let (old, new) = machine.used();
     scene.change(Kind::Words, COLLECTOR, at, old as usize, new as usize);
 }

@@ -44,8 +44,8 @@ abbrev pub renew_view : View → ℕ → View
 renew_view v next = record { keeps = v.keeps; book = slice_set v.book v.worker next; claims = v.claims; worker = v.worker; count = next }
 
 -- one more worker
-abbrev pub grown : View → View
-grown v = keeper (v.book ++ 0 ∷ [])
+abbrev pub grow_view : View → View
+grow_view v = keeper (v.book ++ 0 ∷ [])
 
 -- what the rule says of the view of the seat `by`: one seat at most has the book, and each worker has one ticket at most, with the count that is in the book
 abbrev pub Fits : ℕ → List ℕ → (ℕ → ℕ) → ℕ → View → Type 0

@@ -19,7 +19,7 @@ mod world;
 pub use alone::run_alone;
 pub use answer::Answer;
 pub use counts::book::{Blank, Book, Ticket};
-pub use counts::view::{Naming, Next};
+pub use counts::view::{Next, TableName};
 pub use history::{Entry, History, Run, counts_fix_events};
 pub use interleaving_core::{Machine, Refused};
 pub use outcome::Outcome;

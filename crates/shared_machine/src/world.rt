@@ -16,7 +16,7 @@ ghost use Rattle.shared_machine.specs.declared.answer.Answer.TheVariants.{Away};
 
 use crate::answer::Answer;
 use crate::counts::book::{Book, Ticket};
-use crate::counts::view::{Naming, Next};
+use crate::counts::view::{Next, TableName};
 use crate::history::{Entry, History};
 use crate::outcome::Outcome;
 use cil_model::events::Event;
@@ -29,7 +29,7 @@ use std::marker::{Brand, Model, PhantomData};
 
 /// Names a shared machine: what it held when it was opened, how many workers it has, how many bytes it may print, if there is a bound, and its book
 /// of counts. Who opens it picks all four, at `Brand`.
-pub trait Initial: Naming {
+pub trait Initial: TableName {
     ghost use Rattle.std.specs.Prelude.{ℕ, Option};
     ghost use Rattle.interleaving_core.specs.simulation.MachineStates.{MachineState};
 

@@ -101,7 +101,7 @@ work Reclaim c = clear_object c (cleared_on c.progress c.objects)
 
 -- a phase's work begins once all live threads have acknowledged it
 abbrev pub collect : MachineState → MachineState × Report
-collect c = if all_seen c.posts then work c.posts.posted c else (c, Waiting)
+collect c = if all_seen c.posts then work c.posts.posted_phase c else (c, Waiting)
 
 -- ---- acknowledgements
 
@@ -120,7 +120,7 @@ with_thread_marked o thread = option_map_or (λ (x : Thread). with_status_marked
 
 -- a thread that acknowledges a round of Mark has all marked that its frames hold
 abbrev pub answers_round : MachineState → ℕ → Bool
-answers_round c t = is_open c.posts t && (is_marking c.posts.posted && option_map_or (λ (s : Seat). is_phase s.phase c.posts.posted) (seat_of c.posts t) false)
+answers_round c t = is_open c.posts t && (is_marking c.posts.posted_phase && option_map_or (λ (s : Seat). is_phase s.phase c.posts.posted_phase) (seat_of c.posts t) false)
 
 abbrev pub objects_after : MachineState → ℕ → Objects
 objects_after c t = if answers_round c t then with_thread_marked c.objects (slice_get c.threads t) else c.objects
@@ -137,7 +137,7 @@ abbrev pub with_flipped : Objects → List Thread → ℕ → Option Thread → 
 with_flipped o threads t thread = option_map_or (λ (x : Thread). slice_set threads t (thread_flipped o x)) thread threads
 
 abbrev pub flips_frames : MachineState → ℕ → Bool
-flips_frames c t = is_phase c.posts.posted ThreadFlip && option_map_or (λ (s : Seat). not (is_phase s.phase c.posts.posted)) (seat_of c.posts t) false
+flips_frames c t = is_phase c.posts.posted_phase ThreadFlip && option_map_or (λ (s : Seat). not (is_phase s.phase c.posts.posted_phase)) (seat_of c.posts t) false
 
 abbrev pub threads_after : MachineState → ℕ → List Thread
 threads_after c t = if flips_frames c t then with_flipped c.objects c.threads t (slice_get c.threads t) else c.threads

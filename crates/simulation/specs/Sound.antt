@@ -29,9 +29,9 @@ pub record AreSeated (h : Handshakes) (threads : List Thread) : Type 0 where
 -- late; and threads and static fields hold what they may.
 pub record IsSound (c : MachineState) : Type 0 where
   pub seated : AreSeated c.posts c.threads
-  pub heap : IsSoundHeap c.tree c.posts.posted c.posts.has_round c.limits.max_words c.progress c.objects.spaces
-  pub rounds : c.posts.posted ≡ Mark → c.posts.has_round ≡ true → c.progress.scanned_statics ≡ true
-  pub on_time : (t : ℕ) (seat : Seat) → seat_of c.posts t ≡ Some seat → IsOnTime seat.phase c.posts.posted c.posts.has_round c.progress c.objects.spaces
+  pub heap : IsSoundHeap c.tree c.posts.posted_phase c.posts.has_round c.limits.max_words c.progress c.objects.spaces
+  pub rounds : c.posts.posted_phase ≡ Mark → c.posts.has_round ≡ true → c.progress.scanned_statics ≡ true
+  pub on_time : (t : ℕ) (seat : Seat) → seat_of c.posts t ≡ Some seat → IsOnTime seat.phase c.posts.posted_phase c.posts.has_round c.progress c.objects.spaces
   pub threads : (t left : ℕ) (fs : Frames) (seat : Seat) → slice_get c.threads t ≡ Some (record { thread_status = Live fs; steps_left = left }) → seat_of c.posts t ≡ Some seat →
       (a : Addr) → IsListed (roots fs) a → may_hold c.posts c.objects.spaces seat a ≡ true
-  pub statics : (number : ℕ) (v : Value) → slice_get c.statics number ≡ Some v → ValuePasses (static_may_hold c.posts.posted c.objects.spaces c.progress number) v
+  pub statics : (number : ℕ) (v : Value) → slice_get c.statics number ≡ Some v → ValuePasses (static_may_hold c.posts.posted_phase c.objects.spaces c.progress number) v

@@ -81,7 +81,7 @@ pub fn collector_events_keep_the_state()
 /// Where marking is closed, all is marked that the frames of live threads and the static fields reach, through whatever objects: what is left
 /// unmarked can be dropped (`is_closed` of `collector` is this test).
 pub fn closed_marking_has_reached_all()
-    ensures { (c : MachineState) → IsSound c → c.posts.posted ≡ Mark → is_closed c.progress c.objects c.posts ≡ true → (a : AnyAddr) → IsReached c a → is_marked_address c.objects.spaces a ≡ true }
+    ensures { (c : MachineState) → IsSound c → c.posts.posted_phase ≡ Mark → is_closed c.progress c.objects c.posts ≡ true → (a : AnyAddr) → IsReached c a → is_marked_address c.objects.spaces a ≡ true }
 {}
 
 /// A cycle of the collector takes a bounded number of working events, whatever the threads do meanwhile: after any of a run's events the newest one has
@@ -99,7 +99,7 @@ pub fn the_collector_waits_only_for_threads()
 
 /// Between cycles the collector opens the next one, once all live threads have acknowledged that the last one is over.
 pub fn the_next_cycle_opens()
-    ensures { (c : MachineState) → c.posts.posted ≡ Idle → all_seen c.posts ≡ true → (after : MachineState) (r : Report) → IsTransition c Gc (after, r) → (r ≡ Worked) × (after.posts.posted ≡ Mark) }
+    ensures { (c : MachineState) → c.posts.posted_phase ≡ Idle → all_seen c.posts ≡ true → (after : MachineState) (r : Report) → IsTransition c Gc (after, r) → (r ≡ Worked) × (after.posts.posted_phase ≡ Mark) }
 {}
 
 /// An acknowledgement counts exactly where a post is open to its thread. It acknowledges the posted phase, where the thread had not done so; else it
@@ -107,9 +107,9 @@ pub fn the_next_cycle_opens()
 pub fn an_acknowledgement_is_answered_once()
     ensures counts { (c : MachineState) (t : ℕ) (after : MachineState) (r : Report) → IsTransition c (Ack t) (after, r) → (r ≡ Acked) ↔ (is_open c.posts t ≡ true) }
     ensures phase { (c : MachineState) → AreSeated c.posts c.threads → (t : ℕ) → is_live_at c.threads t ≡ true → (after : MachineState) (r : Report) → IsTransition c (Ack t) (after, r) →
-        own_phase c.posts t ≢ c.posts.posted → own_phase after.posts t ≡ after.posts.posted }
+        own_phase c.posts t ≢ c.posts.posted_phase → own_phase after.posts t ≡ after.posts.posted_phase }
     ensures round { (c : MachineState) → AreSeated c.posts c.threads → (t : ℕ) → is_live_at c.threads t ≡ true → (after : MachineState) (r : Report) → IsTransition c (Ack t) (after, r) →
-        own_phase c.posts t ≡ c.posts.posted → is_open after.posts t ≡ false }
+        own_phase c.posts t ≡ c.posts.posted_phase → is_open after.posts t ≡ false }
 {}
 
 /// A step is refused memory exactly where the object that it would make has more words than the machine's spaces have left for it, where

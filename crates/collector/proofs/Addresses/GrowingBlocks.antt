@@ -75,7 +75,7 @@ module _ (m : Spaces) (a : Addr) where
   by_either true y e f g = f refl
   by_either false y e f g = g e
 
-  object_lies : (posted : Phase) → is_live_object posted m a ≡ true → IsLying m a
+  object_lies : (posted_phase : Phase) → is_live_object posted_phase m a ≡ true → IsLying m a
   object_lies Idle e = old_lies e
   object_lies Mark e = old_lies e
   object_lies Allocate e = marked_lies e
@@ -86,8 +86,8 @@ module _ (m : Spaces) (a : Addr) where
   object_lies Reclaim e = new_lies e
 
   -- a live address is that of null, a literal or a cell
-  pub live_lies : (posted : Phase) → is_live posted m a ≡ true → IsLying m a
-  live_lies posted e = by_either (is_permanent a) (is_live_object posted m a) e permanent (object_lies posted)
+  pub live_lies : (posted_phase : Phase) → is_live posted_phase m a ≡ true → IsLying m a
+  live_lies posted_phase e = by_either (is_permanent a) (is_live_object posted_phase m a) e permanent (object_lies posted_phase)
 
 -- ---- what passes
 
@@ -119,7 +119,7 @@ module _ (m m' : Spaces) (stay : TestsStay m m') (a : Addr) where
   both_stay e = either_stays (is_marked_old m a) (is_new m a) (is_marked_old m' a) (is_new m' a) (stay.marked a) (stay.new a) e
 
   -- a live object stays live
-  object_stays : (posted : Phase) → is_live_object posted m a ≡ true → is_live_object posted m' a ≡ true
+  object_stays : (posted_phase : Phase) → is_live_object posted_phase m a ≡ true → is_live_object posted_phase m' a ≡ true
   object_stays Idle e = stay.old a e
   object_stays Mark e = stay.old a e
   object_stays Allocate e = stay.marked a e
@@ -130,8 +130,8 @@ module _ (m m' : Spaces) (stay : TestsStay m m') (a : Addr) where
   object_stays Reclaim e = stay.new a e
 
   -- so does a live address,
-  pub live_stays : (posted : Phase) → is_live posted m a ≡ true → is_live posted m' a ≡ true
-  live_stays posted e = either_stays (is_permanent a) (is_live_object posted m a) (is_permanent a) (is_live_object posted m' a) (λ x. x) (object_stays posted) e
+  pub live_stays : (posted_phase : Phase) → is_live posted_phase m a ≡ true → is_live posted_phase m' a ≡ true
+  live_stays posted_phase e = either_stays (is_permanent a) (is_live_object posted_phase m a) (is_permanent a) (is_live_object posted_phase m' a) (λ x. x) (object_stays posted_phase) e
 
   -- a marked one,
   pub marked_stays : is_marked_address m a ≡ true → is_marked_address m' a ≡ true
@@ -142,7 +142,7 @@ module _ (m m' : Spaces) (stay : TestsStay m m') (a : Addr) where
   new_stays e = either_stays (is_permanent a) (is_new m a) (is_permanent a) (is_new m' a) (λ x. x) (stay.new a) e
 
   -- what may be held stays so, for each hold
-  pub passes_stays : (hold : Hold) (posted : Phase) → passes hold posted m a ≡ true → passes hold posted m' a ≡ true
-  passes_stays AnyLive posted e = live_stays posted e
-  passes_stays MarkedOnly posted e = marked_stays e
-  passes_stays NewOnly posted e = new_stays e
+  pub passes_stays : (hold : Hold) (posted_phase : Phase) → passes hold posted_phase m a ≡ true → passes hold posted_phase m' a ≡ true
+  passes_stays AnyLive posted_phase e = live_stays posted_phase e
+  passes_stays MarkedOnly posted_phase e = marked_stays e
+  passes_stays NewOnly posted_phase e = new_stays e

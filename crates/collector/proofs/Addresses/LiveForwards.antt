@@ -114,7 +114,7 @@ marked_is_some None e = false_is_true e
 marked_is_some (Some c) e = refl
 
 -- what is live lies in the old block until PreFlip is posted
-pub live_is_old : (posted : Phase) (m : Spaces) (a : Addr) → is_old_alone posted ≡ true → is_live_object posted m a ≡ true → is_old m a ≡ true
+pub live_is_old : (posted_phase : Phase) (m : Spaces) (a : Addr) → is_old_alone posted_phase ≡ true → is_live_object posted_phase m a ≡ true → is_old m a ≡ true
 live_is_old Idle m a alone live = live
 live_is_old Mark m a alone live = live
 live_is_old Allocate m a alone live = marked_is_some (cell_in m.old a) live
@@ -125,7 +125,7 @@ live_is_old ThreadFlip m a alone live = false_is_true alone
 live_is_old Reclaim m a alone live = false_is_true alone
 
 -- once objects have copies, what is live is marked or new
-pub live_marked_or_new : (posted : Phase) (m : Spaces) (a : Addr) → has_copies posted ≡ true → is_live_object posted m a ≡ true → (is_marked_old m a ≡ true) ⊎ (is_new m a ≡ true)
+pub live_marked_or_new : (posted_phase : Phase) (m : Spaces) (a : Addr) → has_copies posted_phase ≡ true → is_live_object posted_phase m a ≡ true → (is_marked_old m a ≡ true) ⊎ (is_new m a ≡ true)
 live_marked_or_new Idle m a copied live = false_is_true copied
 live_marked_or_new Mark m a copied live = false_is_true copied
 live_marked_or_new Allocate m a copied live = false_is_true copied
@@ -142,7 +142,7 @@ new_or_marked m a new = elim (either_true (is_permanent a) (is_new m a) new) [
 ]
 
 -- what is new is live from PreFlip on
-pub new_is_live : (posted : Phase) (m : Spaces) (a : Addr) → is_old_alone posted ≡ false → is_new_address m a ≡ true → is_live posted m a ≡ true
+pub new_is_live : (posted_phase : Phase) (m : Spaces) (a : Addr) → is_old_alone posted_phase ≡ false → is_new_address m a ≡ true → is_live posted_phase m a ≡ true
 new_is_live Idle m a late new = false_is_true (sym late)
 new_is_live Mark m a late new = false_is_true (sym late)
 new_is_live Allocate m a late new = false_is_true (sym late)
@@ -153,7 +153,7 @@ new_is_live ThreadFlip m a late new = new_or_marked m a new
 new_is_live Reclaim m a late new = new
 
 -- new objects are live while threads are flipped
-pub flipping_has_new : (posted : Phase) → is_flipping posted ≡ true → is_old_alone posted ≡ false
+pub flipping_has_new : (posted_phase : Phase) → is_flipping posted_phase ≡ true → is_old_alone posted_phase ≡ false
 flipping_has_new Idle flipping = false_is_true flipping
 flipping_has_new Mark flipping = false_is_true flipping
 flipping_has_new Allocate flipping = false_is_true flipping
@@ -164,7 +164,7 @@ flipping_has_new ThreadFlip flipping = refl
 flipping_has_new Reclaim flipping = refl
 
 -- the collector has looked at all
-looked_at_all : (posted : Phase) (p : Progress) (m : Spaces) (a : Addr) → has_copies posted ≡ true → HasLooked posted p m a
+looked_at_all : (posted_phase : Phase) (p : Progress) (m : Spaces) (a : Addr) → has_copies posted_phase ≡ true → HasLooked posted_phase p m a
 looked_at_all Idle p m a copied = false_is_true copied
 looked_at_all Mark p m a copied = false_is_true copied
 looked_at_all Allocate p m a copied = false_is_true copied
@@ -174,13 +174,13 @@ looked_at_all HeapFlip p m a copied = tt
 looked_at_all ThreadFlip p m a copied = tt
 looked_at_all Reclaim p m a copied = tt
 
-module _ (tree : Tree) (posted : Phase) (has_round : Bool) (words : ℕ) (p : Progress) (m : Spaces) (sound : IsSoundHeap tree posted has_round words p m) where
+module _ (tree : Tree) (posted_phase : Phase) (has_round : Bool) (words : ℕ) (p : Progress) (m : Spaces) (sound : IsSoundHeap tree posted_phase has_round words p m) where
   abbrev spaces : AreSpaces m
   spaces = sound.blocks.spaces
 
   -- a live cell is a live object
-  pub live_cell : (a : Addr) (c : Cell) → cell_at m a ≡ Some c → is_live posted m a ≡ true → is_live_object posted m a ≡ true
-  live_cell a c lies live = elim (either_true (is_permanent a) (is_live_object posted m a) live) [
+  pub live_cell : (a : Addr) (c : Cell) → cell_at m a ≡ Some c → is_live posted_phase m a ≡ true → is_live_object posted_phase m a ≡ true
+  live_cell a c lies live = elim (either_true (is_permanent a) (is_live_object posted_phase m a) live) [
     | inl permanent ↦ false_is_true (sym (cell_not_permanent m spaces a c lies) ∙ permanent)
     | inr object ↦ object
   ]
@@ -200,20 +200,20 @@ module _ (tree : Tree) (posted : Phase) (has_round : Bool) (words : ℕ) (p : Pr
               let low = (are_distinct m spaces b u.0 (new_is_cell m spaces b u.0 u.1)).1 in
               subst (λ (x : Addr). x.number < ADDRESSES) (sym (forward_copy m a b c is other)) (omega (arith, low))
 
-  module _ (copied : has_copies posted ≡ true) where
+  module _ (copied : has_copies posted_phase ≡ true) where
     -- a marked object has its copy
-    pub marked_copy : (a : Addr) (c : Cell) → cell_in m.old a ≡ Some c → c.marked ≡ true → (b : Addr) × (d : Cell) × (c.other ≡ Some b) × (cell_in m.new b ≡ Some d) × AreCopies tree posted p m a c d
+    pub marked_copy : (a : Addr) (c : Cell) → cell_in m.old a ≡ Some c → c.marked ≡ true → (b : Addr) × (d : Cell) × (c.other ≡ Some b) × (cell_in m.new b ≡ Some d) × AreCopies tree posted_phase p m a c d
     marked_copy a c lies marked = by_other c.other refl
       where
-        by_other : (r : Option Addr) → c.other ≡ r → (b : Addr) × (d : Cell) × (c.other ≡ Some b) × (cell_in m.new b ≡ Some d) × AreCopies tree posted p m a c d
-        by_other None is = absurd (sound.copies.shells a c lies marked (looked_at_all posted p m a copied) is)
+        by_other : (r : Option Addr) → c.other ≡ r → (b : Addr) × (d : Cell) × (c.other ≡ Some b) × (cell_in m.new b ≡ Some d) × AreCopies tree posted_phase p m a c d
+        by_other None is = absurd (sound.copies.shells a c lies marked (looked_at_all posted_phase p m a copied) is)
         by_other (Some b) is = let u = sound.copies.out a b c lies is in (b, u.0, is, u.1, u.2)
 
     -- the forward of what is live is new
-    pub live_forward : (a : Addr) → is_live posted m a ≡ true → is_new_address m (forward m a) ≡ true
-    live_forward a live = elim (either_true (is_permanent a) (is_live_object posted m a) live) [
+    pub live_forward : (a : Addr) → is_live posted_phase m a ≡ true → is_new_address m (forward m a) ≡ true
+    live_forward a live = elim (either_true (is_permanent a) (is_live_object posted_phase m a) live) [
       | inl permanent ↦ itself (or_first (is_permanent a) (is_new m a) permanent)
-      | inr object ↦ elim (live_marked_or_new posted m a copied object) [
+      | inr object ↦ elim (live_marked_or_new posted_phase m a copied object) [
         | inl marked ↦ by_cell (cell_in m.old a) refl marked
         | inr new ↦ itself (or_second (is_permanent a) (is_new m a) new)
       ]

@@ -156,7 +156,7 @@ copies_alike f g keeps keeps' m a = by_other (other_of (cell_at m a))
 -- ---- what is live and what may be held
 
 module _ (m n : Spaces) (alike : AreAlike m n) where
-  live_object_stays : (posted : Phase) (x : Addr) → is_live_object posted n x ≡ is_live_object posted m x
+  live_object_stays : (posted_phase : Phase) (x : Addr) → is_live_object posted_phase n x ≡ is_live_object posted_phase m x
   live_object_stays Idle x = alike.old x
   live_object_stays Mark x = alike.old x
   live_object_stays Allocate x = alike.marked x
@@ -167,8 +167,8 @@ module _ (m n : Spaces) (alike : AreAlike m n) where
   live_object_stays Reclaim x = alike.new x
 
   -- what is live stays live
-  pub live_stays : (posted : Phase) (x : Addr) → is_live posted n x ≡ is_live posted m x
-  live_stays posted x = ap (λ t. is_permanent x || t) (live_object_stays posted x)
+  pub live_stays : (posted_phase : Phase) (x : Addr) → is_live posted_phase n x ≡ is_live posted_phase m x
+  live_stays posted_phase x = ap (λ t. is_permanent x || t) (live_object_stays posted_phase x)
 
   -- what is marked stays marked
   pub marked_address_stays : (x : Addr) → is_marked_address n x ≡ is_marked_address m x
@@ -179,7 +179,7 @@ module _ (m n : Spaces) (alike : AreAlike m n) where
   new_address_stays x = ap (λ t. is_permanent x || t) (alike.new x)
 
   -- what may be held may be held still
-  pub passes_still : (hold : Hold) (posted : Phase) (x : Addr) → passes hold posted n x ≡ passes hold posted m x
-  passes_still AnyLive posted x = live_stays posted x
-  passes_still MarkedOnly posted x = marked_address_stays x
-  passes_still NewOnly posted x = new_address_stays x
+  pub passes_still : (hold : Hold) (posted_phase : Phase) (x : Addr) → passes hold posted_phase n x ≡ passes hold posted_phase m x
+  passes_still AnyLive posted_phase x = live_stays posted_phase x
+  passes_still MarkedOnly posted_phase x = marked_address_stays x
+  passes_still NewOnly posted_phase x = new_address_stays x

@@ -120,7 +120,7 @@ is_new_live HeapFlip = true
 is_new_live ThreadFlip = true
 is_new_live Reclaim = true
 
-new_object_is_live : (posted : Phase) (m : Spaces) (a : Addr) → is_new_live posted ≡ true → is_new m a ≡ true → is_live_object posted m a ≡ true
+new_object_is_live : (posted_phase : Phase) (m : Spaces) (a : Addr) → is_new_live posted_phase ≡ true → is_new m a ≡ true → is_live_object posted_phase m a ≡ true
 new_object_is_live Idle m a late h = never late
 new_object_is_live Mark m a late h = never late
 new_object_is_live Allocate m a late h = never late
@@ -131,10 +131,10 @@ new_object_is_live ThreadFlip m a late h = or_right (is_marked_old m a) (is_new 
 new_object_is_live Reclaim m a late h = h
 
 -- what is new is live from PreFlip on
-pub new_is_live : (posted : Phase) (m : Spaces) (a : Addr) → is_new_live posted ≡ true → is_new_address m a ≡ true → is_live posted m a ≡ true
-new_is_live posted m a late h = elim (or_cases (is_permanent a) (is_new m a) h) [
-  | inl permanent ↦ or_left (is_permanent a) (is_live_object posted m a) permanent
-  | inr new ↦ or_right (is_permanent a) (is_live_object posted m a) (new_object_is_live posted m a late new)
+pub new_is_live : (posted_phase : Phase) (m : Spaces) (a : Addr) → is_new_live posted_phase ≡ true → is_new_address m a ≡ true → is_live posted_phase m a ≡ true
+new_is_live posted_phase m a late h = elim (or_cases (is_permanent a) (is_new m a) h) [
+  | inl permanent ↦ or_left (is_permanent a) (is_live_object posted_phase m a) permanent
+  | inr new ↦ or_right (is_permanent a) (is_live_object posted_phase m a) (new_object_is_live posted_phase m a late new)
 ]
 
 -- what is marked is live in Mark
@@ -154,7 +154,7 @@ module _ (m : Spaces) (spaces : AreSpaces m) (a : Addr) (c : Cell) where
     | inr new ↦ never (sym (old_not_new m spaces a c e) ∙ new)
   ]
 
-  old_object_is_read : (posted : Phase) → cell_in m.old a ≡ Some c → is_live_object posted m a ≡ true → is_read posted c ≡ true
+  old_object_is_read : (posted_phase : Phase) → cell_in m.old a ≡ Some c → is_live_object posted_phase m a ≡ true → is_read posted_phase c ≡ true
   old_object_is_read Idle e h = refl
   old_object_is_read Mark e h = refl
   old_object_is_read Allocate e h = marked_of e h
@@ -164,7 +164,7 @@ module _ (m : Spaces) (spaces : AreSpaces m) (a : Addr) (c : Cell) where
   old_object_is_read ThreadFlip e h = marked_of_either e h
   old_object_is_read Reclaim e h = never (sym (old_not_new m spaces a c e) ∙ h)
 
-  new_object_is_late : (posted : Phase) → cell_in m.new a ≡ Some c → is_live_object posted m a ≡ true → is_new_live posted ≡ true
+  new_object_is_late : (posted_phase : Phase) → cell_in m.new a ≡ Some c → is_live_object posted_phase m a ≡ true → is_new_live posted_phase ≡ true
   new_object_is_late Idle e h = never (sym (new_not_old m spaces a c e) ∙ h)
   new_object_is_late Mark e h = never (sym (new_not_old m spaces a c e) ∙ h)
   new_object_is_late Allocate e h = never (sym (new_not_marked m spaces a c e) ∙ h)
@@ -175,18 +175,18 @@ module _ (m : Spaces) (spaces : AreSpaces m) (a : Addr) (c : Cell) where
   new_object_is_late Reclaim e h = refl
 
   -- a cell is live as an object alone
-  live_object : (posted : Phase) → cell_at m a ≡ Some c → is_live posted m a ≡ true → is_live_object posted m a ≡ true
-  live_object posted e h = elim (or_cases (is_permanent a) (is_live_object posted m a) h) [
+  live_object : (posted_phase : Phase) → cell_at m a ≡ Some c → is_live posted_phase m a ≡ true → is_live_object posted_phase m a ≡ true
+  live_object posted_phase e h = elim (or_cases (is_permanent a) (is_live_object posted_phase m a) h) [
     | inl permanent ↦ never (sym (cell_not_permanent m spaces a c e) ∙ permanent)
     | inr live ↦ live
   ]
 
   -- a live old object is read, and a live new one is one of PreFlip or later
-  pub live_is_read : (posted : Phase) → cell_in m.old a ≡ Some c → is_live posted m a ≡ true → is_read posted c ≡ true
-  live_is_read posted e h = old_object_is_read posted e (live_object posted (old_is_cell m a c e) h)
+  pub live_is_read : (posted_phase : Phase) → cell_in m.old a ≡ Some c → is_live posted_phase m a ≡ true → is_read posted_phase c ≡ true
+  live_is_read posted_phase e h = old_object_is_read posted_phase e (live_object posted_phase (old_is_cell m a c e) h)
 
-  pub live_is_late : (posted : Phase) → cell_in m.new a ≡ Some c → is_live posted m a ≡ true → is_new_live posted ≡ true
-  live_is_late posted e h = new_object_is_late posted e (live_object posted (new_is_cell m spaces a c e) h)
+  pub live_is_late : (posted_phase : Phase) → cell_in m.new a ≡ Some c → is_live posted_phase m a ≡ true → is_new_live posted_phase ≡ true
+  live_is_late posted_phase e h = new_object_is_late posted_phase e (live_object posted_phase (new_is_cell m spaces a c e) h)
 
   -- a marked address of a cell is that of a marked old one, and a new address that of a new one
   pub marked_has_cell : cell_at m a ≡ Some c → is_marked_address m a ≡ true → (cell_in m.old a ≡ Some c) × (c.marked ≡ true)
@@ -206,14 +206,14 @@ module _ (m : Spaces) (spaces : AreSpaces m) (a : Addr) (c : Cell) where
 
 -- ---- loads
 
-module _ (tree : Tree) (posted : Phase) (p : Progress) (m : Spaces) (spaces : AreSpaces m) (copies : AreCopied tree posted p m) (a : Addr) (c : Cell) where
+module _ (tree : Tree) (posted_phase : Phase) (p : Progress) (m : Spaces) (spaces : AreSpaces m) (copies : AreCopied tree posted_phase p m) (a : Addr) (c : Cell) where
   -- what a live object refers to is live
-  pub live_loads : cell_at m a ≡ Some c → is_live posted m a ≡ true → SlotsPass tree (is_live posted m) c
+  pub live_loads : cell_at m a ≡ Some c → is_live posted_phase m a ≡ true → SlotsPass tree (is_live posted_phase m) c
   live_loads e h = elim (either m a c e) [
-    | inl old ↦ copies.old_references a c old (live_is_read m spaces a c posted old h)
+    | inl old ↦ copies.old_references a c old (live_is_read m spaces a c posted_phase old h)
     | inr new ↦
-        let late = live_is_late m spaces a c posted new h in
-        slots_weaken tree (is_new_address m) (is_live posted m) (λ b. new_is_live posted m b late) c (copies.new_references a c new)
+        let late = live_is_late m spaces a c posted_phase new h in
+        slots_weaken tree (is_new_address m) (is_live posted_phase m) (λ b. new_is_live posted_phase m b late) c (copies.new_references a c new)
   ]
 
   -- what a new object refers to is new
@@ -229,12 +229,12 @@ marked_loads tree m spaces closed a c e h = let is = marked_has_cell m spaces a 
 -- ---- what may be held
 
 -- what it takes that only marked or only new objects are held
-abbrev pub HoldMeans : (posted : Phase) (has_round : Bool) → Spaces → Hold → Type 0
-HoldMeans posted has_round m AnyLive = Unit {0}
-HoldMeans posted has_round m MarkedOnly = (posted ≡ Mark) × (has_round ≡ true) × (m.has_marked ≡ false)
-HoldMeans posted has_round m NewOnly = is_new_live posted ≡ true
+abbrev pub HoldMeans : (posted_phase : Phase) (has_round : Bool) → Spaces → Hold → Type 0
+HoldMeans posted_phase has_round m AnyLive = Unit {0}
+HoldMeans posted_phase has_round m MarkedOnly = (posted_phase ≡ Mark) × (has_round ≡ true) × (m.has_marked ≡ false)
+HoldMeans posted_phase has_round m NewOnly = is_new_live posted_phase ≡ true
 
-marking_is_mark : (posted : Phase) → is_marking posted ≡ true → posted ≡ Mark
+marking_is_mark : (posted_phase : Phase) → is_marking posted_phase ≡ true → posted_phase ≡ Mark
 marking_is_mark Idle h = never h
 marking_is_mark Mark h = refl
 marking_is_mark Allocate h = never h
@@ -244,7 +244,7 @@ marking_is_mark HeapFlip h = never h
 marking_is_mark ThreadFlip h = never h
 marking_is_mark Reclaim h = never h
 
-flipping_is_late : (posted : Phase) → is_flipping posted ≡ true → is_new_live posted ≡ true
+flipping_is_late : (posted_phase : Phase) → is_flipping posted_phase ≡ true → is_new_live posted_phase ≡ true
 flipping_is_late Idle h = never h
 flipping_is_late Mark h = never h
 flipping_is_late Allocate h = never h
@@ -257,38 +257,38 @@ flipping_is_late Reclaim h = refl
 module _ (h : Handshakes) (m : Spaces) (seat : Seat) where
   -- whether the thread holds marked objects alone, where it isn't flipped
   abbrev pub is_marked_only : Bool
-  is_marked_only = is_marking h.posted && (h.has_round && (seat.answered && not m.has_marked))
+  is_marked_only = is_marking h.posted_phase && (h.has_round && (seat.answered && not m.has_marked))
 
-  pub means_marked : (b : Bool) → is_marked_only ≡ b → HoldMeans h.posted h.has_round m (if b then MarkedOnly else AnyLive)
+  pub means_marked : (b : Bool) → is_marked_only ≡ b → HoldMeans h.posted_phase h.has_round m (if b then MarkedOnly else AnyLive)
   means_marked false e = tt
   means_marked true e =
-      let x = and_parts (is_marking h.posted) (h.has_round && (seat.answered && not m.has_marked)) e in
+      let x = and_parts (is_marking h.posted_phase) (h.has_round && (seat.answered && not m.has_marked)) e in
       let y = and_parts h.has_round (seat.answered && not m.has_marked) x.1 in
       let z = and_parts seat.answered (not m.has_marked) y.1 in
-      (marking_is_mark h.posted x.0, y.0, not-true m.has_marked z.1)
+      (marking_is_mark h.posted_phase x.0, y.0, not-true m.has_marked z.1)
 
-  means_new : (b : Bool) → (is_flipping seat.phase && is_flipping h.posted) ≡ b
-      → HoldMeans h.posted h.has_round m (if b then NewOnly else if is_marked_only then MarkedOnly else AnyLive)
+  means_new : (b : Bool) → (is_flipping seat.phase && is_flipping h.posted_phase) ≡ b
+      → HoldMeans h.posted_phase h.has_round m (if b then NewOnly else if is_marked_only then MarkedOnly else AnyLive)
   means_new false e = means_marked is_marked_only refl
-  means_new true e = flipping_is_late h.posted (and_parts (is_flipping seat.phase) (is_flipping h.posted) e).1
+  means_new true e = flipping_is_late h.posted_phase (and_parts (is_flipping seat.phase) (is_flipping h.posted_phase) e).1
 
   -- that is so of what a thread may hold
-  pub hold_means : HoldMeans h.posted h.has_round m (hold_of h m.has_marked seat)
-  hold_means = means_new (is_flipping seat.phase && is_flipping h.posted) refl
+  pub hold_means : HoldMeans h.posted_phase h.has_round m (hold_of h m.has_marked seat)
+  hold_means = means_new (is_flipping seat.phase && is_flipping h.posted_phase) refl
 
 -- what is held is live
-pub held_is_live : (posted : Phase) (has_round : Bool) (m : Spaces) (hold : Hold) → HoldMeans posted has_round m hold → (a : Addr)
-    → passes hold posted m a ≡ true → is_live posted m a ≡ true
-held_is_live posted has_round m AnyLive means a h = h
-held_is_live posted has_round m MarkedOnly means a h = subst (λ x. is_live x m a ≡ true) (sym means.0) (marked_is_live m a h)
-held_is_live posted has_round m NewOnly means a h = new_is_live posted m a means h
+pub held_is_live : (posted_phase : Phase) (has_round : Bool) (m : Spaces) (hold : Hold) → HoldMeans posted_phase has_round m hold → (a : Addr)
+    → passes hold posted_phase m a ≡ true → is_live posted_phase m a ≡ true
+held_is_live posted_phase has_round m AnyLive means a h = h
+held_is_live posted_phase has_round m MarkedOnly means a h = subst (λ x. is_live x m a ≡ true) (sym means.0) (marked_is_live m a h)
+held_is_live posted_phase has_round m NewOnly means a h = new_is_live posted_phase m a means h
 
-pub may_hold_live : (h : Handshakes) (m : Spaces) (seat : Seat) (a : Addr) → may_hold h m seat a ≡ true → is_live h.posted m a ≡ true
-may_hold_live h m seat a held = held_is_live h.posted h.has_round m (hold_of h m.has_marked seat) (hold_means h m seat) a held
+pub may_hold_live : (h : Handshakes) (m : Spaces) (seat : Seat) (a : Addr) → may_hold h m seat a ≡ true → is_live h.posted_phase m a ≡ true
+may_hold_live h m seat a held = held_is_live h.posted_phase h.has_round m (hold_of h m.has_marked seat) (hold_means h m seat) a held
 
 -- and so is what a static field holds
-pub static_may_hold_live : (posted : Phase) (m : Spaces) (p : Progress) (number : ℕ) (a : Addr) → static_may_hold posted m p number a ≡ true
-    → is_live posted m a ≡ true
+pub static_may_hold_live : (posted_phase : Phase) (m : Spaces) (p : Progress) (number : ℕ) (a : Addr) → static_may_hold posted_phase m p number a ≡ true
+    → is_live posted_phase m a ≡ true
 static_may_hold_live Idle m p number a h = h
 static_may_hold_live Mark m p number a h = by_scan p.scanned_statics h
   where
@@ -306,16 +306,16 @@ static_may_hold_live HeapFlip m p number a h = by_flip (nat_lt number p.flipped_
 static_may_hold_live ThreadFlip m p number a h = new_is_live ThreadFlip m a refl h
 static_may_hold_live Reclaim m p number a h = new_is_live Reclaim m a refl h
 
-module _ (tree : Tree) (posted : Phase) (has_round : Bool) (words : ℕ) (p : Progress) (m : Spaces) (sound : IsSoundHeap tree posted has_round words p m) where
+module _ (tree : Tree) (posted_phase : Phase) (has_round : Bool) (words : ℕ) (p : Progress) (m : Spaces) (sound : IsSoundHeap tree posted_phase has_round words p m) where
   -- what may be held is closed under loads
-  pub loads_may_be_held : (hold : Hold) → HoldMeans posted has_round m hold → (a : Addr) (cell : Cell) → passes hold posted m a ≡ true
-      → cell_at m a ≡ Some cell → SlotsPass tree (passes hold posted m) cell
-  loads_may_be_held AnyLive means a cell held is = live_loads tree posted p m sound.blocks.spaces sound.copies a cell is held
+  pub loads_may_be_held : (hold : Hold) → HoldMeans posted_phase has_round m hold → (a : Addr) (cell : Cell) → passes hold posted_phase m a ≡ true
+      → cell_at m a ≡ Some cell → SlotsPass tree (passes hold posted_phase m) cell
+  loads_may_be_held AnyLive means a cell held is = live_loads tree posted_phase p m sound.blocks.spaces sound.copies a cell is held
   loads_may_be_held MarkedOnly means a cell held is = marked_loads tree m sound.blocks.spaces ((sound.marks means.0).closed means.1 means.2) a cell is held
-  loads_may_be_held NewOnly means a cell held is = new_loads tree posted p m sound.blocks.spaces sound.copies a cell is held
+  loads_may_be_held NewOnly means a cell held is = new_loads tree posted_phase p m sound.blocks.spaces sound.copies a cell is held
 
 -- so a thread may hold what it loads from an object that it may hold
-pub thread_loads : (tree : Tree) (h : Handshakes) (words : ℕ) (p : Progress) (m : Spaces) → IsSoundHeap tree h.posted h.has_round words p m
+pub thread_loads : (tree : Tree) (h : Handshakes) (words : ℕ) (p : Progress) (m : Spaces) → IsSoundHeap tree h.posted_phase h.has_round words p m
     → (seat : Seat) (a : Addr) (cell : Cell) → may_hold h m seat a ≡ true → cell_at m a ≡ Some cell → SlotsPass tree (may_hold h m seat) cell
 thread_loads tree h words p m sound seat a cell held is =
-    loads_may_be_held tree h.posted h.has_round words p m sound (hold_of h m.has_marked seat) (hold_means h m seat) a cell held is
+    loads_may_be_held tree h.posted_phase h.has_round words p m sound (hold_of h m.has_marked seat) (hold_means h m seat) a cell held is

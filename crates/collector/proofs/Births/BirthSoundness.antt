@@ -32,8 +32,8 @@ use Rattle.collector.proofs.Births.NewCells.{IsBirth, birth_in}
 -- ---- what a thread may hold of what it bore
 
 -- an object of the new block where both the thread and the collector are past the flip of frames, else any live one
-abbrev pub birth_hold : (own posted : Phase) → Hold
-birth_hold own posted = if is_flipping own && is_flipping posted then NewOnly else AnyLive
+abbrev pub birth_hold : (own posted_phase : Phase) → Hold
+birth_hold own posted_phase = if is_flipping own && is_flipping posted_phase then NewOnly else AnyLive
 
 -- ---- what is live
 
@@ -70,8 +70,8 @@ module _ (m : Spaces) (h : AreSpaces m) (k : Kind) (n : ℕ) (p : Progress) wher
 
   -- ---- spaces and phases
 
-  in_old : (hold : Hold) (posted : Phase) → passes hold posted (give_birth InOld m k n) (next_address m.old) ≡ true → Suits hold posted p m k n InOld
-  in_old hold posted held = record {
+  in_old : (hold : Hold) (posted_phase : Phase) → passes hold posted_phase (give_birth InOld m k n) (next_address m.old) ≡ true → Suits hold posted_phase p m k n InOld
+  in_old hold posted_phase held = record {
     early = λ e. inl refl;
     between = λ e. refl;
     unlooked = λ is. absurd cc;
@@ -80,9 +80,9 @@ module _ (m : Spaces) (h : AreSpaces m) (k : Kind) (n : ℕ) (p : Progress) wher
     held = held;
   }
 
-  listed : (hold : Hold) (posted : Phase) → is_of_cycle posted ≡ true → (HasLooked posted p m (next_address m.old) → ⊥) → passes hold posted (give_birth Listed m k n) (next_address m.old) ≡ true
-      → Suits hold posted p m k n Listed
-  listed hold posted within unlooked held = record {
+  listed : (hold : Hold) (posted_phase : Phase) → is_of_cycle posted_phase ≡ true → (HasLooked posted_phase p m (next_address m.old) → ⊥) → passes hold posted_phase (give_birth Listed m k n) (next_address m.old) ≡ true
+      → Suits hold posted_phase p m k n Listed
+  listed hold posted_phase within unlooked held = record {
     early = λ e. inr refl;
     between = λ e. false_true (sym e ∙ within);
     unlooked = λ is. unlooked;
@@ -91,9 +91,9 @@ module _ (m : Spaces) (h : AreSpaces m) (k : Kind) (n : ℕ) (p : Progress) wher
     held = held;
   }
 
-  in_both : (hold : Hold) (posted : Phase) → is_before_copies posted ≡ false → is_of_cycle posted ≡ true → posted ≢ Reclaim → passes hold posted (give_birth InBoth m k n) (next_address m.old) ≡ true
-      → Suits hold posted p m k n InBoth
-  in_both hold posted late within further held = record {
+  in_both : (hold : Hold) (posted_phase : Phase) → is_before_copies posted_phase ≡ false → is_of_cycle posted_phase ≡ true → posted_phase ≢ Reclaim → passes hold posted_phase (give_birth InBoth m k n) (next_address m.old) ≡ true
+      → Suits hold posted_phase p m k n InBoth
+  in_both hold posted_phase late within further held = record {
     early = λ e. false_true (sym late ∙ e);
     between = λ e. false_true (sym e ∙ within);
     unlooked = λ is. absurd cc;
@@ -102,9 +102,9 @@ module _ (m : Spaces) (h : AreSpaces m) (k : Kind) (n : ℕ) (p : Progress) wher
     held = held;
   }
 
-  in_new : (hold : Hold) (posted : Phase) → is_before_copies posted ≡ false → is_of_cycle posted ≡ true → ((posted ≡ Mark) ⊎ (posted ≡ Allocate) → ⊥) → passes hold posted (give_birth InNew m k n) (next_address m.new) ≡ true
-      → Suits hold posted p m k n InNew
-  in_new hold posted late within further held = record {
+  in_new : (hold : Hold) (posted_phase : Phase) → is_before_copies posted_phase ≡ false → is_of_cycle posted_phase ≡ true → ((posted_phase ≡ Mark) ⊎ (posted_phase ≡ Allocate) → ⊥) → passes hold posted_phase (give_birth InNew m k n) (next_address m.new) ≡ true
+      → Suits hold posted_phase p m k n InNew
+  in_new hold posted_phase late within further held = record {
     early = λ e. false_true (sym late ∙ e);
     between = λ e. false_true (sym e ∙ within);
     unlooked = λ is. absurd cc;
@@ -142,10 +142,10 @@ module _ (m : Spaces) (h : AreSpaces m) (k : Kind) (n : ℕ) (p : Progress) wher
 -- ---- near phases
 
 -- a thread is in the posted phase, or in the one before
-abbrev pub IsNear : (own posted : Phase) → Type 0
-IsNear own posted = (own ≡ posted) ⊎ (phase_after own ≡ posted)
+abbrev pub IsNear : (own posted_phase : Phase) → Type 0
+IsNear own posted_phase = (own ≡ posted_phase) ⊎ (phase_after own ≡ posted_phase)
 
-pub near_of_close : (h : Handshakes) (s : Seat) → IsClose h s → IsNear s.phase h.posted
+pub near_of_close : (h : Handshakes) (s : Seat) → IsClose h s → IsNear s.phase h.posted_phase
 near_of_close h s (inl is) = inl is
 near_of_close h s (inr before) = inr before.0
 
@@ -198,7 +198,7 @@ module _ (own : Phase) (o : Objects) (k : Kind) (n : ℕ) where
       by_room false same = sym (ap (λ (x : Objects × Option Addr). x.0) same)
 
 -- a thread near the posted phase bears where it can, and what it bears suits the phase
-module _ (own posted : Phase) (near : IsNear own posted) where
+module _ (own posted_phase : Phase) (near : IsNear own posted_phase) where
   -- a phase in which a thread bears only in a cycle is of a cycle,
   can_on_time : (x : Phase) → (if is_within_cycle x then is_of_cycle x else true) ≡ true
   can_on_time Idle = refl
@@ -222,30 +222,30 @@ module _ (own posted : Phase) (near : IsNear own posted) where
   can_late Reclaim = refl
 
   -- so the cycle is open where it has to be
-  can_near : (if is_within_cycle own then is_of_cycle posted else true) ≡ true
+  can_near : (if is_within_cycle own then is_of_cycle posted_phase else true) ≡ true
   can_near = elim near [
     | inl is ↦ subst (λ x. (if is_within_cycle own then is_of_cycle x else true) ≡ true) is (can_on_time own)
     | inr is ↦ subst (λ x. (if is_within_cycle own then is_of_cycle x else true) ≡ true) is (can_late own)
   ]
 
   -- the space of the birth suits the posted phase
-  suits_near : (m : Spaces) → AreSpaces m → (k : Kind) (n : ℕ) (p : Progress) → (own ≢ posted → p ≡ no_progress) → Suits (birth_hold own posted) posted p m k n (birth_space_of own (is_of_cycle posted))
+  suits_near : (m : Spaces) → AreSpaces m → (k : Kind) (n : ℕ) (p : Progress) → (own ≢ posted_phase → p ≡ no_progress) → Suits (birth_hold own posted_phase) posted_phase p m k n (birth_space_of own (is_of_cycle posted_phase))
   suits_near m h k n p none = elim near [
     | inl is ↦ subst (λ x. Suits (birth_hold own x) x p m k n (birth_space_of own (is_of_cycle x))) is (on_time m h k n p own)
     | inr is ↦ subst (λ x. Suits (birth_hold own x) x p m k n (birth_space_of own (is_of_cycle x))) is (late m h k n p own (none (λ same. phase_continues own (is ∙ sym same))))
   ]
 
-module _ (tree : Tree) (own posted : Phase) (near : IsNear own posted) (has_round : Bool) (words : ℕ) (p : Progress) (o : Objects)
-    (time : IsOnTime own posted has_round p o.spaces) (sound : IsSoundHeap tree posted has_round words p o.spaces) where
+module _ (tree : Tree) (own posted_phase : Phase) (near : IsNear own posted_phase) (has_round : Bool) (words : ℕ) (p : Progress) (o : Objects)
+    (time : IsOnTime own posted_phase has_round p o.spaces) (sound : IsSoundHeap tree posted_phase has_round words p o.spaces) where
   -- the thread can bear
   pub can_bear_near : can_bear own o ≡ true
-  can_bear_near = ap (λ t. if is_within_cycle own then t else true) sound.blocks.held ∙ can_near own posted near
+  can_bear_near = ap (λ t. if is_within_cycle own then t else true) sound.blocks.held ∙ can_near own posted_phase near
 
   -- with the cycle as open as the heap has it
-  suits : (k : Kind) (n : ℕ) → Suits (birth_hold own posted) posted p o.spaces k n (birth_space_of own o.spaces.is_open)
+  suits : (k : Kind) (n : ℕ) → Suits (birth_hold own posted_phase) posted_phase p o.spaces k n (birth_space_of own o.spaces.is_open)
   suits k n =
-      subst (λ t. Suits (birth_hold own posted) posted p o.spaces k n (birth_space_of own t)) (sym sound.blocks.held)
-      (suits_near own posted near o.spaces sound.blocks.spaces k n p (λ ne. (time ne).nothing))
+      subst (λ t. Suits (birth_hold own posted_phase) posted_phase p o.spaces k n (birth_space_of own t)) (sym sound.blocks.held)
+      (suits_near own posted_phase near o.spaces sound.blocks.spaces k n p (λ ne. (time ne).nothing))
 
   module _ (k : Kind) (n : ℕ) (o' : Objects) (a : Addr) (e : ◌≡◌ {A = Objects × Option Addr} (object_born own o k n) (o', Some a)) where
     -- the birth was granted
@@ -253,19 +253,19 @@ module _ (tree : Tree) (own posted : Phase) (near : IsNear own posted) (has_roun
     g = granted own o k n o' a e
 
     -- the heap stays sound
-    pub birth_sound : IsSoundHeap tree posted has_round words p o'.spaces
+    pub birth_sound : IsSoundHeap tree posted_phase has_round words p o'.spaces
     birth_sound =
-        subst (λ (x : Objects). IsSoundHeap tree posted has_round words p x.spaces) g.1
-        (born_heap tree (birth_hold own posted) posted has_round words p o.spaces k n (birth_space_of own o.spaces.is_open) sound g.0 (suits k n))
+        subst (λ (x : Objects). IsSoundHeap tree posted_phase has_round words p x.spaces) g.1
+        (born_heap tree (birth_hold own posted_phase) posted_phase has_round words p o.spaces k n (birth_space_of own o.spaces.is_open) sound g.0 (suits k n))
 
     -- where the collector has not begun, it has not begun still
-    pub birth_not_begun : HasNotBegun posted has_round p o.spaces → HasNotBegun posted has_round p o'.spaces
+    pub birth_not_begun : HasNotBegun posted_phase has_round p o.spaces → HasNotBegun posted_phase has_round p o'.spaces
     birth_not_begun before =
-        subst (λ (x : Objects). HasNotBegun posted has_round p x.spaces) g.1
-        (born_not_begun tree (birth_hold own posted) posted has_round words p o.spaces k n (birth_space_of own o.spaces.is_open) sound g.0 (suits k n) before)
+        subst (λ (x : Objects). HasNotBegun posted_phase has_round p x.spaces) g.1
+        (born_not_begun tree (birth_hold own posted_phase) posted_phase has_round words p o.spaces k n (birth_space_of own o.spaces.is_open) sound g.0 (suits k n) before)
 
     -- so each thread that was on time stays on time
-    pub birth_on_time : (other : Phase) → IsOnTime other posted has_round p o.spaces → IsOnTime other posted has_round p o'.spaces
+    pub birth_on_time : (other : Phase) → IsOnTime other posted_phase has_round p o.spaces → IsOnTime other posted_phase has_round p o'.spaces
     birth_on_time other on_time ne = birth_not_begun (on_time ne)
 
     -- the object is there, and all else is as it was
@@ -275,10 +275,10 @@ module _ (tree : Tree) (own posted : Phase) (near : IsNear own posted) (has_roun
         (subst (IsBirth own k n o (after own o k n)) g.2 (birth_in own k n o sound.blocks.spaces (birth_space_of own o.spaces.is_open) g.0 refl))
 
     -- its address may be held
-    pub birth_held : passes (birth_hold own posted) posted o'.spaces a ≡ true
+    pub birth_held : passes (birth_hold own posted_phase) posted_phase o'.spaces a ≡ true
     birth_held =
-        subst (λ (x : Objects). passes (birth_hold own posted) posted x.spaces a ≡ true) g.1
-        (subst (λ x. passes (birth_hold own posted) posted (after own o k n).spaces x ≡ true) g.2 (suits k n).held)
+        subst (λ (x : Objects). passes (birth_hold own posted_phase) posted_phase x.spaces a ≡ true) g.1
+        (subst (λ x. passes (birth_hold own posted_phase) posted_phase (after own o k n).spaces x ≡ true) g.2 (suits k n).held)
 
     -- in Mark it is marked
     pub birth_marked : own ≡ Mark → is_marked_address o'.spaces a ≡ true
@@ -291,17 +291,17 @@ module _ (tree : Tree) (own posted : Phase) (near : IsNear own posted) (has_roun
     pub birth_tests : TestsStay o.spaces o'.spaces
     birth_tests =
         subst (λ (x : Objects). TestsStay o.spaces x.spaces) g.1
-        (born_stays tree (birth_hold own posted) posted has_round words p o.spaces k n (birth_space_of own o.spaces.is_open) sound g.0 (suits k n))
+        (born_stays tree (birth_hold own posted_phase) posted_phase has_round words p o.spaces k n (birth_space_of own o.spaces.is_open) sound g.0 (suits k n))
 
     -- what may be held stays so, for each hold
-    pub birth_stays : (hold : Hold) (b : Addr) → passes hold posted o.spaces b ≡ true → passes hold posted o'.spaces b ≡ true
-    birth_stays hold b pass = passes_stays o.spaces o'.spaces birth_tests b hold posted pass
+    pub birth_stays : (hold : Hold) (b : Addr) → passes hold posted_phase o.spaces b ≡ true → passes hold posted_phase o'.spaces b ≡ true
+    birth_stays hold b pass = passes_stays o.spaces o'.spaces birth_tests b hold posted_phase pass
 
     -- and each live address has the forward that it had
-    pub birth_forwards : (b : Addr) → is_live posted o.spaces b ≡ true → forward o'.spaces b ≡ forward o.spaces b
+    pub birth_forwards : (b : Addr) → is_live posted_phase o.spaces b ≡ true → forward o'.spaces b ≡ forward o.spaces b
     birth_forwards b live =
         subst (λ (x : Objects). forward x.spaces b ≡ forward o.spaces b) g.1
-        (born_forward tree (birth_hold own posted) posted has_round words p o.spaces k n (birth_space_of own o.spaces.is_open) sound g.0 (suits k n) b live)
+        (born_forward tree (birth_hold own posted_phase) posted_phase has_round words p o.spaces k n (birth_space_of own o.spaces.is_open) sound g.0 (suits k n) b live)
 
     -- a birth doesn't count as marking
     pub birth_marks_nothing : o'.spaces.has_marked ≡ o.spaces.has_marked
@@ -311,15 +311,15 @@ module _ (tree : Tree) (own posted : Phase) (near : IsNear own posted) (has_roun
 
 -- a thread may hold what it bore, whatever it has acknowledged and answered
 module _ (tree : Tree) (h : Handshakes) (seat : Seat) (close : IsClose h seat) (words : ℕ) (p : Progress) (o : Objects)
-    (time : IsOnTime seat.phase h.posted h.has_round p o.spaces) (sound : IsSoundHeap tree h.posted h.has_round words p o.spaces)
+    (time : IsOnTime seat.phase h.posted_phase h.has_round p o.spaces) (sound : IsSoundHeap tree h.posted_phase h.has_round words p o.spaces)
     (k : Kind) (n : ℕ) (o' : Objects) (a : Addr) (e : ◌≡◌ {A = Objects × Option Addr} (object_born seat.phase o k n) (o', Some a)) where
   -- the thread is near the posted phase
-  near : IsNear seat.phase h.posted
+  near : IsNear seat.phase h.posted_phase
   near = near_of_close h seat close
 
   -- it may hold what it bore
-  held : passes (birth_hold seat.phase h.posted) h.posted o'.spaces a ≡ true
-  held = birth_held tree seat.phase h.posted near h.has_round words p o time sound k n o' a e
+  held : passes (birth_hold seat.phase h.posted_phase) h.posted_phase o'.spaces a ≡ true
+  held = birth_held tree seat.phase h.posted_phase near h.has_round words p o time sound k n o' a e
 
   -- marking is done in Mark alone
   marking_is : (x : Phase) → is_marking x ≡ true → x ≡ Mark
@@ -333,31 +333,31 @@ module _ (tree : Tree) (h : Handshakes) (seat : Seat) (close : IsClose h seat) (
   marking_is Reclaim is = absurd cc
 
   -- a thread that has answered a round has acknowledged Mark, and bears marked objects
-  in_round : is_marking h.posted ≡ true → h.has_round ≡ true → is_marked_address o'.spaces a ≡ true
+  in_round : is_marking h.posted_phase ≡ true → h.has_round ≡ true → is_marked_address o'.spaces a ≡ true
   in_round marking round = elim near [
-    | inl is ↦ birth_marked tree seat.phase h.posted near h.has_round words p o time sound k n o' a e (is ∙ marking_is h.posted marking)
-    | inr is ↦ false_true (sym ((time (λ same. phase_continues seat.phase (is ∙ sym same))).no_round (marking_is h.posted marking)) ∙ round)
+    | inl is ↦ birth_marked tree seat.phase h.posted_phase near h.has_round words p o time sound k n o' a e (is ∙ marking_is h.posted_phase marking)
+    | inr is ↦ false_true (sym ((time (λ same. phase_continues seat.phase (is ∙ sym same))).no_round (marking_is h.posted_phase marking)) ∙ round)
   ]
 
   -- by what it has acknowledged and answered
   pub birth_may_be_held : may_hold h o'.spaces seat a ≡ true
-  birth_may_be_held = by_flip (is_flipping seat.phase && is_flipping h.posted) held
+  birth_may_be_held = by_flip (is_flipping seat.phase && is_flipping h.posted_phase) held
     where
-      by_round : (x y z : Bool) → is_marking h.posted ≡ x → h.has_round ≡ y → passes AnyLive h.posted o'.spaces a ≡ true
-          → passes (if x && (y && z) then MarkedOnly else AnyLive) h.posted o'.spaces a ≡ true
+      by_round : (x y z : Bool) → is_marking h.posted_phase ≡ x → h.has_round ≡ y → passes AnyLive h.posted_phase o'.spaces a ≡ true
+          → passes (if x && (y && z) then MarkedOnly else AnyLive) h.posted_phase o'.spaces a ≡ true
       by_round false y z is is' live = live
       by_round true false z is is' live = live
       by_round true true false is is' live = live
       by_round true true true is is' live = in_round is is'
 
-      by_flip : (t : Bool) → passes (if t then NewOnly else AnyLive) h.posted o'.spaces a ≡ true
-          → passes (if t then NewOnly else if is_marking h.posted && (h.has_round && (seat.answered && not o'.spaces.has_marked)) then MarkedOnly else AnyLive) h.posted o'.spaces a ≡ true
+      by_flip : (t : Bool) → passes (if t then NewOnly else AnyLive) h.posted_phase o'.spaces a ≡ true
+          → passes (if t then NewOnly else if is_marking h.posted_phase && (h.has_round && (seat.answered && not o'.spaces.has_marked)) then MarkedOnly else AnyLive) h.posted_phase o'.spaces a ≡ true
       by_flip true pass = pass
-      by_flip false pass = by_round (is_marking h.posted) h.has_round (seat.answered && not o'.spaces.has_marked) refl refl pass
+      by_flip false pass = by_round (is_marking h.posted_phase) h.has_round (seat.answered && not o'.spaces.has_marked) refl refl pass
 
   -- and each thread what it held
   pub birth_keeps_held : (other : Seat) (b : Addr) → may_hold h o.spaces other b ≡ true → may_hold h o'.spaces other b ≡ true
   birth_keeps_held other b pass =
-      let same = birth_marks_nothing tree seat.phase h.posted near h.has_round words p o time sound k n o' a e in
-      birth_stays tree seat.phase h.posted near h.has_round words p o time sound k n o' a e (hold_of h o'.spaces.has_marked other) b
-      (subst (λ t. passes (hold_of h t other) h.posted o.spaces b ≡ true) (sym same) pass)
+      let same = birth_marks_nothing tree seat.phase h.posted_phase near h.has_round words p o time sound k n o' a e in
+      birth_stays tree seat.phase h.posted_phase near h.has_round words p o time sound k n o' a e (hold_of h o'.spaces.has_marked other) b
+      (subst (λ t. passes (hold_of h t other) h.posted_phase o.spaces b ≡ true) (sym same) pass)

@@ -64,7 +64,7 @@ zeros_copied tree m h from to n empty empty' slot word there =
 
 -- ---- what is copied is read
 
-read_by : (posted : Phase) (p : Progress) (m : Spaces) (a : Addr) (word : ℕ) (c : Cell) → HasCopied posted p m a word → c.marked ≡ true → is_read posted c ≡ true
+read_by : (posted_phase : Phase) (p : Progress) (m : Spaces) (a : Addr) (word : ℕ) (c : Cell) → HasCopied posted_phase p m a word → c.marked ≡ true → is_read posted_phase c ≡ true
 read_by Idle p m a word c h marked = elim h [ ]
 read_by Mark p m a word c h marked = elim h [ ]
 read_by Allocate p m a word c h marked = elim h [ ]
@@ -74,13 +74,13 @@ read_by HeapFlip p m a word c h marked = marked
 read_by ThreadFlip p m a word c h marked = marked
 read_by Reclaim p m a word c h marked = elim h [ ]
 
-pub read_once_copied : (posted : Phase) (p : Progress) (m : Spaces) (a : Addr) (word : ℕ) (c : Cell) → IsInCopy posted p m a c word → c.marked ≡ true → is_read posted c ≡ true
-read_once_copied posted p m a word c (inl h) marked = read_by posted p m a word c h marked
-read_once_copied posted p m a word c (inr h) marked = ap (λ q. is_read q c) h.copying ∙ marked
+pub read_once_copied : (posted_phase : Phase) (p : Progress) (m : Spaces) (a : Addr) (word : ℕ) (c : Cell) → IsInCopy posted_phase p m a c word → c.marked ≡ true → is_read posted_phase c ≡ true
+read_once_copied posted_phase p m a word c (inl h) marked = read_by posted_phase p m a word c h marked
+read_once_copied posted_phase p m a word c (inr h) marked = ap (λ q. is_read q c) h.copying ∙ marked
 
 -- how far the collector is depends on no cells
 module _ (p : Progress) (m m' : Spaces) (start : m'.old.start ≡ m.old.start) (a : Addr) where
-  pub copied_before : (posted : Phase) (word : ℕ) → HasCopied posted p m' a word → HasCopied posted p m a word
+  pub copied_before : (posted_phase : Phase) (word : ℕ) → HasCopied posted_phase p m' a word → HasCopied posted_phase p m a word
   copied_before Idle word h = h
   copied_before Mark word h = h
   copied_before Allocate word h = h
@@ -90,11 +90,11 @@ module _ (p : Progress) (m m' : Spaces) (start : m'.old.start ≡ m.old.start) (
   copied_before ThreadFlip word h = h
   copied_before Reclaim word h = h
 
-  pub in_copy_before : (posted : Phase) (from : Cell) (word : ℕ) → IsInCopy posted p m' a from word → IsInCopy posted p m a from word
-  in_copy_before posted from word (inl h) = inl (copied_before posted word h)
-  in_copy_before posted from word (inr h) = inr (record { copying = h.copying; here = h.here ∙ ap (λ s. s + p.cursor) start; next = h.next; stored = h.stored; same = h.same })
+  pub in_copy_before : (posted_phase : Phase) (from : Cell) (word : ℕ) → IsInCopy posted_phase p m' a from word → IsInCopy posted_phase p m a from word
+  in_copy_before posted_phase from word (inl h) = inl (copied_before posted_phase word h)
+  in_copy_before posted_phase from word (inr h) = inr (record { copying = h.copying; here = h.here ∙ ap (λ s. s + p.cursor) start; next = h.next; stored = h.stored; same = h.same })
 
-  pub looked_before : (posted : Phase) → HasLooked posted p m' a → HasLooked posted p m a
+  pub looked_before : (posted_phase : Phase) → HasLooked posted_phase p m' a → HasLooked posted_phase p m a
   looked_before Idle h = h
   looked_before Mark h = h
   looked_before Allocate h = subst (λ s. a.number < s + p.cursor) start h
@@ -121,13 +121,13 @@ first_is x g xs rest e = cc
 
 -- ---- where one may be born while a phase is posted
 
-pub record Suits (hold : Hold) (posted : Phase) (p : Progress) (m : Spaces) (k : Kind) (n : ℕ) (space : BirthSpace) : Type 0 where
-  pub early : is_before_copies posted ≡ true → (space ≡ InOld) ⊎ (space ≡ Listed)
-  pub between : is_of_cycle posted ≡ false → space ≡ InOld
-  pub unlooked : space ≡ Listed → HasLooked posted p m (next_address m.old) → ⊥
-  pub room : (posted ≡ Mark) ⊎ (posted ≡ Allocate) → space ≢ InNew
-  pub clear : posted ≡ Reclaim → space ≢ InBoth
-  pub held : passes hold posted (give_birth space m k n) (address_at space m) ≡ true
+pub record Suits (hold : Hold) (posted_phase : Phase) (p : Progress) (m : Spaces) (k : Kind) (n : ℕ) (space : BirthSpace) : Type 0 where
+  pub early : is_before_copies posted_phase ≡ true → (space ≡ InOld) ⊎ (space ≡ Listed)
+  pub between : is_of_cycle posted_phase ≡ false → space ≡ InOld
+  pub unlooked : space ≡ Listed → HasLooked posted_phase p m (next_address m.old) → ⊥
+  pub room : (posted_phase ≡ Mark) ⊎ (posted_phase ≡ Allocate) → space ≢ InNew
+  pub clear : posted_phase ≡ Reclaim → space ≢ InBoth
+  pub held : passes hold posted_phase (give_birth space m k n) (address_at space m) ≡ true
 
 -- addresses of one number are one
 pub same_address : (a b : Addr) → a.number ≡ b.number → a ≡ b
@@ -220,9 +220,9 @@ module _ (m : Spaces) (k : Kind) (n : ℕ) where
 
   -- ---- the two parts of one object
 
-  module _ (h : AreSpaces m) (tree : Tree) (posted : Phase) (p : Progress) where
+  module _ (h : AreSpaces m) (tree : Tree) (posted_phase : Phase) (p : Progress) where
     -- the new part is the copy of the old one
-    both_copies : AreSpaces (give_birth InBoth m k n) → AreCopies tree posted p (give_birth InBoth m k n) (next_address m.old) (empty_cell k n true (Some (next_address m.new))) (empty_cell k n true (Some (next_address m.old)))
+    both_copies : AreSpaces (give_birth InBoth m k n) → AreCopies tree posted_phase p (give_birth InBoth m k n) (next_address m.old) (empty_cell k n true (Some (next_address m.new))) (empty_cell k n true (Some (next_address m.old)))
     both_copies h' = record {
       kind = refl;
       count = refl;
@@ -230,14 +230,14 @@ module _ (m : Spaces) (k : Kind) (n : ℕ) where
       words = words;
     }
       where
-        words : (word : ℕ) → IsInCopy posted p (give_birth InBoth m k n) (next_address m.old) (empty_cell k n true (Some (next_address m.new))) word
+        words : (word : ℕ) → IsInCopy posted_phase p (give_birth InBoth m k n) (next_address m.old) (empty_cell k n true (Some (next_address m.new))) word
             → IsCopiedWord tree (give_birth InBoth m k n) (empty_cell k n true (Some (next_address m.new))) (empty_cell k n true (Some (next_address m.old))) word
         words zero e = refl
         words (suc slot) e = zeros_copied tree (give_birth InBoth m k n) h' (empty_cell k n true (Some (next_address m.new))) (empty_cell k n true (Some (next_address m.old))) n refl refl slot
 
     -- what the old part refers to as its copy is there, and is its copy
     out_part : (space : BirthSpace) → AreSpaces (give_birth space m k n) → (a b : Addr) (c : Cell) → a.number ≡ (next_address m.old).number → old_part space m k n ≡ Some c → c.other ≡ Some b
-        → (d : Cell) × (cell_in (give_birth space m k n).new b ≡ Some d) × AreCopies tree posted p (give_birth space m k n) a c d
+        → (d : Cell) × (cell_in (give_birth space m k n).new b ≡ Some d) × AreCopies tree posted_phase p (give_birth space m k n) a c d
     out_part InOld h' a b c at e other = elim (none-some b (ap other_of e ∙ other)) [ ]
     out_part Listed h' a b c at e other = elim (none-some b (ap other_of e ∙ other)) [ ]
     out_part InBoth h' a b c at e other =
@@ -245,9 +245,9 @@ module _ (m : Spaces) (k : Kind) (n : ℕ) where
         let d = empty_cell k n true (Some (next_address m.old)) in
         let there : next_address m.new ≡ b = same_Some (next_address m.new) b (ap other_of e ∙ other) in
         let here : next_address m.old ≡ a = sym (same_address a (next_address m.old) at) in
-        let are = subst (λ y. AreCopies tree posted p (give_birth InBoth m k n) (next_address m.old) y d) (same_Some x c e) (both_copies h') in
+        let are = subst (λ y. AreCopies tree posted_phase p (give_birth InBoth m k n) (next_address m.old) y d) (same_Some x c e) (both_copies h') in
         let lies = subst (λ y. cell_in (give_birth InBoth m k n).new y ≡ Some d) there (born-new_last m h k n InBoth d refl) in
-        (d, lies, subst (λ y. AreCopies tree posted p (give_birth InBoth m k n) y c d) here are)
+        (d, lies, subst (λ y. AreCopies tree posted_phase p (give_birth InBoth m k n) y c d) here are)
     out_part InNew h' a b c at e other = elim (none-some c e) [ ]
 
     -- and the other way round
@@ -264,8 +264,8 @@ module _ (m : Spaces) (k : Kind) (n : ℕ) where
 
 -- ---- a heap in which one more is born
 
-module _ (tree : Tree) (hold : Hold) (posted : Phase) (has_round : Bool) (words : ℕ) (p : Progress) (m : Spaces) (k : Kind) (n : ℕ) (space : BirthSpace)
-    (sound : IsSoundHeap tree posted has_round words p m) (room : 3 + n ≤ room_at space m) (suits : Suits hold posted p m k n space) where
+module _ (tree : Tree) (hold : Hold) (posted_phase : Phase) (has_round : Bool) (words : ℕ) (p : Progress) (m : Spaces) (k : Kind) (n : ℕ) (space : BirthSpace)
+    (sound : IsSoundHeap tree posted_phase has_round words p m) (room : 3 + n ≤ room_at space m) (suits : Suits hold posted_phase p m k n space) where
   abbrev m' : Spaces
   m' = give_birth space m k n
 
@@ -299,8 +299,8 @@ module _ (tree : Tree) (hold : Hold) (posted : Phase) (has_round : Bool) (words 
   }
 
   -- slots that passed continue to pass
-  live_slots : (c : Cell) → SlotsPass tree (is_live posted m) c → SlotsPass tree (is_live posted m') c
-  live_slots c s = slots_weaken tree (is_live posted m) (is_live posted m') (λ a e. live_stays m m' born_stays a posted e) c s
+  live_slots : (c : Cell) → SlotsPass tree (is_live posted_phase m) c → SlotsPass tree (is_live posted_phase m') c
+  live_slots c s = slots_weaken tree (is_live posted_phase m) (is_live posted_phase m') (λ a e. live_stays m m' born_stays a posted_phase e) c s
 
   new_slots : (c : Cell) → SlotsPass tree (is_new_address m) c → SlotsPass tree (is_new_address m') c
   new_slots c s = slots_weaken tree (is_new_address m) (is_new_address m') (new_stays m m' born_stays) c s
@@ -314,19 +314,19 @@ module _ (tree : Tree) (hold : Hold) (posted : Phase) (has_round : Bool) (words 
   forward_by a (in_old c e) = rw (kept_old a c e, e) refl
   forward_by a (in_new c e) = forward_new m' h' a c (kept_new a c e) ∙ sym (forward_new m h a c e)
 
-  pub born_forward : (a : Addr) → is_live posted m a ≡ true → forward m' a ≡ forward m a
-  born_forward a e = forward_by a (live_lies m a posted e)
+  pub born_forward : (a : Addr) → is_live posted_phase m a ≡ true → forward m' a ≡ forward m a
+  born_forward a e = forward_by a (live_lies m a posted_phase e)
 
   -- ---- blocks
 
   -- the blocks are as they should be in the phase
-  born_blocks : AreBlocks posted words m'
+  born_blocks : AreBlocks posted_phase words m'
   born_blocks = record {
     few = sound.blocks.few;
     spaces = h';
     held = (born_flags m k n space).0 ∙ sound.blocks.held;
     old_words = subst (λ w. w ≤ words) (sym (born_words m k n space).0) sound.blocks.old_words;
-    new_words = subst (λ w. w ≤ (if is_of_cycle posted then words else 0)) (sym (born_words m k n space).1) sound.blocks.new_words;
+    new_words = subst (λ w. w ≤ (if is_of_cycle posted_phase then words else 0)) (sym (born_words m k n space).1) sound.blocks.new_words;
     grows = λ e. (let b = born_words m k n space in let g = sound.blocks.grows e in omega (arith, b.0, b.1, g));
     none_new = λ e. none_added m k n space (suits.early e) ∙ sound.blocks.none_new e;
     none_grey = λ e. ap (λ x. (give_birth x m k n).grey) (suits.between e) ∙ sound.blocks.none_grey e;
@@ -335,7 +335,7 @@ module _ (tree : Tree) (hold : Hold) (posted : Phase) (has_round : Bool) (words 
   -- ---- copies
 
   -- a word of an object that is read has the copy that it had
-  word_stays : (c : Cell) → is_read posted c ≡ true → (a : Addr) → cell_in m.old a ≡ Some c → (slot word : ℕ) → slice_get c.slots slot ≡ Some word
+  word_stays : (c : Cell) → is_read posted_phase c ≡ true → (a : Addr) → cell_in m.old a ≡ Some c → (slot word : ℕ) → slice_get c.slots slot ≡ Some word
       → copied_word tree m c slot word ≡ copied_word tree m' c slot word
   word_stays c read a lies slot word there = by_kind (holds_reference tree c.kind slot) refl
     where
@@ -344,7 +344,7 @@ module _ (tree : Tree) (hold : Hold) (posted : Phase) (has_round : Bool) (words 
       by_kind false holds = refl
 
   -- copies are copies still
-  copies_stay : (a : Addr) (c d : Cell) → cell_in m.old a ≡ Some c → c.marked ≡ true → AreCopies tree posted p m a c d → AreCopies tree posted p m' a c d
+  copies_stay : (a : Addr) (c d : Cell) → cell_in m.old a ≡ Some c → c.marked ≡ true → AreCopies tree posted_phase p m a c d → AreCopies tree posted_phase p m' a c d
   copies_stay a c d lies marked are = record {
     kind = are.kind;
     count = are.count;
@@ -352,42 +352,42 @@ module _ (tree : Tree) (hold : Hold) (posted : Phase) (has_round : Bool) (words 
     words = words_stay;
   }
     where
-      words_stay : (word : ℕ) → IsInCopy posted p m' a c word → IsCopiedWord tree m' c d word
-      words_stay zero e = are.words 0 (in_copy_before p m m' (born_start m k n space) a posted c 0 e)
+      words_stay : (word : ℕ) → IsInCopy posted_phase p m' a c word → IsCopiedWord tree m' c d word
+      words_stay zero e = are.words 0 (in_copy_before p m m' (born_start m k n space) a posted_phase c 0 e)
       words_stay (suc slot) e = λ word there. (
-          let before = in_copy_before p m m' (born_start m k n space) a posted c (suc slot) e in
-          let read = read_once_copied posted p m a (suc slot) c before marked in
+          let before = in_copy_before p m m' (born_start m k n space) a posted_phase c (suc slot) e in
+          let read = read_once_copied posted_phase p m a (suc slot) c before marked in
           are.words (suc slot) before word there ∙ ap Some (word_stays c read a lies slot word there))
 
   -- each old object that refers to a copy has it
-  born_out : (a b : Addr) (c : Cell) → cell_in m'.old a ≡ Some c → c.other ≡ Some b → (d : Cell) × (cell_in m'.new b ≡ Some d) × AreCopies tree posted p m' a c d
+  born_out : (a b : Addr) (c : Cell) → cell_in m'.old a ≡ Some c → c.other ≡ Some b → (d : Cell) × (cell_in m'.new b ≡ Some d) × AreCopies tree posted_phase p m' a c d
   born_out a b c e other = elim (was_old a c e) [
     | inl was ↦ by_copy was (sound.copies.out a b c was other)
-    | inr here ↦ out_part m k n h tree posted p space h' a b c here.0 here.1 other
+    | inr here ↦ out_part m k n h tree posted_phase p space h' a b c here.0 here.1 other
   ]
     where
       some_other : c.other ≢ None
       some_other none = none-some b (sym none ∙ other)
 
-      by_copy : cell_in m.old a ≡ Some c → (d : Cell) × (cell_in m.new b ≡ Some d) × AreCopies tree posted p m a c d → (d : Cell) × (cell_in m'.new b ≡ Some d) × AreCopies tree posted p m' a c d
+      by_copy : cell_in m.old a ≡ Some c → (d : Cell) × (cell_in m.new b ≡ Some d) × AreCopies tree posted_phase p m a c d → (d : Cell) × (cell_in m'.new b ≡ Some d) × AreCopies tree posted_phase p m' a c d
       by_copy was r = (r.0, kept_new b r.0 r.1, copies_stay a c r.0 was (sound.copies.marked_only a c was some_other) r.2)
 
   -- each new object that refers to an old one is its copy
   born_back : (a b : Addr) (d : Cell) → cell_in m'.new b ≡ Some d → d.other ≡ Some a → (c : Cell) × (cell_in m'.old a ≡ Some c) × (c.other ≡ Some b)
   born_back a b d e other = elim (was_new b d e) [
     | inl was ↦ (let r = sound.copies.back a b d was other in (r.0, kept_old a r.0 r.1, r.2))
-    | inr here ↦ back_part m k n h tree posted p space a b d here.0 here.1 other
+    | inr here ↦ back_part m k n h tree posted_phase p space a b d here.0 here.1 other
   ]
 
   -- each old object that was looked for has its copy
-  born_shells : (a : Addr) (c : Cell) → cell_in m'.old a ≡ Some c → c.marked ≡ true → HasLooked posted p m' a → c.other ≢ None
+  born_shells : (a : Addr) (c : Cell) → cell_in m'.old a ≡ Some c → c.marked ≡ true → HasLooked posted_phase p m' a → c.other ≢ None
   born_shells a c e marked looked = elim (was_old a c e) [
     | inl was ↦ sound.copies.shells a c was marked before
-    | inr here ↦ (λ none. suits.unlooked (listed_part m k n space (ap is_marked_cell here.1 ∙ marked) (ap other_of here.1 ∙ none)) (subst (λ x. HasLooked posted p m x) (same_address a (next_address m.old) here.0) before))
+    | inr here ↦ (λ none. suits.unlooked (listed_part m k n space (ap is_marked_cell here.1 ∙ marked) (ap other_of here.1 ∙ none)) (subst (λ x. HasLooked posted_phase p m x) (same_address a (next_address m.old) here.0) before))
   ]
     where
-      before : HasLooked posted p m a
-      before = looked_before p m m' (born_start m k n space) a posted looked
+      before : HasLooked posted_phase p m a
+      before = looked_before p m m' (born_start m k n space) a posted_phase looked
 
   -- only marked objects have copies
   born_marked_only : (a : Addr) (c : Cell) → cell_in m'.old a ≡ Some c → c.other ≢ None → c.marked ≡ true
@@ -397,10 +397,10 @@ module _ (tree : Tree) (hold : Hold) (posted : Phase) (has_round : Bool) (words 
   ]
 
   -- what is read of the old block refers to what is live
-  born_old_references : (a : Addr) (c : Cell) → cell_in m'.old a ≡ Some c → is_read posted c ≡ true → SlotsPass tree (is_live posted m') c
+  born_old_references : (a : Addr) (c : Cell) → cell_in m'.old a ≡ Some c → is_read posted_phase c ≡ true → SlotsPass tree (is_live posted_phase m') c
   born_old_references a c e read = elim (was_old a c e) [
     | inl was ↦ live_slots c (sound.copies.old_references a c was read)
-    | inr here ↦ zeros_pass tree (is_live posted m') refl c n (old_empty m k n space c here.1)
+    | inr here ↦ zeros_pass tree (is_live posted_phase m') refl c n (old_empty m k n space c here.1)
   ]
 
   -- the new block refers to nothing old
@@ -411,7 +411,7 @@ module _ (tree : Tree) (hold : Hold) (posted : Phase) (has_round : Bool) (words 
   ]
 
   -- all of it together
-  born_copied : AreCopied tree posted p m'
+  born_copied : AreCopied tree posted_phase p m'
   born_copied = record {
     bare = λ a c e before. elim (was_old a c e) [
       | inl was ↦ sound.copies.bare a c was before
@@ -470,7 +470,7 @@ module _ (tree : Tree) (hold : Hold) (posted : Phase) (has_round : Bool) (words 
       none_by [] g = refl
       none_by (x ∷ xs) g = no_item x (xs ++ next_address m.old ∷ []) g
 
-  module _ (marking : posted ≡ Mark) where
+  module _ (marking : posted_phase ≡ Mark) where
     -- what was true of marks
     marks : AreMarked tree has_round p m
     marks = sound.marks marking
@@ -537,7 +537,7 @@ module _ (tree : Tree) (hold : Hold) (posted : Phase) (has_round : Bool) (words 
   -- ---- the heap
 
   -- the new objects before the cursor of the collector are cleared
-  born_cleared : posted ≡ Reclaim → IsCleared p m'
+  born_cleared : posted_phase ≡ Reclaim → IsCleared p m'
   born_cleared last = record {
     offset = new_space m k n p.cursor space (sound.cleared last).offset;
     objects = λ b d e less. elim (was_new b d e) [
@@ -547,7 +547,7 @@ module _ (tree : Tree) (hold : Hold) (posted : Phase) (has_round : Bool) (words 
   }
 
   -- what the collector has loaded is live still
-  born_loaded : posted ≡ Copy → IsLoaded tree p m'
+  born_loaded : posted_phase ≡ Copy → IsLoaded tree p m'
   born_loaded copying is c lies slot next holds =
       let one = sound.cursor.words copying (λ none. absurd (omega (arith, next, none))) in
       let there = subst (λ s. cell_in m'.old (record { number = s + p.cursor }) ≡ Some c) (born_start m k n space) lies in
@@ -556,9 +556,9 @@ module _ (tree : Tree) (hold : Hold) (posted : Phase) (has_round : Bool) (words 
       live_stays m m' born_stays (reference_in p.attempt.word) Copy (sound.loaded copying is one.0 one.1 slot next held)
 
   -- the heap is sound
-  pub born_heap : IsSoundHeap tree posted has_round words p m'
-  born_heap = record { blocks = born_blocks; copies = born_copied; cursor = HasCursor-born posted p m sound.cursor space k n; loaded = born_loaded; marks = born_marked; cleared = born_cleared }
+  pub born_heap : IsSoundHeap tree posted_phase has_round words p m'
+  born_heap = record { blocks = born_blocks; copies = born_copied; cursor = HasCursor-born posted_phase p m sound.cursor space k n; loaded = born_loaded; marks = born_marked; cleared = born_cleared }
 
   -- where the collector has not begun, it has not begun still
-  pub born_not_begun : HasNotBegun posted has_round p m → HasNotBegun posted has_round p m'
+  pub born_not_begun : HasNotBegun posted_phase has_round p m → HasNotBegun posted_phase has_round p m'
   born_not_begun before = record { nothing = before.nothing; no_round = before.no_round; all_grey = λ marking. born_all_grey marking (before.all_grey marking) }

@@ -18,16 +18,16 @@ use Rattle.collector.specs.declared.progress.Progress.{Progress}
 use Rattle.collector.proofs.BlockWalks.ChangedBlocks.{IsOffset-change}
 
 -- with nothing done the cursor is at the first offset, whatever is posted
-pub HasCursor-begun : (posted : Phase) (m : Spaces) → HasCursor posted no_progress m
-HasCursor-begun posted m = record {
+pub HasCursor-begun : (posted_phase : Phase) (m : Spaces) → HasCursor posted_phase no_progress m
+HasCursor-begun posted_phase m = record {
   offset = λ now. (let same : m.old.start ≡ m.old.start + 0 = omega arith in subst (IsOffset m.old) same (IsOffset-start m.old));
   attempts = λ now. omega arith;
   words = λ now some. absurd (some refl);
 }
 
-module _ (posted : Phase) (p : Progress) where
+module _ (posted_phase : Phase) (p : Progress) where
   -- in any other phase it says nothing
-  pub HasCursor-else : (m : Spaces) → posted ≢ Allocate → posted ≢ Copy → HasCursor posted p m
+  pub HasCursor-else : (m : Spaces) → posted_phase ≢ Allocate → posted_phase ≢ Copy → HasCursor posted_phase p m
   HasCursor-else m not_allocate not_copy = record {
     offset = λ now. elim now [ inl is ↦ absurd (not_allocate is) | inr is ↦ absurd (not_copy is) ];
     attempts = λ now. absurd (not_copy now);
@@ -35,12 +35,12 @@ module _ (posted : Phase) (p : Progress) where
   }
 
   -- the cursor lies within the words in use
-  pub offset_within : (m : Spaces) → HasCursor posted p m → (posted ≡ Allocate) ⊎ (posted ≡ Copy) → p.cursor ≤ used_words m.old.cells
+  pub offset_within : (m : Spaces) → HasCursor posted_phase p m → (posted_phase ≡ Allocate) ⊎ (posted_phase ≡ Copy) → p.cursor ≤ used_words m.old.cells
   offset_within m h now = let r = offset-le-end m.old (m.old.start + p.cursor) (h.offset now) in omega (arith, r.1)
 
-  module _ (m n : Spaces) (h : HasCursor posted p m) where
+  module _ (m n : Spaces) (h : HasCursor posted_phase p m) where
     -- the old block alone matters
-    pub HasCursor-same : n.old ≡ m.old → HasCursor posted p n
+    pub HasCursor-same : n.old ≡ m.old → HasCursor posted_phase p n
     HasCursor-same same = record {
       offset = λ now. subst (λ (s : Cells). IsOffset s (s.start + p.cursor)) (sym same) (h.offset now);
       attempts = h.attempts;
@@ -52,10 +52,10 @@ module _ (posted : Phase) (p : Progress) where
     }
 
   -- one old object more
-  pub HasCursor-last : (m n : Spaces) → HasCursor posted p m → (c : Cell) → n.old ≡ with_last m.old c → HasCursor posted p n
+  pub HasCursor-last : (m n : Spaces) → HasCursor posted_phase p m → (c : Cell) → n.old ≡ with_last m.old c → HasCursor posted_phase p n
   HasCursor-last m n h c same = HasCursor-same (record m { old = with_last m.old c }) n more same
     where
-      more : HasCursor posted p (record m { old = with_last m.old c })
+      more : HasCursor posted_phase p (record m { old = with_last m.old c })
       more = record {
         offset = λ now. IsOffset-last m.old c (m.old.start + p.cursor) (h.offset now);
         attempts = h.attempts;
@@ -63,14 +63,14 @@ module _ (posted : Phase) (p : Progress) where
       }
 
   -- a change of an object that leaves its count of slots and its other copy
-  pub HasCursor-change : (m n : Spaces) → HasCursor posted p m → (f : Cell → Cell) → ((c : Cell) → length (f c).slots ≡ length c.slots) → ((c : Cell) → (f c).other ≡ c.other)
-      → (a : Addr) → n.old ≡ change_in f m.old a → HasCursor posted p n
+  pub HasCursor-change : (m n : Spaces) → HasCursor posted_phase p m → (f : Cell → Cell) → ((c : Cell) → length (f c).slots ≡ length c.slots) → ((c : Cell) → (f c).other ≡ c.other)
+      → (a : Addr) → n.old ≡ change_in f m.old a → HasCursor posted_phase p n
   HasCursor-change m n h f count others a same = HasCursor-same (record m { old = change_in f m.old a }) n changed same
     where
       keeps : (c : Cell) → size (f c) ≡ size c
       keeps c = ap (λ l. 3 + l) (count c)
 
-      changed : HasCursor posted p (record m { old = change_in f m.old a })
+      changed : HasCursor posted_phase p (record m { old = change_in f m.old a })
       changed = record {
         offset = λ now. IsOffset-change f keeps m.old a (m.old.start + p.cursor) (h.offset now);
         attempts = h.attempts;
@@ -95,9 +95,9 @@ module _ (posted : Phase) (p : Progress) where
 
   -- ---- what threads do
 
-  module _ (m : Spaces) (h : HasCursor posted p m) where
+  module _ (m : Spaces) (h : HasCursor posted_phase p m) where
     -- a birth
-    pub HasCursor-born : (q : BirthSpace) (k : Kind) (n : ℕ) → HasCursor posted p (give_birth q m k n)
+    pub HasCursor-born : (q : BirthSpace) (k : Kind) (n : ℕ) → HasCursor posted_phase p (give_birth q m k n)
     HasCursor-born InOld k n = HasCursor-last m (give_birth InOld m k n) h (empty_cell k n false None) refl
     HasCursor-born Listed k n = HasCursor-last m (give_birth Listed m k n) h (empty_cell k n true None) refl
     HasCursor-born InBoth k n = HasCursor-last m (give_birth InBoth m k n) h (empty_cell k n true (Some (next_address m.new))) refl
@@ -106,30 +106,30 @@ module _ (posted : Phase) (p : Progress) where
     abbrev outcome : BirthSpace → Kind → ℕ → Bool → Spaces × Option Addr
     outcome q k n t = if t then (give_birth q m k n, Some (address_at q m)) else (m, None)
 
-    born_by : (q : BirthSpace) (k : Kind) (n : ℕ) (t : Bool) → HasCursor posted p (outcome q k n t).0
+    born_by : (q : BirthSpace) (k : Kind) (n : ℕ) (t : Bool) → HasCursor posted_phase p (outcome q k n t).0
     born_by q k n true = HasCursor-born q k n
     born_by q k n false = h
 
     -- which may be refused
-    pub HasCursor-birth_at : (q : BirthSpace) (k : Kind) (n : ℕ) → HasCursor posted p (birth_at q m k n).0
+    pub HasCursor-birth_at : (q : BirthSpace) (k : Kind) (n : ℕ) → HasCursor posted_phase p (birth_at q m k n).0
     HasCursor-birth_at q k n = born_by q k n (nat_le (3 + n) (room_at q m))
 
     -- a mark
-    pub HasCursor-mark : (a : Addr) → HasCursor posted p (mark m a).0
+    pub HasCursor-mark : (a : Addr) → HasCursor posted_phase p (mark m a).0
     HasCursor-mark a = by_white (is_white (cell_in m.old a))
       where
-        by_white : (t : Bool) → HasCursor posted p (marked_if t m a)
+        by_white : (t : Bool) → HasCursor posted_phase p (marked_if t m a)
         by_white true = HasCursor-change m (marked_if true m a) h set_mark (λ c. refl) (λ c. refl) a refl
         by_white false = h
 
     -- a store to both copies
     pub HasCursor-change_copies : (f g : Cell → Cell) → ((c : Cell) → length (f c).slots ≡ length c.slots) → ((c : Cell) → (f c).other ≡ c.other)
-        → ((c : Cell) → length (g c).slots ≡ length c.slots) → ((c : Cell) → (g c).other ≡ c.other) → (a : Addr) → HasCursor posted p (change_copies f g m a)
+        → ((c : Cell) → length (g c).slots ≡ length c.slots) → ((c : Cell) → (g c).other ≡ c.other) → (a : Addr) → HasCursor posted_phase p (change_copies f g m a)
     HasCursor-change_copies f g count others count' others' a = by_other (other_of (cell_at m a))
       where
-        one : HasCursor posted p (change_at f m a)
+        one : HasCursor posted_phase p (change_at f m a)
         one = HasCursor-change m (change_at f m a) h f count others a refl
 
-        by_other : (o : Option Addr) → HasCursor posted p (change_if g (change_at f m a) o)
+        by_other : (o : Option Addr) → HasCursor posted_phase p (change_if g (change_at f m a) o)
         by_other None = one
         by_other (Some b) = HasCursor-change (change_at f m a) (change_at g (change_at f m a) b) one g count' others' b refl

@@ -58,11 +58,11 @@ monitor_stored tree test c m j x is link = inl is
 
 -- ---- two copies
 
-module _ (tree : Tree) (posted : Phase) (p : Progress) (m : Spaces) where
+module _ (tree : Tree) (posted_phase : Phase) (p : Progress) (m : Spaces) where
   -- copies that a change leaves alike in each word
-  pub copies_by : (f g : Cell → Cell) → KeepsTags f → KeepsTags g → (x : Addr) (c d : Cell) → AreCopies tree posted p m x c d
-      → ((word : ℕ) → IsInCopy posted p m x (f c) word → IsCopiedWord tree m (f c) (g d) word)
-      → AreCopies tree posted p m x (f c) (g d)
+  pub copies_by : (f g : Cell → Cell) → KeepsTags f → KeepsTags g → (x : Addr) (c d : Cell) → AreCopies tree posted_phase p m x c d
+      → ((word : ℕ) → IsInCopy posted_phase p m x (f c) word → IsCopiedWord tree m (f c) (g d) word)
+      → AreCopies tree posted_phase p m x (f c) (g d)
   copies_by f g keeps keeps' x c d were words = record {
     kind = keeps'.kind d ∙ were.kind ∙ sym (keeps.kind c);
     count = keeps'.count d ∙ were.count ∙ sym (keeps.count c);
@@ -71,12 +71,12 @@ module _ (tree : Tree) (posted : Phase) (p : Progress) (m : Spaces) where
   }
 
   -- what is in the copy was so before, where the old copy has the word that it had
-  was_in_copy : (x : Addr) (c c' : Cell) (word : ℕ) → has_loaded p.attempt c' word ≡ has_loaded p.attempt c word → IsInCopy posted p m x c' word → IsInCopy posted p m x c word
+  was_in_copy : (x : Addr) (c c' : Cell) (word : ℕ) → has_loaded p.attempt c' word ≡ has_loaded p.attempt c word → IsInCopy posted_phase p m x c' word → IsInCopy posted_phase p m x c word
   was_in_copy x c c' word same (inl done) = inl done
   was_in_copy x c c' word same (inr stored) = inr (record { copying = stored.copying; here = stored.here; next = stored.next; stored = stored.stored; same = sym same ∙ stored.same })
 
   -- a word in a slot of the old copy, and its copy in the new one
-  module _ (slot w w' : ℕ) (x : Addr) (c d : Cell) (were : AreCopies tree posted p m x c d) (copied : w' ≡ copied_word tree m c slot w) where
+  module _ (slot w w' : ℕ) (x : Addr) (c d : Cell) (were : AreCopies tree posted_phase p m x c d) (copied : w' ≡ copied_word tree m c slot w) where
     copied_at : (j : ℕ) → (slot ≢ j → IsCopiedSlot tree m c d j) → IsCopiedSlot tree m (store_slot slot w c) (store_slot slot w' d) j
     copied_at j was word is = by_test (slot == j) refl
       where
@@ -93,19 +93,19 @@ module _ (tree : Tree) (posted : Phase) (p : Progress) (m : Spaces) where
             let ne : slot ≢ j = λ h. absurd (grind (arith, nat_tests)) in
             set_other d.slots slot j w' ne ∙ was ne word (sym (set_other c.slots slot j w ne) ∙ is)
 
-    words_alike : (word : ℕ) → IsInCopy posted p m x (store_slot slot w c) word → IsCopiedWord tree m (store_slot slot w c) (store_slot slot w' d) word
+    words_alike : (word : ℕ) → IsInCopy posted_phase p m x (store_slot slot w c) word → IsCopiedWord tree m (store_slot slot w c) (store_slot slot w' d) word
     words_alike zero is = were.words 0 (was_in_copy x c (store_slot slot w c) 0 refl is)
     words_alike (suc j) is =
         copied_at j (λ ne. were.words (suc j) (was_in_copy x c (store_slot slot w c) (suc j) (ap (λ (o : Option ℕ). unwrap_or o 0 == p.attempt.word) (set_other c.slots slot j w ne)) is))
 
     -- the copies are alike
-    pub slots_alike : AreCopies tree posted p m x (store_slot slot w c) (store_slot slot w' d)
+    pub slots_alike : AreCopies tree posted_phase p m x (store_slot slot w c) (store_slot slot w' d)
     slots_alike = copies_by (store_slot slot w) (store_slot slot w') (slot_keeps_tags slot w) (slot_keeps_tags slot w') x c d were words_alike
 
   -- one monitor in both
-  pub monitors_alike : (monitor : Monitor) (x : Addr) (c d : Cell) → AreCopies tree posted p m x c d → AreCopies tree posted p m x (store_monitor monitor c) (store_monitor monitor d)
+  pub monitors_alike : (monitor : Monitor) (x : Addr) (c d : Cell) → AreCopies tree posted_phase p m x c d → AreCopies tree posted_phase p m x (store_monitor monitor c) (store_monitor monitor d)
   monitors_alike monitor x c d were = copies_by (store_monitor monitor) (store_monitor monitor) (monitor_keeps_tags monitor) (monitor_keeps_tags monitor) x c d were each
     where
-      each : (word : ℕ) → IsInCopy posted p m x (store_monitor monitor c) word → IsCopiedWord tree m (store_monitor monitor c) (store_monitor monitor d) word
+      each : (word : ℕ) → IsInCopy posted_phase p m x (store_monitor monitor c) word → IsCopiedWord tree m (store_monitor monitor c) (store_monitor monitor d) word
       each zero is = refl
       each (suc j) is = were.words (suc j) (was_in_copy x c (store_monitor monitor c) (suc j) refl is)

@@ -39,7 +39,7 @@ are_shells : (tree : Tree) (p : Progress) (m : Spaces) (a : Addr) (c d : Cell) �
 are_shells tree p m a c d kind count back = record {
   kind = kind;
   count = count;
-  back = λ posted. back;
+  back = λ posted_phase. back;
   words = λ word h. elim h [ inl done ↦ elim done [ ] | inr stored ↦ (let wrong = stored.copying in absurd cc) ];
 }
 
@@ -154,7 +154,7 @@ module _ (tree : Tree) (has_round : Bool) (words : ℕ) (p : Progress) (m : Spac
       marked_only = marked_then;
       old_references = old_then;
       new_references = new_then;
-      room = λ posted. HasShellRoom-shell m spaces room a c lies bare;
+      room = λ posted_phase. HasShellRoom-shell m spaces room a c lies bare;
     }
 
     shell_blocks : AreBlocks Allocate words after
@@ -173,10 +173,10 @@ module _ (tree : Tree) (has_round : Bool) (words : ℕ) (p : Progress) (m : Spac
     shell_sound = record {
       blocks = shell_blocks;
       copies = shell_copied;
-      cursor = record { offset = λ posted. IsOffset-change (set_other b) (λ z. refl) m.old a (m.old.start + p.cursor) (sound.cursor.offset posted); attempts = λ posted. absurd cc; words = λ posted. absurd cc };
-      loaded = λ posted. absurd cc;
-      marks = λ posted. absurd cc;
-      cleared = λ posted. absurd cc;
+      cursor = record { offset = λ posted_phase. IsOffset-change (set_other b) (λ z. refl) m.old a (m.old.start + p.cursor) (sound.cursor.offset posted_phase); attempts = λ posted_phase. absurd cc; words = λ posted_phase. absurd cc };
+      loaded = λ posted_phase. absurd cc;
+      marks = λ posted_phase. absurd cc;
+      cleared = λ posted_phase. absurd cc;
     }
 
   -- ---- the cursor moves on
@@ -221,10 +221,10 @@ module _ (tree : Tree) (has_round : Bool) (words : ℕ) (p : Progress) (m : Spac
     next_sound = record {
       blocks = sound.blocks;
       copies = next_copied;
-      cursor = record { offset = λ posted. next_offset; attempts = λ posted. absurd cc; words = λ posted. absurd cc };
-      loaded = λ posted. absurd cc;
-      marks = λ posted. absurd cc;
-      cleared = λ posted. absurd cc;
+      cursor = record { offset = λ posted_phase. next_offset; attempts = λ posted_phase. absurd cc; words = λ posted_phase. absurd cc };
+      loaded = λ posted_phase. absurd cc;
+      marks = λ posted_phase. absurd cc;
+      cleared = λ posted_phase. absurd cc;
     }
 
 -- ---- a step
@@ -313,7 +313,7 @@ module _ (tree : Tree) (has_round : Bool) (words : ℕ) (p : Progress) (o : Obje
     unfilled a c d lies h = record {
       kind = h.kind;
       count = h.count;
-      back = λ posted. h.back (inl (λ wrong. absurd cc));
+      back = λ posted_phase. h.back (inl (λ wrong. absurd cc));
       words = λ word is. absurd (elim is [ inl done ↦ none word done | inr stored ↦ (let wrong = stored.stored in absurd cc) ]);
     }
       where
@@ -343,10 +343,10 @@ module _ (tree : Tree) (has_round : Bool) (words : ℕ) (p : Progress) (o : Obje
         marked_only = sound.copies.marked_only;
         old_references = sound.copies.old_references;
         new_references = sound.copies.new_references;
-        room = λ posted. elim posted [ inl wrong ↦ absurd cc | inr wrong ↦ absurd cc ];
+        room = λ posted_phase. elim posted_phase [ inl wrong ↦ absurd cc | inr wrong ↦ absurd cc ];
       };
       cursor = HasCursor-begun Copy o.spaces;
       loaded = λ copying is. absurd cc;
-      marks = λ posted. absurd cc;
-      cleared = λ posted. absurd cc;
+      marks = λ posted_phase. absurd cc;
+      cleared = λ posted_phase. absurd cc;
     }

@@ -143,12 +143,12 @@ module _ (tree : Tree) (m : Spaces) (from : Cell) (t : Attempt) where
 
 -- ---- two copies
 
-module _ (tree : Tree) (posted : Phase) (p : Progress) (m : Spaces) (a : Addr) (c d : Cell) where
+module _ (tree : Tree) (posted_phase : Phase) (p : Progress) (m : Spaces) (a : Addr) (c d : Cell) where
   -- where they agree in each of their words, they are two copies
-  pub are_copies : d.kind ≡ c.kind → length d.slots ≡ length c.slots → ((posted ≢ Reclaim) ⊎ (d.other ≢ None) → d.other ≡ Some a)
-      → ((word : ℕ) → word ≤ length c.slots → IsInCopy posted p m a c word → IsCopiedWord tree m c d word) → AreCopies tree posted p m a c d
+  pub are_copies : d.kind ≡ c.kind → length d.slots ≡ length c.slots → ((posted_phase ≢ Reclaim) ⊎ (d.other ≢ None) → d.other ≡ Some a)
+      → ((word : ℕ) → word ≤ length c.slots → IsInCopy posted_phase p m a c word → IsCopiedWord tree m c d word) → AreCopies tree posted_phase p m a c d
   are_copies kind count back words = record { kind = kind; count = count; back = back; words = each }
     where
-      each : (word : ℕ) → IsInCopy posted p m a c word → IsCopiedWord tree m c d word
+      each : (word : ℕ) → IsInCopy posted_phase p m a c word → IsCopiedWord tree m c d word
       each zero is = words 0 (omega arith) is
       each (suc slot) is = λ word there. (let within = slice_get_within c.slots slot word there in words (suc slot) (omega (arith, within)) is word there)

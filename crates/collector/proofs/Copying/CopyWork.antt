@@ -136,9 +136,9 @@ module _ (tree : Tree) (has_round : Bool) (words : ℕ) (p : Progress) (m : Spac
 
       before_offset : attempt_cost t ≤ most_spent → HasCursor Copy q m
       before_offset most = record {
-        offset = λ posted. subst (IsOffset m.old) (sym here_is) (IsOffset-cell m.old a c lies);
-        attempts = λ posted. most;
-        words = λ posted some. (c, subst (λ (n : ℕ). cell_in m.old (record { number = n }) ≡ Some c) (sym here_is) lies, some_other, few);
+        offset = λ posted_phase. subst (IsOffset m.old) (sym here_is) (IsOffset-cell m.old a c lies);
+        attempts = λ posted_phase. most;
+        words = λ posted_phase some. (c, subst (λ (n : ℕ). cell_in m.old (record { number = n }) ≡ Some c) (sym here_is) lies, some_other, few);
       }
 
       -- the heap is sound there, where nothing is stored
@@ -154,12 +154,12 @@ module _ (tree : Tree) (has_round : Bool) (words : ℕ) (p : Progress) (m : Spac
           marked_only = sound.copies.marked_only;
           old_references = sound.copies.old_references;
           new_references = sound.copies.new_references;
-          room = λ posted. elim posted [ inl wrong ↦ absurd cc | inr wrong ↦ absurd cc ];
+          room = λ posted_phase. elim posted_phase [ inl wrong ↦ absurd cc | inr wrong ↦ absurd cc ];
         };
         cursor = before_offset most;
-        loaded = λ posted. loaded;
-        marks = λ posted. absurd cc;
-        cleared = λ posted. absurd cc;
+        loaded = λ posted_phase. loaded;
+        marks = λ posted_phase. absurd cc;
+        cleared = λ posted_phase. absurd cc;
       }
         where
           before_copies : (x : Addr) (e d : Cell) → cell_in m.old x ≡ Some e → e.other ≢ None → AreCopies tree Copy p m x e d → AreCopies tree Copy q m x e d
@@ -254,7 +254,7 @@ module _ (tree : Tree) (has_round : Bool) (words : ℕ) (p : Progress) (m : Spac
           are_copies tree Copy stored_at after a c (f to.0)
           (filled_kind tree m c u k to.0 ∙ to.2.kind)
           (filled_count tree m c u k to.0 ∙ to.2.count)
-          (λ posted. filled_other tree m c u k to.0 ∙ to.2.back (inl (λ wrong. absurd cc)))
+          (λ posted_phase. filled_other tree m c u k to.0 ∙ to.2.back (inl (λ wrong. absurd cc)))
           own_words
         where
           own_words : (word : ℕ) → word ≤ length c.slots → IsInCopy Copy stored_at after a c word → IsCopiedWord tree m c (f to.0) word
@@ -274,7 +274,7 @@ module _ (tree : Tree) (has_round : Bool) (words : ℕ) (p : Progress) (m : Spac
 
       -- both copies of another one
       else_copies : (x y : Addr) (e d : Cell) → cell_in m.old x ≡ Some e → e.other ≡ Some y → b.number ≢ y.number → AreCopies tree Copy p m x e d → AreCopies tree Copy stored_at after x e d
-      else_copies x y e d there some ne h = are_copies tree Copy stored_at after x e d h.kind h.count (λ posted. h.back (inl (λ wrong. absurd cc))) else_words
+      else_copies x y e d there some ne h = are_copies tree Copy stored_at after x e d h.kind h.count (λ posted_phase. h.back (inl (λ wrong. absurd cc))) else_words
         where
           else_words : (word : ℕ) → word ≤ length e.slots → IsInCopy Copy stored_at after x e word → IsCopiedWord tree m e d word
           else_words word short (inl done) = h.words word (inl (before_copied (record u { stage = Stored }) x e word there (some_is_other e.other y some) done))
@@ -346,7 +346,7 @@ module _ (tree : Tree) (has_round : Bool) (words : ℕ) (p : Progress) (m : Spac
         marked_only = sound.copies.marked_only;
         old_references = sound.copies.old_references;
         new_references = filled_new;
-        room = λ posted. elim posted [ inl wrong ↦ absurd cc | inr wrong ↦ absurd cc ];
+        room = λ posted_phase. elim posted_phase [ inl wrong ↦ absurd cc | inr wrong ↦ absurd cc ];
       }
 
       filled_blocks : AreBlocks Copy words after
@@ -370,9 +370,9 @@ module _ (tree : Tree) (has_round : Bool) (words : ℕ) (p : Progress) (m : Spac
         cursor = (
             let h = before_offset (record u { stage = Stored }) (let stage = ap stage_number loaded in let most = sound.cursor.attempts refl in omega (arith, stage, most)) in
             record { offset = h.offset; attempts = h.attempts; words = h.words });
-        loaded = λ posted is. absurd cc;
-        marks = λ posted. absurd cc;
-        cleared = λ posted. absurd cc;
+        loaded = λ posted_phase is. absurd cc;
+        marks = λ posted_phase. absurd cc;
+        cleared = λ posted_phase. absurd cc;
       }
 
       stored_sound : IsSoundHeap tree Copy has_round words stored_at (change_at f m b)
@@ -472,12 +472,12 @@ module _ (tree : Tree) (has_round : Bool) (words : ℕ) (p : Progress) (m : Spac
             marked_only = sound.copies.marked_only;
             old_references = sound.copies.old_references;
             new_references = sound.copies.new_references;
-            room = λ posted. elim posted [ inl wrong ↦ absurd cc | inr wrong ↦ absurd cc ];
+            room = λ posted_phase. elim posted_phase [ inl wrong ↦ absurd cc | inr wrong ↦ absurd cc ];
           };
-          cursor = record { offset = λ posted. next_offset t; attempts = λ posted. next_spent t; words = λ posted. next_words t test };
-          loaded = λ posted is. (let wrong : Begins ≡ Loaded = sym (next_stage t) ∙ is in absurd cc);
-          marks = λ posted. absurd cc;
-          cleared = λ posted. absurd cc;
+          cursor = record { offset = λ posted_phase. next_offset t; attempts = λ posted_phase. next_spent t; words = λ posted_phase. next_words t test };
+          loaded = λ posted_phase is. (let wrong : Begins ≡ Loaded = sym (next_stage t) ∙ is in absurd cc);
+          marks = λ posted_phase. absurd cc;
+          cleared = λ posted_phase. absurd cc;
         }
 
       passed_sound : IsSoundHeap tree Copy has_round words (after_word p m.old a c k) m
@@ -502,16 +502,16 @@ unfailed tree has_round words p m sound = record {
     marked_only = sound.copies.marked_only;
     old_references = sound.copies.old_references;
     new_references = sound.copies.new_references;
-    room = λ posted. elim posted [ inl wrong ↦ absurd cc | inr wrong ↦ absurd cc ];
+    room = λ posted_phase. elim posted_phase [ inl wrong ↦ absurd cc | inr wrong ↦ absurd cc ];
   };
   cursor = record {
     offset = sound.cursor.offset;
-    attempts = λ posted. (let most = sound.cursor.attempts refl in omega (arith, most));
-    words = λ posted some. sound.cursor.words refl (λ none. some (omega (arith, none)));
+    attempts = λ posted_phase. (let most = sound.cursor.attempts refl in omega (arith, most));
+    words = λ posted_phase some. sound.cursor.words refl (λ none. some (omega (arith, none)));
   };
   loaded = sound.loaded;
-  marks = λ posted. absurd cc;
-  cleared = λ posted. absurd cc;
+  marks = λ posted_phase. absurd cc;
+  cleared = λ posted_phase. absurd cc;
 }
   where
     q : Progress
@@ -695,7 +695,7 @@ module _ (tree : Tree) (has_round : Bool) (words : ℕ) (p : Progress) (o : Obje
     whole x y e d there some h = record {
       kind = h.kind;
       count = h.count;
-      back = λ posted. h.back (inl (λ wrong. absurd cc));
+      back = λ posted_phase. h.back (inl (λ wrong. absurd cc));
       words = λ word is. h.words word (inl (inl before));
     }
       where
@@ -724,10 +724,10 @@ module _ (tree : Tree) (has_round : Bool) (words : ℕ) (p : Progress) (o : Obje
         marked_only = sound.copies.marked_only;
         old_references = λ x e there dark. slots_weaken tree (is_live Copy o.spaces) (is_live PreFlip o.spaces) pre_flip_live e (sound.copies.old_references x e there dark);
         new_references = sound.copies.new_references;
-        room = λ posted. elim posted [ inl wrong ↦ absurd cc | inr wrong ↦ absurd cc ];
+        room = λ posted_phase. elim posted_phase [ inl wrong ↦ absurd cc | inr wrong ↦ absurd cc ];
       };
       cursor = HasCursor-begun PreFlip o.spaces;
-      loaded = λ posted. absurd cc;
-      marks = λ posted. absurd cc;
-      cleared = λ posted. absurd cc;
+      loaded = λ posted_phase. absurd cc;
+      marks = λ posted_phase. absurd cc;
+      cleared = λ posted_phase. absurd cc;
     }

@@ -50,7 +50,7 @@ pub record ShowSame (tree : Tree) (m : Spaces) (c d : Cell) : Type 0 where
   pub count : length d.slots ≡ length c.slots
   pub slots : (slot : ℕ) → IsCopiedSlot tree m c d slot
 
-looked_by : (posted : Phase) (p : Progress) (m : Spaces) (a : Addr) → has_copies posted ≡ true → HasLooked posted p m a
+looked_by : (posted_phase : Phase) (p : Progress) (m : Spaces) (a : Addr) → has_copies posted_phase ≡ true → HasLooked posted_phase p m a
 looked_by Idle p m a e = absurd cc
 looked_by Mark p m a e = absurd cc
 looked_by Allocate p m a e = absurd cc
@@ -60,7 +60,7 @@ looked_by HeapFlip p m a e = tt
 looked_by ThreadFlip p m a e = tt
 looked_by Reclaim p m a e = tt
 
-copied_by : (posted : Phase) (p : Progress) (m : Spaces) (a : Addr) (word : ℕ) → has_words posted ≡ true → HasCopied posted p m a word
+copied_by : (posted_phase : Phase) (p : Progress) (m : Spaces) (a : Addr) (word : ℕ) → has_words posted_phase ≡ true → HasCopied posted_phase p m a word
 copied_by Idle p m a word e = absurd cc
 copied_by Mark p m a word e = absurd cc
 copied_by Allocate p m a word e = absurd cc
@@ -70,11 +70,11 @@ copied_by HeapFlip p m a word e = tt
 copied_by ThreadFlip p m a word e = tt
 copied_by Reclaim p m a word e = absurd cc
 
-not_reclaim : (posted : Phase) → has_words posted ≡ true → posted ≢ Reclaim
-not_reclaim posted e is = let wrong : has_words Reclaim ≡ true = sym (ap has_words is) ∙ e in absurd cc
+not_reclaim : (posted_phase : Phase) → has_words posted_phase ≡ true → posted_phase ≢ Reclaim
+not_reclaim posted_phase e is = let wrong : has_words Reclaim ≡ true = sym (ap has_words is) ∙ e in absurd cc
 
 -- what is live from Copy on is marked or new
-live_by : (posted : Phase) (m : Spaces) (a : Addr) → has_copies posted ≡ true → is_live_object posted m a ≡ true → (is_marked_old m a ≡ true) ⊎ (is_new m a ≡ true)
+live_by : (posted_phase : Phase) (m : Spaces) (a : Addr) → has_copies posted_phase ≡ true → is_live_object posted_phase m a ≡ true → (is_marked_old m a ≡ true) ⊎ (is_new m a ≡ true)
 live_by Idle m a e h = absurd cc
 live_by Mark m a e h = absurd cc
 live_by Allocate m a e h = absurd cc
@@ -84,21 +84,21 @@ live_by HeapFlip m a e h = or_cases (is_marked_old m a) (is_new m a) h
 live_by ThreadFlip m a e h = or_cases (is_marked_old m a) (is_new m a) h
 live_by Reclaim m a e h = inr h
 
-module _ (tree : Tree) (posted : Phase) (p : Progress) (m : Spaces) (spaces : AreSpaces m) (copies : AreCopied tree posted p m) where
+module _ (tree : Tree) (posted_phase : Phase) (p : Progress) (m : Spaces) (spaces : AreSpaces m) (copies : AreCopied tree posted_phase p m) where
   -- ---- forwards
 
   -- a marked object has another copy
-  pub copy_of : has_copies posted ≡ true → (a : Addr) (c : Cell) → cell_in m.old a ≡ Some c → c.marked ≡ true
-      → (b : Addr) × (d : Cell) × (c.other ≡ Some b) × (cell_in m.new b ≡ Some d) × AreCopies tree posted p m a c d
+  pub copy_of : has_copies posted_phase ≡ true → (a : Addr) (c : Cell) → cell_in m.old a ≡ Some c → c.marked ≡ true
+      → (b : Addr) × (d : Cell) × (c.other ≡ Some b) × (cell_in m.new b ≡ Some d) × AreCopies tree posted_phase p m a c d
   copy_of late a c lies marked =
-      let b = other_there c.other (copies.shells a c lies marked (looked_by posted p m a late)) in
+      let b = other_there c.other (copies.shells a c lies marked (looked_by posted_phase p m a late)) in
       let r = copies.out a b.0 c lies b.1 in
       (b.0, r.0, b.1, r.1, r.2)
 
   -- and so has an old object that is live
-  pub live_copy_of : has_copies posted ≡ true → (a : Addr) (c : Cell) → cell_in m.old a ≡ Some c → is_live posted m a ≡ true
-      → (b : Addr) × (d : Cell) × (c.other ≡ Some b) × (cell_in m.new b ≡ Some d) × AreCopies tree posted p m a c d
-  live_copy_of late a c lies live = copy_of late a c lies (by_kind (or_cases (is_permanent a) (is_live_object posted m a) live))
+  pub live_copy_of : has_copies posted_phase ≡ true → (a : Addr) (c : Cell) → cell_in m.old a ≡ Some c → is_live posted_phase m a ≡ true
+      → (b : Addr) × (d : Cell) × (c.other ≡ Some b) × (cell_in m.new b ≡ Some d) × AreCopies tree posted_phase p m a c d
+  live_copy_of late a c lies live = copy_of late a c lies (by_kind (or_cases (is_permanent a) (is_live_object posted_phase m a) live))
     where
       by_object : (is_marked_old m a ≡ true) ⊎ (is_new m a ≡ true) → c.marked ≡ true
       by_object (inl marked) = sym (ap is_marked_cell lies) ∙ marked
@@ -106,12 +106,12 @@ module _ (tree : Tree) (posted : Phase) (p : Progress) (m : Spaces) (spaces : Ar
           let none : is_some {T = Cell} None ≡ true = sym (ap is_some (not_new m spaces a c lies)) ∙ new in
           absurd cc
 
-      by_kind : (is_permanent a ≡ true) ⊎ (is_live_object posted m a ≡ true) → c.marked ≡ true
+      by_kind : (is_permanent a ≡ true) ⊎ (is_live_object posted_phase m a ≡ true) → c.marked ≡ true
       by_kind (inl permanent) = let wrong : Some c ≡ None = sym lies ∙ permanent_no_cell m spaces a permanent in absurd cc
-      by_kind (inr object) = by_object (live_by posted m a late object)
+      by_kind (inr object) = by_object (live_by posted_phase m a late object)
 
   -- two old objects have no new copy in common, as long as old ones are read
-  pub one_old : posted ≢ Reclaim → (x y b : Addr) (c d : Cell) → cell_in m.old x ≡ Some c → cell_in m.old y ≡ Some d → c.other ≡ Some b → d.other ≡ Some b → x ≡ y
+  pub one_old : posted_phase ≢ Reclaim → (x y b : Addr) (c d : Cell) → cell_in m.old x ≡ Some c → cell_in m.old y ≡ Some d → c.other ≡ Some b → d.other ≡ Some b → x ≡ y
   one_old early x y b c d lies there other same_other =
       let r = copies.out x b c lies other in
       let s = copies.out y b d there same_other in
@@ -119,8 +119,8 @@ module _ (tree : Tree) (posted : Phase) (p : Progress) (m : Spaces) (spaces : Ar
       same_Some x y (sym (r.2.back (inl early)) ∙ ap (λ (z : Cell). z.other) equal ∙ s.2.back (inl early))
 
   -- the forward of what is live is new
-  pub forward_is_new : has_copies posted ≡ true → (a : Addr) → is_live posted m a ≡ true → is_new_address m (forward m a) ≡ true
-  forward_is_new late a live = by_kind (or_cases (is_permanent a) (is_live_object posted m a) live)
+  pub forward_is_new : has_copies posted_phase ≡ true → (a : Addr) → is_live posted_phase m a ≡ true → is_new_address m (forward m a) ≡ true
+  forward_is_new late a live = by_kind (or_cases (is_permanent a) (is_live_object posted_phase m a) live)
     where
       by_object : (is_marked_old m a ≡ true) ⊎ (is_new m a ≡ true) → is_new_address m (forward m a) ≡ true
       by_object (inl marked) =
@@ -132,10 +132,10 @@ module _ (tree : Tree) (posted : Phase) (p : Progress) (m : Spaces) (spaces : Ar
           let d = some_there (cell_in m.new a) new in
           subst (λ x. is_new_address m x ≡ true) (sym (forward_new m spaces a d.0 d.1)) (or_right (is_permanent a) (is_new m a) new)
 
-      by_kind : (is_permanent a ≡ true) ⊎ (is_live_object posted m a ≡ true) → is_new_address m (forward m a) ≡ true
+      by_kind : (is_permanent a ≡ true) ⊎ (is_live_object posted_phase m a ≡ true) → is_new_address m (forward m a) ≡ true
       by_kind (inl permanent) =
           subst (λ x. is_new_address m x ≡ true) (sym (forward_else m a (permanent_no_cell m spaces a permanent))) (or_left (is_permanent a) (is_new m a) permanent)
-      by_kind (inr object) = by_object (live_by posted m a late object)
+      by_kind (inr object) = by_object (live_by posted_phase m a late object)
 
   -- a forward is an address that a word can hold
   forward_short : (a : Addr) → a.number < ADDRESSES → (forward m a).number < ADDRESSES
@@ -158,25 +158,25 @@ module _ (tree : Tree) (posted : Phase) (p : Progress) (m : Spaces) (spaces : Ar
       let short = forward_short (reference_in word) (mod_below word ADDRESSES (omega arith)) in
       ap (λ (n : ℕ). record { number = n }) (mod-eq_of_lt short)
 
-  pub forward_word_is_new : has_copies posted ≡ true → (word : ℕ) → is_live posted m (reference_in word) ≡ true → is_new_address m (reference_in (forward_word m word)) ≡ true
+  pub forward_word_is_new : has_copies posted_phase ≡ true → (word : ℕ) → is_live posted_phase m (reference_in word) ≡ true → is_new_address m (reference_in (forward_word m word)) ≡ true
   forward_word_is_new late word live = subst (λ x. is_new_address m x ≡ true) (sym (forward_in_word word)) (forward_is_new late (reference_in word) live)
 
   -- ---- both copies show the same
 
-  module _ (late : has_words posted ≡ true) where
-    show : (a : Addr) (c d : Cell) → AreCopies tree posted p m a c d → ShowSame tree m c d
+  module _ (late : has_words posted_phase ≡ true) where
+    show : (a : Addr) (c d : Cell) → AreCopies tree posted_phase p m a c d → ShowSame tree m c d
     show a c d h = record {
       kind = h.kind;
-      monitor = h.words 0 (inl (copied_by posted p m a 0 late));
+      monitor = h.words 0 (inl (copied_by posted_phase p m a 0 late));
       count = h.count;
-      slots = λ slot. h.words (suc slot) (inl (copied_by posted p m a (suc slot) late));
+      slots = λ slot. h.words (suc slot) (inl (copied_by posted_phase p m a (suc slot) late));
     }
 
     -- through the old address, and through the new one
     pub old_shows : (a b : Addr) (c : Cell) → cell_in m.old a ≡ Some c → c.other ≡ Some b → (d : Cell) × (cell_in m.new b ≡ Some d) × (d.other ≡ Some a) × ShowSame tree m c d
     old_shows a b c lies other =
         let r = copies.out a b c lies other in
-        (r.0, r.1, r.2.back (inl (not_reclaim posted late)), show a c r.0 r.2)
+        (r.0, r.1, r.2.back (inl (not_reclaim posted_phase late)), show a c r.0 r.2)
 
     pub new_shows : (a b : Addr) (d : Cell) → cell_in m.new b ≡ Some d → d.other ≡ Some a → (c : Cell) × (cell_in m.old a ≡ Some c) × (c.other ≡ Some b) × ShowSame tree m c d
     new_shows a b d lies other =

@@ -36,7 +36,7 @@ slots_pass_then tree P Q c d more kind stored pass slot word is link = elim (sto
 
 -- ---- the change
 
-module _ (tree : Tree) (posted : Phase) (has_round : Bool) (words : ℕ) (p : Progress) (m : Spaces) (f g : Cell → Cell) (keeps : KeepsTags f) (keeps' : KeepsTags g) (a b : Addr) where
+module _ (tree : Tree) (posted_phase : Phase) (has_round : Bool) (words : ℕ) (p : Progress) (m : Spaces) (f g : Cell → Cell) (keeps : KeepsTags f) (keeps' : KeepsTags g) (a b : Addr) where
   abbrev n : Spaces
   n = twice f g m a b
 
@@ -101,8 +101,8 @@ module _ (tree : Tree) (posted : Phase) (has_round : Bool) (words : ℕ) (p : Pr
   copied_back ThreadFlip x word h = h
   copied_back Reclaim x word h = h
 
-  in_copy_back : (x : Addr) (from : Cell) (word : ℕ) → IsInCopy posted p n x from word → IsInCopy posted p m x from word
-  in_copy_back x from word (inl done) = inl (copied_back posted x word done)
+  in_copy_back : (x : Addr) (from : Cell) (word : ℕ) → IsInCopy posted_phase p n x from word → IsInCopy posted_phase p m x from word
+  in_copy_back x from word (inl done) = inl (copied_back posted_phase x word done)
   in_copy_back x from word (inr stored) = inr (record { copying = stored.copying; here = stored.here; next = stored.next; stored = stored.stored; same = stored.same })
 
   read_was : (q : Phase) (c d : Cell) → d.marked ≡ c.marked → is_read q d ≡ is_read q c
@@ -120,13 +120,13 @@ module _ (tree : Tree) (posted : Phase) (has_round : Bool) (words : ℕ) (p : Pr
   -- What is stored is right: references from old cells to what is live, from new cells to what is new; both copies of an object have the same words
   -- where they are copied; and while Mark is posted marked cells get references of marked ones, unless the collector has not begun.
   pub record StoresFit : Type 0 where
-    pub old : (c : Cell) → cell_in m.old a ≡ Some c → is_read posted c ≡ true → AreStored tree (is_live posted m) c (f c)
+    pub old : (c : Cell) → cell_in m.old a ≡ Some c → is_read posted_phase c ≡ true → AreStored tree (is_live posted_phase m) c (f c)
     pub new : (d : Cell) → cell_in m.new b ≡ Some d → AreStored tree (is_new_address m) d (g d)
-    pub copies : (x y : Addr) (c d : Cell) → cell_in m.old x ≡ Some c → c.other ≡ Some y → cell_in m.new y ≡ Some d → AreCopies tree posted p m x c d → AreCopies tree posted p m x (F x c) (G y d)
-    pub marks : posted ≡ Mark → HasNotBegun posted has_round p m ⊎ ((c : Cell) → cell_in m.old a ≡ Some c → AreStored tree (is_marked_address m) c (f c))
+    pub copies : (x y : Addr) (c d : Cell) → cell_in m.old x ≡ Some c → c.other ≡ Some y → cell_in m.new y ≡ Some d → AreCopies tree posted_phase p m x c d → AreCopies tree posted_phase p m x (F x c) (G y d)
+    pub marks : posted_phase ≡ Mark → HasNotBegun posted_phase has_round p m ⊎ ((c : Cell) → cell_in m.old a ≡ Some c → AreStored tree (is_marked_address m) c (f c))
 
-  module _ (sound : IsSoundHeap tree posted has_round words p m) (fits : StoresFit) where
-    blocks : AreBlocks posted words n
+  module _ (sound : IsSoundHeap tree posted_phase has_round words p m) (fits : StoresFit) where
+    blocks : AreBlocks posted_phase words n
     blocks = record {
       few = sound.blocks.few;
       spaces = record {
@@ -158,15 +158,15 @@ module _ (tree : Tree) (posted : Phase) (has_round : Bool) (words : ℕ) (p : Pr
         by_test true is = fits.new d (ap (cell_in m.new) (same_address b y is) ∙ lies)
         by_test false is = λ slot word there link. inl there
 
-    stored_old : (x : Addr) (c : Cell) → cell_in m.old x ≡ Some c → is_read posted c ≡ true → AreStored tree (is_live posted m) c (F x c)
-    stored_old x c lies read = stored_at (is_live posted m) x c (λ same. fits.old c (ap (cell_in m.old) same ∙ lies) read)
+    stored_old : (x : Addr) (c : Cell) → cell_in m.old x ≡ Some c → is_read posted_phase c ≡ true → AreStored tree (is_live posted_phase m) c (F x c)
+    stored_old x c lies read = stored_at (is_live posted_phase m) x c (λ same. fits.old c (ap (cell_in m.old) same ∙ lies) read)
 
     -- both copies
 
     copied_word_stays : (c : Cell) (slot word : ℕ) → copied_word tree m c slot word ≡ copied_word tree n c slot word
     copied_word_stays c slot word = ap (λ w. if holds_reference tree c.kind slot then w else word) (sym (ap (λ (x : Addr). x.number) (alike.forwards (reference_in word))))
 
-    copies_stay : (x y : Addr) (c d : Cell) → cell_in m.old x ≡ Some c → c.other ≡ Some y → cell_in m.new y ≡ Some d → AreCopies tree posted p m x c d → AreCopies tree posted p n x (F x c) (G y d)
+    copies_stay : (x y : Addr) (c d : Cell) → cell_in m.old x ≡ Some c → c.other ≡ Some y → cell_in m.new y ≡ Some d → AreCopies tree posted_phase p m x c d → AreCopies tree posted_phase p n x (F x c) (G y d)
     copies_stay x y c d lies other lies' were =
         record {
           kind = now.kind;
@@ -175,19 +175,19 @@ module _ (tree : Tree) (posted : Phase) (has_round : Bool) (words : ℕ) (p : Pr
           words = same_words;
         }
       where
-        now : AreCopies tree posted p m x (F x c) (G y d)
+        now : AreCopies tree posted_phase p m x (F x c) (G y d)
         now = fits.copies x y c d lies other lies' were
 
-        same_words : (word : ℕ) → IsInCopy posted p n x (F x c) word → IsCopiedWord tree n (F x c) (G y d) word
+        same_words : (word : ℕ) → IsInCopy posted_phase p n x (F x c) word → IsCopiedWord tree n (F x c) (G y d) word
         same_words zero is = now.words 0 (in_copy_back x (F x c) 0 is)
         same_words (suc slot) is = λ word there. now.words (suc slot) (in_copy_back x (F x c) (suc slot) is) word there ∙ ap Some (copied_word_stays (F x c) slot word)
 
-    out_stays : (x y : Addr) (c : Cell) → cell_in n.old x ≡ Some c → c.other ≡ Some y → (d : Cell) × (cell_in n.new y ≡ Some d) × AreCopies tree posted p n x c d
+    out_stays : (x y : Addr) (c : Cell) → cell_in n.old x ≡ Some c → c.other ≡ Some y → (d : Cell) × (cell_in n.new y ≡ Some d) × AreCopies tree posted_phase p n x c d
     out_stays x y c is other =
         let o = old_before x c is in
         let other' : o.0.other ≡ Some y = sym (other_was x o.0 c o.2) ∙ other in
         let u = sound.copies.out x y o.0 o.1 other' in
-        (G y u.0, new_after y u.0 u.1, subst (λ (z : Cell). AreCopies tree posted p n x z (G y u.0)) o.2 (copies_stay x y o.0 u.0 o.1 other' u.1 u.2))
+        (G y u.0, new_after y u.0 u.1, subst (λ (z : Cell). AreCopies tree posted_phase p n x z (G y u.0)) o.2 (copies_stay x y o.0 u.0 o.1 other' u.1 u.2))
 
     back_stays : (x y : Addr) (d : Cell) → cell_in n.new y ≡ Some d → d.other ≡ Some x → (c : Cell) × (cell_in n.old x ≡ Some c) × (c.other ≡ Some y)
     back_stays x y d is other =
@@ -195,12 +195,12 @@ module _ (tree : Tree) (posted : Phase) (has_round : Bool) (words : ℕ) (p : Pr
         let u = sound.copies.back x y o.0 o.1 (sym ((new_tags y).other o.0) ∙ ap (λ (z : Cell). z.other) o.2 ∙ other) in
         (F x u.0, old_after x u.0 u.1, (old_tags x).other u.0 ∙ u.2)
 
-    old_references_stay : (x : Addr) (c : Cell) → cell_in n.old x ≡ Some c → is_read posted c ≡ true → SlotsPass tree (is_live posted n) c
+    old_references_stay : (x : Addr) (c : Cell) → cell_in n.old x ≡ Some c → is_read posted_phase c ≡ true → SlotsPass tree (is_live posted_phase n) c
     old_references_stay x c is read =
         let o = old_before x c is in
-        let read' : is_read posted o.0 ≡ true = sym (read_was posted o.0 c (marked_was x o.0 c o.2)) ∙ read in
-        subst (SlotsPass tree (is_live posted n)) o.2
-        (slots_pass_then tree (is_live posted m) (is_live posted n) o.0 (F x o.0) (λ z h. live_stays m n alike posted z ∙ h) ((old_tags x).kind o.0) (stored_old x o.0 o.1 read') (sound.copies.old_references x o.0 o.1 read'))
+        let read' : is_read posted_phase o.0 ≡ true = sym (read_was posted_phase o.0 c (marked_was x o.0 c o.2)) ∙ read in
+        subst (SlotsPass tree (is_live posted_phase n)) o.2
+        (slots_pass_then tree (is_live posted_phase m) (is_live posted_phase n) o.0 (F x o.0) (λ z h. live_stays m n alike posted_phase z ∙ h) ((old_tags x).kind o.0) (stored_old x o.0 o.1 read') (sound.copies.old_references x o.0 o.1 read'))
 
     new_references_stay : (y : Addr) (d : Cell) → cell_in n.new y ≡ Some d → SlotsPass tree (is_new_address n) d
     new_references_stay y d is =
@@ -213,7 +213,7 @@ module _ (tree : Tree) (posted : Phase) (has_round : Bool) (words : ℕ) (p : Pr
         let r = HasShellRoom-change m sound.blocks.spaces room f (keeps_size f keeps) keeps.other a in
         record { words = omega (arith, used_in f (keeps_size f keeps) m.new a, used_in g (keeps_size g keeps') m.new b, r.words); long = room.long }
 
-    copies : AreCopied tree posted p n
+    copies : AreCopied tree posted_phase p n
     copies = record {
       bare = λ x c is early. let o = old_before x c is in other_was x o.0 c o.2 ∙ sound.copies.bare x o.0 o.1 early;
       unmarked = λ x c is early. let o = old_before x c is in marked_was x o.0 c o.2 ∙ sound.copies.unmarked x o.0 o.1 early;
@@ -221,7 +221,7 @@ module _ (tree : Tree) (posted : Phase) (has_round : Bool) (words : ℕ) (p : Pr
       back = back_stays;
       shells = λ x c is marked looked none.
           let o = old_before x c is in
-          sound.copies.shells x o.0 o.1 (sym (marked_was x o.0 c o.2) ∙ marked) (looked_back posted x looked) (sym (other_was x o.0 c o.2) ∙ none);
+          sound.copies.shells x o.0 o.1 (sym (marked_was x o.0 c o.2) ∙ marked) (looked_back posted_phase x looked) (sym (other_was x o.0 c o.2) ∙ none);
       marked_only = λ x c is some.
           let o = old_before x c is in
           marked_was x o.0 c o.2 ∙ sound.copies.marked_only x o.0 o.1 (λ none. some (other_was x o.0 c o.2 ∙ none));
@@ -232,7 +232,7 @@ module _ (tree : Tree) (posted : Phase) (has_round : Bool) (words : ℕ) (p : Pr
 
     -- what is loaded
 
-    loaded_stays : posted ≡ Copy → IsLoaded tree p n
+    loaded_stays : posted_phase ≡ Copy → IsLoaded tree p n
     loaded_stays copying is c lies slot next holds =
         let o = old_before (record { number = m.old.start + p.cursor }) c lies in
         let held : holds_reference tree o.0.kind slot ≡ true = ap (λ k. holds_reference tree k slot) (sym ((old_tags (record { number = m.old.start + p.cursor })).kind o.0) ∙ ap (λ (z : Cell). z.kind) o.2) ∙ holds in
@@ -240,7 +240,7 @@ module _ (tree : Tree) (posted : Phase) (has_round : Bool) (words : ℕ) (p : Pr
 
     -- marks
 
-    module _ (is_mark : posted ≡ Mark) where
+    module _ (is_mark : posted_phase ≡ Mark) where
       marks : AreMarked tree has_round p m
       marks = sound.marks is_mark
 
@@ -251,7 +251,7 @@ module _ (tree : Tree) (posted : Phase) (has_round : Bool) (words : ℕ) (p : Pr
       listed_stays = λ k d inside. alike.marked (slice_index_or m.grey k d) ∙ marks.listed k d inside
 
       -- where each marked object is grey
-      all_listed : HasNotBegun posted has_round p m → AreMarked tree has_round p n
+      all_listed : HasNotBegun posted_phase has_round p m → AreMarked tree has_round p n
       all_listed late = record {
         listed = listed_stays;
         black = λ x c is marked.
@@ -300,11 +300,11 @@ module _ (tree : Tree) (posted : Phase) (has_round : Bool) (words : ℕ) (p : Pr
       marks_stay : AreMarked tree has_round p n
       marks_stay = elim (fits.marks is_mark) [ inl late ↦ all_listed late | inr right ↦ all_marked right ]
 
-    pub heap_stays : IsSoundHeap tree posted has_round words p n
+    pub heap_stays : IsSoundHeap tree posted_phase has_round words p n
     heap_stays = record {
       blocks = blocks;
       copies = copies;
-      cursor = HasCursor-change posted p m n sound.cursor f keeps.count keeps.other a refl;
+      cursor = HasCursor-change posted_phase p m n sound.cursor f keeps.count keeps.other a refl;
       loaded = loaded_stays;
       marks = marks_stay;
       cleared = λ last. record {

@@ -33,11 +33,11 @@ use Rattle.collector.proofs.Addresses.LiveForwards.{has_copies, is_old_alone, li
 -- ---- threads beside the collector
 
 -- a thread has acknowledged the posted phase, or the one before it
-abbrev pub IsBeside : (own posted : Phase) → Type 0
-IsBeside own posted = (own ≡ posted) ⊎ (phase_after own ≡ posted)
+abbrev pub IsBeside : (own posted_phase : Phase) → Type 0
+IsBeside own posted_phase = (own ≡ posted_phase) ⊎ (phase_after own ≡ posted_phase)
 
 -- a thread that is close to the collector is beside it
-pub close_is_beside : (h : Handshakes) (seat : Seat) → IsClose h seat → IsBeside seat.phase h.posted
+pub close_is_beside : (h : Handshakes) (seat : Seat) → IsClose h seat → IsBeside seat.phase h.posted_phase
 close_is_beside h seat (inl now) = inl now
 close_is_beside h seat (inr late) = inr late.0
 
@@ -53,10 +53,10 @@ is_copy ThreadFlip = false
 is_copy Reclaim = false
 
 -- a store reaches an old object alone, whose words are not copied yet; a new one alone; or both copies
-pub data Way (own posted : Phase) (p : Progress) : Type 0 where
-  in_old : reaches_both own ≡ false → is_old_alone posted ≡ true → (is_copy posted ≡ true → p ≡ no_progress) → Way own posted p
-  in_new : reaches_both own ≡ false → posted ≡ Reclaim → Way own posted p
-  in_both : reaches_both own ≡ true → has_copies posted ≡ true → Way own posted p
+pub data Way (own posted_phase : Phase) (p : Progress) : Type 0 where
+  in_old : reaches_both own ≡ false → is_old_alone posted_phase ≡ true → (is_copy posted_phase ≡ true → p ≡ no_progress) → Way own posted_phase p
+  in_new : reaches_both own ≡ false → posted_phase ≡ Reclaim → Way own posted_phase p
+  in_both : reaches_both own ≡ true → has_copies posted_phase ≡ true → Way own posted_phase p
 
 way_now : (own : Phase) (p : Progress) → Way own own p
 way_now Idle p = in_old refl refl (λ e. false_is_true e)
@@ -101,9 +101,9 @@ not_after ThreadFlip e = false_is_true (sym (ap phase_parity e))
 not_after Reclaim e = false_is_true (ap phase_parity e)
 
 -- each thread beside the collector has its way
-pub way_of : (own posted : Phase) (has_round : Bool) (p : Progress) (m : Spaces) → IsBeside own posted → IsOnTime own posted has_round p m → Way own posted p
-way_of own posted has_round p m (inl now) on_time = subst (λ q. Way own q p) now (way_now own p)
-way_of own posted has_round p m (inr late) on_time =
+pub way_of : (own posted_phase : Phase) (has_round : Bool) (p : Progress) (m : Spaces) → IsBeside own posted_phase → IsOnTime own posted_phase has_round p m → Way own posted_phase p
+way_of own posted_phase has_round p m (inl now) on_time = subst (λ q. Way own q p) now (way_now own p)
+way_of own posted_phase has_round p m (inr late) on_time =
     let begun = on_time (λ same. not_after own (same ∙ sym late)) in
     subst (λ q. Way own q p) late (way_late own p begun.nothing)
 
@@ -111,9 +111,9 @@ way_of own posted has_round p m (inr late) on_time =
 
 -- no word is copied, whatever the old copies hold
 abbrev pub IsUncopied : Phase → Progress → Spaces → Type 0
-IsUncopied posted p m = (x : Addr) (c : Cell) → cell_in m.old x ≡ Some c → (from : Cell) (word : ℕ) → IsInCopy posted p m x from word → ⊥
+IsUncopied posted_phase p m = (x : Addr) (c : Cell) → cell_in m.old x ≡ Some c → (from : Cell) (word : ℕ) → IsInCopy posted_phase p m x from word → ⊥
 
-none_done : (posted : Phase) (p : Progress) (m : Spaces) → is_old_alone posted ≡ true → (is_copy posted ≡ true → p ≡ no_progress) → (x : Addr) (c : Cell) → cell_in m.old x ≡ Some c → (word : ℕ) → HasCopied posted p m x word → ⊥
+none_done : (posted_phase : Phase) (p : Progress) (m : Spaces) → is_old_alone posted_phase ≡ true → (is_copy posted_phase ≡ true → p ≡ no_progress) → (x : Addr) (c : Cell) → cell_in m.old x ≡ Some c → (word : ℕ) → HasCopied posted_phase p m x word → ⊥
 none_done Idle p m alone nothing x c lies word done = done
 none_done Mark p m alone nothing x c lies word done = done
 none_done Allocate p m alone nothing x c lies word done = done
@@ -131,39 +131,39 @@ none_done ThreadFlip p m alone nothing x c lies word done = false_is_true alone
 none_done Reclaim p m alone nothing x c lies word done = false_is_true alone
 
 -- nor is one stored
-none_stored : (posted : Phase) (p : Progress) (m : Spaces) → (is_copy posted ≡ true → p ≡ no_progress) → (x : Addr) (from : Cell) (word : ℕ) → HasStored posted p m x from word → ⊥
-none_stored posted p m nothing x from word stored =
+none_stored : (posted_phase : Phase) (p : Progress) (m : Spaces) → (is_copy posted_phase ≡ true → p ≡ no_progress) → (x : Addr) (from : Cell) (word : ℕ) → HasStored posted_phase p m x from word → ⊥
+none_stored posted_phase p m nothing x from word stored =
     let none = nothing (ap is_copy stored.copying) in
     let begins : Begins ≡ Stored = sym (ap (λ (q : Progress). q.attempt.stage) none) ∙ stored.stored in
     absurd cc
 
-uncopied_old : (posted : Phase) (p : Progress) (m : Spaces) → is_old_alone posted ≡ true → (is_copy posted ≡ true → p ≡ no_progress) → IsUncopied posted p m
-uncopied_old posted p m alone nothing x c lies from word (inl done) = none_done posted p m alone nothing x c lies word done
-uncopied_old posted p m alone nothing x c lies from word (inr stored) = none_stored posted p m nothing x from word stored
+uncopied_old : (posted_phase : Phase) (p : Progress) (m : Spaces) → is_old_alone posted_phase ≡ true → (is_copy posted_phase ≡ true → p ≡ no_progress) → IsUncopied posted_phase p m
+uncopied_old posted_phase p m alone nothing x c lies from word (inl done) = none_done posted_phase p m alone nothing x c lies word done
+uncopied_old posted_phase p m alone nothing x c lies from word (inr stored) = none_stored posted_phase p m nothing x from word stored
 
 uncopied_in_reclaim : (p : Progress) (m : Spaces) → IsUncopied Reclaim p m
 uncopied_in_reclaim p m x c lies from word (inl done) = done
 uncopied_in_reclaim p m x c lies from word (inr stored) = (let wrong = stored.copying in absurd cc)
 
-uncopied_reclaim : (posted : Phase) (p : Progress) (m : Spaces) → posted ≡ Reclaim → IsUncopied posted p m
-uncopied_reclaim posted p m e = subst (λ q. IsUncopied q p m) (sym e) (uncopied_in_reclaim p m)
+uncopied_reclaim : (posted_phase : Phase) (p : Progress) (m : Spaces) → posted_phase ≡ Reclaim → IsUncopied posted_phase p m
+uncopied_reclaim posted_phase p m e = subst (λ q. IsUncopied q p m) (sym e) (uncopied_in_reclaim p m)
 
 -- ---- what is changed
 
 -- A change of an old copy and one of a new copy are right for objects of a kind; the second one where it is made.
-pub record IsRight (tree : Tree) (posted : Phase) (has_round : Bool) (p : Progress) (m : Spaces) (kind : Kind) (both : Bool) (f g : Cell → Cell) : Type 0 where
+pub record IsRight (tree : Tree) (posted_phase : Phase) (has_round : Bool) (p : Progress) (m : Spaces) (kind : Kind) (both : Bool) (f g : Cell → Cell) : Type 0 where
   pub keeps_old : KeepsTags f
   pub keeps_new : KeepsTags g
-  pub old : (c : Cell) → c.kind ≡ kind → AreStored tree (is_live posted m) c (f c)
-  pub marks : posted ≡ Mark → HasNotBegun posted has_round p m ⊎ ((c : Cell) → c.kind ≡ kind → AreStored tree (is_marked_address m) c (f c))
+  pub old : (c : Cell) → c.kind ≡ kind → AreStored tree (is_live posted_phase m) c (f c)
+  pub marks : posted_phase ≡ Mark → HasNotBegun posted_phase has_round p m ⊎ ((c : Cell) → c.kind ≡ kind → AreStored tree (is_marked_address m) c (f c))
   pub new : both ≡ true → (d : Cell) → d.kind ≡ kind → AreStored tree (is_new_address m) d (g d)
-  pub copies : both ≡ true → (x : Addr) (c d : Cell) → c.kind ≡ kind → AreCopies tree posted p m x c d → AreCopies tree posted p m x (f c) (g d)
+  pub copies : both ≡ true → (x : Addr) (c d : Cell) → c.kind ≡ kind → AreCopies tree posted_phase p m x c d → AreCopies tree posted_phase p m x (f c) (g d)
 
 -- in both copies, or in the one at the address
 abbrev pub changed_by : Bool → (f g : Cell → Cell) → Objects → Addr → Objects
 changed_by both f g o a = if both then with_both f g o a else with_cell f o a
 
-module _ (tree : Tree) (posted : Phase) (has_round : Bool) (words : ℕ) (p : Progress) (o : Objects) (sound : IsSoundHeap tree posted has_round words p o.spaces) where
+module _ (tree : Tree) (posted_phase : Phase) (has_round : Bool) (words : ℕ) (p : Progress) (o : Objects) (sound : IsSoundHeap tree posted_phase has_round words p o.spaces) where
   abbrev m : Spaces
   m = o.spaces
 
@@ -171,7 +171,7 @@ module _ (tree : Tree) (posted : Phase) (has_round : Bool) (words : ℕ) (p : Pr
   spaces = sound.blocks.spaces
 
   abbrev IsSoundWith : Spaces → Type 0
-  IsSoundWith n = IsSoundHeap tree posted has_round words p n
+  IsSoundWith n = IsSoundHeap tree posted_phase has_round words p n
 
   same_cell : (x y : Option Cell) (c d : Cell) → x ≡ Some c → y ≡ Some d → x ≡ y → c ≡ d
   same_cell x y c d is is' e = same_Some c d (sym is ∙ e ∙ is')
@@ -180,21 +180,21 @@ module _ (tree : Tree) (posted : Phase) (has_round : Bool) (words : ℕ) (p : Pr
   same_kind s c d kind is decoded is' = ap (λ (x : Cell). x.kind) (same_Some d c (sym is' ∙ is)) ∙ decoded
 
   -- where no word is copied, the copies are alike after any change that keeps tags
-  uncopied_alike : IsUncopied posted p m → (f g : Cell → Cell) → KeepsTags f → KeepsTags g → (a b x y : Addr) (c d : Cell) → cell_in m.old x ≡ Some c → AreCopies tree posted p m x c d
-      → AreCopies tree posted p m x (only_at f a x c) (only_at g b y d)
+  uncopied_alike : IsUncopied posted_phase p m → (f g : Cell → Cell) → KeepsTags f → KeepsTags g → (a b x y : Addr) (c d : Cell) → cell_in m.old x ≡ Some c → AreCopies tree posted_phase p m x c d
+      → AreCopies tree posted_phase p m x (only_at f a x c) (only_at g b y d)
   uncopied_alike none f g keeps keeps' a b x y c d lies were =
-      copies_by tree posted p m (only_at f a x) (only_at g b y) (only_keeps_tags f keeps a x) (only_keeps_tags g keeps' b y) x c d were
+      copies_by tree posted_phase p m (only_at f a x) (only_at g b y) (only_keeps_tags f keeps a x) (only_keeps_tags g keeps' b y) x c d were
       (λ word is. elim (none x c lies (only_at f a x c) word is) [ ])
 
   -- ---- an old object alone
 
   module _ (f : Cell → Cell) (keeps : KeepsTags f) (kind : Kind) (a : Addr) (c : Cell) (decoded : c.kind ≡ kind) where
-    old_stays : cell_in m.old a ≡ Some c → IsUncopied posted p m
-        → ((d : Cell) → d.kind ≡ kind → AreStored tree (is_live posted m) d (f d))
-        → (posted ≡ Mark → HasNotBegun posted has_round p m ⊎ ((d : Cell) → d.kind ≡ kind → AreStored tree (is_marked_address m) d (f d)))
+    old_stays : cell_in m.old a ≡ Some c → IsUncopied posted_phase p m
+        → ((d : Cell) → d.kind ≡ kind → AreStored tree (is_live posted_phase m) d (f d))
+        → (posted_phase ≡ Mark → HasNotBegun posted_phase has_round p m ⊎ ((d : Cell) → d.kind ≡ kind → AreStored tree (is_marked_address m) d (f d)))
         → IsSoundWith (change_at f m a)
     old_stays lies none old marks =
-        heap_stays tree posted has_round words p m f f keeps keeps a a sound
+        heap_stays tree posted_phase has_round words p m f f keeps keeps a a sound
         (record {
           old = λ d is read. old d (same_kind (cell_in m.old a) c d kind lies decoded is);
           new = λ d is. none_is_some d (sym (not_new m spaces a c lies) ∙ is);
@@ -204,11 +204,11 @@ module _ (tree : Tree) (posted : Phase) (has_round : Bool) (words : ℕ) (p : Pr
 
     -- ---- a new object alone
 
-    new_stays : cell_in m.new a ≡ Some c → (posted ≢ Reclaim → c.other ≡ None)
+    new_stays : cell_in m.new a ≡ Some c → (posted_phase ≢ Reclaim → c.other ≡ None)
         → ((d : Cell) → d.kind ≡ kind → AreStored tree (is_new_address m) d (f d))
         → IsSoundWith (change_at f m a)
     new_stays lies bare new =
-        heap_stays tree posted has_round words p m f f keeps keeps a a sound
+        heap_stays tree posted_phase has_round words p m f f keeps keeps a a sound
         (record {
           old = λ d is. none_is_some d (sym (not_old m spaces a c lies) ∙ is);
           new = λ d is. new d (same_kind (cell_in m.new a) c d kind lies decoded is);
@@ -217,30 +217,30 @@ module _ (tree : Tree) (posted : Phase) (has_round : Bool) (words : ℕ) (p : Pr
         })
       where
         -- no old object has it as its copy
-        beside : posted ≢ Reclaim → (x y : Addr) (d e : Cell) → cell_in m.old x ≡ Some d → cell_in m.new y ≡ Some e → AreCopies tree posted p m x d e → (s t : Bool) → (a.number == x.number) ≡ s → (a.number == y.number) ≡ t
-            → AreCopies tree posted p m x (if s then f d else d) (if t then f e else e)
+        beside : posted_phase ≢ Reclaim → (x y : Addr) (d e : Cell) → cell_in m.old x ≡ Some d → cell_in m.new y ≡ Some e → AreCopies tree posted_phase p m x d e → (s t : Bool) → (a.number == x.number) ≡ s → (a.number == y.number) ≡ t
+            → AreCopies tree posted_phase p m x (if s then f d else d) (if t then f e else e)
         beside before x y d e is is' were true t here here' = none_is_some d (sym (not_old m spaces a c lies) ∙ ap (cell_in m.old) (same_address a x here) ∙ is)
         beside before x y d e is is' were false true here here' =
             let same = same_cell (cell_in m.new a) (cell_in m.new y) c e lies is' (ap (cell_in m.new) (same_address a y here')) in
             none_is_some x (sym (bare before) ∙ ap (λ (z : Cell). z.other) same ∙ were.back (inl before))
         beside before x y d e is is' were false false here here' = were
 
-        copies : (x y : Addr) (d e : Cell) → cell_in m.old x ≡ Some d → d.other ≡ Some y → cell_in m.new y ≡ Some e → AreCopies tree posted p m x d e → AreCopies tree posted p m x (only_at f a x d) (only_at f a y e)
-        copies x y d e is other is' were = elim (reclaim_or posted) [
-          | inl last ↦ uncopied_alike (uncopied_reclaim posted p m last) f f keeps keeps a a x y d e is were
+        copies : (x y : Addr) (d e : Cell) → cell_in m.old x ≡ Some d → d.other ≡ Some y → cell_in m.new y ≡ Some e → AreCopies tree posted_phase p m x d e → AreCopies tree posted_phase p m x (only_at f a x d) (only_at f a y e)
+        copies x y d e is other is' were = elim (reclaim_or posted_phase) [
+          | inl last ↦ uncopied_alike (uncopied_reclaim posted_phase p m last) f f keeps keeps a a x y d e is were
           | inr before ↦ beside before x y d e is is' were (a.number == x.number) (a.number == y.number) refl refl
         ]
 
   -- ---- both copies
 
-  module _ (f g : Cell → Cell) (kind : Kind) (right : IsRight tree posted has_round p m kind true f g) (copied : has_copies posted ≡ true) where
+  module _ (f g : Cell → Cell) (kind : Kind) (right : IsRight tree posted_phase has_round p m kind true f g) (copied : has_copies posted_phase ≡ true) where
     -- Mark isn't posted once there are copies
-    not_mark : {A : Type 0} → posted ≡ Mark → A
+    not_mark : {A : Type 0} → posted_phase ≡ Mark → A
     not_mark e = false_is_true (sym (ap has_copies e) ∙ copied)
 
     module _ (a b : Addr) (c d : Cell) (twins : AreTwins m a b c d) (decoded : c.kind ≡ kind) (decoded' : d.kind ≡ kind) where
-      by_tests : posted ≢ Reclaim → (x y : Addr) (u v : Cell) → cell_in m.old x ≡ Some u → u.other ≡ Some y → cell_in m.new y ≡ Some v → AreCopies tree posted p m x u v → (s t : Bool) → (a.number == x.number) ≡ s → (b.number == y.number) ≡ t
-          → AreCopies tree posted p m x (if s then f u else u) (if t then g v else v)
+      by_tests : posted_phase ≢ Reclaim → (x y : Addr) (u v : Cell) → cell_in m.old x ≡ Some u → u.other ≡ Some y → cell_in m.new y ≡ Some v → AreCopies tree posted_phase p m x u v → (s t : Bool) → (a.number == x.number) ≡ s → (b.number == y.number) ≡ t
+          → AreCopies tree posted_phase p m x (if s then f u else u) (if t then g v else v)
       by_tests before x y u v is other is' were true true here here' =
           right.copies refl x u v (same_kind (cell_in m.old a) c u kind twins.old decoded (ap (cell_in m.old) (same_address a x here) ∙ is)) were
       by_tests before x y u v is other is' were true false here here' =
@@ -251,15 +251,15 @@ module _ (tree : Tree) (posted : Phase) (has_round : Bool) (words : ℕ) (p : Pr
           other_address a x here (same_Some a x (sym twins.back ∙ ap (λ (z : Cell). z.other) same ∙ were.back (inl before)))
       by_tests before x y u v is other is' were false false here here' = were
 
-      twins_alike : (x y : Addr) (u v : Cell) → cell_in m.old x ≡ Some u → u.other ≡ Some y → cell_in m.new y ≡ Some v → AreCopies tree posted p m x u v → AreCopies tree posted p m x (only_at f a x u) (only_at g b y v)
-      twins_alike x y u v is other is' were = elim (reclaim_or posted) [
-        | inl last ↦ uncopied_alike (uncopied_reclaim posted p m last) f g right.keeps_old right.keeps_new a b x y u v is were
+      twins_alike : (x y : Addr) (u v : Cell) → cell_in m.old x ≡ Some u → u.other ≡ Some y → cell_in m.new y ≡ Some v → AreCopies tree posted_phase p m x u v → AreCopies tree posted_phase p m x (only_at f a x u) (only_at g b y v)
+      twins_alike x y u v is other is' were = elim (reclaim_or posted_phase) [
+        | inl last ↦ uncopied_alike (uncopied_reclaim posted_phase p m last) f g right.keeps_old right.keeps_new a b x y u v is were
         | inr before ↦ by_tests before x y u v is other is' were (a.number == x.number) (b.number == y.number) refl refl
       ]
 
       twins_stay : IsSoundWith (twice f g m a b)
       twins_stay =
-          heap_stays tree posted has_round words p m f g right.keeps_old right.keeps_new a b sound
+          heap_stays tree posted_phase has_round words p m f g right.keeps_old right.keeps_new a b sound
           (record {
             old = λ u is read. right.old u (same_kind (cell_in m.old a) c u kind twins.old decoded is);
             new = λ v is. right.new refl v (same_kind (cell_in m.new b) d v kind twins.new decoded' is);
@@ -268,18 +268,18 @@ module _ (tree : Tree) (posted : Phase) (has_round : Bool) (words : ℕ) (p : Pr
           })
 
     -- the two copies of a live object, through the address of either
-    module _ (a : Addr) (c : Cell) (decoded : c.kind ≡ kind) (live : is_live posted m a ≡ true) where
+    module _ (a : Addr) (c : Cell) (decoded : c.kind ≡ kind) (live : is_live posted_phase m a ≡ true) where
       through_old_stays : cell_in m.old a ≡ Some c → IsSoundWith (with_both f g o a).spaces
-      through_old_stays lies = elim (live_marked_or_new posted m a copied (live_cell tree posted has_round words p m sound a c (old_is_cell m a c lies) live)) [
-        | inl marked ↦ with_copy (marked_copy tree posted has_round words p m sound copied a c lies (sym (ap is_marked_cell lies) ∙ marked))
+      through_old_stays lies = elim (live_marked_or_new posted_phase m a copied (live_cell tree posted_phase has_round words p m sound a c (old_is_cell m a c lies) live)) [
+        | inl marked ↦ with_copy (marked_copy tree posted_phase has_round words p m sound copied a c lies (sym (ap is_marked_cell lies) ∙ marked))
         | inr new ↦ false_is_true (sym (old_not_new m spaces a c lies) ∙ new)
       ]
         where
-          with_copy : (b : Addr) × (d : Cell) × (c.other ≡ Some b) × (cell_in m.new b ≡ Some d) × AreCopies tree posted p m a c d → IsSoundWith (with_both f g o a).spaces
+          with_copy : (b : Addr) × (d : Cell) × (c.other ≡ Some b) × (cell_in m.new b ≡ Some d) × AreCopies tree posted_phase p m a c d → IsSoundWith (with_both f g o a).spaces
           with_copy (b, d, out, new, were) =
               let decoded' : d.kind ≡ kind = were.kind ∙ decoded in
-              elim (reclaim_or posted) [
-                | inl last ↦ false_is_true (sym (old_not_new m spaces a c lies) ∙ subst (λ q. is_live_object q m a ≡ true) last (live_cell tree posted has_round words p m sound a c (old_is_cell m a c lies) live))
+              elim (reclaim_or posted_phase) [
+                | inl last ↦ false_is_true (sym (old_not_new m spaces a c lies) ∙ subst (λ q. is_live_object q m a ≡ true) last (live_cell tree posted_phase has_round words p m sound a c (old_is_cell m a c lies) live))
                 | inr before ↦
                     let twins : AreTwins m a b c d = record { old = lies; new = new; out = out; back = were.back (inl before) } in
                     subst (λ (q : Objects). IsSoundWith q.spaces) (sym (through_old f g (keeps_size f right.keeps_old) (keeps_size g right.keeps_new) o spaces a b c d twins)) (twins_stay a b c d twins decoded decoded')
@@ -309,30 +309,30 @@ module _ (tree : Tree) (posted : Phase) (has_round : Bool) (words : ℕ) (p : Pr
 
   -- ---- whichever copies a store reaches
 
-  module _ (f g : Cell → Cell) (own : Phase) (a : Addr) (c : Cell) (lies : object_cell o a ≡ Some c) (live : is_live posted m a ≡ true) (right : IsRight tree posted has_round p m c.kind (reaches_both own) f g) where
-    object : is_live_object posted m a ≡ true
-    object = live_cell tree posted has_round words p m sound a c lies live
+  module _ (f g : Cell → Cell) (own : Phase) (a : Addr) (c : Cell) (lies : object_cell o a ≡ Some c) (live : is_live posted_phase m a ≡ true) (right : IsRight tree posted_phase has_round p m c.kind (reaches_both own) f g) where
+    object : is_live_object posted_phase m a ≡ true
+    object = live_cell tree posted_phase has_round words p m sound a c lies live
 
-    lies_old : is_old_alone posted ≡ true → cell_in m.old a ≡ Some c
+    lies_old : is_old_alone posted_phase ≡ true → cell_in m.old a ≡ Some c
     lies_old alone = elim (either m a c lies) [
       | inl old ↦ old
-      | inr new ↦ false_is_true (sym (ap is_some (not_old m spaces a c new)) ∙ live_is_old posted m a alone object)
+      | inr new ↦ false_is_true (sym (ap is_some (not_old m spaces a c new)) ∙ live_is_old posted_phase m a alone object)
     ]
 
-    lies_new : posted ≡ Reclaim → cell_in m.new a ≡ Some c
+    lies_new : posted_phase ≡ Reclaim → cell_in m.new a ≡ Some c
     lies_new last = elim (either m a c lies) [
       | inl old ↦ false_is_true (sym (old_not_new m spaces a c old) ∙ subst (λ q. is_live_object q m a ≡ true) last object)
       | inr new ↦ new
     ]
 
     -- the heap is sound after a change that is right
-    pub change_stays : Way own posted p → IsSoundWith (changed_by (reaches_both own) f g o a).spaces
+    pub change_stays : Way own posted_phase p → IsSoundWith (changed_by (reaches_both own) f g o a).spaces
     change_stays (in_old one alone nothing) =
         subst (λ t. IsSoundWith (changed_by t f g o a).spaces) (sym one)
-        (old_stays f right.keeps_old c.kind a c refl (lies_old alone) (uncopied_old posted p m alone nothing) right.old right.marks)
+        (old_stays f right.keeps_old c.kind a c refl (lies_old alone) (uncopied_old posted_phase p m alone nothing) right.old right.marks)
     change_stays (in_new one last) =
         subst (λ t. IsSoundWith (changed_by t f g o a).spaces) (sym one)
         (new_stays f right.keeps_old c.kind a c refl (lies_new last) (λ before. absurd (before last)) (subst (λ q. (d : Cell) → d.kind ≡ c.kind → AreStored tree (is_live q m) d (f d)) last right.old))
     change_stays (in_both two copied) =
         subst (λ t. IsSoundWith (changed_by t f g o a).spaces) (sym two)
-        (both_stay f g c.kind (subst (λ t. IsRight tree posted has_round p m c.kind t f g) two right) copied a c refl live lies)
+        (both_stay f g c.kind (subst (λ t. IsRight tree posted_phase has_round p m c.kind t f g) two right) copied a c refl live lies)

@@ -43,13 +43,13 @@ static_gets ThreadFlip o statics number v = refl
 static_gets Reclaim o statics number v = refl
 
 module _ (tree : Tree) (has_round : Bool) (words : ℕ) (p : Progress) (o : Objects) (statics : List Value) (number : ℕ) (v : Value) where
-  abbrev IsHeld : (own posted : Phase) → Type 0
-  IsHeld own posted = ValuePasses (passes (held_by own posted) posted o.spaces) v
+  abbrev IsHeld : (own posted_phase : Phase) → Type 0
+  IsHeld own posted_phase = ValuePasses (passes (held_by own posted_phase) posted_phase o.spaces) v
 
   -- ---- the heap
 
-  abbrev IsKept : (own posted : Phase) → Type 0
-  IsKept own posted = IsBesideHeap tree own posted has_round words p o → IsHeld own posted → IsSoundHeap tree posted has_round words p (stored_static own o statics number v).0.spaces
+  abbrev IsKept : (own posted_phase : Phase) → Type 0
+  IsKept own posted_phase = IsBesideHeap tree own posted_phase has_round words p o → IsHeld own posted_phase → IsSoundHeap tree posted_phase has_round words p (stored_static own o statics number v).0.spaces
 
   mark_keeps : IsKept Mark Mark
   mark_keeps thread held = value_mark_sound tree has_round words p o v thread.sound
@@ -57,35 +57,35 @@ module _ (tree : Tree) (has_round : Bool) (words : ℕ) (p : Progress) (o : Obje
   marked_keeps : IsKept Mark Allocate
   marked_keeps thread held = subst (λ (q : Objects). IsSoundHeap tree Allocate has_round words p q.spaces) (sym (value_mark_same o v thread.sound.blocks.spaces held)) thread.sound
 
-  marks_keep : (posted : Phase) → IsBeside Mark posted → IsKept Mark posted
-  marks_keep posted (inl now) = subst (λ q. IsKept Mark q) now mark_keeps
-  marks_keep posted (inr late) = subst (λ q. IsKept Mark q) late marked_keeps
+  marks_keep : (posted_phase : Phase) → IsBeside Mark posted_phase → IsKept Mark posted_phase
+  marks_keep posted_phase (inl now) = subst (λ q. IsKept Mark q) now mark_keeps
+  marks_keep posted_phase (inr late) = subst (λ q. IsKept Mark q) late marked_keeps
 
   -- the heap is sound after a store to a static field
-  pub static_keeps : (own posted : Phase) → IsBesideHeap tree own posted has_round words p o → ValuePasses (passes (held_by own posted) posted o.spaces) v
-      → IsSoundHeap tree posted has_round words p (stored_static own o statics number v).0.spaces
-  static_keeps Idle posted thread held = thread.sound
-  static_keeps Mark posted thread held = marks_keep posted thread.beside thread held
-  static_keeps Allocate posted thread held = thread.sound
-  static_keeps Copy posted thread held = thread.sound
-  static_keeps PreFlip posted thread held = thread.sound
-  static_keeps HeapFlip posted thread held = thread.sound
-  static_keeps ThreadFlip posted thread held = thread.sound
-  static_keeps Reclaim posted thread held = thread.sound
+  pub static_keeps : (own posted_phase : Phase) → IsBesideHeap tree own posted_phase has_round words p o → ValuePasses (passes (held_by own posted_phase) posted_phase o.spaces) v
+      → IsSoundHeap tree posted_phase has_round words p (stored_static own o statics number v).0.spaces
+  static_keeps Idle posted_phase thread held = thread.sound
+  static_keeps Mark posted_phase thread held = marks_keep posted_phase thread.beside thread held
+  static_keeps Allocate posted_phase thread held = thread.sound
+  static_keeps Copy posted_phase thread held = thread.sound
+  static_keeps PreFlip posted_phase thread held = thread.sound
+  static_keeps HeapFlip posted_phase thread held = thread.sound
+  static_keeps ThreadFlip posted_phase thread held = thread.sound
+  static_keeps Reclaim posted_phase thread held = thread.sound
 
   -- ---- the field
 
-  abbrev IsFit : (own posted : Phase) → Type 0
-  IsFit own posted = IsBesideHeap tree own posted has_round words p o → IsHeld own posted → ValuePasses (static_may_hold posted (stored_static own o statics number v).0.spaces p number) (value_for_static own o v)
+  abbrev IsFit : (own posted_phase : Phase) → Type 0
+  IsFit own posted_phase = IsBesideHeap tree own posted_phase has_round words p o → IsHeld own posted_phase → ValuePasses (static_may_hold posted_phase (stored_static own o statics number v).0.spaces p number) (value_for_static own o v)
 
   -- what is new may be in any field from PreFlip on
-  new_fits : (posted : Phase) (m : Spaces) (t : Bool) (u : Value) → is_old_alone posted ≡ false → ValuePasses (is_new_address m) u → ValuePasses (λ a. passes (if t then NewOnly else AnyLive) posted m a) u
-  new_fits posted m true u late new = new
-  new_fits posted m false u late new = value_weakens (is_new_address m) (is_live posted m) (λ a. new_is_live posted m a late) u new
+  new_fits : (posted_phase : Phase) (m : Spaces) (t : Bool) (u : Value) → is_old_alone posted_phase ≡ false → ValuePasses (is_new_address m) u → ValuePasses (λ a. passes (if t then NewOnly else AnyLive) posted_phase m a) u
+  new_fits posted_phase m true u late new = new
+  new_fits posted_phase m false u late new = value_weakens (is_new_address m) (is_live posted_phase m) (λ a. new_is_live posted_phase m a late) u new
 
   -- the forward of what is live
-  forward_fits : (own posted : Phase) → has_copies posted ≡ true → IsBesideHeap tree own posted has_round words p o → ValuePasses (is_live posted o.spaces) v → ValuePasses (is_new_address o.spaces) (forward_value o v)
-  forward_fits own posted copied thread live = forwarded_passes tree own posted has_round words p o thread.sound copied v live
+  forward_fits : (own posted_phase : Phase) → has_copies posted_phase ≡ true → IsBesideHeap tree own posted_phase has_round words p o → ValuePasses (is_live posted_phase o.spaces) v → ValuePasses (is_new_address o.spaces) (forward_value o v)
+  forward_fits own posted_phase copied thread live = forwarded_passes tree own posted_phase has_round words p o thread.sound copied v live
 
   -- the static fields aren't scanned while a thread is late
   idle_late : IsFit Idle Mark
@@ -137,11 +137,11 @@ module _ (tree : Tree) (has_round : Bool) (words : ℕ) (p : Progress) (o : Obje
   late_fits Reclaim thread held = held
 
   -- a static field may hold what it gets
-  fits_beside : (own posted : Phase) → IsBeside own posted → IsFit own posted
-  fits_beside own posted (inl now) = subst (λ q. IsFit own q) now (now_fits own)
-  fits_beside own posted (inr late) = subst (λ q. IsFit own q) late (late_fits own)
+  fits_beside : (own posted_phase : Phase) → IsBeside own posted_phase → IsFit own posted_phase
+  fits_beside own posted_phase (inl now) = subst (λ q. IsFit own q) now (now_fits own)
+  fits_beside own posted_phase (inr late) = subst (λ q. IsFit own q) late (late_fits own)
 
   -- and the field may hold what it got
-  pub static_fits : (own posted : Phase) → IsBesideHeap tree own posted has_round words p o → ValuePasses (passes (held_by own posted) posted o.spaces) v
-      → ValuePasses (static_may_hold posted (stored_static own o statics number v).0.spaces p number) (value_for_static own o v)
-  static_fits own posted thread held = fits_beside own posted thread.beside thread held
+  pub static_fits : (own posted_phase : Phase) → IsBesideHeap tree own posted_phase has_round words p o → ValuePasses (passes (held_by own posted_phase) posted_phase o.spaces) v
+      → ValuePasses (static_may_hold posted_phase (stored_static own o statics number v).0.spaces p number) (value_for_static own o v)
+  static_fits own posted_phase thread held = fits_beside own posted_phase thread.beside thread held

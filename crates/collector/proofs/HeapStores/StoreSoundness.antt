@@ -35,28 +35,28 @@ use Rattle.collector.proofs.ThreadReferences.LiveValues.{IsShort, held_by, held_
 -- ---- threads and what they store
 
 -- A thread has acknowledged the posted phase or the one before it, and the heap is sound.
-pub record IsBesideHeap (tree : Tree) (own posted : Phase) (has_round : Bool) (words : ℕ) (p : Progress) (o : Objects) : Type 0 where
-  pub beside : IsBeside own posted
-  pub on_time : IsOnTime own posted has_round p o.spaces
-  pub sound : IsSoundHeap tree posted has_round words p o.spaces
+pub record IsBesideHeap (tree : Tree) (own posted_phase : Phase) (has_round : Bool) (words : ℕ) (p : Progress) (o : Objects) : Type 0 where
+  pub beside : IsBeside own posted_phase
+  pub on_time : IsOnTime own posted_phase has_round p o.spaces
+  pub sound : IsSoundHeap tree posted_phase has_round words p o.spaces
 
 -- a thread may hold the address of an object
-pub record IsHeldObject (own posted : Phase) (o : Objects) (a : Addr) (c : Cell) : Type 0 where
+pub record IsHeldObject (own posted_phase : Phase) (o : Objects) (a : Addr) (c : Cell) : Type 0 where
   pub lies : object_cell o a ≡ Some c
-  pub held : passes (held_by own posted) posted o.spaces a ≡ true
+  pub held : passes (held_by own posted_phase) posted_phase o.spaces a ≡ true
 
 -- It may hold a value too, which is a reference exactly where the slot of such an object is one.
-pub record IsHeldValue (tree : Tree) (own posted : Phase) (o : Objects) (kind : Kind) (slot : ℕ) (v : Value) : Type 0 where
+pub record IsHeldValue (tree : Tree) (own posted_phase : Phase) (o : Objects) (kind : Kind) (slot : ℕ) (v : Value) : Type 0 where
   pub short : IsShort v
   pub reference : is_reference v ≡ holds_reference tree kind slot
-  pub held : ValuePasses (passes (held_by own posted) posted o.spaces) v
+  pub held : ValuePasses (passes (held_by own posted_phase) posted_phase o.spaces) v
 
 -- a seat may hold them
-pub seat_holds_object : (h : Handshakes) (seat : Seat) (o : Objects) (a : Addr) (c : Cell) → object_cell o a ≡ Some c → may_hold h o.spaces seat a ≡ true → IsHeldObject seat.phase h.posted o a c
+pub seat_holds_object : (h : Handshakes) (seat : Seat) (o : Objects) (a : Addr) (c : Cell) → object_cell o a ≡ Some c → may_hold h o.spaces seat a ≡ true → IsHeldObject seat.phase h.posted_phase o a c
 seat_holds_object h seat o a c lies held = record { lies = lies; held = may_hold_is_held h o.spaces seat a held }
 
 pub seat_holds_value : (tree : Tree) (h : Handshakes) (seat : Seat) (o : Objects) (kind : Kind) (slot : ℕ) (v : Value) → IsShort v → is_reference v ≡ holds_reference tree kind slot → ValuePasses (may_hold h o.spaces seat) v
-    → IsHeldValue tree seat.phase h.posted o kind slot v
+    → IsHeldValue tree seat.phase h.posted_phase o kind slot v
 seat_holds_value tree h seat o kind slot v short reference held = record { short = short; reference = reference; held = seat_passes h o.spaces seat v held }
 
 -- ---- values in both copies
@@ -77,17 +77,17 @@ abbrev pub value_for_new : Phase → Objects → Value → Value
 value_for_new own o v = if is_forwarding own then forward_value o v else v
 
 -- threads are flipped while one is in ThreadFlip
-pub flipping_beside : (posted : Phase) → IsBeside ThreadFlip posted → is_flipping posted ≡ true
-flipping_beside posted (inl now) = subst (λ q. is_flipping q ≡ true) now refl
-flipping_beside posted (inr late) = subst (λ q. is_flipping q ≡ true) late refl
+pub flipping_beside : (posted_phase : Phase) → IsBeside ThreadFlip posted_phase → is_flipping posted_phase ≡ true
+flipping_beside posted_phase (inl now) = subst (λ q. is_flipping q ≡ true) now refl
+flipping_beside posted_phase (inr late) = subst (λ q. is_flipping q ≡ true) late refl
 
 -- a store to both copies finds copies
-pub way_copies : (own posted : Phase) (p : Progress) → Way own posted p → reaches_both own ≡ true → has_copies posted ≡ true
-way_copies own posted p (in_old one alone nothing) both = false_is_true (sym one ∙ both)
-way_copies own posted p (in_new one last) both = false_is_true (sym one ∙ both)
-way_copies own posted p (in_both two copied) both = copied
+pub way_copies : (own posted_phase : Phase) (p : Progress) → Way own posted_phase p → reaches_both own ≡ true → has_copies posted_phase ≡ true
+way_copies own posted_phase p (in_old one alone nothing) both = false_is_true (sym one ∙ both)
+way_copies own posted_phase p (in_new one last) both = false_is_true (sym one ∙ both)
+way_copies own posted_phase p (in_both two copied) both = copied
 
-module _ (tree : Tree) (own posted : Phase) (has_round : Bool) (words : ℕ) (p : Progress) (o : Objects) (sound : IsSoundHeap tree posted has_round words p o.spaces) where
+module _ (tree : Tree) (own posted_phase : Phase) (has_round : Bool) (words : ℕ) (p : Progress) (o : Objects) (sound : IsSoundHeap tree posted_phase has_round words p o.spaces) where
   abbrev m : Spaces
   m = o.spaces
 
@@ -102,15 +102,15 @@ module _ (tree : Tree) (own posted : Phase) (has_round : Bool) (words : ℕ) (p 
   forwarded_new (Native n) new = refl
 
   -- the forward of what is live is new
-  pub forwarded_passes : has_copies posted ≡ true → (v : Value) → ValuePasses (is_live posted m) v → ValuePasses (is_new_address m) (forward_value o v)
-  forwarded_passes copied (Ref a) live = live_forward tree posted has_round words p m sound copied a live
+  pub forwarded_passes : has_copies posted_phase ≡ true → (v : Value) → ValuePasses (is_live posted_phase m) v → ValuePasses (is_new_address m) (forward_value o v)
+  forwarded_passes copied (Ref a) live = live_forward tree posted_phase has_round words p m sound copied a live
   forwarded_passes copied (Int32 n) live = tt
   forwarded_passes copied (Int64 n) live = tt
   forwarded_passes copied (Native n) live = tt
 
   -- a forward is as short as any address
   pub forwarded_short : (v : Value) → IsShort v → IsShort (forward_value o v)
-  forwarded_short (Ref a) short = forward_short tree posted has_round words p m sound a short
+  forwarded_short (Ref a) short = forward_short tree posted_phase has_round words p m sound a short
   forwarded_short (Int32 n) short = tt
   forwarded_short (Int64 n) short = tt
   forwarded_short (Native n) short = tt
@@ -130,12 +130,12 @@ module _ (tree : Tree) (own posted : Phase) (has_round : Bool) (words : ℕ) (p 
   forwarded_word c slot (Int64 n) short same = ap (λ t. if t then (forward m (reference_in (value_word (Int64 n)))).number else value_word (Int64 n)) same
   forwarded_word c slot (Native n) short same = ap (λ t. if t then (forward m (reference_in (value_word (Native n)))).number else value_word (Native n)) same
 
-  module _ (kind : Kind) (slot : ℕ) (v : Value) (value : IsHeldValue tree own posted o kind slot v) where
-    live : ValuePasses (is_live posted m) v
-    live = value_weakens (passes (held_by own posted) posted m) (is_live posted m) (held_is_live own posted m) v value.held
+  module _ (kind : Kind) (slot : ℕ) (v : Value) (value : IsHeldValue tree own posted_phase o kind slot v) where
+    live : ValuePasses (is_live posted_phase m) v
+    live = value_weakens (passes (held_by own posted_phase) posted_phase m) (is_live posted_phase m) (held_is_live own posted_phase m) v value.held
 
     -- what the new copy gets is the forward of the value in each phase
-    is_forward : (q : Phase) → q ≡ own → IsBeside own posted → reaches_both q ≡ true → value_for_new q o v ≡ forward_value o v
+    is_forward : (q : Phase) → q ≡ own → IsBeside own posted_phase → reaches_both q ≡ true → value_for_new q o v ≡ forward_value o v
     is_forward Idle is beside both = false_is_true both
     is_forward Mark is beside both = false_is_true both
     is_forward Allocate is beside both = false_is_true both
@@ -144,11 +144,11 @@ module _ (tree : Tree) (own posted : Phase) (has_round : Bool) (words : ℕ) (p 
     is_forward HeapFlip is beside both = refl
     is_forward ThreadFlip is beside both =
         let flipping : is_flipping own ≡ true = ap is_flipping (sym is) in
-        let flipping' : is_flipping posted ≡ true = flipping_beside posted (subst (λ r. IsBeside r posted) (sym is) beside) in
-        sym (forwarded_new v (value_weakens (passes (held_by own posted) posted m) (is_new_address m) (λ a. held_is_new own posted m a flipping flipping') v value.held))
+        let flipping' : is_flipping posted_phase ≡ true = flipping_beside posted_phase (subst (λ r. IsBeside r posted_phase) (sym is) beside) in
+        sym (forwarded_new v (value_weakens (passes (held_by own posted_phase) posted_phase m) (is_new_address m) (λ a. held_is_new own posted_phase m a flipping flipping') v value.held))
     is_forward Reclaim is beside both = false_is_true both
 
-    module _ (beside : IsBeside own posted) (way : Way own posted p) (marks : posted ≡ Mark → HasNotBegun posted has_round p m ⊎ ValuePasses (is_marked_address m) v) where
+    module _ (beside : IsBeside own posted_phase) (way : Way own posted_phase p) (marks : posted_phase ≡ Mark → HasNotBegun posted_phase has_round p m ⊎ ValuePasses (is_marked_address m) v) where
       other_is : reaches_both own ≡ true → value_for_new own o v ≡ forward_value o v
       other_is both = is_forward own refl beside both
 
@@ -157,35 +157,35 @@ module _ (tree : Tree) (own posted : Phase) (has_round : Bool) (words : ℕ) (p 
 
       new_stored : reaches_both own ≡ true → (d : Cell) → d.kind ≡ kind → AreStored tree (is_new_address m) d (store_slot slot (value_word (forward_value o v)) d)
       new_stored both d decoded =
-          let copied = way_copies own posted p way both in
+          let copied = way_copies own posted_phase p way both in
           word_stored tree (is_new_address m) d slot (value_word (forward_value o v))
           (passes_in_slot tree (is_new_address m) d.kind slot (forward_value o v) (forwarded_short v value.short) (forwarded_reference v ∙ decoded_reference d decoded) (forwarded_passes copied v live))
 
       -- a value that is held is right for the slot, and its forward for that of the new copy
-      pub value_right : IsRight tree posted has_round p m kind (reaches_both own) (store_slot slot (value_word v)) (store_slot slot (value_word (value_for_new own o v)))
+      pub value_right : IsRight tree posted_phase has_round p m kind (reaches_both own) (store_slot slot (value_word v)) (store_slot slot (value_word (value_for_new own o v)))
       value_right = record {
         keeps_old = slot_keeps_tags slot (value_word v);
         keeps_new = slot_keeps_tags slot (value_word (value_for_new own o v));
-        old = λ c decoded. word_stored tree (is_live posted m) c slot (value_word v) (passes_in_slot tree (is_live posted m) c.kind slot v value.short (decoded_reference c decoded) live);
+        old = λ c decoded. word_stored tree (is_live posted_phase m) c slot (value_word v) (passes_in_slot tree (is_live posted_phase m) c.kind slot v value.short (decoded_reference c decoded) live);
         marks = λ mark. elim (marks mark) [
           | inl late ↦ inl late
           | inr marked ↦ inr (λ c decoded. word_stored tree (is_marked_address m) c slot (value_word v) (passes_in_slot tree (is_marked_address m) c.kind slot v value.short (decoded_reference c decoded) marked))
         ];
         new = λ both d decoded. subst (λ (u : Value). AreStored tree (is_new_address m) d (store_slot slot (value_word u) d)) (sym (other_is both)) (new_stored both d decoded);
-        copies = λ both x c d decoded were. slots_alike tree posted p m slot (value_word v) (value_word (value_for_new own o v)) x c d were (ap value_word (other_is both) ∙ forwarded_word c slot v value.short (decoded_reference c decoded));
+        copies = λ both x c d decoded were. slots_alike tree posted_phase p m slot (value_word v) (value_word (value_for_new own o v)) x c d were (ap value_word (other_is both) ∙ forwarded_word c slot v value.short (decoded_reference c decoded));
       }
 
 -- ---- values
 
 module _ (tree : Tree) (has_round : Bool) (words : ℕ) (p : Progress) (o : Objects) (a : Addr) (c : Cell) (slot : ℕ) (v : Value) where
   -- a thread that hasn't acknowledged Mark, or is past it, marks nothing
-  unmarked_stays : (own posted : Phase) → own ≢ Mark → IsBesideHeap tree own posted has_round words p o → IsHeldObject own posted o a c → IsHeldValue tree own posted o c.kind slot v
-      → IsSoundHeap tree posted has_round words p (changed_by (reaches_both own) (store_slot slot (value_word v)) (store_slot slot (value_word (value_for_new own o v))) o a).spaces
-  unmarked_stays own posted unmarking thread object value =
-      let way = way_of own posted has_round p o.spaces thread.beside thread.on_time in
-      change_stays tree posted has_round words p o thread.sound (store_slot slot (value_word v)) (store_slot slot (value_word (value_for_new own o v))) own a c object.lies
-      (held_is_live own posted o.spaces a object.held)
-      (value_right tree own posted has_round words p o thread.sound c.kind slot v value thread.beside way (λ mark. inl (thread.on_time (λ same. unmarking (same ∙ mark)))))
+  unmarked_stays : (own posted_phase : Phase) → own ≢ Mark → IsBesideHeap tree own posted_phase has_round words p o → IsHeldObject own posted_phase o a c → IsHeldValue tree own posted_phase o c.kind slot v
+      → IsSoundHeap tree posted_phase has_round words p (changed_by (reaches_both own) (store_slot slot (value_word v)) (store_slot slot (value_word (value_for_new own o v))) o a).spaces
+  unmarked_stays own posted_phase unmarking thread object value =
+      let way = way_of own posted_phase has_round p o.spaces thread.beside thread.on_time in
+      change_stays tree posted_phase has_round words p o thread.sound (store_slot slot (value_word v)) (store_slot slot (value_word (value_for_new own o v))) own a c object.lies
+      (held_is_live own posted_phase o.spaces a object.held)
+      (value_right tree own posted_phase has_round words p o thread.sound c.kind slot v value thread.beside way (λ mark. inl (thread.on_time (λ same. unmarking (same ∙ mark)))))
       way
 
   -- while Mark is posted it marks the value first
@@ -220,24 +220,24 @@ module _ (tree : Tree) (has_round : Bool) (words : ℕ) (p : Progress) (o : Obje
       (value_right tree Mark Allocate has_round words p o thread.sound c.kind slot v value thread.beside way (λ mark. false_is_true (ap is_marking mark)))
       way)
 
-  abbrev IsKept : (own posted : Phase) → Type 0
-  IsKept own posted = IsBesideHeap tree own posted has_round words p o → IsHeldObject own posted o a c → IsHeldValue tree own posted o c.kind slot v → IsSoundHeap tree posted has_round words p (stored_value own o a slot v).spaces
+  abbrev IsKept : (own posted_phase : Phase) → Type 0
+  IsKept own posted_phase = IsBesideHeap tree own posted_phase has_round words p o → IsHeldObject own posted_phase o a c → IsHeldValue tree own posted_phase o c.kind slot v → IsSoundHeap tree posted_phase has_round words p (stored_value own o a slot v).spaces
 
-  marks_stay : (posted : Phase) → IsBeside Mark posted → IsKept Mark posted
-  marks_stay posted (inl now) = subst (λ q. IsKept Mark q) now marking_stays
-  marks_stay posted (inr late) = subst (λ q. IsKept Mark q) late marked_stays
+  marks_stay : (posted_phase : Phase) → IsBeside Mark posted_phase → IsKept Mark posted_phase
+  marks_stay posted_phase (inl now) = subst (λ q. IsKept Mark q) now marking_stays
+  marks_stay posted_phase (inr late) = subst (λ q. IsKept Mark q) late marked_stays
 
   -- a value in a slot
-  pub value_keeps : (own posted : Phase) → IsBesideHeap tree own posted has_round words p o → IsHeldObject own posted o a c → IsHeldValue tree own posted o c.kind slot v
-      → IsSoundHeap tree posted has_round words p (stored_value own o a slot v).spaces
-  value_keeps Idle posted thread object value = unmarked_stays Idle posted (λ e. false_is_true (ap is_marking e)) thread object value
-  value_keeps Mark posted thread object value = marks_stay posted thread.beside thread object value
-  value_keeps Allocate posted thread object value = unmarked_stays Allocate posted (λ e. false_is_true (ap is_marking e)) thread object value
-  value_keeps Copy posted thread object value = unmarked_stays Copy posted (λ e. false_is_true (ap is_marking e)) thread object value
-  value_keeps PreFlip posted thread object value = unmarked_stays PreFlip posted (λ e. false_is_true (ap is_marking e)) thread object value
-  value_keeps HeapFlip posted thread object value = unmarked_stays HeapFlip posted (λ e. false_is_true (ap is_marking e)) thread object value
-  value_keeps ThreadFlip posted thread object value = unmarked_stays ThreadFlip posted (λ e. false_is_true (ap is_marking e)) thread object value
-  value_keeps Reclaim posted thread object value = unmarked_stays Reclaim posted (λ e. false_is_true (ap is_marking e)) thread object value
+  pub value_keeps : (own posted_phase : Phase) → IsBesideHeap tree own posted_phase has_round words p o → IsHeldObject own posted_phase o a c → IsHeldValue tree own posted_phase o c.kind slot v
+      → IsSoundHeap tree posted_phase has_round words p (stored_value own o a slot v).spaces
+  value_keeps Idle posted_phase thread object value = unmarked_stays Idle posted_phase (λ e. false_is_true (ap is_marking e)) thread object value
+  value_keeps Mark posted_phase thread object value = marks_stay posted_phase thread.beside thread object value
+  value_keeps Allocate posted_phase thread object value = unmarked_stays Allocate posted_phase (λ e. false_is_true (ap is_marking e)) thread object value
+  value_keeps Copy posted_phase thread object value = unmarked_stays Copy posted_phase (λ e. false_is_true (ap is_marking e)) thread object value
+  value_keeps PreFlip posted_phase thread object value = unmarked_stays PreFlip posted_phase (λ e. false_is_true (ap is_marking e)) thread object value
+  value_keeps HeapFlip posted_phase thread object value = unmarked_stays HeapFlip posted_phase (λ e. false_is_true (ap is_marking e)) thread object value
+  value_keeps ThreadFlip posted_phase thread object value = unmarked_stays ThreadFlip posted_phase (λ e. false_is_true (ap is_marking e)) thread object value
+  value_keeps Reclaim posted_phase thread object value = unmarked_stays Reclaim posted_phase (λ e. false_is_true (ap is_marking e)) thread object value
 
 -- ---- whose monitor it is
 
@@ -267,48 +267,48 @@ module _ (own : Phase) (o : Objects) (a : Addr) (monitor : Monitor) where
 
 -- ---- words without references, and monitors
 
-module _ (tree : Tree) (own posted : Phase) (has_round : Bool) (words : ℕ) (p : Progress) (o : Objects) (a : Addr) (c : Cell) (thread : IsBesideHeap tree own posted has_round words p o) (object : IsHeldObject own posted o a c) where
-  way : Way own posted p
-  way = way_of own posted has_round p o.spaces thread.beside thread.on_time
+module _ (tree : Tree) (own posted_phase : Phase) (has_round : Bool) (words : ℕ) (p : Progress) (o : Objects) (a : Addr) (c : Cell) (thread : IsBesideHeap tree own posted_phase has_round words p o) (object : IsHeldObject own posted_phase o a c) where
+  way : Way own posted_phase p
+  way = way_of own posted_phase has_round p o.spaces thread.beside thread.on_time
 
   -- a word in a slot that holds no reference
   module _ (slot word : ℕ) (hidden : holds_reference tree c.kind slot ≡ false) where
     hidden_in : (d : Cell) → d.kind ≡ c.kind → holds_reference tree d.kind slot ≡ false
     hidden_in d decoded = ap (λ k. holds_reference tree k slot) decoded ∙ hidden
 
-    word_right : IsRight tree posted has_round p o.spaces c.kind (reaches_both own) (store_slot slot word) (store_slot slot word)
+    word_right : IsRight tree posted_phase has_round p o.spaces c.kind (reaches_both own) (store_slot slot word) (store_slot slot word)
     word_right = record {
       keeps_old = slot_keeps_tags slot word;
       keeps_new = slot_keeps_tags slot word;
-      old = λ d decoded. word_stored tree (is_live posted o.spaces) d slot word (λ link. false_is_true (sym (hidden_in d decoded) ∙ link));
+      old = λ d decoded. word_stored tree (is_live posted_phase o.spaces) d slot word (λ link. false_is_true (sym (hidden_in d decoded) ∙ link));
       marks = λ mark. inr (λ d decoded. word_stored tree (is_marked_address o.spaces) d slot word (λ link. false_is_true (sym (hidden_in d decoded) ∙ link)));
       new = λ both d decoded. word_stored tree (is_new_address o.spaces) d slot word (λ link. false_is_true (sym (hidden_in d decoded) ∙ link));
-      copies = λ both x d e decoded were. slots_alike tree posted p o.spaces slot word word x d e were (sym (ap (λ t. if t then (forward o.spaces (reference_in word)).number else word) (hidden_in d decoded)));
+      copies = λ both x d e decoded were. slots_alike tree posted_phase p o.spaces slot word word x d e were (sym (ap (λ t. if t then (forward o.spaces (reference_in word)).number else word) (hidden_in d decoded)));
     }
 
     -- the heap is sound after a store of the word
-    pub word_keeps : IsSoundHeap tree posted has_round words p (stored_int own o a slot word).spaces
-    word_keeps = change_stays tree posted has_round words p o thread.sound (store_slot slot word) (store_slot slot word) own a c object.lies (held_is_live own posted o.spaces a object.held) word_right way
+    pub word_keeps : IsSoundHeap tree posted_phase has_round words p (stored_int own o a slot word).spaces
+    word_keeps = change_stays tree posted_phase has_round words p o thread.sound (store_slot slot word) (store_slot slot word) own a c object.lies (held_is_live own posted_phase o.spaces a object.held) word_right way
 
   -- the monitor of an object
   module _ (monitor : Monitor) where
-    monitor_right : IsRight tree posted has_round p o.spaces c.kind (reaches_both own) (store_monitor monitor) (store_monitor monitor)
+    monitor_right : IsRight tree posted_phase has_round p o.spaces c.kind (reaches_both own) (store_monitor monitor) (store_monitor monitor)
     monitor_right = record {
       keeps_old = monitor_keeps_tags monitor;
       keeps_new = monitor_keeps_tags monitor;
-      old = λ d decoded. monitor_stored tree (is_live posted o.spaces) d monitor;
+      old = λ d decoded. monitor_stored tree (is_live posted_phase o.spaces) d monitor;
       marks = λ mark. inr (λ d decoded. monitor_stored tree (is_marked_address o.spaces) d monitor);
       new = λ both d decoded. monitor_stored tree (is_new_address o.spaces) d monitor;
-      copies = λ both x d e decoded were. monitors_alike tree posted p o.spaces monitor x d e were;
+      copies = λ both x d e decoded were. monitors_alike tree posted_phase p o.spaces monitor x d e were;
     }
 
     -- the heap is sound after a store of the monitor
-    pub monitor_keeps : IsSoundHeap tree posted has_round words p (stored_monitor own o a monitor).spaces
+    pub monitor_keeps : IsSoundHeap tree posted_phase has_round words p (stored_monitor own o a monitor).spaces
     monitor_keeps =
-        subst (λ (q : Objects). IsSoundHeap tree posted has_round words p q.spaces) (sym (object_monitor_is own o a monitor (no_literal o.spaces thread.sound.blocks.spaces a c object.lies)))
-        (change_stays tree posted has_round words p o thread.sound (store_monitor monitor) (store_monitor monitor) own a c object.lies (held_is_live own posted o.spaces a object.held) monitor_right way)
+        subst (λ (q : Objects). IsSoundHeap tree posted_phase has_round words p q.spaces) (sym (object_monitor_is own o a monitor (no_literal o.spaces thread.sound.blocks.spaces a c object.lies)))
+        (change_stays tree posted_phase has_round words p o thread.sound (store_monitor monitor) (store_monitor monitor) own a c object.lies (held_is_live own posted_phase o.spaces a object.held) monitor_right way)
 
 -- the monitor of a literal
-pub literal_monitor_keeps : (tree : Tree) (own posted : Phase) (has_round : Bool) (words : ℕ) (p : Progress) (o : Objects) (a : Addr) (n : ℕ) (monitor : Monitor) → literal_number a ≡ Some n → IsSoundHeap tree posted has_round words p o.spaces
-    → IsSoundHeap tree posted has_round words p (stored_monitor own o a monitor).spaces
-literal_monitor_keeps tree own posted has_round words p o a n monitor is sound = subst (λ (q : Objects). IsSoundHeap tree posted has_round words p q.spaces) (sym (literal_monitor_is own o a monitor n is)) sound
+pub literal_monitor_keeps : (tree : Tree) (own posted_phase : Phase) (has_round : Bool) (words : ℕ) (p : Progress) (o : Objects) (a : Addr) (n : ℕ) (monitor : Monitor) → literal_number a ≡ Some n → IsSoundHeap tree posted_phase has_round words p o.spaces
+    → IsSoundHeap tree posted_phase has_round words p (stored_monitor own o a monitor).spaces
+literal_monitor_keeps tree own posted_phase has_round words p o a n monitor is sound = subst (λ (q : Objects). IsSoundHeap tree posted_phase has_round words p q.spaces) (sym (literal_monitor_is own o a monitor n is)) sound

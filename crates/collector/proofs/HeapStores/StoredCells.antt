@@ -47,7 +47,7 @@ IsMarkedBy own c d = (d ≡ c) ⊎ ((own ≡ Mark) × (d ≡ set_mark c))
 different : (a x : Addr) → (a ≡ x → ⊥) → a.number ≢ x.number
 different a x ne same = ne (ap (λ (k : ℕ). record { number = k }) same)
 
-module _ (tree : Tree) (posted : Phase) (has_round : Bool) (words : ℕ) (p : Progress) (o : Objects) (sound : IsSoundHeap tree posted has_round words p o.spaces) (a : Addr) (c : Cell) (lies : object_cell o a ≡ Some c) where
+module _ (tree : Tree) (posted_phase : Phase) (has_round : Bool) (words : ℕ) (p : Progress) (o : Objects) (sound : IsSoundHeap tree posted_phase has_round words p o.spaces) (a : Addr) (c : Cell) (lies : object_cell o a ≡ Some c) where
   abbrev m : Spaces
   m = o.spaces
 
@@ -58,12 +58,12 @@ module _ (tree : Tree) (posted : Phase) (has_round : Bool) (words : ℕ) (p : Pr
         by_other : (r : Option Addr) → c.other ≡ r → cell_at (change_copies f g m a) a ≡ Some (f c)
         by_other None bare = ap (λ n. cell_at n a) (change_copies-alone f g (keeps_size f keeps) (keeps_size g keeps') m a c lies bare) ∙ change-own f m a c lies
         by_other (Some b) other =
-            let u = other_lies tree posted has_round words p o sound a c lies b other in
+            let u = other_lies tree posted_phase has_round words p o sound a c lies b other in
             change_copies-own f g (keeps_size f keeps) (keeps_size g keeps') m a b c u.0 lies other u.1.lies u.1.apart
 
     copies_other : (b : Addr) (d : Cell) → c.other ≡ Some b → object_cell o b ≡ Some d → cell_at (change_copies f g m a) b ≡ Some (g d)
     copies_other b d other there =
-        let u = other_lies tree posted has_round words p o sound a c lies b other in
+        let u = other_lies tree posted_phase has_round words p o sound a c lies b other in
         change_copies-other f g (keeps_size f keeps) (keeps_size g keeps') m a b c d lies other there u.1.apart
 
     copies_else : (x : Addr) → (a ≡ x → ⊥) → (c.other ≡ Some x → ⊥) → cell_at (change_copies f g m a) x ≡ cell_at m x
@@ -72,7 +72,7 @@ module _ (tree : Tree) (posted : Phase) (has_round : Bool) (words : ℕ) (p : Pr
         by_other : (r : Option Addr) → c.other ≡ r → cell_at (change_copies f g m a) x ≡ cell_at m x
         by_other None bare = ap (λ n. cell_at n x) (change_copies-alone f g (keeps_size f keeps) (keeps_size g keeps') m a c lies bare) ∙ change-other f (keeps_size f keeps) m a x (different a x apart)
         by_other (Some b) other =
-            let u = other_lies tree posted has_round words p o sound a c lies b other in
+            let u = other_lies tree posted_phase has_round words p o sound a c lies b other in
             change_copies-else f g (keeps_size f keeps) (keeps_size g keeps') m a b c u.0 lies other u.1.lies u.1.apart x (different a x apart) (different b x (λ same. beside (other ∙ ap Some same)))
 
   module _ (f g : Cell → Cell) (keeps : KeepsTags f) (keeps' : KeepsTags g) where
@@ -96,7 +96,7 @@ module _ (tree : Tree) (posted : Phase) (has_round : Bool) (words : ℕ) (p : Pr
 
     other_changes : (b : Addr) (d : Cell) → c.other ≡ Some b → object_cell o b ≡ Some d → object_cell (changed_by true f g o a) b ≡ Some (change_for true f g o b d)
     other_changes b d other there =
-        let u = other_lies tree posted has_round words p o sound a c lies b other in
+        let u = other_lies tree posted_phase has_round words p o sound a c lies b other in
         other_by_age (is_old m a) b d other there ∙ ap (λ t. Some (if t then f d else g d)) (sym u.1.age)
 
     -- each copy that is reached is changed

@@ -96,7 +96,7 @@ module _ (m n : Spaces) (darker : AreDarker m n) where
     | inr new ↦ or_right (is_marked_old n a) (is_new n a) (stays_new a new)
   ]
 
-  stays_live_object : (posted : Phase) (a : Addr) → is_live_object posted m a ≡ true → is_live_object posted n a ≡ true
+  stays_live_object : (posted_phase : Phase) (a : Addr) → is_live_object posted_phase m a ≡ true → is_live_object posted_phase n a ≡ true
   stays_live_object Idle a h = stays_old a h
   stays_live_object Mark a h = stays_old a h
   stays_live_object Allocate a h = stays_marked a h
@@ -106,10 +106,10 @@ module _ (m n : Spaces) (darker : AreDarker m n) where
   stays_live_object ThreadFlip a h = stays_either a h
   stays_live_object Reclaim a h = stays_new a h
 
-  pub stays_live : (posted : Phase) (a : Addr) → is_live posted m a ≡ true → is_live posted n a ≡ true
-  stays_live posted a h = elim (or_cases (is_permanent a) (is_live_object posted m a) h) [
-    | inl permanent ↦ or_left (is_permanent a) (is_live_object posted n a) permanent
-    | inr live ↦ or_right (is_permanent a) (is_live_object posted n a) (stays_live_object posted a live)
+  pub stays_live : (posted_phase : Phase) (a : Addr) → is_live posted_phase m a ≡ true → is_live posted_phase n a ≡ true
+  stays_live posted_phase a h = elim (or_cases (is_permanent a) (is_live_object posted_phase m a) h) [
+    | inl permanent ↦ or_left (is_permanent a) (is_live_object posted_phase n a) permanent
+    | inr live ↦ or_right (is_permanent a) (is_live_object posted_phase n a) (stays_live_object posted_phase a live)
   ]
 
   pub stays_marked_address : (a : Addr) → is_marked_address m a ≡ true → is_marked_address n a ≡ true
@@ -118,10 +118,10 @@ module _ (m n : Spaces) (darker : AreDarker m n) where
   pub stays_new_address : (a : Addr) → is_new_address m a ≡ true → is_new_address n a ≡ true
   stays_new_address a h = stays_live Reclaim a h
 
-  pub stays_passing : (hold : Hold) (posted : Phase) (a : Addr) → passes hold posted m a ≡ true → passes hold posted n a ≡ true
-  stays_passing AnyLive posted a h = stays_live posted a h
-  stays_passing MarkedOnly posted a h = stays_marked_address a h
-  stays_passing NewOnly posted a h = stays_new_address a h
+  pub stays_passing : (hold : Hold) (posted_phase : Phase) (a : Addr) → passes hold posted_phase m a ≡ true → passes hold posted_phase n a ≡ true
+  stays_passing AnyLive posted_phase a h = stays_live posted_phase a h
+  stays_passing MarkedOnly posted_phase a h = stays_marked_address a h
+  stays_passing NewOnly posted_phase a h = stays_new_address a h
 
   pub stays_there : AreSpaces m → (a : Addr) (c : Cell) → cell_at m a ≡ Some c → (d : Cell) × (cell_at n a ≡ Some d) × IsDarker c d
   stays_there spaces a c e = elim (either m a c e) [
@@ -179,6 +179,6 @@ module _ (tree : Tree) (has_round : Bool) (words : ℕ) (p : Progress) (m n : Sp
     copies = AreCopied-darker q;
     cursor = HasCursor-else Mark q n (λ e. absurd cc) (λ e. absurd cc);
     loaded = λ e. absurd cc;
-    marks = λ posted. marks;
-    cleared = λ posted. absurd cc;
+    marks = λ posted_phase. marks;
+    cleared = λ posted_phase. absurd cc;
   }

@@ -186,7 +186,7 @@ module _ (m : Spaces) (spaces : AreSpaces m) (q : Addr) where
   HasNotBegun-mark has_round p late = record {
     nothing = late.nothing;
     no_round = late.no_round;
-    all_grey = λ posted. all_grey_by (is_white (cell_in m.old q)) refl (late.all_grey posted);
+    all_grey = λ posted_phase. all_grey_by (is_white (cell_in m.old q)) refl (late.all_grey posted_phase);
   }
 
   -- ---- marks that change nothing

@@ -55,7 +55,7 @@ grows_then m n o first second = record {
 }
 
 module _ (m n : Spaces) (grows : Grows m n) where
-  object_grows : (posted : Phase) (x : Addr) → is_live_object posted m x ≡ true → is_live_object posted n x ≡ true
+  object_grows : (posted_phase : Phase) (x : Addr) → is_live_object posted_phase m x ≡ true → is_live_object posted_phase n x ≡ true
   object_grows Idle x h = grows.old x h
   object_grows Mark x h = grows.old x h
   object_grows Allocate x h = grows.marked x h
@@ -65,17 +65,17 @@ module _ (m n : Spaces) (grows : Grows m n) where
   object_grows ThreadFlip x h = or_both (is_marked_old m x) (is_new m x) (is_marked_old n x) (is_new n x) (grows.marked x) (grows.new x) h
   object_grows Reclaim x h = grows.new x h
 
-  pub live_grows : (posted : Phase) (x : Addr) → is_live posted m x ≡ true → is_live posted n x ≡ true
-  live_grows posted x h = or_more (is_permanent x) (is_live_object posted m x) (is_live_object posted n x) (object_grows posted x) h
+  pub live_grows : (posted_phase : Phase) (x : Addr) → is_live posted_phase m x ≡ true → is_live posted_phase n x ≡ true
+  live_grows posted_phase x h = or_more (is_permanent x) (is_live_object posted_phase m x) (is_live_object posted_phase n x) (object_grows posted_phase x) h
 
   pub marked_address_grows : (x : Addr) → is_marked_address m x ≡ true → is_marked_address n x ≡ true
   marked_address_grows x h = or_more (is_permanent x) (is_marked_old m x) (is_marked_old n x) (grows.marked x) h
 
   -- what may be held may be held afterwards
-  pub passes_then : (hold : Hold) (posted : Phase) (x : Addr) → passes hold posted m x ≡ true → passes hold posted n x ≡ true
-  passes_then AnyLive posted x h = live_grows posted x h
-  passes_then MarkedOnly posted x h = marked_address_grows x h
-  passes_then NewOnly posted x h = or_more (is_permanent x) (is_new m x) (is_new n x) (grows.new x) h
+  pub passes_then : (hold : Hold) (posted_phase : Phase) (x : Addr) → passes hold posted_phase m x ≡ true → passes hold posted_phase n x ≡ true
+  passes_then AnyLive posted_phase x h = live_grows posted_phase x h
+  passes_then MarkedOnly posted_phase x h = marked_address_grows x h
+  passes_then NewOnly posted_phase x h = or_more (is_permanent x) (is_new m x) (is_new n x) (grows.new x) h
 
 -- ---- lists
 
@@ -301,10 +301,10 @@ module _ (m : Spaces) (q : Addr) where
       by_white false is = sound
 
   -- where the collector has not begun it still hasn't
-  pub mark_not_begun : (posted : Phase) (has_round : Bool) (p : Progress) → HasNotBegun posted has_round p m → HasNotBegun posted has_round p (mark m q).0
-  mark_not_begun posted has_round p late = record { nothing = late.nothing; no_round = late.no_round; all_grey = λ mark. by_white mark (is_white (cell_in m.old q)) }
+  pub mark_not_begun : (posted_phase : Phase) (has_round : Bool) (p : Progress) → HasNotBegun posted_phase has_round p m → HasNotBegun posted_phase has_round p (mark m q).0
+  mark_not_begun posted_phase has_round p late = record { nothing = late.nothing; no_round = late.no_round; all_grey = λ mark. by_white mark (is_white (cell_in m.old q)) }
     where
-      by_white : posted ≡ Mark → (t : Bool) → (a : Addr) → is_marked_old (after t) a ≡ true → IsListed (after t).grey a
+      by_white : posted_phase ≡ Mark → (t : Bool) → (a : Addr) → is_marked_old (after t) a ≡ true → IsListed (after t).grey a
       by_white mark true = grey_stays m q (late.all_grey mark)
       by_white mark false = late.all_grey mark
 
@@ -368,11 +368,11 @@ value_mark_sound tree has_round words p o (Int32 x) sound = sound
 value_mark_sound tree has_round words p o (Int64 x) sound = sound
 value_mark_sound tree has_round words p o (Native x) sound = sound
 
-pub value_mark_not_begun : (posted : Phase) (has_round : Bool) (p : Progress) (o : Objects) (v : Value) → HasNotBegun posted has_round p o.spaces → HasNotBegun posted has_round p (with_marked o v).spaces
-value_mark_not_begun posted has_round p o (Ref a) late = mark_not_begun o.spaces a posted has_round p late
-value_mark_not_begun posted has_round p o (Int32 x) late = late
-value_mark_not_begun posted has_round p o (Int64 x) late = late
-value_mark_not_begun posted has_round p o (Native x) late = late
+pub value_mark_not_begun : (posted_phase : Phase) (has_round : Bool) (p : Progress) (o : Objects) (v : Value) → HasNotBegun posted_phase has_round p o.spaces → HasNotBegun posted_phase has_round p (with_marked o v).spaces
+value_mark_not_begun posted_phase has_round p o (Ref a) late = mark_not_begun o.spaces a posted_phase has_round p late
+value_mark_not_begun posted_phase has_round p o (Int32 x) late = late
+value_mark_not_begun posted_phase has_round p o (Int64 x) late = late
+value_mark_not_begun posted_phase has_round p o (Native x) late = late
 
 pub value_then_marked : (o : Objects) (v : Value) → ValuePasses (is_live Mark o.spaces) v → ValuePasses (is_marked_address (with_marked o v).spaces) v
 value_then_marked o (Ref a) live = mark_then_marked o.spaces a live

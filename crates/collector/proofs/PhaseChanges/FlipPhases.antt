@@ -29,13 +29,13 @@ use Rattle.collector.proofs.Addresses.GrowingBlocks.{forward_permanent, marked_t
 
 -- A heap that is sound in one phase is sound in another one of the cycle, in which the copies are made too, and no more is copied, looked for or
 -- read than in the first.
-module _ (tree : Tree) (posted next : Phase) (has_round : Bool) (words : ℕ) (p p' : Progress) (m : Spaces) (sound : IsSoundHeap tree posted has_round words p m)
-    (cycle : is_of_cycle posted ≡ is_of_cycle next) (early : is_before_copies posted ≡ is_before_copies next)
-    (copied : (a : Addr) (word : ℕ) → HasCopied next p' m a word → HasCopied posted p m a word)
-    (looked : (a : Addr) → HasLooked next p' m a → HasLooked posted p m a)
-    (read : (c : Cell) → is_read next c ≡ true → is_read posted c ≡ true)
-    (references : (c : Cell) → is_read next c ≡ true → SlotsPass tree (is_live posted m) c → SlotsPass tree (is_live next m) c)
-    (held : posted ≢ Reclaim) (marking : next ≢ Mark) (making : next ≢ Allocate) (filling : next ≢ Copy) (cleared : next ≡ Reclaim → IsCleared p' m) where
+module _ (tree : Tree) (posted_phase next : Phase) (has_round : Bool) (words : ℕ) (p p' : Progress) (m : Spaces) (sound : IsSoundHeap tree posted_phase has_round words p m)
+    (cycle : is_of_cycle posted_phase ≡ is_of_cycle next) (early : is_before_copies posted_phase ≡ is_before_copies next)
+    (copied : (a : Addr) (word : ℕ) → HasCopied next p' m a word → HasCopied posted_phase p m a word)
+    (looked : (a : Addr) → HasLooked next p' m a → HasLooked posted_phase p m a)
+    (read : (c : Cell) → is_read next c ≡ true → is_read posted_phase c ≡ true)
+    (references : (c : Cell) → is_read next c ≡ true → SlotsPass tree (is_live posted_phase m) c → SlotsPass tree (is_live next m) c)
+    (held : posted_phase ≢ Reclaim) (marking : next ≢ Mark) (making : next ≢ Allocate) (filling : next ≢ Copy) (cleared : next ≡ Reclaim → IsCleared p' m) where
   -- the blocks are as they should be
   blocks_on : AreBlocks next words m
   blocks_on = record {
@@ -50,7 +50,7 @@ module _ (tree : Tree) (posted next : Phase) (has_round : Bool) (words : ℕ) (p
   }
 
   -- copies are copies still
-  copies_on : (a : Addr) (c d : Cell) → AreCopies tree posted p m a c d → AreCopies tree next p' m a c d
+  copies_on : (a : Addr) (c d : Cell) → AreCopies tree posted_phase p m a c d → AreCopies tree next p' m a c d
   copies_on a c d are = record {
     kind = are.kind;
     count = are.count;
@@ -114,7 +114,7 @@ module _ (tree : Tree) (has_round : Bool) (words : ℕ) (p : Progress) (m : Spac
       (λ is. absurd cc) (λ is. absurd cc) (λ is. absurd cc) (λ is. absurd cc) (λ is. none_cleared m)
 
   -- each of the three
-  pub flip_posted : (posted : Phase) → is_flip posted ≡ true → IsSoundHeap tree posted has_round words p m → IsSoundHeap tree (phase_after posted) has_round words no_progress m
+  pub flip_posted : (posted_phase : Phase) → is_flip posted_phase ≡ true → IsSoundHeap tree posted_phase has_round words p m → IsSoundHeap tree (phase_after posted_phase) has_round words no_progress m
   flip_posted Idle e sound = absurd cc
   flip_posted Mark e sound = absurd cc
   flip_posted Allocate e sound = absurd cc
@@ -131,8 +131,8 @@ module _ (tree : Tree) (has_round : Bool) (words : ℕ) (p : Progress) (m : Spac
       (λ is. absurd cc) (λ is. absurd cc) (λ is. absurd cc) (λ is. absurd cc) (λ is. absurd cc)
 
 -- where a phase but Mark is posted, the collector has not begun with it
-pub just_posted : (posted : Phase) (has_round : Bool) (m : Spaces) → posted ≢ Mark → HasNotBegun posted has_round no_progress m
-just_posted posted has_round m ne = record { nothing = refl; no_round = λ is. elim (ne is) [ ]; all_grey = λ is. elim (ne is) [ ] }
+pub just_posted : (posted_phase : Phase) (has_round : Bool) (m : Spaces) → posted_phase ≢ Mark → HasNotBegun posted_phase has_round no_progress m
+just_posted posted_phase has_round m ne = record { nothing = refl; no_round = λ is. elim (ne is) [ ]; all_grey = λ is. elim (ne is) [ ] }
 
 -- ---- forwards
 
@@ -148,7 +148,7 @@ are_all_copied ThreadFlip = true
 are_all_copied Reclaim = false
 
 -- the collector has looked for the copy of each old object
-all_looked : (posted : Phase) (p : Progress) (m : Spaces) (a : Addr) → are_all_copied posted ≡ true → HasLooked posted p m a
+all_looked : (posted_phase : Phase) (p : Progress) (m : Spaces) (a : Addr) → are_all_copied posted_phase ≡ true → HasLooked posted_phase p m a
 all_looked Idle p m a e = absurd cc
 all_looked Mark p m a e = absurd cc
 all_looked Allocate p m a e = absurd cc
@@ -176,7 +176,7 @@ module _ (m : Spaces) (a : Addr) where
   one_of_three false false z ex ey ez e = new (sym ez ∙ e)
 
   -- by the phase
-  live_then : (posted : Phase) → are_all_copied posted ≡ true → is_live posted m a ≡ true → IsLiveThen m a
+  live_then : (posted_phase : Phase) → are_all_copied posted_phase ≡ true → is_live posted_phase m a ≡ true → IsLiveThen m a
   live_then Idle e live = absurd cc
   live_then Mark e live = absurd cc
   live_then Allocate e live = absurd cc
@@ -186,7 +186,7 @@ module _ (m : Spaces) (a : Addr) where
   live_then ThreadFlip e live = one_of_three (is_permanent a) (is_marked_old m a) (is_new m a) refl refl refl live
   live_then Reclaim e live = absurd cc
 
-module _ (tree : Tree) (posted : Phase) (has_round : Bool) (words : ℕ) (p : Progress) (m : Spaces) (sound : IsSoundHeap tree posted has_round words p m) (all : are_all_copied posted ≡ true) where
+module _ (tree : Tree) (posted_phase : Phase) (has_round : Bool) (words : ℕ) (p : Progress) (m : Spaces) (sound : IsSoundHeap tree posted_phase has_round words p m) (all : are_all_copied posted_phase ≡ true) where
   -- the forward of an object with a copy is new
   copy_is_new : (a : Addr) (c : Cell) → cell_in m.old a ≡ Some c → (x : Option Addr) → c.other ≡ x → x ≢ None → is_new_address m (forward m a) ≡ true
   copy_is_new a c lies None other some = elim (some refl) [ ]
@@ -199,26 +199,26 @@ module _ (tree : Tree) (posted : Phase) (has_round : Bool) (words : ℕ) (p : Pr
   forward_by a (permanent e) = subst (λ x. is_new_address m x ≡ true) (sym (forward_permanent m sound.blocks.spaces a e)) (or_left (is_permanent a) (is_new m a) e)
   forward_by a (marked e) =
       let r = marked_there (cell_in m.old a) e in
-      let some = sound.copies.shells a r.0 r.1 r.2 (all_looked posted p m a all) in
+      let some = sound.copies.shells a r.0 r.1 r.2 (all_looked posted_phase p m a all) in
       copy_is_new a r.0 r.1 r.0.other refl some
   forward_by a (new e) =
       let r = some_there (cell_in m.new a) e in
       subst (λ x. is_new_address m x ≡ true) (sym (forward_new m sound.blocks.spaces a r.0 r.1)) (or_right (is_permanent a) (is_new m a) e)
 
   -- the forward of a live address is a new one
-  pub forward_is_new : (a : Addr) → is_live posted m a ≡ true → is_new_address m (forward m a) ≡ true
-  forward_is_new a live = forward_by a (live_then m a posted all live)
+  pub forward_is_new : (a : Addr) → is_live posted_phase m a ≡ true → is_new_address m (forward m a) ≡ true
+  forward_is_new a live = forward_by a (live_then m a posted_phase all live)
 
 -- ---- values
 
-module _ (tree : Tree) (posted : Phase) (has_round : Bool) (words : ℕ) (p : Progress) (o : Objects) (sound : IsSoundHeap tree posted has_round words p o.spaces) (all : are_all_copied posted ≡ true) where
+module _ (tree : Tree) (posted_phase : Phase) (has_round : Bool) (words : ℕ) (p : Progress) (o : Objects) (sound : IsSoundHeap tree posted_phase has_round words p o.spaces) (all : are_all_copied posted_phase ≡ true) where
   -- a value that is live is new once it is forwarded
-  pub forwarded_is_new : (v : Value) → ValuePasses (is_live posted o.spaces) v → ValuePasses (is_new_address o.spaces) (forward_value o v)
-  forwarded_is_new (Ref a) live = forward_is_new tree posted has_round words p o.spaces sound all a live
+  pub forwarded_is_new : (v : Value) → ValuePasses (is_live posted_phase o.spaces) v → ValuePasses (is_new_address o.spaces) (forward_value o v)
+  forwarded_is_new (Ref a) live = forward_is_new tree posted_phase has_round words p o.spaces sound all a live
   forwarded_is_new (Int32 x) live = tt
   forwarded_is_new (Int64 x) live = tt
   forwarded_is_new (Native x) live = tt
 
   -- after the flip of a thread's frames all that they hold is new
-  pub all_forwarded_are_new : (vs : List Value) → All (ValuePasses (is_live posted o.spaces)) vs → All (ValuePasses (is_new_address o.spaces)) (map (forward_value o) vs)
+  pub all_forwarded_are_new : (vs : List Value) → All (ValuePasses (is_live posted_phase o.spaces)) vs → All (ValuePasses (is_new_address o.spaces)) (map (forward_value o) vs)
   all_forwarded_are_new vs live = All-map (ValuePasses (is_new_address o.spaces)) (forward_value o) vs (λ i d inside. forwarded_is_new (get_or vs i d) (live i d inside))

@@ -59,12 +59,12 @@ module _ (words literals : ℕ) (few : words ≤ MOST_WORDS) where
       marked_only = λ a c e other. no_cell c e;
       old_references = λ a c e read. no_cell c e;
       new_references = λ b d e. no_cell d e;
-      room = λ posted. elim posted [ inl e ↦ absurd (apart_mark e) | inr e ↦ absurd (apart_allocate e) ];
+      room = λ posted_phase. elim posted_phase [ inl e ↦ absurd (apart_mark e) | inr e ↦ absurd (apart_allocate e) ];
     };
     cursor = HasCursor-else Idle p empty (λ e. absurd cc) (λ e. absurd cc);
     loaded = λ e. absurd cc;
-    marks = λ posted. absurd (apart_mark posted);
-    cleared = λ posted. absurd cc;
+    marks = λ posted_phase. absurd (apart_mark posted_phase);
+    cleared = λ posted_phase. absurd cc;
   }
     where
       apart_mark : Idle ≡ Mark → ⊥
@@ -108,21 +108,21 @@ module _ (tree : Tree) (has_round : Bool) (words : ℕ) (p : Progress) (m : Spac
         (HasShellRoom-opened m next grows);
     cursor = HasCursor-begun Mark (open_cycle m next);
     loaded = λ e. absurd cc;
-    marks = λ posted. opened_marks;
-    cleared = λ posted. absurd cc;
+    marks = λ posted_phase. opened_marks;
+    cleared = λ posted_phase. absurd cc;
   }
 
   -- and the collector has not begun
   pub HasNotBegun-opened : HasNotBegun Mark false no_progress (open_cycle m next)
   HasNotBegun-opened = record {
     nothing = refl;
-    no_round = λ posted. refl;
-    all_grey = λ posted a h. let c = marked_cell (open_cycle m next) a h in absurd (opened_unmarked a c.0 c.1 c.2);
+    no_round = λ posted_phase. refl;
+    all_grey = λ posted_phase a h. let c = marked_cell (open_cycle m next) a h in absurd (opened_unmarked a c.0 c.1 c.2);
   }
 
 -- nor has it of any other phase that it posts
-pub HasNotBegun-posted : (posted : Phase) (has_round : Bool) (m : Spaces) → posted ≢ Mark → HasNotBegun posted has_round no_progress m
-HasNotBegun-posted posted has_round m other = record { nothing = refl; no_round = λ e. absurd (other e); all_grey = λ e. absurd (other e) }
+pub HasNotBegun-posted : (posted_phase : Phase) (has_round : Bool) (m : Spaces) → posted_phase ≢ Mark → HasNotBegun posted_phase has_round no_progress m
+HasNotBegun-posted posted_phase has_round m other = record { nothing = refl; no_round = λ e. absurd (other e); all_grey = λ e. absurd (other e) }
 
 -- ---- a round is posted
 
@@ -175,8 +175,8 @@ module _ (tree : Tree) (has_round : Bool) (words : ℕ) (p : Progress) (m : Spac
     };
     cursor = HasCursor-begun Allocate m;
     loaded = λ e. absurd cc;
-    marks = λ posted. absurd (apart posted);
-    cleared = λ posted. absurd cc;
+    marks = λ posted_phase. absurd (apart posted_phase);
+    cleared = λ posted_phase. absurd cc;
   }
     where
       apart : Allocate ≡ Mark → ⊥

@@ -22,12 +22,12 @@ use Rattle.collector.proofs.PhaseChanges.FlipPhases.{forwarded_is_new, in_heap_f
 
 -- each static field holds what it may
 abbrev pub StaticsPass : Phase → Spaces → Progress → List Value → Type 0
-StaticsPass posted m p statics = (number : ℕ) (v : Value) → slice_get statics number ≡ Some v → ValuePasses (static_may_hold posted m p number) v
+StaticsPass posted_phase m p statics = (number : ℕ) (v : Value) → slice_get statics number ≡ Some v → ValuePasses (static_may_hold posted_phase m p number) v
 
 -- it does so still where what is old, marked or new stays so
-pub statics_stay : (posted : Phase) (m m' : Spaces) (p : Progress) (statics : List Value) → TestsStay m m' → StaticsPass posted m p statics → StaticsPass posted m' p statics
-statics_stay posted m m' p statics stay pass number v there =
-    value_weakens (static_may_hold posted m p number) (static_may_hold posted m' p number) (λ a e. passes_stays m m' stay a (static_hold_of posted p number) posted e) v (pass number v there)
+pub statics_stay : (posted_phase : Phase) (m m' : Spaces) (p : Progress) (statics : List Value) → TestsStay m m' → StaticsPass posted_phase m p statics → StaticsPass posted_phase m' p statics
+statics_stay posted_phase m m' p statics stay pass number v there =
+    value_weakens (static_may_hold posted_phase m p number) (static_may_hold posted_phase m' p number) (λ a e. passes_stays m m' stay a (static_hold_of posted_phase p number) posted_phase e) v (pass number v there)
 
 -- ---- lists
 

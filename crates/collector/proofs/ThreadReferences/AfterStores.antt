@@ -24,17 +24,17 @@ use Rattle.collector.proofs.HeapStores.StoreSoundness.{IsBesideHeap}
 -- ---- what is alike
 
 -- a collector that has not begun has not begun still
-pub alike_not_begun : (m n : Spaces) → AreAlike m n → (posted : Phase) (has_round : Bool) (p : Progress) → HasNotBegun posted has_round p m → HasNotBegun posted has_round p n
-alike_not_begun m n alike posted has_round p late = record {
+pub alike_not_begun : (m n : Spaces) → AreAlike m n → (posted_phase : Phase) (has_round : Bool) (p : Progress) → HasNotBegun posted_phase has_round p m → HasNotBegun posted_phase has_round p n
+alike_not_begun m n alike posted_phase has_round p late = record {
   nothing = late.nothing;
   no_round = late.no_round;
   all_grey = λ mark a h. subst (λ grey. IsListed grey a) (sym alike.grey) (late.all_grey mark a (sym (alike.marked a) ∙ h));
 }
 
 -- each thread is beside the heap still
-pub still_beside : (tree : Tree) (own posted : Phase) (has_round : Bool) (words : ℕ) (p : Progress) (o q : Objects) → (HasNotBegun posted has_round p o.spaces → HasNotBegun posted has_round p q.spaces) → IsSoundHeap tree posted has_round words p q.spaces
-    → IsBesideHeap tree own posted has_round words p o → IsBesideHeap tree own posted has_round words p q
-still_beside tree own posted has_round words p o q begun sound thread = record { beside = thread.beside; on_time = λ ne. begun (thread.on_time ne); sound = sound }
+pub still_beside : (tree : Tree) (own posted_phase : Phase) (has_round : Bool) (words : ℕ) (p : Progress) (o q : Objects) → (HasNotBegun posted_phase has_round p o.spaces → HasNotBegun posted_phase has_round p q.spaces) → IsSoundHeap tree posted_phase has_round words p q.spaces
+    → IsBesideHeap tree own posted_phase has_round words p o → IsBesideHeap tree own posted_phase has_round words p q
+still_beside tree own posted_phase has_round words p o q begun sound thread = record { beside = thread.beside; on_time = λ ne. begun (thread.on_time ne); sound = sound }
 
 -- the same addresses are live, marked and new after a change of one copy or both
 pub changed_alike : (both : Bool) (f g : Cell → Cell) → KeepsTags f → KeepsTags g → (o : Objects) (a : Addr) → AreAlike o.spaces (changed_by both f g o a).spaces
@@ -71,15 +71,15 @@ module _ (o : Objects) (v : Value) where
   first_grows Reclaim = grows_itself o.spaces
 
   -- and lists what it marks
-  pub first_not_begun : (own posted : Phase) (has_round : Bool) (p : Progress) → HasNotBegun posted has_round p o.spaces → HasNotBegun posted has_round p (marked_first own o v).spaces
-  first_not_begun Idle posted has_round p late = late
-  first_not_begun Mark posted has_round p late = value_mark_not_begun posted has_round p o v late
-  first_not_begun Allocate posted has_round p late = late
-  first_not_begun Copy posted has_round p late = late
-  first_not_begun PreFlip posted has_round p late = late
-  first_not_begun HeapFlip posted has_round p late = late
-  first_not_begun ThreadFlip posted has_round p late = late
-  first_not_begun Reclaim posted has_round p late = late
+  pub first_not_begun : (own posted_phase : Phase) (has_round : Bool) (p : Progress) → HasNotBegun posted_phase has_round p o.spaces → HasNotBegun posted_phase has_round p (marked_first own o v).spaces
+  first_not_begun Idle posted_phase has_round p late = late
+  first_not_begun Mark posted_phase has_round p late = value_mark_not_begun posted_phase has_round p o v late
+  first_not_begun Allocate posted_phase has_round p late = late
+  first_not_begun Copy posted_phase has_round p late = late
+  first_not_begun PreFlip posted_phase has_round p late = late
+  first_not_begun HeapFlip posted_phase has_round p late = late
+  first_not_begun ThreadFlip posted_phase has_round p late = late
+  first_not_begun Reclaim posted_phase has_round p late = late
 
 slots_changed : (both : Bool) (o : Objects) (a : Addr) (slot w w' : ℕ) → AreAlike o.spaces (changed_by both (store_slot slot w) (store_slot slot w') o a).spaces
 slots_changed both o a slot w w' = changed_alike both (store_slot slot w) (store_slot slot w') (slot_keeps_tags slot w) (slot_keeps_tags slot w') o a
@@ -101,13 +101,13 @@ module _ (o : Objects) (a : Addr) (slot : ℕ) (v : Value) where
   value_grows own = grows_then o.spaces (marked_first own o v).spaces (stored_value own o a slot v).spaces (first_grows o v own) (alike_grows (marked_first own o v).spaces (stored_value own o a slot v).spaces (value_alike own))
 
   -- each marked object is grey still, where each was
-  pub value_not_begun : (own posted : Phase) (has_round : Bool) (p : Progress) → HasNotBegun posted has_round p o.spaces → HasNotBegun posted has_round p (stored_value own o a slot v).spaces
-  value_not_begun own posted has_round p late =
-      alike_not_begun (marked_first own o v).spaces (stored_value own o a slot v).spaces (value_alike own) posted has_round p (first_not_begun o v own posted has_round p late)
+  pub value_not_begun : (own posted_phase : Phase) (has_round : Bool) (p : Progress) → HasNotBegun posted_phase has_round p o.spaces → HasNotBegun posted_phase has_round p (stored_value own o a slot v).spaces
+  value_not_begun own posted_phase has_round p late =
+      alike_not_begun (marked_first own o v).spaces (stored_value own o a slot v).spaces (value_alike own) posted_phase has_round p (first_not_begun o v own posted_phase has_round p late)
 
   -- what may be held may be held still
-  pub value_holds : (own : Phase) (hold : Hold) (posted : Phase) (b : Addr) → passes hold posted o.spaces b ≡ true → passes hold posted (stored_value own o a slot v).spaces b ≡ true
-  value_holds own hold posted b h = passes_then o.spaces (stored_value own o a slot v).spaces (value_grows own) hold posted b h
+  pub value_holds : (own : Phase) (hold : Hold) (posted_phase : Phase) (b : Addr) → passes hold posted_phase o.spaces b ≡ true → passes hold posted_phase (stored_value own o a slot v).spaces b ≡ true
+  value_holds own hold posted_phase b h = passes_then o.spaces (stored_value own o a slot v).spaces (value_grows own) hold posted_phase b h
 
 -- ---- words and monitors
 
@@ -127,21 +127,21 @@ module _ (own : Phase) (o : Objects) (a : Addr) where
       by_both false (Some n) = alike_itself o.spaces
 
   -- what may be held may be held still, after a word
-  pub word_holds : (slot word : ℕ) (hold : Hold) (posted : Phase) (b : Addr) → passes hold posted o.spaces b ≡ true → passes hold posted (stored_int own o a slot word).spaces b ≡ true
-  word_holds slot word hold posted b h = passes_then o.spaces (stored_int own o a slot word).spaces (alike_grows o.spaces (stored_int own o a slot word).spaces (word_alike slot word)) hold posted b h
+  pub word_holds : (slot word : ℕ) (hold : Hold) (posted_phase : Phase) (b : Addr) → passes hold posted_phase o.spaces b ≡ true → passes hold posted_phase (stored_int own o a slot word).spaces b ≡ true
+  word_holds slot word hold posted_phase b h = passes_then o.spaces (stored_int own o a slot word).spaces (alike_grows o.spaces (stored_int own o a slot word).spaces (word_alike slot word)) hold posted_phase b h
 
   -- and after a monitor
-  pub monitor_holds : (m : Monitor) (hold : Hold) (posted : Phase) (b : Addr) → passes hold posted o.spaces b ≡ true → passes hold posted (stored_monitor own o a m).spaces b ≡ true
-  monitor_holds m hold posted b h = passes_then o.spaces (stored_monitor own o a m).spaces (alike_grows o.spaces (stored_monitor own o a m).spaces (monitor_alike m)) hold posted b h
+  pub monitor_holds : (m : Monitor) (hold : Hold) (posted_phase : Phase) (b : Addr) → passes hold posted_phase o.spaces b ≡ true → passes hold posted_phase (stored_monitor own o a m).spaces b ≡ true
+  monitor_holds m hold posted_phase b h = passes_then o.spaces (stored_monitor own o a m).spaces (alike_grows o.spaces (stored_monitor own o a m).spaces (monitor_alike m)) hold posted_phase b h
 
-  module _ (posted : Phase) (has_round : Bool) (p : Progress) (late : HasNotBegun posted has_round p o.spaces) where
+  module _ (posted_phase : Phase) (has_round : Bool) (p : Progress) (late : HasNotBegun posted_phase has_round p o.spaces) where
     -- a collector that has not begun has not begun still, after a word
-    pub word_not_begun : (slot word : ℕ) → HasNotBegun posted has_round p (stored_int own o a slot word).spaces
-    word_not_begun slot word = alike_not_begun o.spaces (stored_int own o a slot word).spaces (word_alike slot word) posted has_round p late
+    pub word_not_begun : (slot word : ℕ) → HasNotBegun posted_phase has_round p (stored_int own o a slot word).spaces
+    word_not_begun slot word = alike_not_begun o.spaces (stored_int own o a slot word).spaces (word_alike slot word) posted_phase has_round p late
 
     -- and after a monitor
-    pub monitor_not_begun : (m : Monitor) → HasNotBegun posted has_round p (stored_monitor own o a m).spaces
-    monitor_not_begun m = alike_not_begun o.spaces (stored_monitor own o a m).spaces (monitor_alike m) posted has_round p late
+    pub monitor_not_begun : (m : Monitor) → HasNotBegun posted_phase has_round p (stored_monitor own o a m).spaces
+    monitor_not_begun m = alike_not_begun o.spaces (stored_monitor own o a m).spaces (monitor_alike m) posted_phase has_round p late
 
 -- ---- static fields
 
@@ -162,9 +162,9 @@ module _ (o : Objects) (statics : List Value) (number : ℕ) (v : Value) where
   static_grows own = subst (λ (q : Objects). Grows o.spaces q.spaces) (sym (static_marks own)) (first_grows o v own)
 
   -- what may be held may be held still
-  pub static_holds : (own : Phase) (hold : Hold) (posted : Phase) (b : Addr) → passes hold posted o.spaces b ≡ true → passes hold posted (stored_static own o statics number v).0.spaces b ≡ true
-  static_holds own hold posted b h = passes_then o.spaces (stored_static own o statics number v).0.spaces (static_grows own) hold posted b h
+  pub static_holds : (own : Phase) (hold : Hold) (posted_phase : Phase) (b : Addr) → passes hold posted_phase o.spaces b ≡ true → passes hold posted_phase (stored_static own o statics number v).0.spaces b ≡ true
+  static_holds own hold posted_phase b h = passes_then o.spaces (stored_static own o statics number v).0.spaces (static_grows own) hold posted_phase b h
 
   -- each marked object is grey still, where each was
-  pub static_not_begun : (own posted : Phase) (has_round : Bool) (p : Progress) → HasNotBegun posted has_round p o.spaces → HasNotBegun posted has_round p (stored_static own o statics number v).0.spaces
-  static_not_begun own posted has_round p late = subst (λ (q : Objects). HasNotBegun posted has_round p q.spaces) (sym (static_marks own)) (first_not_begun o v own posted has_round p late)
+  pub static_not_begun : (own posted_phase : Phase) (has_round : Bool) (p : Progress) → HasNotBegun posted_phase has_round p o.spaces → HasNotBegun posted_phase has_round p (stored_static own o statics number v).0.spaces
+  static_not_begun own posted_phase has_round p late = subst (λ (q : Objects). HasNotBegun posted_phase has_round p q.spaces) (sym (static_marks own)) (first_not_begun o v own posted_phase has_round p late)

@@ -28,25 +28,25 @@ use Rattle.collector.proofs.Marking.MarksOfStores.{Grows, passes_then, value_wea
 -- ---- threads
 
 -- what a thread may hold, by what it has acknowledged and what is posted: nothing old from its own flip on, else whatever is live
-abbrev pub held_by : (own posted : Phase) → Hold
-held_by own posted = if is_flipping own && is_flipping posted then NewOnly else AnyLive
+abbrev pub held_by : (own posted_phase : Phase) → Hold
+held_by own posted_phase = if is_flipping own && is_flipping posted_phase then NewOnly else AnyLive
 
 -- what is held is live
-pub held_is_live : (own posted : Phase) (m : Spaces) (a : Addr) → passes (held_by own posted) posted m a ≡ true → is_live posted m a ≡ true
-held_is_live own posted m a held = by_tests (is_flipping own) (is_flipping posted) refl held
+pub held_is_live : (own posted_phase : Phase) (m : Spaces) (a : Addr) → passes (held_by own posted_phase) posted_phase m a ≡ true → is_live posted_phase m a ≡ true
+held_is_live own posted_phase m a held = by_tests (is_flipping own) (is_flipping posted_phase) refl held
   where
-    by_tests : (s t : Bool) → is_flipping posted ≡ t → passes (if s && t then NewOnly else AnyLive) posted m a ≡ true → is_live posted m a ≡ true
-    by_tests true true flipping h = new_is_live posted m a (flipping_has_new posted flipping) h
+    by_tests : (s t : Bool) → is_flipping posted_phase ≡ t → passes (if s && t then NewOnly else AnyLive) posted_phase m a ≡ true → is_live posted_phase m a ≡ true
+    by_tests true true flipping h = new_is_live posted_phase m a (flipping_has_new posted_phase flipping) h
     by_tests true false flipping h = h
     by_tests false t flipping h = h
 
 -- from its own flip on a thread holds what is new
-pub held_is_new : (own posted : Phase) (m : Spaces) (a : Addr) → is_flipping own ≡ true → is_flipping posted ≡ true → passes (held_by own posted) posted m a ≡ true → is_new_address m a ≡ true
-held_is_new own posted m a flipping flipping' held =
-    let both : (is_flipping own && is_flipping posted) ≡ true = rw (flipping, flipping') refl in
-    subst (λ t. passes (if t then NewOnly else AnyLive) posted m a ≡ true) both held
+pub held_is_new : (own posted_phase : Phase) (m : Spaces) (a : Addr) → is_flipping own ≡ true → is_flipping posted_phase ≡ true → passes (held_by own posted_phase) posted_phase m a ≡ true → is_new_address m a ≡ true
+held_is_new own posted_phase m a flipping flipping' held =
+    let both : (is_flipping own && is_flipping posted_phase) ≡ true = rw (flipping, flipping') refl in
+    subst (λ t. passes (if t then NewOnly else AnyLive) posted_phase m a ≡ true) both held
 
-marked_is_live : (posted : Phase) (m : Spaces) (a : Addr) → is_marking posted ≡ true → is_marked_address m a ≡ true → is_live posted m a ≡ true
+marked_is_live : (posted_phase : Phase) (m : Spaces) (a : Addr) → is_marking posted_phase ≡ true → is_marked_address m a ≡ true → is_live posted_phase m a ≡ true
 marked_is_live Idle m a marking marked = false_is_true marking
 marked_is_live Mark m a marking marked = or_more (is_permanent a) (is_marked_old m a) (is_old m a) (marked_is_some (cell_in m.old a)) marked
 marked_is_live Allocate m a marking marked = false_is_true marking
@@ -57,20 +57,20 @@ marked_is_live ThreadFlip m a marking marked = false_is_true marking
 marked_is_live Reclaim m a marking marked = false_is_true marking
 
 -- a thread that answered a round holds less
-pub may_hold_is_held : (h : Handshakes) (m : Spaces) (seat : Seat) (a : Addr) → may_hold h m seat a ≡ true → passes (held_by seat.phase h.posted) h.posted m a ≡ true
-may_hold_is_held h m seat a held = by_tests (is_flipping seat.phase && is_flipping h.posted) (is_marking h.posted) refl (h.has_round && (seat.answered && not m.has_marked)) held
+pub may_hold_is_held : (h : Handshakes) (m : Spaces) (seat : Seat) (a : Addr) → may_hold h m seat a ≡ true → passes (held_by seat.phase h.posted_phase) h.posted_phase m a ≡ true
+may_hold_is_held h m seat a held = by_tests (is_flipping seat.phase && is_flipping h.posted_phase) (is_marking h.posted_phase) refl (h.has_round && (seat.answered && not m.has_marked)) held
   where
-    by_tests : (s t : Bool) → is_marking h.posted ≡ t → (u : Bool) → passes (if s then NewOnly else if t && u then MarkedOnly else AnyLive) h.posted m a ≡ true → passes (if s then NewOnly else AnyLive) h.posted m a ≡ true
+    by_tests : (s t : Bool) → is_marking h.posted_phase ≡ t → (u : Bool) → passes (if s then NewOnly else if t && u then MarkedOnly else AnyLive) h.posted_phase m a ≡ true → passes (if s then NewOnly else AnyLive) h.posted_phase m a ≡ true
     by_tests true t marking u e = e
-    by_tests false true marking true e = marked_is_live h.posted m a marking e
+    by_tests false true marking true e = marked_is_live h.posted_phase m a marking e
     by_tests false true marking false e = e
     by_tests false false marking u e = e
 
 -- what a thread may hold it may hold still
 pub may_hold_then : (h : Handshakes) (m n : Spaces) (seat : Seat) (a : Addr) → Grows m n → may_hold h m seat a ≡ true → may_hold h n seat a ≡ true
 may_hold_then h m n seat a grows held = elim grows.has_marked [
-  | inl same ↦ subst (λ t. passes (hold_of h t seat) h.posted n a ≡ true) (sym same) (passes_then m n grows (hold_of h m.has_marked seat) h.posted a held)
-  | inr some ↦ subst (λ t. passes (hold_of h t seat) h.posted n a ≡ true) (sym some) (subst (λ (hold : Hold). passes hold h.posted n a ≡ true) (sym wide) (passes_then m n grows (held_by seat.phase h.posted) h.posted a (may_hold_is_held h m seat a held)))
+  | inl same ↦ subst (λ t. passes (hold_of h t seat) h.posted_phase n a ≡ true) (sym same) (passes_then m n grows (hold_of h m.has_marked seat) h.posted_phase a held)
+  | inr some ↦ subst (λ t. passes (hold_of h t seat) h.posted_phase n a ≡ true) (sym some) (subst (λ (hold : Hold). passes hold h.posted_phase n a ≡ true) (sym wide) (passes_then m n grows (held_by seat.phase h.posted_phase) h.posted_phase a (may_hold_is_held h m seat a held)))
 ]
   where
     by_tests : (s t u w : Bool) → (if s then NewOnly else if t && (u && (w && false)) then MarkedOnly else AnyLive) ≡ (if s then NewOnly else AnyLive)
@@ -81,8 +81,8 @@ may_hold_then h m n seat a grows held = elim grows.has_marked [
     by_tests false true true true = refl
 
     -- once something was marked no round binds
-    wide : hold_of h true seat ≡ held_by seat.phase h.posted
-    wide = by_tests (is_flipping seat.phase && is_flipping h.posted) (is_marking h.posted) h.has_round seat.answered
+    wide : hold_of h true seat ≡ held_by seat.phase h.posted_phase
+    wide = by_tests (is_flipping seat.phase && is_flipping h.posted_phase) (is_marking h.posted_phase) h.has_round seat.answered
 
 -- ---- values
 
@@ -124,8 +124,8 @@ read_is_short RefKind word = below_all word
     below_all n = omega arith
 
 -- what a seat may hold is held by its phase
-pub seat_passes : (h : Handshakes) (m : Spaces) (seat : Seat) (v : Value) → ValuePasses (may_hold h m seat) v → ValuePasses (passes (held_by seat.phase h.posted) h.posted m) v
-seat_passes h m seat v held = value_weakens (may_hold h m seat) (passes (held_by seat.phase h.posted) h.posted m) (may_hold_is_held h m seat) v held
+pub seat_passes : (h : Handshakes) (m : Spaces) (seat : Seat) (v : Value) → ValuePasses (may_hold h m seat) v → ValuePasses (passes (held_by seat.phase h.posted_phase) h.posted_phase m) v
+seat_passes h m seat v held = value_weakens (may_hold h m seat) (passes (held_by seat.phase h.posted_phase) h.posted_phase m) (may_hold_is_held h m seat) v held
 
 -- ---- what is live is there
 
@@ -149,7 +149,7 @@ marked_there m a e = old_there m a (marked_is_some (cell_in m.old a) e)
 marked_or_new_there : (m : Spaces) (a : Addr) → (is_marked_old m a || is_new m a) ≡ true → is_some (cell_at m a) ≡ true
 marked_or_new_there m a e = elim (either_true (is_marked_old m a) (is_new m a) e) [ inl marked ↦ marked_there m a marked | inr new ↦ new_there m a new ]
 
-object_there : (posted : Phase) (m : Spaces) (a : Addr) → is_live_object posted m a ≡ true → is_some (cell_at m a) ≡ true
+object_there : (posted_phase : Phase) (m : Spaces) (a : Addr) → is_live_object posted_phase m a ≡ true → is_some (cell_at m a) ≡ true
 object_there Idle m a e = old_there m a e
 object_there Mark m a e = old_there m a e
 object_there Allocate m a e = marked_there m a e
@@ -160,17 +160,17 @@ object_there ThreadFlip m a e = marked_or_new_there m a e
 object_there Reclaim m a e = new_there m a e
 
 -- what is live is null, a literal, or an object of the heap
-pub live_is_there : (posted : Phase) (o : Objects) (a : Addr) → is_live posted o.spaces a ≡ true → is_there o.spaces a ≡ true
-live_is_there posted o a live = elim (either_true (is_permanent a) (is_live_object posted o.spaces a) live) [
+pub live_is_there : (posted_phase : Phase) (o : Objects) (a : Addr) → is_live posted_phase o.spaces a ≡ true → is_there o.spaces a ≡ true
+live_is_there posted_phase o a live = elim (either_true (is_permanent a) (is_live_object posted_phase o.spaces a) live) [
   | inl permanent ↦ or_of_three (a.number == 0) (is_some (literal_number a)) (is_some (object_cell o a)) permanent
   | inr object ↦
       or_second (a.number == 0) (is_some (literal_number a) || is_some (object_cell o a))
-      (or_second (is_some (literal_number a)) (is_some (object_cell o a)) (object_there posted o.spaces a object))
+      (or_second (is_some (literal_number a)) (is_some (object_cell o a)) (object_there posted_phase o.spaces a object))
 ]
 
 -- and so is a value that is live, or an integer
-pub live_value_is_there : (posted : Phase) (o : Objects) (v : Value) → ValuePasses (is_live posted o.spaces) v → is_value_there o v ≡ true
-live_value_is_there posted o (Ref a) live = live_is_there posted o a live
-live_value_is_there posted o (Int32 n) live = refl
-live_value_is_there posted o (Int64 n) live = refl
-live_value_is_there posted o (Native n) live = refl
+pub live_value_is_there : (posted_phase : Phase) (o : Objects) (v : Value) → ValuePasses (is_live posted_phase o.spaces) v → is_value_there o v ≡ true
+live_value_is_there posted_phase o (Ref a) live = live_is_there posted_phase o a live
+live_value_is_there posted_phase o (Int32 n) live = refl
+live_value_is_there posted_phase o (Int64 n) live = refl
+live_value_is_there posted_phase o (Native n) live = refl

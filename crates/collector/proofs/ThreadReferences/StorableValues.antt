@@ -33,7 +33,7 @@ pub record IsOther (o : Objects) (a : Addr) (c : Cell) (b : Addr) (d : Cell) : T
   pub apart : a.number ≢ b.number
   pub age : is_old o.spaces b ≡ not (is_old o.spaces a)
 
-module _ (tree : Tree) (posted : Phase) (has_round : Bool) (words : ℕ) (p : Progress) (o : Objects) (sound : IsSoundHeap tree posted has_round words p o.spaces) where
+module _ (tree : Tree) (posted_phase : Phase) (has_round : Bool) (words : ℕ) (p : Progress) (o : Objects) (sound : IsSoundHeap tree posted_phase has_round words p o.spaces) where
   abbrev m : Spaces
   m = o.spaces
 
@@ -99,49 +99,49 @@ module _ (tree : Tree) (posted : Phase) (has_round : Bool) (words : ℕ) (p : Pr
 -- ---- what is stored
 
 -- a cycle is open beside a thread in Mark
-open_beside : (posted : Phase) → IsBeside Mark posted → is_of_cycle posted ≡ true
-open_beside posted (inl now) = subst (λ q. is_of_cycle q ≡ true) now refl
-open_beside posted (inr late) = subst (λ q. is_of_cycle q ≡ true) late refl
+open_beside : (posted_phase : Phase) → IsBeside Mark posted_phase → is_of_cycle posted_phase ≡ true
+open_beside posted_phase (inl now) = subst (λ q. is_of_cycle q ≡ true) now refl
+open_beside posted_phase (inr late) = subst (λ q. is_of_cycle q ≡ true) late refl
 
 both_true : (x y : Bool) → x ≡ true → y ≡ true → (x && y) ≡ true
 both_true x y e e' = rw (e, e') refl
 
-module _ (tree : Tree) (posted : Phase) (has_round : Bool) (words : ℕ) (p : Progress) (o : Objects) where
-  held_is_there : (own : Phase) (v : Value) → ValuePasses (passes (held_by own posted) posted o.spaces) v → is_value_there o v ≡ true
-  held_is_there own v held = live_value_is_there posted o v (value_weakens (passes (held_by own posted) posted o.spaces) (is_live posted o.spaces) (held_is_live own posted o.spaces) v held)
+module _ (tree : Tree) (posted_phase : Phase) (has_round : Bool) (words : ℕ) (p : Progress) (o : Objects) where
+  held_is_there : (own : Phase) (v : Value) → ValuePasses (passes (held_by own posted_phase) posted_phase o.spaces) v → is_value_there o v ≡ true
+  held_is_there own v held = live_value_is_there posted_phase o v (value_weakens (passes (held_by own posted_phase) posted_phase o.spaces) (is_live posted_phase o.spaces) (held_is_live own posted_phase o.spaces) v held)
 
   module _ (a : Addr) (c : Cell) (slot : ℕ) (inside : slot < length c.slots) where
     -- a value in a slot
-    pub value_is_storable : (own : Phase) (v : Value) → IsBesideHeap tree own posted has_round words p o → IsHeldObject own posted o a c → IsHeldValue tree own posted o c.kind slot v → is_storable own o a slot v ≡ true
+    pub value_is_storable : (own : Phase) (v : Value) → IsBesideHeap tree own posted_phase has_round words p o → IsHeldObject own posted_phase o a c → IsHeldValue tree own posted_phase o c.kind slot v → is_storable own o a slot v ≡ true
     value_is_storable Idle v thread object value = refl
-    value_is_storable Mark v thread object value = both_true o.spaces.is_open (is_value_there o v) (thread.sound.blocks.held ∙ open_beside posted thread.beside) (held_is_there Mark v value.held)
+    value_is_storable Mark v thread object value = both_true o.spaces.is_open (is_value_there o v) (thread.sound.blocks.held ∙ open_beside posted_phase thread.beside) (held_is_there Mark v value.held)
     value_is_storable Allocate v thread object value = refl
-    value_is_storable Copy v thread object value = both_true (is_value_there o v) (is_other_alike o a slot) (held_is_there Copy v value.held) (other_is_alike tree posted has_round words p o thread.sound a c slot object.lies inside)
-    value_is_storable PreFlip v thread object value = both_true (is_value_there o v) (is_other_alike o a slot) (held_is_there PreFlip v value.held) (other_is_alike tree posted has_round words p o thread.sound a c slot object.lies inside)
-    value_is_storable HeapFlip v thread object value = both_true (is_value_there o v) (is_other_alike o a slot) (held_is_there HeapFlip v value.held) (other_is_alike tree posted has_round words p o thread.sound a c slot object.lies inside)
-    value_is_storable ThreadFlip v thread object value = other_is_alike tree posted has_round words p o thread.sound a c slot object.lies inside
+    value_is_storable Copy v thread object value = both_true (is_value_there o v) (is_other_alike o a slot) (held_is_there Copy v value.held) (other_is_alike tree posted_phase has_round words p o thread.sound a c slot object.lies inside)
+    value_is_storable PreFlip v thread object value = both_true (is_value_there o v) (is_other_alike o a slot) (held_is_there PreFlip v value.held) (other_is_alike tree posted_phase has_round words p o thread.sound a c slot object.lies inside)
+    value_is_storable HeapFlip v thread object value = both_true (is_value_there o v) (is_other_alike o a slot) (held_is_there HeapFlip v value.held) (other_is_alike tree posted_phase has_round words p o thread.sound a c slot object.lies inside)
+    value_is_storable ThreadFlip v thread object value = other_is_alike tree posted_phase has_round words p o thread.sound a c slot object.lies inside
     value_is_storable Reclaim v thread object value = refl
 
     -- a word in a slot
-    pub word_is_storable : (own : Phase) → IsBesideHeap tree own posted has_round words p o → IsHeldObject own posted o a c → is_word_storable own o a slot ≡ true
+    pub word_is_storable : (own : Phase) → IsBesideHeap tree own posted_phase has_round words p o → IsHeldObject own posted_phase o a c → is_word_storable own o a slot ≡ true
     word_is_storable own thread object = by_both (reaches_both own)
       where
         by_both : (t : Bool) → (if t then is_other_alike o a slot else true) ≡ true
-        by_both true = other_is_alike tree posted has_round words p o thread.sound a c slot object.lies inside
+        by_both true = other_is_alike tree posted_phase has_round words p o thread.sound a c slot object.lies inside
         by_both false = refl
 
   -- a monitor, of an object or a literal
-  pub monitor_is_storable : (own : Phase) (a : Addr) → IsSoundHeap tree posted has_round words p o.spaces → is_monitor_storable own o a ≡ true
+  pub monitor_is_storable : (own : Phase) (a : Addr) → IsSoundHeap tree posted_phase has_round words p o.spaces → is_monitor_storable own o a ≡ true
   monitor_is_storable own a sound = by_both (reaches_both own)
     where
       by_both : (t : Bool) → (if t then is_other_there o a else true) ≡ true
-      by_both true = other_is_there tree posted has_round words p o sound a
+      by_both true = other_is_there tree posted_phase has_round words p o sound a
       by_both false = refl
 
   -- a value in a static field
-  pub static_is_storable : (own : Phase) (v : Value) → IsBesideHeap tree own posted has_round words p o → ValuePasses (passes (held_by own posted) posted o.spaces) v → is_static_storable own o v ≡ true
+  pub static_is_storable : (own : Phase) (v : Value) → IsBesideHeap tree own posted_phase has_round words p o → ValuePasses (passes (held_by own posted_phase) posted_phase o.spaces) v → is_static_storable own o v ≡ true
   static_is_storable Idle v thread held = refl
-  static_is_storable Mark v thread held = both_true o.spaces.is_open (is_value_there o v) (thread.sound.blocks.held ∙ open_beside posted thread.beside) (held_is_there Mark v held)
+  static_is_storable Mark v thread held = both_true o.spaces.is_open (is_value_there o v) (thread.sound.blocks.held ∙ open_beside posted_phase thread.beside) (held_is_there Mark v held)
   static_is_storable Allocate v thread held = refl
   static_is_storable Copy v thread held = refl
   static_is_storable PreFlip v thread held = held_is_there PreFlip v held

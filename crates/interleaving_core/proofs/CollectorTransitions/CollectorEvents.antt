@@ -27,15 +27,15 @@ use Rattle.simulation.proofs.collector.ThreadReferences.LiveValues.{live_value_i
 use Rattle.simulation.proofs.collector.Addresses.Tests.{never}
 
 -- where each live thread has acknowledged the posted phase, its work is done
-pub collects : (c : MachineState) (phase : Phase) → all_seen c.posts ≡ true → c.posts.posted ≡ phase → collect c ≡ work phase c
-collects c phase seen posted = ap (λ b. if◌then◌else◌ {A = MachineState × Report} b (work c.posts.posted c) (c, Waiting)) seen ∙ ap (λ x. work x c) posted
+pub collects : (c : MachineState) (phase : Phase) → all_seen c.posts ≡ true → c.posts.posted_phase ≡ phase → collect c ≡ work phase c
+collects c phase seen posted_phase = ap (λ b. if◌then◌else◌ {A = MachineState × Report} b (work c.posts.posted_phase c) (c, Waiting)) seen ∙ ap (λ x. work x c) posted_phase
 
 -- and else it waits
 pub waits : (c : MachineState) → all_seen c.posts ≡ false → collect c ≡ (c, Waiting)
-waits c unseen = ap (λ b. if◌then◌else◌ {A = MachineState × Report} b (work c.posts.posted c) (c, Waiting)) unseen
+waits c unseen = ap (λ b. if◌then◌else◌ {A = MachineState × Report} b (work c.posts.posted_phase c) (c, Waiting)) unseen
 
 -- the event that opens a cycle takes memory
-pub initial_takes_memory : (c : MachineState) → IsSound c → all_seen c.posts ≡ true → c.posts.posted ≡ Idle → TakesMemory c Gc
+pub initial_takes_memory : (c : MachineState) → IsSound c → all_seen c.posts ≡ true → c.posts.posted_phase ≡ Idle → TakesMemory c Gc
 initial_takes_memory c sound seen idle = ((cycle_opened c, Worked), sym (collects c Idle seen idle), inr (inr (sound.heap.blocks.held ∙ ap is_of_cycle idle, refl)))
 
 -- what the static fields of a sound machine hold is there
@@ -44,7 +44,7 @@ statics_there c sound =
     All-from_get_or (λ v. is_value_there c.objects v ≡ true) c.statics nothing
     (λ number inside.
     let v = get_or c.statics number nothing in
-    live_value_is_there c.posts.posted c.objects v (static_is_live c (sound_is_held c sound) number v (slice_get-get_or c.statics number nothing inside)))
+    live_value_is_there c.posts.posted_phase c.objects v (static_is_live c (sound_is_held c sound) number v (slice_get-get_or c.statics number nothing inside)))
   where
     nothing : Value
     nothing = Int32 (pos 0)

@@ -13,4 +13,4 @@ use Rattle.interleaving_core.specs.Acknowledging.{AreAllThere}
 pub held_there : (c : MachineState) (t : ℕ) → IsSound c → (left : ℕ) (m : Frames) → slice_get c.threads t ≡ Some (record { thread_status = Live m; steps_left = left }) → AreAllThere c.objects (roots m)
 held_there c t sound left m there a listed =
     let seat = has_seat c (sound_is_held c sound) t left m there in
-    live_is_there c.posts.posted c.objects a (may_hold_live c.posts c.objects.spaces seat.0 a (sound.threads t left m seat.0 there seat.1 a listed))
+    live_is_there c.posts.posted_phase c.objects a (may_hold_live c.posts c.objects.spaces seat.0 a (sound.threads t left m seat.0 there seat.1 a listed))

@@ -5,7 +5,7 @@ ghost use Rattle.std.specs.Prelude.{◌≡◌, ℕ, ◌<◌, ◌++◌, ◌∷◌
 ghost use Rattle.shared_machine.specs.Counts.{keeper, claim, Count};
 
 use crate::counts::view::{
-    Comparison, CountAuthority, Deals, Meets, Naming, Next, Parts, Pass, Renewal, Rest,
+    Comparison, CountAuthority, Deals, Meets, Next, Parts, Pass, Renewal, Rest, TableName,
 };
 use atomic_table::Badge;
 use std::alloc::{AllocError, Global};
@@ -36,13 +36,13 @@ impl Model for Blank {
 ///
 /// The counts have no bytes and no bound: no code reads them, and contracts alone speak of them.
 #[derive(Drop)]
-pub struct Book<M: Naming> {
+pub struct Book<M: TableName> {
     table: CountAuthority,
     seat: Pass,
     of: PhantomData<M>,
 }
 
-impl<M: Naming> Model for Book<M> {
+impl<M: TableName> Model for Book<M> {
     ghost use Rattle.std.specs.Prelude.{◌≡◌, ℕ, List, []};
     ghost use Rattle.shared_machine.specs.Counts.{keeper};
 
@@ -57,13 +57,13 @@ impl<M: Naming> Model for Book<M> {
 ///
 /// Each worker has one at most, and nothing copies it. So nobody but its holder changes the worker's count.
 #[derive(Drop)]
-pub struct Ticket<M: Naming> {
+pub struct Ticket<M: TableName> {
     worker: u8,
     pass: Rest,
     of: PhantomData<M>,
 }
 
-impl<M: Naming> Model for Ticket<M> {
+impl<M: TableName> Model for Ticket<M> {
     ghost use Rattle.std.specs.Prelude.{◌≡◌, [], ◌∷◌};
     ghost use Rattle.shared_machine.specs.Counts.{Count, claim, count_in};
 
@@ -82,7 +82,7 @@ impl Blank {
     }
 
     /// The same book under the name that a type has for it. No worker has a ticket yet.
-    pub fn open<M: Naming>(self) -> Book<M>
+    pub fn open<M: TableName>(self) -> Book<M>
         requires { self ≡ M.table }
         ensures { result ≡ [] }
     {
@@ -95,7 +95,7 @@ impl Blank {
     }
 }
 
-impl<M: Naming> Book<M> {
+impl<M: TableName> Book<M> {
     /// A ticket for one more worker, whose number is that of the workers before it. Its count is 0; the others' stay.
     pub fn deal(&mut self, worker: u8) -> Ticket<M>
         requires { worker ≡ length self.old }
@@ -148,7 +148,7 @@ impl<M: Naming> Book<M> {
     }
 }
 
-impl<M: Naming> Ticket<M> {
+impl<M: TableName> Ticket<M> {
     /// The worker's number.
     pub fn worker(&self) -> u8
         ensures { result ≡ self.now.worker }

@@ -8,13 +8,13 @@ use std::collections::LinkedList;
 use std::marker::{Brand, PhantomData};
 
 /// Names one book. Who opens it picks the name, at `Brand`.
-pub trait Naming {
+pub trait TableName {
     ghost use Rattle.atomic_table.specs.Seated.{TableId};
 
     ghost table: { TableId };
 }
 
-impl Naming for Brand {
+impl TableName for Brand {
     ghost use Rattle.shared_machine.specs.Counts.{no_table};
 
     ghost table = { no_table };
@@ -46,9 +46,9 @@ pub struct Deals;
 
 impl Split<View> for Deals {
     ghost use Rattle.std.specs.Prelude.{length};
-    ghost use Rattle.shared_machine.specs.Counts.{grown, claim};
+    ghost use Rattle.shared_machine.specs.Counts.{grow_view, claim};
 
-    ghost left = { grown };
+    ghost left = { grow_view };
 
     ghost right = { λ v. claim (length v.book) 0 };
 }

@@ -6,7 +6,7 @@ ghost use Rattle.shared_machine.specs.declared.shared.TheConstants.{MOST_WORKERS
 ghost use Rattle.shared_machine.specs.Work.{HasWorked, HaveWorked, IsHeraldOf, IsSeatHere, IsSeatOf};
 
 use crate::counts::book::Ticket;
-use crate::counts::view::Naming;
+use crate::counts::view::TableName;
 use crate::shared::Shared;
 use crate::workers::gate::Gate;
 use crate::workers::pace::Pace;
@@ -49,7 +49,7 @@ fn send<
     's,
     T,
     M: Initial + Send + Sync + 's,
-    E: Naming + Send + Sync + 's,
+    E: TableName + Send + Sync + 's,
     R: Threads + Wait + Sync + 's,
     G: Gate + Sync + 's,
 >(
@@ -103,7 +103,7 @@ fn send_all<
     's,
     T,
     M: Initial + Send + Sync + 's,
-    E: Naming + Send + Sync + 's,
+    E: TableName + Send + Sync + 's,
     R: Threads + Wait + Sync + 's,
     G: Gate + Sync + 's,
 >(
@@ -152,7 +152,7 @@ fn send_all<
 /// Runs these workers, whose seats are parked, each in a thread of its own.
 fn run_threads<
     M: Initial + Send + Sync,
-    E: Naming + Send + Sync,
+    E: TableName + Send + Sync,
     R: Threads + Wait + Sync,
     G: Gate + Sync,
 >(
@@ -185,7 +185,7 @@ fn run_threads<
 /// Runs these workers, with their seats, which are of the epochs that `E` names.
 fn run_crew<
     M: Initial + Send + Sync,
-    E: Naming + Send + Sync,
+    E: TableName + Send + Sync,
     R: Threads + Wait + Sync,
     G: Gate + Sync,
 >(

@@ -8,7 +8,7 @@ ghost use Rattle.shared_machine.specs.Work.{HasWorked, IsHeraldOf, IsOwn, IsSeat
 
 use crate::answer::Answer;
 use crate::counts::book::Ticket;
-use crate::counts::view::Naming;
+use crate::counts::view::TableName;
 use crate::shared::Shared;
 use crate::workers::findings::{Findings, found_in, is_served, served_threads};
 use crate::workers::pace::{Pace, Passed, Progress};
@@ -203,7 +203,7 @@ fn acknowledge<M: Initial>(
 
 /// Has the worker's seat acknowledge, or a parked one where the worker has none, and parks it where the worker drives no live thread. It
 /// gives back the seat that stays with the worker, and the number that is acknowledged now.
-fn take_part<M: Initial, E: Naming, R: Wait>(
+fn take_part<M: Initial, E: TableName, R: Wait>(
     rt: &R,
     alloc: Global,
     epochs: &Epochs,
@@ -272,7 +272,7 @@ fn idle_workers(machine: &Machine, workers: u8) -> usize {
 
 /// Does an event of the collector. Where the collector waits, a parked seat acknowledges for each worker that drives no live
 /// thread, and the next number is posted. That is for worker 0: another one does nothing. It also returns whether a seat was late.
-fn collect<M: Initial, E: Naming, R: Wait>(
+fn collect<M: Initial, E: TableName, R: Wait>(
     rt: &R,
     alloc: Global,
     epochs: &Epochs,
@@ -304,7 +304,7 @@ fn collect<M: Initial, E: Naming, R: Wait>(
 
 /// What a worker does in a pass, under the lock that is held: it polls and acknowledges, lets each of its threads make a step, and, as worker 0,
 /// does an event of the collector. Where memory does not last, it stops there and sets the stop mark.
-fn serve<'s, M: Initial, E: Naming, R: Wait>(
+fn serve<'s, M: Initial, E: TableName, R: Wait>(
     rt: &R,
     alloc: Global,
     shared: &'s Shared<M>,
@@ -384,7 +384,7 @@ fn serve<'s, M: Initial, E: Naming, R: Wait>(
 /// there and sets the stop mark. Where the run is to stop at a deadlock, a worker that finds the stop mark does nothing else.
 ///
 /// The lock is given back meanwhile where a thread continues without it, and is held at the end.
-pub(crate) fn pass<'s, M: Initial, E: Naming, R: Wait>(
+pub(crate) fn pass<'s, M: Initial, E: TableName, R: Wait>(
     rt: &R,
     alloc: Global,
     shared: &'s Shared<M>,

@@ -4,19 +4,19 @@ ghost use Rattle.std.specs.Prelude.{◌≡◌, All, IfSome, length, vec_capacity
 ghost use Rattle.epoch_words.specs.Tokens.{EpochsValue};
 ghost use Rattle.shared_machine.specs.Work.{IsSeatHere, IsSeatIn, IsSeatOf};
 
-use crate::counts::view::Naming;
+use crate::counts::view::TableName;
 use epoch_words::{Epochs, Seat};
 use std::marker::{Model, PhantomData};
 use std::sync::{Mutex, Wait};
 
 /// The seats of the workers that drive no live thread, all of the epochs that `E` names. Any of them serves any worker.
 #[derive(Drop)]
-pub(crate) struct Parked<E: Naming> {
+pub(crate) struct Parked<E: TableName> {
     seats: Vec<Seat>,
     of: PhantomData<E>,
 }
 
-impl<E: Naming> Model for Parked<E> {
+impl<E: TableName> Model for Parked<E> {
     ghost use Rattle.std.specs.Prelude.{All, List};
     ghost use Rattle.epoch_words.specs.Tokens.{SeatValue};
     ghost use Rattle.shared_machine.specs.Work.{IsSeatIn};
@@ -45,7 +45,7 @@ fn acknowledge_last(epochs: &Epochs, seats: &mut Vec<Seat>, most: usize)
     seats.push_reserved(epochs.ack(seat));
 }
 
-impl<E: Naming> Parked<E> {
+impl<E: TableName> Parked<E> {
     /// These seats, before any worker has looked for live threads.
     pub fn new(seats: Vec<Seat>) -> Parked<E>
         requires { All (IsSeatIn E.table) seats.items }
@@ -84,7 +84,7 @@ impl<E: Naming> Parked<E> {
 }
 
 /// The seat that a worker has, or else a parked one.
-pub(crate) fn seat_of<E: Naming, R: Wait>(
+pub(crate) fn seat_of<E: TableName, R: Wait>(
     rt: &R,
     parked: &Mutex<Parked<E>>,
     seat: Option<Seat>,

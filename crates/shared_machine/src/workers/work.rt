@@ -4,7 +4,7 @@ ghost use Rattle.std.specs.Prelude.{◌≡◌, ◌<◌};
 ghost use Rattle.shared_machine.specs.Work.{HasWorked, IsHeraldOf, IsSeatHere};
 
 use crate::counts::book::Ticket;
-use crate::counts::view::Naming;
+use crate::counts::view::TableName;
 use crate::shared::Shared;
 use crate::workers::deadlock::is_deadlocked;
 use crate::workers::gate::Gate;
@@ -62,7 +62,7 @@ fn rest<M: Initial, R: Wait>(
 }
 
 /// Makes a pass, and those after it for which the worker keeps the lock, where no gate can hold it.
-fn pass_in_a_hold<M: Initial, E: Naming, R: Wait>(
+fn pass_in_a_hold<M: Initial, E: TableName, R: Wait>(
     rt: &R,
     alloc: Global,
     shared: &Shared<M>,
@@ -92,7 +92,7 @@ fn pass_in_a_hold<M: Initial, E: Naming, R: Wait>(
 /// Makes passes until one has found no live thread or the stop mark, or memory did not last, and gives the ticket back. Where memory did
 /// not last, the stop mark is set. So it is by worker 0 at a deadlock, where the run is to stop at one. One of several workers yields after a
 /// pass without progress, or in which the collector waited for another worker.
-pub(crate) fn work<M: Initial, E: Naming, R: Wait, G: Gate>(
+pub(crate) fn work<M: Initial, E: TableName, R: Wait, G: Gate>(
     rt: &R,
     alloc: Global,
     shared: &Shared<M>,

@@ -32,8 +32,8 @@ use Rattle.simulation.proofs.CollectedHeap.NewObjects.{collected_bears, collecte
 -- ---- the model
 
 -- for a thread that is close and on time, where the static fields were scanned before a round was posted
-unfoldable pub collected : (tree : Tree) → IsLegal tree → (words : ℕ) (h : Handshakes) (p : Progress) (seat : Seat) → IsClose h seat → (h.posted ≡ Mark → h.has_round ≡ true → p.scanned_statics ≡ true) → (first : Objects) →
-    IsOnTime seat.phase h.posted h.has_round p first.spaces → Names → MemoryModel tree
+unfoldable pub collected : (tree : Tree) → IsLegal tree → (words : ℕ) (h : Handshakes) (p : Progress) (seat : Seat) → IsClose h seat → (h.posted_phase ≡ Mark → h.has_round ≡ true → p.scanned_statics ≡ true) → (first : Objects) →
+    IsOnTime seat.phase h.posted_phase h.has_round p first.spaces → Names → MemoryModel tree
 collected tree legal words h p seat close rounds first time all = record {
   phase = seat.phase;
   Fits = FitsCollected tree words h p seat first all;
@@ -51,7 +51,7 @@ collected tree legal words h p seat close rounds first time all = record {
   word_storable = λ name o ss s fits a n is cell lies slot inside. collected_word_storable tree legal words h p seat close first time all name o ss s fits a n is cell lies slot inside;
   hidden = λ name o ss s fits typed a n is cell lies slot w inside none object linked after.
       collected_hidden tree legal words h p seat close first time all name o ss s fits a n is cell lies typed object linked slot w none after;
-  monitor_storable = λ name o ss s fits a n is. monitor_is_storable tree h.posted h.has_round words p o seat.phase a fits.sound;
+  monitor_storable = λ name o ss s fits a n is. monitor_is_storable tree h.posted_phase h.has_round words p o seat.phase a fits.sound;
   monitors = λ name o ss s fits typed a n is cell lies monitor object linked after.
       collected_monitors tree legal words h p seat close first time all name o ss s fits a n is cell lies typed object linked monitor after;
   literals = λ name o ss s fits a characters is monitor u refines. collected_literals tree words h p seat first all name o ss s fits a characters is monitor u refines;
@@ -67,20 +67,20 @@ collected tree legal words h p seat close rounds first time all = record {
 module _ (tree : Tree) (words : ℕ) (h : Handshakes) (p : Progress) (seat : Seat) (first : Objects) (all : Names) (name : Names) (o : Objects) (ss : List Value) (s : State) (fits : FitsCollected tree words h p seat first all name o ss s)
     (limits : Limits) (m : Frames) (gs : List StateFrame) where
   -- frames that hold what the thread may hold stand under its own names,
-  pub frames_cut : AreFrames tree limits fits.whole m gs → ((a : Addr) → IsListed (roots m) a → passes (first_hold h seat first) h.posted o.spaces a ≡ true) → AreFrames tree limits name m gs
-  frames_cut refines pass = thread_cut (passes (first_hold h seat first) h.posted o.spaces) fits.whole name fits.is_cut tree limits m gs refines pass
+  pub frames_cut : AreFrames tree limits fits.whole m gs → ((a : Addr) → IsListed (roots m) a → passes (first_hold h seat first) h.posted_phase o.spaces a ≡ true) → AreFrames tree limits name m gs
+  frames_cut refines pass = thread_cut (passes (first_hold h seat first) h.posted_phase o.spaces) fits.whole name fits.is_cut tree limits m gs refines pass
 
   -- and frames that stand under them hold what it may hold
-  pub frames_are_held : AreFrames tree limits name m gs → (a : Addr) → IsListed (roots m) a → passes (first_hold h seat first) h.posted o.spaces a ≡ true
+  pub frames_are_held : AreFrames tree limits name m gs → (a : Addr) → IsListed (roots m) a → passes (first_hold h seat first) h.posted_phase o.spaces a ≡ true
   frames_are_held refines a listed =
-      roots_pass name (passes (first_hold h seat first) h.posted o.spaces) (permanent_passes (first_hold h seat first) h.posted o.spaces null refl) (λ b n is. named_passes tree words h p seat first all name o ss s fits b n is) tree m gs refines.frames a listed
+      roots_pass name (passes (first_hold h seat first) h.posted_phase o.spaces) (permanent_passes (first_hold h seat first) h.posted_phase o.spaces null refl) (λ b n is. named_passes tree words h p seat first all name o ss s fits b n is) tree m gs refines.frames a listed
 
 -- ---- the end of a step
 
 module _ (tree : Tree) (words : ℕ) (h : Handshakes) (p : Progress) (seat : Seat) (first : Objects) (all : Names) (name : Names) (o : Objects) (ss : List Value) (s : State) (fits : FitsCollected tree words h p seat first all name o ss s) (a : Addr) where
   -- what the thread may hold in the step it may hold then,
-  pub own_may_hold : passes (first_hold h seat first) h.posted o.spaces a ≡ true → may_hold h o.spaces seat a ≡ true
-  own_may_hold pass = subst (λ x. passes x h.posted o.spaces a ≡ true) (sym fits.holds) pass
+  pub own_may_hold : passes (first_hold h seat first) h.posted_phase o.spaces a ≡ true → may_hold h o.spaces seat a ≡ true
+  own_may_hold pass = subst (λ x. passes x h.posted_phase o.spaces a ≡ true) (sym fits.holds) pass
 
   -- and each other thread what it might hold before
   pub others_may_hold : (other : Seat) → may_hold h first.spaces other a ≡ true → may_hold h o.spaces other a ≡ true

@@ -50,15 +50,15 @@ module _ (tree : Tree) (words : ℕ) (h : Handshakes) (p : Progress) (seat : Sea
   hold = first_hold h seat first
 
   -- a value that stands under the own names may be held
-  pub value_passes : (v : Value) (u : StateValue) → IsValue name v u → ValuePasses (passes hold h.posted o.spaces) v
+  pub value_passes : (v : Value) (u : StateValue) → IsValue name v u → ValuePasses (passes hold h.posted_phase o.spaces) v
   value_passes v u (int32 z fits') = tt
   value_passes v u (int64 z fits') = tt
   value_passes v u (native z fits') = tt
-  value_passes v u null_reference = permanent_passes hold h.posted o.spaces null refl
+  value_passes v u null_reference = permanent_passes hold h.posted_phase o.spaces null refl
   value_passes v u (reference a n is) = named_passes tree words h p seat first all name o ss s fits a.number n is
 
   -- and one that may be held stands under them
-  value_is_cut : (v : Value) (u : StateValue) → ValuePasses (passes hold h.posted o.spaces) v → IsValue fits.whole v u → IsValue name v u
+  value_is_cut : (v : Value) (u : StateValue) → ValuePasses (passes hold h.posted_phase o.spaces) v → IsValue fits.whole v u → IsValue name v u
   value_is_cut v u pass (int32 z fits') = int32 z fits'
   value_is_cut v u pass (int64 z fits') = int64 z fits'
   value_is_cut v u pass (native z fits') = native z fits'
@@ -68,7 +68,7 @@ module _ (tree : Tree) (words : ℕ) (h : Handshakes) (p : Progress) (seat : Sea
   -- ---- static fields
 
   -- what a thread loads from static fields stands under its own names
-  pub collected_statics : (h.posted ≡ Mark → h.has_round ≡ true → p.scanned_statics ≡ true) → AreStatics name ss s.statics
+  pub collected_statics : (h.posted_phase ≡ Mark → h.has_round ≡ true → p.scanned_statics ≡ true) → AreStatics name ss s.statics
   collected_statics rounds =
       agree_from (λ v (f : FieldKey × StateValue). IsValue name v f.1) ss s.statics (agree_length (λ v (f : FieldKey × StateValue). IsValue fits.whole v f.1) ss s.statics fits.refines)
       (λ n v f is is'.
@@ -76,10 +76,10 @@ module _ (tree : Tree) (words : ℕ) (h : Handshakes) (p : Progress) (seat : Sea
       let same : old.0 ≡ v = same_Some old.0 v (sym old.1 ∙ is) in
       value_is_cut v f.1 (loaded n v is) (subst (λ w. IsValue fits.whole w f.1) same old.2))
     where
-      loaded : (n : ℕ) (v : Value) → slice_get ss n ≡ Some v → ValuePasses (passes hold h.posted o.spaces) v
+      loaded : (n : ℕ) (v : Value) → slice_get ss n ≡ Some v → ValuePasses (passes hold h.posted_phase o.spaces) v
       loaded n v is =
-          value_weakens (static_may_hold h.posted o.spaces p n) (passes hold h.posted o.spaces)
-          (λ a held. subst (λ x. passes x h.posted o.spaces a ≡ true) fits.holds (static_loads h o.spaces p seat n rounds a held)) v (fits.static_holds n v is)
+          value_weakens (static_may_hold h.posted_phase o.spaces p n) (passes hold h.posted_phase o.spaces)
+          (λ a held. subst (λ x. passes x h.posted_phase o.spaces a ≡ true) fits.holds (static_loads h o.spaces p seat n rounds a held)) v (fits.static_holds n v is)
 
   -- the same beside other threads and printed bytes
   pub collected_beside : (s' : State) → IsBeside s s' → FitsCollected tree words h p seat first all name o ss s'
@@ -103,38 +103,38 @@ module _ (tree : Tree) (words : ℕ) (h : Handshakes) (p : Progress) (seat : Sea
 
 -- The heap stays sound, and what was held may be held; nothing else becomes live or may be held, and forwards stay.
 pub record IsChange (tree : Tree) (words : ℕ) (h : Handshakes) (p : Progress) (seat : Seat) (hold : Hold) (o o' : Objects) : Type 0 where
-  pub sound : IsSoundHeap tree h.posted h.has_round words p o'.spaces
-  pub begun : HasNotBegun h.posted h.has_round p o.spaces → HasNotBegun h.posted h.has_round p o'.spaces
+  pub sound : IsSoundHeap tree h.posted_phase h.has_round words p o'.spaces
+  pub begun : HasNotBegun h.posted_phase h.has_round p o.spaces → HasNotBegun h.posted_phase h.has_round p o'.spaces
   pub grows : Grows o.spaces o'.spaces
   pub holds : hold_of h o'.spaces.has_marked seat ≡ hold_of h o.spaces.has_marked seat
   pub forwards : (x : Addr) → forward o'.spaces x ≡ forward o.spaces x
-  pub live_back : (x : Addr) → is_live h.posted o'.spaces x ≡ true → is_live h.posted o.spaces x ≡ true
-  pub pass_back : (x : Addr) → passes hold h.posted o'.spaces x ≡ true → passes hold h.posted o.spaces x ≡ true
+  pub live_back : (x : Addr) → is_live h.posted_phase o'.spaces x ≡ true → is_live h.posted_phase o.spaces x ≡ true
+  pub pass_back : (x : Addr) → passes hold h.posted_phase o'.spaces x ≡ true → passes hold h.posted_phase o.spaces x ≡ true
 
 -- a change that leaves all marks is one
-pub alike_change : (tree : Tree) (words : ℕ) (h : Handshakes) (p : Progress) (seat : Seat) (hold : Hold) (o o' : Objects) → AreAlike o.spaces o'.spaces → IsSoundHeap tree h.posted h.has_round words p o'.spaces → IsChange tree words h p seat hold o o'
+pub alike_change : (tree : Tree) (words : ℕ) (h : Handshakes) (p : Progress) (seat : Seat) (hold : Hold) (o o' : Objects) → AreAlike o.spaces o'.spaces → IsSoundHeap tree h.posted_phase h.has_round words p o'.spaces → IsChange tree words h p seat hold o o'
 alike_change tree words h p seat hold o o' alike sound = record {
   sound = sound;
-  begun = alike_not_begun o.spaces o'.spaces alike h.posted h.has_round p;
+  begun = alike_not_begun o.spaces o'.spaces alike h.posted_phase h.has_round p;
   grows = alike_grows o.spaces o'.spaces alike;
   holds = ap (λ t. hold_of h t seat) alike.has_marked;
   forwards = alike.forwards;
-  live_back = λ x live. sym (live_stays o.spaces o'.spaces alike h.posted x) ∙ live;
-  pass_back = λ x pass. sym (passes_still o.spaces o'.spaces alike hold h.posted x) ∙ pass;
+  live_back = λ x live. sym (live_stays o.spaces o'.spaces alike h.posted_phase x) ∙ live;
+  pass_back = λ x pass. sym (passes_still o.spaces o'.spaces alike hold h.posted_phase x) ∙ pass;
 }
 
 module _ (tree : Tree) (words : ℕ) (h : Handshakes) (p : Progress) (seat : Seat) (first : Objects) (all : Names) (name : Names) (o : Objects) (ss : List Value) (s : State) (fits : FitsCollected tree words h p seat first all name o ss s)
     (o' : Objects) (change : IsChange tree words h p seat (first_hold h seat first) o o') where
   -- twins are the same
   pub twins_then : (a b : ℕ) → AreTwins o.spaces a b → AreTwins o'.spaces a b
-  twins_then a b twins = twins_stay tree h.posted h.has_round words p o.spaces fits.sound o'.spaces a b (change.forwards (record { number = a })) (change.forwards (record { number = b })) twins
+  twins_then a b twins = twins_stay tree h.posted_phase h.has_round words p o.spaces fits.sound o'.spaces a b (change.forwards (record { number = a })) (change.forwards (record { number = b })) twins
 
   pub twins_before : (a b : ℕ) → AreTwins o'.spaces a b → AreTwins o.spaces a b
-  twins_before a b twins = twins_stay tree h.posted h.has_round words p o'.spaces change.sound o.spaces a b (sym (change.forwards (record { number = a }))) (sym (change.forwards (record { number = b }))) twins
+  twins_before a b twins = twins_stay tree h.posted_phase h.has_round words p o'.spaces change.sound o.spaces a b (sym (change.forwards (record { number = a }))) (sym (change.forwards (record { number = b }))) twins
 
   -- and so is the other copy of an old object
   pub copy_before : (a b : ℕ) → other_of (cell_in o'.spaces.old (record { number = a })) ≡ Some (record { number = b }) → other_of (cell_in o.spaces.old (record { number = a })) ≡ Some (record { number = b })
-  copy_before a b other = copy_stays tree h.posted h.has_round words p o'.spaces change.sound o.spaces a b (sym (change.forwards (record { number = a }))) other
+  copy_before a b other = copy_stays tree h.posted_phase h.has_round words p o'.spaces change.sound o.spaces a b (sym (change.forwards (record { number = a }))) other
 
   -- so names are those of one object as before
   pub names_stay : HasOneName fits.whole o'.spaces
@@ -144,13 +144,13 @@ module _ (tree : Tree) (words : ℕ) (h : Handshakes) (p : Progress) (seat : Sea
   }
 
   -- static fields may hold what they held
-  pub statics_still : (number : ℕ) (v : Value) → slice_get ss number ≡ Some v → ValuePasses (static_may_hold h.posted o'.spaces p number) v
+  pub statics_still : (number : ℕ) (v : Value) → slice_get ss number ≡ Some v → ValuePasses (static_may_hold h.posted_phase o'.spaces p number) v
   statics_still number v there =
-      value_weakens (static_may_hold h.posted o.spaces p number) (static_may_hold h.posted o'.spaces p number)
-      (λ a held. passes_then o.spaces o'.spaces change.grows (static_hold_of h.posted p number) h.posted a held) v (fits.static_holds number v there)
+      value_weakens (static_may_hold h.posted_phase o.spaces p number) (static_may_hold h.posted_phase o'.spaces p number)
+      (λ a held. passes_then o.spaces o'.spaces change.grows (static_hold_of h.posted_phase p number) h.posted_phase a held) v (fits.static_holds number v there)
 
   -- all of it fits where the heap and the static fields represent a state
-  pub change_fits : (ss' : List Value) (s' : State) → IsHeap tree fits.whole o' s' → AreStatics fits.whole ss' s'.statics → ((number : ℕ) (v : Value) → slice_get ss' number ≡ Some v → ValuePasses (static_may_hold h.posted o'.spaces p number) v) →
+  pub change_fits : (ss' : List Value) (s' : State) → IsHeap tree fits.whole o' s' → AreStatics fits.whole ss' s'.statics → ((number : ℕ) (v : Value) → slice_get ss' number ≡ Some v → ValuePasses (static_may_hold h.posted_phase o'.spaces p number) v) →
       FitsCollected tree words h p seat first all name o' ss' s'
   change_fits ss' s' heap refines static_holds = record {
     sound = change.sound;
@@ -160,9 +160,9 @@ module _ (tree : Tree) (words : ℕ) (h : Handshakes) (p : Progress) (seat : Sea
     whole = fits.whole;
     extends = fits.extends;
     heap = heap;
-    live = λ a n is. live_grows o.spaces o'.spaces change.grows h.posted (record { number = a }) (fits.live a n is);
+    live = λ a n is. live_grows o.spaces o'.spaces change.grows h.posted_phase (record { number = a }) (fits.live a n is);
     filled = λ a b n is other live. fits.filled a b n is (copy_before a b other) (change.live_back (record { number = b }) live);
-    cut = λ a n is. let c = fits.cut a n is in (c.0, passes_then o.spaces o'.spaces change.grows (first_hold h seat first) h.posted (record { number = a }) c.1);
+    cut = λ a n is. let c = fits.cut a n is in (c.0, passes_then o.spaces o'.spaces change.grows (first_hold h seat first) h.posted_phase (record { number = a }) c.1);
     is_cut = λ a n is pass. fits.is_cut a n is (change.pass_back (record { number = a }) pass);
     refines = refines;
     static_holds = static_holds;
@@ -243,32 +243,32 @@ module _ (tree : Tree) (words : ℕ) (h : Handshakes) (p : Progress) (seat : Sea
   abbrev FitsStill : Objects → Type 0
   FitsStill q = FitsCollected tree words h p seat first all name q ss s
 
-  pass : ValuePasses (passes (first_hold h seat first) h.posted o.spaces) v
+  pass : ValuePasses (passes (first_hold h seat first) h.posted_phase o.spaces) v
   pass = value_passes tree words h p seat first all name o ss s fits v u is
 
   -- what is marked isn't marked again
   marked_again : ValuePasses (is_marked_address o.spaces) v → FitsStill (with_marked o v)
   marked_again marked = subst FitsStill (sym (value_mark_same o v fits.sound.blocks.spaces marked)) fits
 
-  module _ (now : h.posted ≡ Mark) (any : first_hold h seat first ≡ AnyLive) where
+  module _ (now : h.posted_phase ≡ Mark) (any : first_hold h seat first ≡ AnyLive) where
     holds_then : (with_marked o v).spaces.has_marked ≡ true → hold_of h (with_marked o v).spaces.has_marked seat ≡ hold_of h o.spaces.has_marked seat
     holds_then some =
         ap (λ t. hold_of h t seat) some
-        ∙ any_stays (is_flipping seat.phase && is_flipping h.posted) (is_marking h.posted) h.has_round seat.answered o.spaces.has_marked (fits.holds ∙ any)
+        ∙ any_stays (is_flipping seat.phase && is_flipping h.posted_phase) (is_marking h.posted_phase) h.has_round seat.answered o.spaces.has_marked (fits.holds ∙ any)
         ∙ sym (fits.holds ∙ any)
 
     mark_change : IsChange tree words h p seat (first_hold h seat first) o (with_marked o v)
     mark_change = record {
       sound = subst (λ q. IsSoundHeap tree q h.has_round words p (with_marked o v).spaces) (sym now) (value_mark_sound tree h.has_round words p o v (subst (λ q. IsSoundHeap tree q h.has_round words p o.spaces) now fits.sound));
-      begun = value_mark_not_begun h.posted h.has_round p o v;
+      begun = value_mark_not_begun h.posted_phase h.has_round p o v;
       grows = value_mark_grows o v;
       holds = elim (value_mark_grows o v).has_marked [ inl same ↦ ap (λ t. hold_of h t seat) same | inr some ↦ holds_then some ];
       forwards = value_mark_forward o v;
       live_back = back;
-      pass_back = λ x pass'. subst (λ y. passes y h.posted o.spaces x ≡ true) (sym any) (back x (subst (λ y. passes y h.posted (with_marked o v).spaces x ≡ true) any pass'));
+      pass_back = λ x pass'. subst (λ y. passes y h.posted_phase o.spaces x ≡ true) (sym any) (back x (subst (λ y. passes y h.posted_phase (with_marked o v).spaces x ≡ true) any pass'));
     }
       where
-        back : (x : Addr) → is_live h.posted (with_marked o v).spaces x ≡ true → is_live h.posted o.spaces x ≡ true
+        back : (x : Addr) → is_live h.posted_phase (with_marked o v).spaces x ≡ true → is_live h.posted_phase o.spaces x ≡ true
         back x live =
             subst (λ q. is_live q o.spaces x ≡ true) (sym now)
             (or_more (is_permanent x) (is_old (with_marked o v).spaces x) (is_old o.spaces x) (value_mark_old_back o v x) (subst (λ q. is_live q (with_marked o v).spaces x ≡ true) now live))
@@ -287,19 +287,19 @@ module _ (tree : Tree) (words : ℕ) (h : Handshakes) (p : Progress) (seat : Sea
         (statics_still tree words h p seat first all name o ss s fits (with_marked o v) mark_change)
 
   -- by what the thread may hold
-  marked_by : (x : Hold) → first_hold h seat first ≡ x → h.posted ≡ Mark → FitsStill (with_marked o v)
+  marked_by : (x : Hold) → first_hold h seat first ≡ x → h.posted_phase ≡ Mark → FitsStill (with_marked o v)
   marked_by AnyLive e now = marks_fit now e
-  marked_by MarkedOnly e now = marked_again (subst (λ y. ValuePasses (passes y h.posted o.spaces) v) e pass)
+  marked_by MarkedOnly e now = marked_again (subst (λ y. ValuePasses (passes y h.posted_phase o.spaces) v) e pass)
   marked_by NewOnly e now =
-      let late : is_new_live h.posted ≡ true = subst (λ y. HoldMeans h.posted h.has_round o.spaces y) e (means tree words h p seat first all name o ss s fits) in
+      let late : is_new_live h.posted_phase ≡ true = subst (λ y. HoldMeans h.posted_phase h.has_round o.spaces y) e (means tree words h p seat first all name o ss s fits) in
       never (sym (ap is_new_live now) ∙ late)
 
   -- once Allocate is posted what it may hold is marked
-  marked_late : h.posted ≡ Allocate → FitsStill (with_marked o v)
+  marked_late : h.posted_phase ≡ Allocate → FitsStill (with_marked o v)
   marked_late now =
       marked_again
-      (value_weakens (passes (first_hold h seat first) h.posted o.spaces) (is_marked_address o.spaces)
-      (λ a held. subst (λ q. is_live q o.spaces a ≡ true) now (held_is_live h.posted h.has_round o.spaces (first_hold h seat first) (means tree words h p seat first all name o ss s fits) a held)) v pass)
+      (value_weakens (passes (first_hold h seat first) h.posted_phase o.spaces) (is_marked_address o.spaces)
+      (λ a held. subst (λ q. is_live q o.spaces a ≡ true) now (held_is_live h.posted_phase h.has_round o.spaces (first_hold h seat first) (means tree words h p seat first all name o ss s fits) a held)) v pass)
 
   marked_fits : seat.phase ≡ Mark → FitsStill (with_marked o v)
   marked_fits own = elim (close_is_beside h seat close) [

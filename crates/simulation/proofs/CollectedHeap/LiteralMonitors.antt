@@ -65,7 +65,7 @@ module _ (tree : Tree) (words : ℕ) (h : Handshakes) (p : Progress) (seat : Sea
 
   -- no literal is a copy
   no_twin : {A : Type 0} → (b : ℕ) → AreTwins o.spaces a.number b → A
-  no_twin b twins = elim (twins_either tree h.posted h.has_round words p o.spaces fits.sound a.number b twins) [
+  no_twin b twins = elim (twins_either tree h.posted_phase h.has_round words p o.spaces fits.sound a.number b twins) [
     | inl copies ↦ none_is_some own.number (sym (no_literal o.spaces spaces a copies.from (old_is_cell o.spaces a copies.from copies.old)) ∙ own.has_id)
     | inr copies ↦ none_is_some own.number (sym (no_literal o.spaces spaces a copies.to (new_is_cell o.spaces spaces a copies.to copies.new)) ∙ own.has_id)
   ]

@@ -19,7 +19,7 @@ use Rattle.simulation.specs.Refines.{AreTwins}
 use Rattle.simulation.proofs.CollectedHeap.TwoCopies.{AreOldAndNew, copy_is_new, twins_either, words_are_live}
 
 -- a marked old object is live while both copies have all words
-marked_is_live : (posted : Phase) (m : Spaces) (a : Addr) → has_words posted ≡ true → is_marked_old m a ≡ true → is_live posted m a ≡ true
+marked_is_live : (posted_phase : Phase) (m : Spaces) (a : Addr) → has_words posted_phase ≡ true → is_marked_old m a ≡ true → is_live posted_phase m a ≡ true
 marked_is_live Idle m a late marked = never late
 marked_is_live Mark m a late marked = never late
 marked_is_live Allocate m a late marked = never late
@@ -29,16 +29,16 @@ marked_is_live HeapFlip m a late marked = or_second (is_permanent a) (is_marked_
 marked_is_live ThreadFlip m a late marked = or_second (is_permanent a) (is_marked_old m a || is_new m a) (or_first (is_marked_old m a) (is_new m a) marked)
 marked_is_live Reclaim m a late marked = never late
 
-module _ (tree : Tree) (posted : Phase) (has_round : Bool) (words : ℕ) (p : Progress) (m : Spaces) (sound : IsSoundHeap tree posted has_round words p m) (late : has_words posted ≡ true) where
+module _ (tree : Tree) (posted_phase : Phase) (has_round : Bool) (words : ℕ) (p : Progress) (m : Spaces) (sound : IsSoundHeap tree posted_phase has_round words p m) (late : has_words posted_phase ≡ true) where
   -- and so is each of two copies
-  copy_live : (a b : Addr) → AreOldAndNew m a b → (is_live posted m a ≡ true) × (is_live posted m b ≡ true)
+  copy_live : (a b : Addr) → AreOldAndNew m a b → (is_live posted_phase m a ≡ true) × (is_live posted_phase m b ≡ true)
   copy_live a b copies = (
-    marked_is_live posted m a late (ap is_marked_cell copies.old ∙ sound.copies.marked_only a copies.from copies.old (λ none. none-some b (sym none ∙ copies.out))),
-    new_is_live posted m b (words_are_live posted late) (copy_is_new tree posted has_round words p m sound a b copies),
+    marked_is_live posted_phase m a late (ap is_marked_cell copies.old ∙ sound.copies.marked_only a copies.from copies.old (λ none. none-some b (sym none ∙ copies.out))),
+    new_is_live posted_phase m b (words_are_live posted_phase late) (copy_is_new tree posted_phase has_round words p m sound a b copies),
   )
 
-  pub twin_live : (a b : ℕ) → AreTwins m a b → is_live posted m (record { number = b }) ≡ true
-  twin_live a b twins = elim (twins_either tree posted has_round words p m sound a b twins) [
+  pub twin_live : (a b : ℕ) → AreTwins m a b → is_live posted_phase m (record { number = b }) ≡ true
+  twin_live a b twins = elim (twins_either tree posted_phase has_round words p m sound a b twins) [
     | inl copies ↦ (copy_live (record { number = a }) (record { number = b }) copies).1
     | inr copies ↦ (copy_live (record { number = b }) (record { number = a }) copies).0
   ]

@@ -61,17 +61,17 @@ not_literal n characters e = absurd (lost e)
 
 -- ---- births
 
-module _ (tree : Tree) (words : ℕ) (h : Handshakes) (p : Progress) (seat : Seat) (close : IsClose h seat) (first : Objects) (time : IsOnTime seat.phase h.posted h.has_round p first.spaces) (all : Names) (name : Names) (o : Objects) (ss : List Value) (s : State)
+module _ (tree : Tree) (words : ℕ) (h : Handshakes) (p : Progress) (seat : Seat) (close : IsClose h seat) (first : Objects) (time : IsOnTime seat.phase h.posted_phase h.has_round p first.spaces) (all : Names) (name : Names) (o : Objects) (ss : List Value) (s : State)
     (fits : FitsCollected tree words h p seat first all name o ss s) where
-  near : IsNear seat.phase h.posted
+  near : IsNear seat.phase h.posted_phase
   near = near_of_close h seat close
 
-  time_now : IsOnTime seat.phase h.posted h.has_round p o.spaces
+  time_now : IsOnTime seat.phase h.posted_phase h.has_round p o.spaces
   time_now = fits.on_time seat.phase time
 
   -- the thread can bear
   pub collected_bears : can_bear seat.phase o ≡ true
-  collected_bears = can_bear_near tree seat.phase h.posted near h.has_round words p o time_now fits.sound
+  collected_bears = can_bear_near tree seat.phase h.posted_phase near h.has_round words p o time_now fits.sound
 
   module _ (k : Kind) (count : ℕ) (contents : Contents) (contents_refine : (names : Names) → IsOfContents tree names k (replicate count 0) contents None)
       (o' : Objects) (a : Addr) (e : ◌≡◌ {A = Objects × Option Addr} (object_born seat.phase o k count) (o', Some a)) where
@@ -87,35 +87,35 @@ module _ (tree : Tree) (words : ℕ) (h : Handshakes) (p : Progress) (seat : Sea
     abbrev s' : State
     s' = with_state_birth s contents
 
-    sound : IsSoundHeap tree h.posted h.has_round words p o'.spaces
-    sound = birth_sound tree seat.phase h.posted near h.has_round words p o time_now fits.sound k count o' a e
+    sound : IsSoundHeap tree h.posted_phase h.has_round words p o'.spaces
+    sound = birth_sound tree seat.phase h.posted_phase near h.has_round words p o time_now fits.sound k count o' a e
 
     birth : IsBornCell seat.phase k count o o' a
-    birth = birth_is tree seat.phase h.posted near h.has_round words p o time_now fits.sound k count o' a e
+    birth = birth_is tree seat.phase h.posted_phase near h.has_round words p o time_now fits.sound k count o' a e
 
     -- what was old, marked or new is so
     grows : Grows o.spaces o'.spaces
     grows =
-        let stay = birth_tests tree seat.phase h.posted near h.has_round words p o time_now fits.sound k count o' a e in
-        record { old = stay.old; marked = stay.marked; new = stay.new; has_marked = inl (birth_marks_nothing tree seat.phase h.posted near h.has_round words p o time_now fits.sound k count o' a e) }
+        let stay = birth_tests tree seat.phase h.posted_phase near h.has_round words p o time_now fits.sound k count o' a e in
+        record { old = stay.old; marked = stay.marked; new = stay.new; has_marked = inl (birth_marks_nothing tree seat.phase h.posted_phase near h.has_round words p o time_now fits.sound k count o' a e) }
 
     holds_then : hold_of h o'.spaces.has_marked seat ≡ first_hold h seat first
-    holds_then = ap (λ t. hold_of h t seat) (birth_marks_nothing tree seat.phase h.posted near h.has_round words p o time_now fits.sound k count o' a e) ∙ fits.holds
+    holds_then = ap (λ t. hold_of h t seat) (birth_marks_nothing tree seat.phase h.posted_phase near h.has_round words p o time_now fits.sound k count o' a e) ∙ fits.holds
 
     -- the thread may hold what it bore
-    own_passes : passes (first_hold h seat first) h.posted o'.spaces a ≡ true
-    own_passes = subst (λ x. passes x h.posted o'.spaces a ≡ true) holds_then (birth_may_be_held tree h seat close words p o time_now fits.sound k count o' a e)
+    own_passes : passes (first_hold h seat first) h.posted_phase o'.spaces a ≡ true
+    own_passes = subst (λ x. passes x h.posted_phase o'.spaces a ≡ true) holds_then (birth_may_be_held tree h seat close words p o time_now fits.sound k count o' a e)
 
-    own_live : is_live h.posted o'.spaces a ≡ true
-    own_live = held_is_live seat.phase h.posted o'.spaces a (birth_held tree seat.phase h.posted near h.has_round words p o time_now fits.sound k count o' a e)
+    own_live : is_live h.posted_phase o'.spaces a ≡ true
+    own_live = held_is_live seat.phase h.posted_phase o'.spaces a (birth_held tree seat.phase h.posted_phase near h.has_round words p o time_now fits.sound k count o' a e)
 
     -- ---- the new addresses
 
     abbrev IsNewly : ℕ → Type 0
-    IsNewly x = (x ≡ a.number) ⊎ ((x ≡ (forward o'.spaces a).number) × (is_live h.posted o'.spaces (record { number = x }) ≡ true))
+    IsNewly x = (x ≡ a.number) ⊎ ((x ≡ (forward o'.spaces a).number) × (is_live h.posted_phase o'.spaces (record { number = x }) ≡ true))
 
-    newly_live : (x : ℕ) → IsNewly x → is_live h.posted o'.spaces (record { number = x }) ≡ true
-    newly_live x (inl own) = subst (λ (b : Addr). is_live h.posted o'.spaces b ≡ true) (address_is a (record { number = x }) (sym own)) own_live
+    newly_live : (x : ℕ) → IsNewly x → is_live h.posted_phase o'.spaces (record { number = x }) ≡ true
+    newly_live x (inl own) = subst (λ (b : Addr). is_live h.posted_phase o'.spaces b ≡ true) (address_is a (record { number = x }) (sym own)) own_live
     newly_live x (inr other) = other.1
 
     -- an empty object lies there, where none lay
@@ -150,28 +150,28 @@ module _ (tree : Tree) (words : ℕ) (h : Handshakes) (p : Progress) (seat : Sea
     abbrev whole : Names
     whole x =
         if x == a.number then Some (next_name s)
-        else if (x == (forward o'.spaces a).number) && is_live h.posted o'.spaces (record { number = x }) then Some (next_name s)
+        else if (x == (forward o'.spaces a).number) && is_live h.posted_phase o'.spaces (record { number = x }) then Some (next_name s)
         else fits.whole x
 
     who : (x : ℕ) (n : ObjectName) → whole x ≡ Some n → (IsNewly x × (next_name s ≡ n)) ⊎ (fits.whole x ≡ Some n)
     who x n is = by_own (x == a.number) refl is
       where
-        by_other : (t : Bool) → ((x == (forward o'.spaces a).number) && is_live h.posted o'.spaces (record { number = x })) ≡ t → (if t then Some (next_name s) else fits.whole x) ≡ Some n → (IsNewly x × (next_name s ≡ n)) ⊎ (fits.whole x ≡ Some n)
+        by_other : (t : Bool) → ((x == (forward o'.spaces a).number) && is_live h.posted_phase o'.spaces (record { number = x })) ≡ t → (if t then Some (next_name s) else fits.whole x) ≡ Some n → (IsNewly x × (next_name s ≡ n)) ⊎ (fits.whole x ≡ Some n)
         by_other true test is =
-            let both = and_parts (x == (forward o'.spaces a).number) (is_live h.posted o'.spaces (record { number = x })) test in
+            let both = and_parts (x == (forward o'.spaces a).number) (is_live h.posted_phase o'.spaces (record { number = x })) test in
             inl (inr (eqb-true x (forward o'.spaces a).number both.0, both.1), same_Some (next_name s) n is)
         by_other false test is = inr is
 
-        by_own : (t : Bool) → (x == a.number) ≡ t → (if t then Some (next_name s) else if (x == (forward o'.spaces a).number) && is_live h.posted o'.spaces (record { number = x }) then Some (next_name s) else fits.whole x) ≡ Some n →
+        by_own : (t : Bool) → (x == a.number) ≡ t → (if t then Some (next_name s) else if (x == (forward o'.spaces a).number) && is_live h.posted_phase o'.spaces (record { number = x }) then Some (next_name s) else fits.whole x) ≡ Some n →
             (IsNewly x × (next_name s ≡ n)) ⊎ (fits.whole x ≡ Some n)
         by_own true test is = inl (inl (eqb-true x a.number test), same_Some (next_name s) n is)
-        by_own false test is = by_other ((x == (forward o'.spaces a).number) && is_live h.posted o'.spaces (record { number = x })) refl is
+        by_own false test is = by_other ((x == (forward o'.spaces a).number) && is_live h.posted_phase o'.spaces (record { number = x })) refl is
 
     newly_named : (x : ℕ) → IsNewly x → whole x ≡ Some (next_name s)
     newly_named x (inl own) = let test : (x == a.number) ≡ true = eq-eqb x a.number own in rw test refl
     newly_named x (inr other) = by_own (x == a.number)
       where
-        by_own : (t : Bool) → (if t then Some (next_name s) else if (x == (forward o'.spaces a).number) && is_live h.posted o'.spaces (record { number = x }) then Some (next_name s) else fits.whole x) ≡ Some (next_name s)
+        by_own : (t : Bool) → (if t then Some (next_name s) else if (x == (forward o'.spaces a).number) && is_live h.posted_phase o'.spaces (record { number = x }) then Some (next_name s) else fits.whole x) ≡ Some (next_name s)
         by_own true = refl
         by_own false =
             let test : (x == (forward o'.spaces a).number) ≡ true = eq-eqb x (forward o'.spaces a).number other.0 in
@@ -181,15 +181,15 @@ module _ (tree : Tree) (words : ℕ) (h : Handshakes) (p : Progress) (seat : Sea
     kept : (x : ℕ) (n : ObjectName) → fits.whole x ≡ Some n → whole x ≡ Some n
     kept x n is = by_own (x == a.number) refl
       where
-        by_other : (t : Bool) → ((x == (forward o'.spaces a).number) && is_live h.posted o'.spaces (record { number = x })) ≡ t → (if t then Some (next_name s) else fits.whole x) ≡ Some n
+        by_other : (t : Bool) → ((x == (forward o'.spaces a).number) && is_live h.posted_phase o'.spaces (record { number = x })) ≡ t → (if t then Some (next_name s) else fits.whole x) ≡ Some n
         by_other true test =
-            let both = and_parts (x == (forward o'.spaces a).number) (is_live h.posted o'.spaces (record { number = x })) test in
+            let both = and_parts (x == (forward o'.spaces a).number) (is_live h.posted_phase o'.spaces (record { number = x })) test in
             unnamed x n (inr (eqb-true x (forward o'.spaces a).number both.0, both.1)) is
         by_other false test = is
 
-        by_own : (t : Bool) → (x == a.number) ≡ t → (if t then Some (next_name s) else if (x == (forward o'.spaces a).number) && is_live h.posted o'.spaces (record { number = x }) then Some (next_name s) else fits.whole x) ≡ Some n
+        by_own : (t : Bool) → (x == a.number) ≡ t → (if t then Some (next_name s) else if (x == (forward o'.spaces a).number) && is_live h.posted_phase o'.spaces (record { number = x }) then Some (next_name s) else fits.whole x) ≡ Some n
         by_own true test = unnamed x n (inl (eqb-true x a.number test)) is
-        by_own false test = by_other ((x == (forward o'.spaces a).number) && is_live h.posted o'.spaces (record { number = x })) refl
+        by_own false test = by_other ((x == (forward o'.spaces a).number) && is_live h.posted_phase o'.spaces (record { number = x })) refl
 
     -- the new name was nobody's
     fresh : {A : Type 0} (x : ℕ) → fits.whole x ≡ Some (next_name s) → A
@@ -199,24 +199,24 @@ module _ (tree : Tree) (words : ℕ) (h : Handshakes) (p : Progress) (seat : Sea
         absurd (omega (arith, inside))
 
     -- what has a name is live
-    live_then : (x : ℕ) (n : ObjectName) → whole x ≡ Some n → is_live h.posted o'.spaces (record { number = x }) ≡ true
+    live_then : (x : ℕ) (n : ObjectName) → whole x ≡ Some n → is_live h.posted_phase o'.spaces (record { number = x }) ≡ true
     live_then x n is = elim (who x n is) [
       | inl new ↦ newly_live x new.0
-      | inr was ↦ live_grows o.spaces o'.spaces grows h.posted (record { number = x }) (fits.live x n was)
+      | inr was ↦ live_grows o.spaces o'.spaces grows h.posted_phase (record { number = x }) (fits.live x n was)
     ]
 
     -- ---- twins
 
     -- twins of new addresses are new
-    module _ (x y : ℕ) (new : IsNewly x) (twins : AreTwins o'.spaces x y) (live : is_live h.posted o'.spaces (record { number = y }) ≡ true) where
-      late : has_words h.posted ≡ true
-      late = twins_late tree h.posted h.has_round words p o'.spaces sound x y twins (newly_live x new) live
+    module _ (x y : ℕ) (new : IsNewly x) (twins : AreTwins o'.spaces x y) (live : is_live h.posted_phase o'.spaces (record { number = y }) ≡ true) where
+      late : has_words h.posted_phase ≡ true
+      late = twins_late tree h.posted_phase h.has_round words p o'.spaces sound x y twins (newly_live x new) live
 
       -- both have one forward
       other_forward : forward o'.spaces (forward o'.spaces a) ≡ forward o'.spaces a
-      other_forward = elim (forward_either tree h.posted h.has_round words p o'.spaces sound a) [
+      other_forward = elim (forward_either tree h.posted_phase h.has_round words p o'.spaces sound a) [
         | inl own ↦ ap (forward o'.spaces) own
-        | inr copies ↦ new_forward_itself tree h.posted h.has_round words p o'.spaces sound a (forward o'.spaces a) copies
+        | inr copies ↦ new_forward_itself tree h.posted_phase h.has_round words p o'.spaces sound a (forward o'.spaces a) copies
       ]
 
       newly_forward : forward o'.spaces (record { number = x }) ≡ forward o'.spaces a
@@ -226,17 +226,17 @@ module _ (tree : Tree) (words : ℕ) (h : Handshakes) (p : Progress) (seat : Sea
       ]
 
       twin_forward : forward o'.spaces a ≡ forward o'.spaces (record { number = y })
-      twin_forward = sym newly_forward ∙ twins_forward tree h.posted h.has_round words p o'.spaces sound x y twins
+      twin_forward = sym newly_forward ∙ twins_forward tree h.posted_phase h.has_round words p o'.spaces sound x y twins
 
       -- no old object has the new address as its other copy
       no_copy : {A : Type 0} → AreOldAndNew o'.spaces (record { number = y }) a → A
       no_copy copies = elim (birth.came (record { number = y }) copies.from (old_is_cell o'.spaces (record { number = y }) copies.from copies.old)) [
-        | inl was ↦ lost (twins_either tree h.posted h.has_round words p o.spaces fits.sound y a.number (noted_twin tree h.posted h.has_round words p o.spaces fits.sound (record { number = y }) a copies.from was copies.out))
+        | inl was ↦ lost (twins_either tree h.posted_phase h.has_round words p o.spaces fits.sound y a.number (noted_twin tree h.posted_phase h.has_round words p o.spaces fits.sound (record { number = y }) a copies.from was copies.out))
         | inr here ↦ elim here [
-          | inl same ↦ absurd (copies_apart tree h.posted h.has_round words p o'.spaces sound (record { number = y }) a copies same)
+          | inl same ↦ absurd (copies_apart tree h.posted_phase h.has_round words p o'.spaces sound (record { number = y }) a copies same)
           | inr other ↦
-              absurd (copies_apart tree h.posted h.has_round words p o'.spaces sound (record { number = y }) a copies
-              (sym other.copy ∙ new_forward_itself tree h.posted h.has_round words p o'.spaces sound (record { number = y }) a copies))
+              absurd (copies_apart tree h.posted_phase h.has_round words p o'.spaces sound (record { number = y }) a copies
+              (sym other.copy ∙ new_forward_itself tree h.posted_phase h.has_round words p o'.spaces sound (record { number = y }) a copies))
         ]
       ]
         where
@@ -245,34 +245,34 @@ module _ (tree : Tree) (words : ℕ) (h : Handshakes) (p : Progress) (seat : Sea
           lost (inr c) = none_is_some c.from (sym birth.nobody ∙ old_is_cell o.spaces a c.from c.old)
 
       twin_newly : IsNewly y
-      twin_newly = elim (same_forward tree h.posted h.has_round words p o'.spaces sound (words_not_last h.posted late) a (record { number = y }) twin_forward) [
+      twin_newly = elim (same_forward tree h.posted_phase h.has_round words p o'.spaces sound (words_not_last h.posted_phase late) a (record { number = y }) twin_forward) [
         | inl same ↦ inl (ap (λ (b : Addr). b.number) (sym same))
-        | inr own_twins ↦ elim (twins_either tree h.posted h.has_round words p o'.spaces sound a.number y own_twins) [
-          | inl copies ↦ inr (ap (λ (b : Addr). b.number) (sym (old_forward tree h.posted h.has_round words p o'.spaces sound a (record { number = y }) copies)), live)
+        | inr own_twins ↦ elim (twins_either tree h.posted_phase h.has_round words p o'.spaces sound a.number y own_twins) [
+          | inl copies ↦ inr (ap (λ (b : Addr). b.number) (sym (old_forward tree h.posted_phase h.has_round words p o'.spaces sound a (record { number = y }) copies)), live)
           | inr copies ↦ no_copy copies
         ]
       ]
 
     -- forwards stay
-    forwards : (b : Addr) → is_live h.posted o.spaces b ≡ true → forward o'.spaces b ≡ forward o.spaces b
-    forwards = birth_forwards tree seat.phase h.posted near h.has_round words p o time_now fits.sound k count o' a e
+    forwards : (b : Addr) → is_live h.posted_phase o.spaces b ≡ true → forward o'.spaces b ≡ forward o.spaces b
+    forwards = birth_forwards tree seat.phase h.posted_phase near h.has_round words p o time_now fits.sound k count o' a e
 
     -- the new copy of an object has its name
-    filled_then : (x y : ℕ) (n : ObjectName) → whole x ≡ Some n → other_of (cell_in o'.spaces.old (record { number = x })) ≡ Some (record { number = y }) → is_live h.posted o'.spaces (record { number = y }) ≡ true → whole y ≡ Some n
+    filled_then : (x y : ℕ) (n : ObjectName) → whole x ≡ Some n → other_of (cell_in o'.spaces.old (record { number = x })) ≡ Some (record { number = y }) → is_live h.posted_phase o'.spaces (record { number = y }) ≡ true → whole y ≡ Some n
     filled_then x y n is other live = elim (who x n is) [
       | inl new ↦ newly_named y (twin_newly x y new.0 (inl other) live) ∙ ap Some new.1
       | inr was ↦
-          (let late = twins_late tree h.posted h.has_round words p o'.spaces sound x y (inl other) (live_then x n is) live in
-          let before = copy_stays tree h.posted h.has_round words p o'.spaces sound o.spaces x y (sym (forwards (record { number = x }) (fits.live x n was))) other in
-          kept y n (fits.filled x y n was before (twin_live tree h.posted h.has_round words p o.spaces fits.sound late x y (inl before))))
+          (let late = twins_late tree h.posted_phase h.has_round words p o'.spaces sound x y (inl other) (live_then x n is) live in
+          let before = copy_stays tree h.posted_phase h.has_round words p o'.spaces sound o.spaces x y (sym (forwards (record { number = x }) (fits.live x n was))) other in
+          kept y n (fits.filled x y n was before (twin_live tree h.posted_phase h.has_round words p o.spaces fits.sound late x y (inl before))))
     ]
 
     -- the new addresses are one or twins
     own_other : (x y : ℕ) → x ≡ a.number → y ≡ (forward o'.spaces a).number → (x ≡ y) ⊎ AreTwins o'.spaces x y
-    own_other x y is is' = elim (forward_either tree h.posted h.has_round words p o'.spaces sound a) [
+    own_other x y is is' = elim (forward_either tree h.posted_phase h.has_round words p o'.spaces sound a) [
       | inl same ↦ inl (is ∙ ap (λ (b : Addr). b.number) (sym same) ∙ sym is')
       | inr copies ↦
-          inr (inl (ap (λ (b : Addr). other_of (cell_in o'.spaces.old b)) (address_is (record { number = x }) a is) ∙ noted tree h.posted h.has_round words p o'.spaces sound a (forward o'.spaces a) copies
+          inr (inl (ap (λ (b : Addr). other_of (cell_in o'.spaces.old b)) (address_is (record { number = x }) a is) ∙ noted tree h.posted_phase h.has_round words p o'.spaces sound a (forward o'.spaces a) copies
           ∙ ap Some (address_is (forward o'.spaces a) (record { number = y }) (sym is'))))
     ]
 
@@ -294,7 +294,7 @@ module _ (tree : Tree) (words : ℕ) (h : Handshakes) (p : Progress) (seat : Sea
           | inr was' ↦ elim (fits.heap.names.one x y n was was') [
             | inl same ↦ inl same
             | inr twins ↦
-                inr (twins_stay tree h.posted h.has_round words p o.spaces fits.sound o'.spaces x y (forwards (record { number = x }) (fits.live x n was)) (forwards (record { number = y }) (fits.live y n was')) twins)
+                inr (twins_stay tree h.posted_phase h.has_round words p o.spaces fits.sound o'.spaces x y (forwards (record { number = x }) (fits.live x n was)) (forwards (record { number = y }) (fits.live y n was')) twins)
           ]
         ]
       ];
@@ -400,12 +400,12 @@ module _ (tree : Tree) (words : ℕ) (h : Handshakes) (p : Progress) (seat : Sea
     -- ---- all
 
     abbrev names : Names
-    names = cut_names (first_hold h seat first) h.posted o'.spaces whole
+    names = cut_names (first_hold h seat first) h.posted_phase o'.spaces whole
 
     fits_then : FitsCollected tree words h p seat first all names o' ss s'
     fits_then = record {
       sound = sound;
-      on_time = λ own before. birth_on_time tree seat.phase h.posted near h.has_round words p o time_now fits.sound k count o' a e own (fits.on_time own before);
+      on_time = λ own before. birth_on_time tree seat.phase h.posted_phase near h.has_round words p o time_now fits.sound k count o' a e own (fits.on_time own before);
       grows = grows_then first.spaces o.spaces o'.spaces fits.grows grows;
       holds = holds_then;
       whole = whole;
@@ -413,12 +413,12 @@ module _ (tree : Tree) (words : ℕ) (h : Handshakes) (p : Progress) (seat : Sea
       heap = heap_then;
       live = live_then;
       filled = filled_then;
-      cut = λ x n is. cut_is (first_hold h seat first) h.posted o'.spaces whole x n is;
-      is_cut = λ x n is pass. is_cut_name (first_hold h seat first) h.posted o'.spaces whole x n is pass;
+      cut = λ x n is. cut_is (first_hold h seat first) h.posted_phase o'.spaces whole x n is;
+      is_cut = λ x n is pass. is_cut_name (first_hold h seat first) h.posted_phase o'.spaces whole x n is pass;
       refines = agree_weaken (λ v (f : FieldKey × StateValue). IsValue fits.whole v f.1) (λ v (f : FieldKey × StateValue). IsValue whole v f.1) (λ v f is. value_extends fits.whole whole kept v f.1 is) ss s.statics fits.refines;
       static_holds = λ number v there.
-          value_weakens (static_may_hold h.posted o.spaces p number) (static_may_hold h.posted o'.spaces p number)
-          (λ b pass. passes_then o.spaces o'.spaces grows (static_hold_of h.posted p number) h.posted b pass) v (fits.static_holds number v there);
+          value_weakens (static_may_hold h.posted_phase o.spaces p number) (static_may_hold h.posted_phase o'.spaces p number)
+          (λ b pass. passes_then o.spaces o'.spaces grows (static_hold_of h.posted_phase p number) h.posted_phase b pass) v (fits.static_holds number v there);
     }
 
     -- the object that is born has the next name
@@ -426,30 +426,30 @@ module _ (tree : Tree) (words : ℕ) (h : Handshakes) (p : Progress) (seat : Sea
     collected_births = record {
       names = names;
       extends = λ x n is.
-          is_cut_name (first_hold h seat first) h.posted o'.spaces whole x n (kept x n (named_whole tree words h p seat first all name o ss s fits x n is))
-          (passes_then o.spaces o'.spaces grows (first_hold h seat first) h.posted (record { number = x }) (named_passes tree words h p seat first all name o ss s fits x n is));
-      named = is_cut_name (first_hold h seat first) h.posted o'.spaces whole a.number (next_name s) (newly_named a.number (inl refl)) own_passes;
+          is_cut_name (first_hold h seat first) h.posted_phase o'.spaces whole x n (kept x n (named_whole tree words h p seat first all name o ss s fits x n is))
+          (passes_then o.spaces o'.spaces grows (first_hold h seat first) h.posted_phase (record { number = x }) (named_passes tree words h p seat first all name o ss s fits x n is));
+      named = is_cut_name (first_hold h seat first) h.posted_phase o'.spaces whole a.number (next_name s) (newly_named a.number (inl refl)) own_passes;
       fits = fits_then;
     }
 
     -- what it may hold then and had a name it might hold before
-    held_before : (x : ℕ) (n : ObjectName) → fits.whole x ≡ Some n → (y : Hold) → passes y h.posted o'.spaces (record { number = x }) ≡ true → passes y h.posted o.spaces (record { number = x }) ≡ true
+    held_before : (x : ℕ) (n : ObjectName) → fits.whole x ≡ Some n → (y : Hold) → passes y h.posted_phase o'.spaces (record { number = x }) ≡ true → passes y h.posted_phase o.spaces (record { number = x }) ≡ true
     held_before x n is AnyLive pass = fits.live x n is
     held_before x n is MarkedOnly pass = elim (either_true (is_permanent (record { number = x })) (is_marked_old o'.spaces (record { number = x })) pass) [
       | inl permanent ↦ or_first (is_permanent (record { number = x })) (is_marked_old o.spaces (record { number = x })) permanent
-      | inr marked ↦ elim (marked_before_birth seat.phase h.posted near o fits.sound.blocks.spaces k count o' a e (record { number = x }) marked) [
+      | inr marked ↦ elim (marked_before_birth seat.phase h.posted_phase near o fits.sound.blocks.spaces k count o' a e (record { number = x }) marked) [
         | inl was ↦ or_second (is_permanent (record { number = x })) (is_marked_old o.spaces (record { number = x })) was
         | inr here ↦ unnamed x n (inl (ap (λ (b : Addr). b.number) here)) is
       ]
     ]
     held_before x n is NewOnly pass = elim (either_true (is_permanent (record { number = x })) (is_new o'.spaces (record { number = x })) pass) [
       | inl permanent ↦ or_first (is_permanent (record { number = x })) (is_new o.spaces (record { number = x })) permanent
-      | inr new ↦ elim (new_before_birth seat.phase h.posted near o fits.sound.blocks.spaces k count o' a e (record { number = x }) new) [
+      | inr new ↦ elim (new_before_birth seat.phase h.posted_phase near o fits.sound.blocks.spaces k count o' a e (record { number = x }) new) [
         | inl was ↦ or_second (is_permanent (record { number = x })) (is_new o.spaces (record { number = x })) was
         | inr here ↦ elim here [
           | inl own ↦ unnamed x n (inl (ap (λ (b : Addr). b.number) own)) is
           | inr other ↦
-              unnamed x n (inr (ap (λ (y : Option Addr). (unwrap_or y a).number) (sym other), live_grows o.spaces o'.spaces grows h.posted (record { number = x }) (fits.live x n is))) is
+              unnamed x n (inr (ap (λ (y : Option Addr). (unwrap_or y a).number) (sym other), live_grows o.spaces o'.spaces grows h.posted_phase (record { number = x }) (fits.live x n is))) is
         ]
       ]
     ]
@@ -458,17 +458,17 @@ module _ (tree : Tree) (words : ℕ) (h : Handshakes) (p : Progress) (seat : Sea
     pub births_only : (x : ℕ) (n : ObjectName) → collected_births.names x ≡ Some n → (name x ≡ Some n) ⊎ (next_name s ≡ n)
     unfolding collected_births
     births_only x n is =
-        let both = cut_is (first_hold h seat first) h.posted o'.spaces whole x n is in
+        let both = cut_is (first_hold h seat first) h.posted_phase o'.spaces whole x n is in
         elim (who x n both.0) [
           | inl new ↦ inr new.1
           | inr was ↦ inl (fits.is_cut x n was (held_before x n was (first_hold h seat first) both.1))
         ]
 
     -- the other copy of what is born has its name, once it is live
-    pub births_copied : (x : Addr) → other_of (cell_in o'.spaces.old a) ≡ Some x → is_live h.posted o'.spaces x ≡ true → passes (first_hold h seat first) h.posted o'.spaces x ≡ true → collected_births.names x.number ≡ Some (next_name s)
+    pub births_copied : (x : Addr) → other_of (cell_in o'.spaces.old a) ≡ Some x → is_live h.posted_phase o'.spaces x ≡ true → passes (first_hold h seat first) h.posted_phase o'.spaces x ≡ true → collected_births.names x.number ≡ Some (next_name s)
     unfolding collected_births
     births_copied x other live pass =
-        is_cut_name (first_hold h seat first) h.posted o'.spaces whole x.number (next_name s) (filled_then a.number x.number (next_name s) (newly_named a.number (inl refl)) other live) pass
+        is_cut_name (first_hold h seat first) h.posted_phase o'.spaces whole x.number (next_name s) (filled_then a.number x.number (next_name s) (newly_named a.number (inl refl)) other live) pass
 
 -- ---- births that are refused
 

@@ -37,7 +37,7 @@ born_number k n e = cc
 
 module _ (tree : Tree) (words : ℕ) (h : Handshakes) (p : Progress) (seat : Seat) (first : Objects) (all : Names) (name : Names) (o : Objects) (ss : List Value) (s : State) (fits : FitsCollected tree words h p seat first all name o ss s)
     (both : Bool) (a : Addr) (n : ℕ) (named : fits.whole a.number ≡ Some (Born n)) (c : Cell) (lies : object_cell o a ≡ Some c) (f g : Cell → Cell) (keeps : KeepsTags f) (keeps' : KeepsTags g)
-    (sound : IsSoundHeap tree h.posted h.has_round words p (changed_by both f g o a).spaces)
+    (sound : IsSoundHeap tree h.posted_phase h.has_round words p (changed_by both f g o a).spaces)
     (object : HeapObject) (linked : IsLinked tree c.kind object.contents) (refines : IsCell tree fits.whole (change_for both f g o a c) object)
     (named_before : (x : Addr) (d : Cell) → fits.whole x.number ≡ Some (Born n) → object_cell o x ≡ Some d → HasNamedWords tree fits.whole d)
     (keeps_named : (d : Cell) → d.kind ≡ c.kind → HasNamedWords tree fits.whole d → HasNamedWords tree fits.whole (f d)) where
@@ -60,12 +60,12 @@ module _ (tree : Tree) (words : ℕ) (h : Handshakes) (p : Progress) (seat : Sea
   change = alike_change tree words h p seat (first_hold h seat first) o o' alike sound
 
   -- an address is twice named only where both copies are
-  filled : (x y : ℕ) (k : ObjectName) → fits.whole x ≡ Some k → other_of (cell_in m'.old (record { number = x })) ≡ Some (record { number = y }) → is_live h.posted m' (record { number = y }) ≡ true → fits.whole y ≡ Some k
+  filled : (x y : ℕ) (k : ObjectName) → fits.whole x ≡ Some k → other_of (cell_in m'.old (record { number = x })) ≡ Some (record { number = y }) → is_live h.posted_phase m' (record { number = y }) ≡ true → fits.whole y ≡ Some k
   filled x y k is other live = fits.filled x y k is (copy_before tree words h p seat first all name o ss s fits o' change x y other) (change.live_back (record { number = y }) live)
 
   -- the cell at the address
   own_lies : object_cell o' a ≡ Some (change_for both f g o a c)
-  own_lies = reached_changes tree h.posted h.has_round words p o fits.sound a c lies f g keeps keeps' both a c (inl refl) lies
+  own_lies = reached_changes tree h.posted_phase h.has_round words p o fits.sound a c lies f g keeps keeps' both a c (inl refl) lies
 
   own_kind : (change_for both f g o a c).kind ≡ c.kind
   own_kind = by_tests both (is_old m a)
@@ -91,8 +91,8 @@ module _ (tree : Tree) (words : ℕ) (h : Handshakes) (p : Progress) (seat : Sea
     abbrev b : Addr
     b = record { number = x }
 
-    late : has_words h.posted ≡ true
-    late = twins_late tree h.posted h.has_round words p m fits.sound a.number x twins (fits.live a.number (Born n) named) (fits.live x (Born n) is)
+    late : has_words h.posted_phase ≡ true
+    late = twins_late tree h.posted_phase h.has_round words p m fits.sound a.number x twins (fits.live a.number (Born n) named) (fits.live x (Born n) is)
 
     was : IsBornAt tree fits.whole o s x n
     was = fits.heap.born x n is
@@ -108,7 +108,7 @@ module _ (tree : Tree) (words : ℕ) (h : Handshakes) (p : Progress) (seat : Sea
           object = object;
           is = object_then;
           refines =
-              new_copy_refines tree h.posted h.has_round words p m' sound late fits.whole fits.heap.small filled a b copies object
+              new_copy_refines tree h.posted_phase h.has_round words p m' sound late fits.whole fits.heap.small filled a b copies object
               (subst (λ k. IsLinked tree k object.contents) (sym (ap (λ (d : Cell). d.kind) same ∙ own_kind)) linked)
               (subst (λ (d : Cell). IsCell tree fits.whole d object) (sym same) refines);
         }
@@ -119,7 +119,7 @@ module _ (tree : Tree) (words : ℕ) (h : Handshakes) (p : Progress) (seat : Sea
       same_new = same_Some copies.to (change_for both f g o a c) (sym (new_is_cell m' sound.blocks.spaces a copies.to copies.new) ∙ own_lies)
 
       kind_is : copies.from.kind ≡ c.kind
-      kind_is = sym (copies_show tree h.posted h.has_round words p m' sound b a copies late).kind ∙ ap (λ (d : Cell). d.kind) same_new ∙ own_kind
+      kind_is = sym (copies_show tree h.posted_phase h.has_round words p m' sound b a copies late).kind ∙ ap (λ (d : Cell). d.kind) same_new ∙ own_kind
 
       old_lies : object_cell o' b ≡ Some copies.from
       old_lies = old_is_cell m' b copies.from copies.old
@@ -133,13 +133,13 @@ module _ (tree : Tree) (words : ℕ) (h : Handshakes) (p : Progress) (seat : Sea
         where
           by_both : (t : Bool) → both ≡ t → (copies.from ≡ was.cell) ⊎ (copies.from ≡ f was.cell)
           by_both true two =
-              let reached : IsReached both o a b = inr (two, twin_noted tree h.posted h.has_round words p m fits.sound a b late twins) in
-              let changed = reached_changes tree h.posted h.has_round words p o fits.sound a c lies f g keeps keeps' both b was.cell reached was.lies in
+              let reached : IsReached both o a b = inr (two, twin_noted tree h.posted_phase h.has_round words p m fits.sound a b late twins) in
+              let changed = reached_changes tree h.posted_phase h.has_round words p o fits.sound a c lies f g keeps keeps' both b was.cell reached was.lies in
               inr (same_Some copies.from (f was.cell) (sym old_lies ∙ changed ∙ ap (λ t. Some (if t then (if is_old m b then f was.cell else g was.cell) else f was.cell)) two ∙ ap (λ t. Some (if t then f was.cell else g was.cell)) was_old))
           by_both false one =
-              let apart : a ≡ b → ⊥ = λ e. copies_apart tree h.posted h.has_round words p m' sound b a copies (sym e) in
+              let apart : a ≡ b → ⊥ = λ e. copies_apart tree h.posted_phase h.has_round words p m' sound b a copies (sym e) in
               let unreached : IsReached both o a b → ⊥ = λ r. elim r [ inl e ↦ apart e | inr e ↦ never (sym one ∙ e.0) ] in
-              inl (same_Some copies.from was.cell (sym old_lies ∙ unreached_stays tree h.posted h.has_round words p o fits.sound a c lies f g keeps keeps' both b unreached ∙ was.lies))
+              inl (same_Some copies.from was.cell (sym old_lies ∙ unreached_stays tree h.posted_phase h.has_round words p o fits.sound a c lies f g keeps keeps' both b unreached ∙ was.lies))
 
       named_then : HasNamedWords tree fits.whole copies.from
       named_then = elim from_is [
@@ -157,13 +157,13 @@ module _ (tree : Tree) (words : ℕ) (h : Handshakes) (p : Progress) (seat : Sea
         object = object;
         is = object_then;
         refines =
-            old_copy_refines tree h.posted h.has_round words p m' sound late fits.whole fits.heap.small filled b a copies object
+            old_copy_refines tree h.posted_phase h.has_round words p m' sound late fits.whole fits.heap.small filled b a copies object
             (subst (λ k. IsLinked tree k object.contents) (sym kind_is) linked) named_then
             (subst (λ (d : Cell). IsCell tree fits.whole d object) (sym same_new) refines);
       }
 
     twin_then : BornThen x n
-    twin_then = elim (twins_either tree h.posted h.has_round words p m' sound a.number x (twins_then tree words h p seat first all name o ss s fits o' change a.number x twins)) [
+    twin_then = elim (twins_either tree h.posted_phase h.has_round words p m' sound a.number x (twins_then tree words h p seat first all name o ss s fits o' change a.number x twins)) [
       | inl copies ↦ new_then copies
       | inr copies ↦ old_then copies
     ]
@@ -174,7 +174,7 @@ module _ (tree : Tree) (words : ℕ) (h : Handshakes) (p : Progress) (seat : Sea
     unreached : IsReached both o a (record { number = x }) → ⊥
     unreached (inl same) = apart (born_number k n (same_Some (Born k) (Born n) (sym is ∙ ap (λ (y : Addr). fits.whole y.number) (sym same) ∙ named)))
     unreached (inr other) =
-        let twins = noted_twin tree h.posted h.has_round words p m fits.sound a (record { number = x }) c lies (sym (ap other_of lies) ∙ other.1) in
+        let twins = noted_twin tree h.posted_phase h.has_round words p m fits.sound a (record { number = x }) c lies (sym (ap other_of lies) ∙ other.1) in
         apart (born_number k n (sym (fits.heap.names.twins a.number x (Born n) (Born k) named is twins)))
 
     else_then : BornThen x k
@@ -183,7 +183,7 @@ module _ (tree : Tree) (words : ℕ) (h : Handshakes) (p : Progress) (seat : Sea
         record {
           no_literal = was.no_literal;
           cell = was.cell;
-          lies = unreached_stays tree h.posted h.has_round words p o fits.sound a c lies f g keeps keeps' both (record { number = x }) unreached ∙ was.lies;
+          lies = unreached_stays tree h.posted_phase h.has_round words p o fits.sound a c lies f g keeps keeps' both (record { number = x }) unreached ∙ was.lies;
           object = was.object;
           is = elim (set_or_stays s.objects n k object was.object was.is) [ inl same ↦ absurd (apart same) | inr stays ↦ stays ];
           refines = was.refines;

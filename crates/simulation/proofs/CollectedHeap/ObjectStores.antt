@@ -114,7 +114,7 @@ new_gets ThreadFlip o v = inl refl
 new_gets Reclaim o v = inl refl
 
 -- where new objects are live before Reclaim, both copies have all words
-late_early : (posted : Phase) → is_new_live posted ≡ true → posted ≢ Reclaim → has_words posted ≡ true
+late_early : (posted_phase : Phase) → is_new_live posted_phase ≡ true → posted_phase ≢ Reclaim → has_words posted_phase ≡ true
 late_early Idle late early = never late
 late_early Mark late early = never late
 late_early Allocate late early = never late
@@ -172,7 +172,7 @@ module _ (tree : Tree) (words : ℕ) (h : Handshakes) (p : Progress) (seat : Sea
       let linked = typed_is_linked tree legal s fits.whole b.cell.kind b.cell.slots b.object.contents b.object.thread (typed.objects n b.object b.is) b.refines.contents in
       subst (HasNamedWords tree fits.whole) same (contents_named tree fits.whole b.cell.kind b.cell.slots b.object.contents b.object.thread linked b.refines.contents)
 
-  module _ (late : has_words h.posted ≡ true) (slot : ℕ) (v : Value) (short : IsShort v) (c : Cell) (inside : slot < length c.slots) (sort : is_reference_value v ≡ holds_reference tree c.kind slot) where
+  module _ (late : has_words h.posted_phase ≡ true) (slot : ℕ) (v : Value) (short : IsShort v) (c : Cell) (inside : slot < length c.slots) (sort : is_reference_value v ≡ holds_reference tree c.kind slot) where
     abbrev before : List ℕ
     before = slice_set c.slots slot (value_word v)
 
@@ -183,7 +183,7 @@ module _ (tree : Tree) (words : ℕ) (h : Handshakes) (p : Progress) (seat : Sea
     forward_refines : (x : Value) → IsShort x → is_reference_value x ≡ true → (u : StateValue) → is_reference_state u ≡ true → IsWord fits.whole (value_word x) u → IsWord fits.whole (value_word (forward_value o x)) u
     forward_refines (Ref a) low holds u is refines =
         subst (λ (y : Addr). IsWord fits.whole (forward o.spaces y).number u) (reference_again a low)
-        (word_forwarded tree h.posted h.has_round words p o.spaces fits.sound late fits.whole fits.heap.small fits.filled a.number u is refines)
+        (word_forwarded tree h.posted_phase h.has_round words p o.spaces fits.sound late fits.whole fits.heap.small fits.filled a.number u is refines)
     forward_refines (Int32 z) low holds u is refines = never holds
     forward_refines (Int64 z) low holds u is refines = never holds
     forward_refines (Native z) low holds u is refines = never holds
@@ -224,28 +224,28 @@ module _ (tree : Tree) (words : ℕ) (h : Handshakes) (p : Progress) (seat : Sea
 
 -- ---- stores
 
-module _ (tree : Tree) (legal : IsLegal tree) (words : ℕ) (h : Handshakes) (p : Progress) (seat : Seat) (close : IsClose h seat) (first : Objects) (time : IsOnTime seat.phase h.posted h.has_round p first.spaces) (all : Names) (name : Names) (o : Objects) (ss : List Value) (s : State)
+module _ (tree : Tree) (legal : IsLegal tree) (words : ℕ) (h : Handshakes) (p : Progress) (seat : Seat) (close : IsClose h seat) (first : Objects) (time : IsOnTime seat.phase h.posted_phase h.has_round p first.spaces) (all : Names) (name : Names) (o : Objects) (ss : List Value) (s : State)
     (fits : FitsCollected tree words h p seat first all name o ss s) (a : Addr) (n : ℕ) (named : name a.number ≡ Some (Born n)) (c : Cell) (lies : object_cell o a ≡ Some c) where
   abbrev FitsThen : Objects → State → Type 0
   FitsThen q t = FitsCollected tree words h p seat first all name q ss t
 
-  held : IsHeldObject seat.phase h.posted o a c
+  held : IsHeldObject seat.phase h.posted_phase o a c
   held = record { lies = lies; held = named_held tree words h p seat first all name o ss s fits a.number (Born n) named }
 
   -- ---- what can be stored
 
   module _ (slot : ℕ) (inside : slot < length c.slots) where
     alike : is_other_alike o a slot ≡ true
-    alike = other_is_alike tree h.posted h.has_round words p o fits.sound a c slot lies inside
+    alike = other_is_alike tree h.posted_phase h.has_round words p o fits.sound a c slot lies inside
 
     pub collected_word_storable : is_word_storable seat.phase o a slot ≡ true
-    collected_word_storable = word_is_storable tree h.posted h.has_round words p o a c slot inside seat.phase (beside_heap tree words h p seat close first time all name o ss s fits) held
+    collected_word_storable = word_is_storable tree h.posted_phase h.has_round words p o a c slot inside seat.phase (beside_heap tree words h p seat close first time all name o ss s fits) held
 
     module _ (v : Value) (u : StateValue) (is : IsValue name v u) where
       there : is_value_there o v ≡ true
       there =
-          live_value_is_there h.posted o v
-          (value_weakens (passes (held_by seat.phase h.posted) h.posted o.spaces) (is_live h.posted o.spaces) (λ b. held_is_live seat.phase h.posted o.spaces b) v (value_held tree words h p seat close first time all name o ss s fits v u is))
+          live_value_is_there h.posted_phase o v
+          (value_weakens (passes (held_by seat.phase h.posted_phase) h.posted_phase o.spaces) (is_live h.posted_phase o.spaces) (λ b. held_is_live seat.phase h.posted_phase o.spaces b) v (value_held tree words h p seat close first time all name o ss s fits v u is))
 
       -- a cycle is open beside a thread in Mark
       open_in_mark : seat.phase ≡ Mark → o.spaces.is_open ≡ true
@@ -281,7 +281,7 @@ module _ (tree : Tree) (legal : IsLegal tree) (words : ℕ) (h : Handshakes) (p 
       short : IsShort v
       short = refines_short name (named_small tree words h p seat first all name o ss s fits) v u is
 
-      value : IsHeldValue tree seat.phase h.posted o c.kind slot v
+      value : IsHeldValue tree seat.phase h.posted_phase o c.kind slot v
       value = record { short = short; reference = same_sort v ∙ sort; held = value_held tree words h p seat close first time all name o ss s fits v u is }
 
       abbrev new_value : Value
@@ -293,10 +293,10 @@ module _ (tree : Tree) (legal : IsLegal tree) (words : ℕ) (h : Handshakes) (p 
       abbrev g : Cell → Cell
       g = store_slot slot (value_word (value_for_new seat.phase (marked_first seat.phase o v) v))
 
-      sound : IsSoundHeap tree h.posted h.has_round words p (changed_by (reaches_both seat.phase) f g q a).spaces
+      sound : IsSoundHeap tree h.posted_phase h.has_round words p (changed_by (reaches_both seat.phase) f g q a).spaces
       sound =
-          subst (λ (x : Objects). IsSoundHeap tree h.posted h.has_round words p x.spaces) (value_stored_is seat.phase o a slot v)
-          (value_keeps tree h.has_round words p o a c slot v seat.phase h.posted (beside_heap tree words h p seat close first time all name o ss s fits) held value)
+          subst (λ (x : Objects). IsSoundHeap tree h.posted_phase h.has_round words p x.spaces) (value_stored_is seat.phase o a slot v)
+          (value_keeps tree h.has_round words p o a c slot v seat.phase h.posted_phase (beside_heap tree words h p seat close first time all name o ss s fits) held value)
 
       -- the cell, marked or not
       here : (d : Cell) × (object_cell q a ≡ Some d) × IsButMarked c d
@@ -325,7 +325,7 @@ module _ (tree : Tree) (legal : IsLegal tree) (words : ℕ) (h : Handshakes) (p 
         | inl same ↦ subst (λ x. IsCell tree marked.whole (store_slot slot (value_word x) here.0) object) (sym same) old_refines
         | inr forward ↦
             let live = marked.live a.number (Born n) whole_named in
-            let late = late_early h.posted (live_is_late q.spaces marked.sound.blocks.spaces a here.0 h.posted new live) (early_beside seat.phase h.posted (close_is_beside h seat close) forward.0) in
+            let late = late_early h.posted_phase (live_is_late q.spaces marked.sound.blocks.spaces a here.0 h.posted_phase new live) (early_beside seat.phase h.posted_phase (close_is_beside h seat close) forward.0) in
             let inside' : slot < length here.0.slots = subst (λ ws. slot < length ws) (sym (but_marked_slots c here.0 here.2)) inside in
             let sort' : is_reference_value v ≡ holds_reference tree here.0.kind slot = sort ∙ ap (λ k. holds_reference tree k slot) (sym kind_is) in
             subst (λ x. IsCell tree marked.whole (store_slot slot (value_word x) here.0) object) (sym forward.1)
@@ -366,7 +366,7 @@ module _ (tree : Tree) (legal : IsLegal tree) (words : ℕ) (h : Handshakes) (p 
     pub collected_hidden : (slot w : ℕ) → holds_reference tree c.kind slot ≡ false → IsCell tree name (store_slot slot w c) object → FitsThen (stored_int seat.phase o a slot w) (with_object s (Born n) object)
     collected_hidden slot w none refines =
         object_changes tree words h p seat first all name o ss s fits (reaches_both seat.phase) a n own_whole c lies (store_slot slot w) (store_slot slot w) (slot_keeps_tags slot w) (slot_keeps_tags slot w)
-        (word_keeps tree seat.phase h.posted h.has_round words p o a c (beside_heap tree words h p seat close first time all name o ss s fits) held slot w none)
+        (word_keeps tree seat.phase h.posted_phase h.has_round words p o a c (beside_heap tree words h p seat close first time all name o ss s fits) held slot w none)
         object linked (all_refines (store_slot slot w) refines)
         (named_words tree words h p seat first all name o ss s fits legal typed n)
         (λ d kind before. slot_named tree fits.whole slot w d (λ holds. never (sym (ap (λ k. holds_reference tree k slot) kind ∙ none) ∙ holds)) before)
@@ -377,8 +377,8 @@ module _ (tree : Tree) (legal : IsLegal tree) (words : ℕ) (h : Handshakes) (p 
         let is = object_monitor_is seat.phase o a monitor (no_literal o.spaces fits.sound.blocks.spaces a c lies) in
         subst (λ (x : Objects). FitsThen x (with_object s (Born n) object)) (sym is)
         (object_changes tree words h p seat first all name o ss s fits (reaches_both seat.phase) a n own_whole c lies (store_monitor monitor) (store_monitor monitor) (monitor_keeps_tags monitor) (monitor_keeps_tags monitor)
-        (subst (λ (x : Objects). IsSoundHeap tree h.posted h.has_round words p x.spaces) is
-        (monitor_keeps tree seat.phase h.posted h.has_round words p o a c (beside_heap tree words h p seat close first time all name o ss s fits) held monitor))
+        (subst (λ (x : Objects). IsSoundHeap tree h.posted_phase h.has_round words p x.spaces) is
+        (monitor_keeps tree seat.phase h.posted_phase h.has_round words p o a c (beside_heap tree words h p seat close first time all name o ss s fits) held monitor))
         object linked (all_refines (store_monitor monitor) refines)
         (named_words tree words h p seat first all name o ss s fits legal typed n)
         (λ d kind before. before))

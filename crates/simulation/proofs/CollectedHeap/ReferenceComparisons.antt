@@ -81,9 +81,9 @@ early_late HeapFlip e is = never (sym (ap has_words is))
 early_late ThreadFlip e is = never e
 early_late Reclaim e is = never e
 
-pub early_beside : (own posted : Phase) → IsBeside own posted → compares_forwards own ≡ true → posted ≢ Reclaim
-early_beside own posted (inl now) e is = never (sym (ap compares_forwards (now ∙ is)) ∙ e)
-early_beside own posted (inr late) e is = early_late own e (late ∙ is)
+pub early_beside : (own posted_phase : Phase) → IsBeside own posted_phase → compares_forwards own ≡ true → posted_phase ≢ Reclaim
+early_beside own posted_phase (inl now) e is = never (sym (ap compares_forwards (now ∙ is)) ∙ e)
+early_beside own posted_phase (inr late) e is = early_late own e (late ∙ is)
 
 -- where they aren't, and both copies have all words, the thread is flipped
 flipped_now : (own : Phase) → compares_forwards own ≡ false → has_words own ≡ true → is_flipping own ≡ true
@@ -106,17 +106,17 @@ flipped_late HeapFlip e late = never (sym e)
 flipped_late ThreadFlip e late = never late
 flipped_late Reclaim e late = never late
 
-flipped_beside : (own posted : Phase) → IsBeside own posted → compares_forwards own ≡ false → has_words posted ≡ true → (is_flipping own ≡ true) × (is_flipping posted ≡ true)
-flipped_beside own posted (inl now) e late =
+flipped_beside : (own posted_phase : Phase) → IsBeside own posted_phase → compares_forwards own ≡ false → has_words posted_phase ≡ true → (is_flipping own ≡ true) × (is_flipping posted_phase ≡ true)
+flipped_beside own posted_phase (inl now) e late =
     let own_late : is_flipping own ≡ true = flipped_now own e (ap has_words now ∙ late) in
     (own_late, ap is_flipping (sym now) ∙ own_late)
-flipped_beside own posted (inr after) e late = flipped_late own e (ap has_words after ∙ late)
+flipped_beside own posted_phase (inr after) e late = flipped_late own e (ap has_words after ∙ late)
 
 -- ---- old and new
 
 -- no old object's address is a new one
-old_is_not_new : {A : Type 0} (tree : Tree) (posted : Phase) (has_round : Bool) (words : ℕ) (p : Progress) (m : Spaces) → IsSoundHeap tree posted has_round words p m → (a b : Addr) → AreOldAndNew m a b → is_new_address m a ≡ true → A
-old_is_not_new tree posted has_round words p m sound a b copies new =
+old_is_not_new : {A : Type 0} (tree : Tree) (posted_phase : Phase) (has_round : Bool) (words : ℕ) (p : Progress) (m : Spaces) → IsSoundHeap tree posted_phase has_round words p m → (a b : Addr) → AreOldAndNew m a b → is_new_address m a ≡ true → A
+old_is_not_new tree posted_phase has_round words p m sound a b copies new =
     let spaces = sound.blocks.spaces in
     absurd (apart m spaces a a copies.from copies.from copies.old (new_has_cell m spaces a copies.from (old_is_cell m a copies.from copies.old) new) refl)
 
@@ -124,7 +124,7 @@ module _ (tree : Tree) (words : ℕ) (h : Handshakes) (p : Progress) (seat : Sea
   abbrev m : Spaces
   m = o.spaces
 
-  beside : IsBeside seat.phase h.posted
+  beside : IsBeside seat.phase h.posted_phase
   beside = close_is_beside h seat close
 
   -- ---- what can be compared
@@ -135,7 +135,7 @@ module _ (tree : Tree) (words : ℕ) (h : Handshakes) (p : Progress) (seat : Sea
     where
       by_name : (r : Option ObjectName) → name a.number ≡ r → IsSome r → is_there o.spaces a ≡ true
       by_name None is there = never there
-      by_name (Some n) is there = live_is_there h.posted o a (named_live tree words h p seat first all name o ss s fits a.number n is)
+      by_name (Some n) is there = live_is_there h.posted_phase o a (named_live tree words h p seat first all name o ss s fits a.number n is)
 
   pub collected_comparable : (a b : Addr) → IsReference name a → IsReference name b → are_comparable seat.phase o a b ≡ true
   collected_comparable a b is is' = by_test (compares_forwards seat.phase)
@@ -160,22 +160,22 @@ module _ (tree : Tree) (words : ℕ) (h : Handshakes) (p : Progress) (seat : Sea
     no_twins plain twins =
         let live = named_live tree words h p seat first all name o ss s fits a.number n is in
         let live' = named_live tree words h p seat first all name o ss s fits b.number k is' in
-        let late = twins_late tree h.posted h.has_round words p m fits.sound a.number b.number twins live live' in
-        let flipped = flipped_beside seat.phase h.posted beside plain late in
-        elim (twins_either tree h.posted h.has_round words p m fits.sound a.number b.number twins) [
+        let late = twins_late tree h.posted_phase h.has_round words p m fits.sound a.number b.number twins live live' in
+        let flipped = flipped_beside seat.phase h.posted_phase beside plain late in
+        elim (twins_either tree h.posted_phase h.has_round words p m fits.sound a.number b.number twins) [
           | inl copies ↦
-              old_is_not_new tree h.posted h.has_round words p m fits.sound a b copies
-              (held_is_new seat.phase h.posted m a flipped.0 flipped.1 (named_held tree words h p seat first all name o ss s fits a.number n is))
+              old_is_not_new tree h.posted_phase h.has_round words p m fits.sound a b copies
+              (held_is_new seat.phase h.posted_phase m a flipped.0 flipped.1 (named_held tree words h p seat first all name o ss s fits a.number n is))
           | inr copies ↦
-              old_is_not_new tree h.posted h.has_round words p m fits.sound b a copies
-              (held_is_new seat.phase h.posted m b flipped.0 flipped.1 (named_held tree words h p seat first all name o ss s fits b.number k is'))
+              old_is_not_new tree h.posted_phase h.has_round words p m fits.sound b a copies
+              (held_is_new seat.phase h.posted_phase m b flipped.0 flipped.1 (named_held tree words h p seat first all name o ss s fits b.number k is'))
         ]
 
     -- by forwards
     by_forwards : compares_forwards seat.phase ≡ true → ((forward m a).number == (forward m b).number) ≡ same_object n k
     by_forwards forwards =
         same_tests ((forward m a).number == (forward m b).number) (same_object n k)
-        (λ e. elim (same_forward tree h.posted h.has_round words p m fits.sound (early_beside seat.phase h.posted beside forwards) a b (address_is (forward m a) (forward m b) (eqb-true (forward m a).number (forward m b).number e))) [
+        (λ e. elim (same_forward tree h.posted_phase h.has_round words p m fits.sound (early_beside seat.phase h.posted_phase beside forwards) a b (address_is (forward m a) (forward m b) (eqb-true (forward m a).number (forward m b).number e))) [
           | inl same ↦ subst (λ x. same_object n x ≡ true) (one_name same) (same_object_itself n)
           | inr twins ↦ subst (λ x. same_object n x ≡ true) (twin_name twins) (same_object_itself n)
         ])
@@ -184,7 +184,7 @@ module _ (tree : Tree) (words : ℕ) (h : Handshakes) (p : Progress) (seat : Sea
         one_forward : n ≡ k → forward m a ≡ forward m b
         one_forward same = elim (fits.heap.names.one a.number b.number k (named_whole tree words h p seat first all name o ss s fits a.number k (is ∙ ap Some same)) (named_whole tree words h p seat first all name o ss s fits b.number k is')) [
           | inl equal ↦ ap (forward m) (address_is a b equal)
-          | inr twins ↦ twins_forward tree h.posted h.has_round words p m fits.sound a.number b.number twins
+          | inr twins ↦ twins_forward tree h.posted_phase h.has_round words p m fits.sound a.number b.number twins
         ]
 
     -- by numbers
@@ -225,7 +225,7 @@ module _ (tree : Tree) (words : ℕ) (h : Handshakes) (p : Progress) (seat : Sea
     forward_not_null : (forward m b).number ≡ (forward m null).number → ⊥
     forward_not_null e =
         not_null
-        (forward_is_null tree h.posted h.has_round words p m fits.sound b (address_is (forward m b) (forward m null) e ∙ forward_null m fits.sound.blocks.spaces))
+        (forward_is_null tree h.posted_phase h.has_round words p m fits.sound b (address_is (forward m b) (forward m null) e ∙ forward_null m fits.sound.blocks.spaces))
 
     pub collected_null_name : are_same seat.phase o null b ≡ false
     collected_null_name = by_test (compares_forwards seat.phase)

@@ -55,7 +55,7 @@ module _ (c : MachineState) (sound : IsSound c) (t : ℕ) where
       by_seat : (o : Option Seat) → seat_of c.posts t ≡ o → can_bear (option_map_or (λ (s : Seat). s.phase) o Idle) c.objects ≡ true
       by_seat None none = refl
       by_seat (Some seat) is =
-          can_bear_near c.tree seat.phase c.posts.posted (near_of_close c.posts seat (sound.seated.close.phases t seat is)) c.posts.has_round c.limits.max_words c.progress c.objects (sound.on_time t seat is) sound.heap
+          can_bear_near c.tree seat.phase c.posts.posted_phase (near_of_close c.posts seat (sound.seated.close.phases t seat is)) c.posts.has_round c.limits.max_words c.progress c.objects (sound.on_time t seat is) sound.heap
 
   -- so the room of its phase is that for its births
   pub room_seen : room (spaces_of c.objects) (own_phase c.posts t) ≡ room_for (own_phase c.posts t) c.objects.spaces

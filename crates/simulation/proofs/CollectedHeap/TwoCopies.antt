@@ -31,7 +31,7 @@ use Rattle.simulation.proofs.CollectedHeap.RewrittenCells.{AreRewritten, IsNamed
 -- ---- phases
 
 -- where new objects are live and old ones are read, both copies have all words
-pub late_of : (posted : Phase) (c : Cell) → is_new_live posted ≡ true → is_read posted c ≡ true → has_words posted ≡ true
+pub late_of : (posted_phase : Phase) (c : Cell) → is_new_live posted_phase ≡ true → is_read posted_phase c ≡ true → has_words posted_phase ≡ true
 late_of Idle c late read = never late
 late_of Mark c late read = never late
 late_of Allocate c late read = never late
@@ -42,7 +42,7 @@ late_of ThreadFlip c late read = refl
 late_of Reclaim c late read = never read
 
 -- new objects are live then
-pub words_are_live : (posted : Phase) → has_words posted ≡ true → is_new_live posted ≡ true
+pub words_are_live : (posted_phase : Phase) → has_words posted_phase ≡ true → is_new_live posted_phase ≡ true
 words_are_live Idle e = never e
 words_are_live Mark e = never e
 words_are_live Allocate e = never e
@@ -53,8 +53,8 @@ words_are_live ThreadFlip e = refl
 words_are_live Reclaim e = never e
 
 -- and Reclaim isn't posted
-pub words_not_last : (posted : Phase) → has_words posted ≡ true → posted ≢ Reclaim
-words_not_last posted e is = never (sym (ap has_words is) ∙ e)
+pub words_not_last : (posted_phase : Phase) → has_words posted_phase ≡ true → posted_phase ≢ Reclaim
+words_not_last posted_phase e is = never (sym (ap has_words is) ∙ e)
 
 -- ---- two copies
 
@@ -74,7 +74,7 @@ other_by_forward m a b is ne = by_other (other_of (cell_in m.old a)) refl
     by_other None none = absurd (ne (sym (rw none refl) ∙ is))
     by_other (Some x) some = some ∙ ap Some (sym (rw some refl) ∙ is)
 
-module _ (tree : Tree) (posted : Phase) (has_round : Bool) (words : ℕ) (p : Progress) (m : Spaces) (sound : IsSoundHeap tree posted has_round words p m) where
+module _ (tree : Tree) (posted_phase : Phase) (has_round : Bool) (words : ℕ) (p : Progress) (m : Spaces) (sound : IsSoundHeap tree posted_phase has_round words p m) where
   abbrev spaces : AreSpaces m
   spaces = sound.blocks.spaces
 
@@ -110,17 +110,17 @@ module _ (tree : Tree) (posted : Phase) (has_round : Bool) (words : ℕ) (p : Pr
     copies_apart same = apart m spaces a b copies.from copies.to copies.old copies.new (ap (λ (x : Addr). x.number) same)
 
     -- and are both live only where both have all words
-    pub copies_late : is_live posted m a ≡ true → is_live posted m b ≡ true → has_words posted ≡ true
-    copies_late live live' = late_of posted copies.from (live_is_late m spaces b copies.to posted copies.new live') (live_is_read m spaces a copies.from posted copies.old live)
+    pub copies_late : is_live posted_phase m a ≡ true → is_live posted_phase m b ≡ true → has_words posted_phase ≡ true
+    copies_late live live' = late_of posted_phase copies.from (live_is_late m spaces b copies.to posted_phase copies.new live') (live_is_read m spaces a copies.from posted_phase copies.old live)
 
     -- the new one is new
     pub copy_is_new : is_new_address m b ≡ true
     copy_is_new = or_second (is_permanent b) (is_new m b) (new_is m b copies.to copies.new)
 
     -- both show the same
-    pub copies_show : has_words posted ≡ true → ShowSame tree m copies.from copies.to
+    pub copies_show : has_words posted_phase ≡ true → ShowSame tree m copies.from copies.to
     copies_show late =
-        let u = old_shows tree posted p m spaces sound.copies late a b copies.from copies.old copies.out in
+        let u = old_shows tree posted_phase p m spaces sound.copies late a b copies.from copies.old copies.out in
         subst (ShowSame tree m copies.from) (same_Some u.0 copies.to (sym u.1 ∙ copies.new)) u.3
 
   -- ---- twins
@@ -130,7 +130,7 @@ module _ (tree : Tree) (posted : Phase) (has_round : Bool) (words : ℕ) (p : Pr
   twins_either a b (inl other) = inl (copies_by (record { number = a }) (record { number = b }) other)
   twins_either a b (inr other) = inr (copies_by (record { number = b }) (record { number = a }) other)
 
-  pub twins_late : (a b : ℕ) → AreTwins m a b → is_live posted m (record { number = a }) ≡ true → is_live posted m (record { number = b }) ≡ true → has_words posted ≡ true
+  pub twins_late : (a b : ℕ) → AreTwins m a b → is_live posted_phase m (record { number = a }) ≡ true → is_live posted_phase m (record { number = b }) ≡ true → has_words posted_phase ≡ true
   twins_late a b twins live live' = elim (twins_either a b twins) [
     | inl copies ↦ copies_late (record { number = a }) (record { number = b }) copies live live'
     | inr copies ↦ copies_late (record { number = b }) (record { number = a }) copies live' live
@@ -144,7 +144,7 @@ module _ (tree : Tree) (posted : Phase) (has_round : Bool) (words : ℕ) (p : Pr
   ]
 
   -- and addresses of one forward are one or twins, as long as old objects are read
-  pub same_forward : posted ≢ Reclaim → (a b : Addr) → forward m a ≡ forward m b → (a ≡ b) ⊎ AreTwins m a.number b.number
+  pub same_forward : posted_phase ≢ Reclaim → (a b : Addr) → forward m a ≡ forward m b → (a ≡ b) ⊎ AreTwins m a.number b.number
   same_forward early a b same = elim (forward_either a) [
     | inl own ↦ elim (forward_either b) [
       | inl own' ↦ inl (sym own ∙ same ∙ own')
@@ -152,7 +152,7 @@ module _ (tree : Tree) (posted : Phase) (has_round : Bool) (words : ℕ) (p : Pr
     ]
     | inr copies ↦ elim (forward_either b) [
       | inl own' ↦ inr (inl (noted a (forward m a) copies ∙ ap Some (same ∙ own')))
-      | inr copies' ↦ inl (one_old tree posted p m spaces sound.copies early a b (forward m a) copies.from copies'.from copies.old copies'.old copies.out (copies'.out ∙ ap Some (sym same)))
+      | inr copies' ↦ inl (one_old tree posted_phase p m spaces sound.copies early a b (forward m a) copies.from copies'.from copies.old copies'.old copies.out (copies'.out ∙ ap Some (sym same)))
     ]
   ]
 
@@ -176,7 +176,7 @@ module _ (tree : Tree) (posted : Phase) (has_round : Bool) (words : ℕ) (p : Pr
   twins_stay n a b stays stays' (inr other) = inr (copy_stays n b a stays' other)
 
 -- what a copy notes is its twin,
-module _ (tree : Tree) (posted : Phase) (has_round : Bool) (words : ℕ) (p : Progress) (m : Spaces) (sound : IsSoundHeap tree posted has_round words p m) (a b : Addr) where
+module _ (tree : Tree) (posted_phase : Phase) (has_round : Bool) (words : ℕ) (p : Progress) (m : Spaces) (sound : IsSoundHeap tree posted_phase has_round words p m) (a b : Addr) where
   pub noted_twin : (c : Cell) → cell_at m a ≡ Some c → c.other ≡ Some b → AreTwins m a.number b.number
   noted_twin c lies other = elim (either m a c lies) [
     | inl old ↦ inl (ap other_of old ∙ other)
@@ -184,11 +184,11 @@ module _ (tree : Tree) (posted : Phase) (has_round : Bool) (words : ℕ) (p : Pr
   ]
 
   -- and each twin is noted
-  pub twin_noted : has_words posted ≡ true → AreTwins m a.number b.number → other_of (cell_at m a) ≡ Some b
-  twin_noted late twins = elim (twins_either tree posted has_round words p m sound a.number b.number twins) [
+  pub twin_noted : has_words posted_phase ≡ true → AreTwins m a.number b.number → other_of (cell_at m a) ≡ Some b
+  twin_noted late twins = elim (twins_either tree posted_phase has_round words p m sound a.number b.number twins) [
     | inl copies ↦ ap other_of (old_is_cell m a copies.from copies.old) ∙ copies.out
     | inr copies ↦
-        let u = old_shows tree posted p m sound.blocks.spaces sound.copies late b a copies.from copies.old copies.out in
+        let u = old_shows tree posted_phase p m sound.blocks.spaces sound.copies late b a copies.from copies.old copies.out in
         ap other_of (new_is_cell m sound.blocks.spaces a u.0 u.1) ∙ u.2
   ]
 
@@ -216,16 +216,16 @@ by_reference name w u P sort h none some = by_value h.value u sort h.refines h.i
     by_value v u sort null_reference is none some = none (sym is) (λ names. null_reference)
     by_value v u sort (reference a n named) is none some = some a n is named (λ names b named'. reference b n named')
 
-module _ (tree : Tree) (posted : Phase) (has_round : Bool) (words : ℕ) (p : Progress) (m : Spaces) (sound : IsSoundHeap tree posted has_round words p m) (late : has_words posted ≡ true)
+module _ (tree : Tree) (posted_phase : Phase) (has_round : Bool) (words : ℕ) (p : Progress) (m : Spaces) (sound : IsSoundHeap tree posted_phase has_round words p m) (late : has_words posted_phase ≡ true)
     (name : Names) (small : (a : ℕ) (n : ObjectName) → name a ≡ Some n → a < ADDRESSES)
-    (filled : (a b : ℕ) (n : ObjectName) → name a ≡ Some n → other_of (cell_in m.old (record { number = a })) ≡ Some (record { number = b }) → is_live posted m (record { number = b }) ≡ true → name b ≡ Some n) where
+    (filled : (a b : ℕ) (n : ObjectName) → name a ≡ Some n → other_of (cell_in m.old (record { number = a })) ≡ Some (record { number = b }) → is_live posted_phase m (record { number = b }) ≡ true → name b ≡ Some n) where
   -- a forward has the same name
   pub forward_named : (a : Addr) (n : ObjectName) → name a.number ≡ Some n → name (forward m a).number ≡ Some n
-  forward_named a n named = elim (forward_either tree posted has_round words p m sound a) [
+  forward_named a n named = elim (forward_either tree posted_phase has_round words p m sound a) [
     | inl own ↦ subst (λ (x : Addr). name x.number ≡ Some n) (sym own) named
     | inr copies ↦
-        filled a.number (forward m a).number n named (noted tree posted has_round words p m sound a (forward m a) copies)
-        (new_is_live posted m (forward m a) (words_are_live posted late) (copy_is_new tree posted has_round words p m sound a (forward m a) copies))
+        filled a.number (forward m a).number n named (noted tree posted_phase has_round words p m sound a (forward m a) copies)
+        (new_is_live posted_phase m (forward m a) (words_are_live posted_phase late) (copy_is_new tree posted_phase has_round words p m sound a (forward m a) copies))
   ]
 
   -- the forward of a reference represents the same,
@@ -254,7 +254,7 @@ module _ (tree : Tree) (posted : Phase) (has_round : Bool) (words : ℕ) (p : Pr
       of_null : w ≡ 0 → ((names : Names) → IsValue names (Ref null) u) → IsWord name was u
       of_null zero refines =
           let forward_null_is : forward m (record { number = was }) ≡ null = ap (λ (k : ℕ). record { number = k }) (sym there ∙ zero) in
-          record { value = Ref null; refines = refines name; is = sym (ap (λ (x : Addr). x.number) (forward_is_null tree posted has_round words p m sound (record { number = was }) forward_null_is)) }
+          record { value = Ref null; refines = refines name; is = sym (ap (λ (x : Addr). x.number) (forward_is_null tree posted_phase has_round words p m sound (record { number = was }) forward_null_is)) }
 
       of_object : (a : Addr) (n : ObjectName) → a.number ≡ w → name a.number ≡ Some n → ((names : Names) (b : Addr) → names b.number ≡ Some n → IsValue names (Ref b) u) → IsWord name was u
       of_object a n same named refines =
@@ -270,7 +270,7 @@ module _ (tree : Tree) (posted : Phase) (has_round : Bool) (words : ℕ) (p : Pr
 
   module _ (a b : Addr) (copies : AreOldAndNew m a b) where
     show : ShowSame tree m copies.from copies.to
-    show = copies_show tree posted has_round words p m sound a b copies late
+    show = copies_show tree posted_phase has_round words p m sound a b copies late
 
     to_new : AreRewritten tree name name copies.from.kind copies.from.slots copies.to.slots
     to_new = record {

@@ -43,19 +43,19 @@ first_hold h seat first = hold_of h first.spaces.has_marked seat
 -- The heap is sound, and represents the state under names of live addresses, where the new copy of a named old object has its name once it is live.
 -- The thread's own names are those of what it may hold. The static fields hold what they may. What was so when the step began is so still.
 pub record FitsCollected (tree : Tree) (words : ℕ) (h : Handshakes) (p : Progress) (seat : Seat) (first : Objects) (all : Names) (name : Names) (o : Objects) (ss : List Value) (s : State) : Type 0 where
-  pub sound : IsSoundHeap tree h.posted h.has_round words p o.spaces
-  pub on_time : (own : Phase) → IsOnTime own h.posted h.has_round p first.spaces → IsOnTime own h.posted h.has_round p o.spaces
+  pub sound : IsSoundHeap tree h.posted_phase h.has_round words p o.spaces
+  pub on_time : (own : Phase) → IsOnTime own h.posted_phase h.has_round p first.spaces → IsOnTime own h.posted_phase h.has_round p o.spaces
   pub grows : Grows first.spaces o.spaces
   pub holds : hold_of h o.spaces.has_marked seat ≡ first_hold h seat first
   pub whole : Names
   pub extends : Extends all whole
   pub heap : IsHeap tree whole o s
-  pub live : (a : ℕ) (n : ObjectName) → whole a ≡ Some n → is_live h.posted o.spaces (record { number = a }) ≡ true
-  pub filled : (a b : ℕ) (n : ObjectName) → whole a ≡ Some n → other_of (cell_in o.spaces.old (record { number = a })) ≡ Some (record { number = b }) → is_live h.posted o.spaces (record { number = b }) ≡ true → whole b ≡ Some n
-  pub cut : (a : ℕ) (n : ObjectName) → name a ≡ Some n → (whole a ≡ Some n) × (passes (first_hold h seat first) h.posted o.spaces (record { number = a }) ≡ true)
-  pub is_cut : (a : ℕ) (n : ObjectName) → whole a ≡ Some n → passes (first_hold h seat first) h.posted o.spaces (record { number = a }) ≡ true → name a ≡ Some n
+  pub live : (a : ℕ) (n : ObjectName) → whole a ≡ Some n → is_live h.posted_phase o.spaces (record { number = a }) ≡ true
+  pub filled : (a b : ℕ) (n : ObjectName) → whole a ≡ Some n → other_of (cell_in o.spaces.old (record { number = a })) ≡ Some (record { number = b }) → is_live h.posted_phase o.spaces (record { number = b }) ≡ true → whole b ≡ Some n
+  pub cut : (a : ℕ) (n : ObjectName) → name a ≡ Some n → (whole a ≡ Some n) × (passes (first_hold h seat first) h.posted_phase o.spaces (record { number = a }) ≡ true)
+  pub is_cut : (a : ℕ) (n : ObjectName) → whole a ≡ Some n → passes (first_hold h seat first) h.posted_phase o.spaces (record { number = a }) ≡ true → name a ≡ Some n
   pub refines : AreStatics whole ss s.statics
-  pub static_holds : (number : ℕ) (v : Value) → slice_get ss number ≡ Some v → ValuePasses (static_may_hold h.posted o.spaces p number) v
+  pub static_holds : (number : ℕ) (v : Value) → slice_get ss number ≡ Some v → ValuePasses (static_may_hold h.posted_phase o.spaces p number) v
 
 -- ---- null and literals
 
@@ -66,35 +66,35 @@ literal_permanent n = or_second ((literal n).number == 0) (is_some (literal_numb
     there = let test : nat_lt (FIRST_LITERAL + n) FIRST_LITERAL ≡ false = grind (arith, nat_tests) in rw test refl
 
 -- each thread may hold them
-pub permanent_passes : (hold : Hold) (posted : Phase) (m : Spaces) (a : Addr) → is_permanent a ≡ true → passes hold posted m a ≡ true
-permanent_passes AnyLive posted m a e = or_first (is_permanent a) (is_live_object posted m a) e
-permanent_passes MarkedOnly posted m a e = or_first (is_permanent a) (is_marked_old m a) e
-permanent_passes NewOnly posted m a e = or_first (is_permanent a) (is_new m a) e
+pub permanent_passes : (hold : Hold) (posted_phase : Phase) (m : Spaces) (a : Addr) → is_permanent a ≡ true → passes hold posted_phase m a ≡ true
+permanent_passes AnyLive posted_phase m a e = or_first (is_permanent a) (is_live_object posted_phase m a) e
+permanent_passes MarkedOnly posted_phase m a e = or_first (is_permanent a) (is_marked_old m a) e
+permanent_passes NewOnly posted_phase m a e = or_first (is_permanent a) (is_new m a) e
 
 -- ---- cut names
 
 -- the names of what passes
 abbrev pub cut_names : Hold → Phase → Spaces → Names → Names
-cut_names hold posted m whole a = if passes hold posted m (record { number = a }) then whole a else None
+cut_names hold posted_phase m whole a = if passes hold posted_phase m (record { number = a }) then whole a else None
 
-module _ (hold : Hold) (posted : Phase) (m : Spaces) (whole : Names) (a : ℕ) (n : ObjectName) where
-  pub cut_is : cut_names hold posted m whole a ≡ Some n → (whole a ≡ Some n) × (passes hold posted m (record { number = a }) ≡ true)
-  cut_is is = by_test (passes hold posted m (record { number = a })) refl is
+module _ (hold : Hold) (posted_phase : Phase) (m : Spaces) (whole : Names) (a : ℕ) (n : ObjectName) where
+  pub cut_is : cut_names hold posted_phase m whole a ≡ Some n → (whole a ≡ Some n) × (passes hold posted_phase m (record { number = a }) ≡ true)
+  cut_is is = by_test (passes hold posted_phase m (record { number = a })) refl is
     where
-      by_test : (b : Bool) → passes hold posted m (record { number = a }) ≡ b → (if b then whole a else None) ≡ Some n → (whole a ≡ Some n) × (passes hold posted m (record { number = a }) ≡ true)
+      by_test : (b : Bool) → passes hold posted_phase m (record { number = a }) ≡ b → (if b then whole a else None) ≡ Some n → (whole a ≡ Some n) × (passes hold posted_phase m (record { number = a }) ≡ true)
       by_test true test is' = (is', test)
       by_test false test is' = none_is_some n is'
 
-  pub is_cut_name : whole a ≡ Some n → passes hold posted m (record { number = a }) ≡ true → cut_names hold posted m whole a ≡ Some n
+  pub is_cut_name : whole a ≡ Some n → passes hold posted_phase m (record { number = a }) ≡ true → cut_names hold posted_phase m whole a ≡ Some n
   is_cut_name is pass = ap (λ b. if b then whole a else None) pass ∙ is
 
 -- a machine's heap fits when a step begins
 pub begins : (tree : Tree) (words : ℕ) (h : Handshakes) (p : Progress) (seat : Seat) (first : Objects) (whole : Names) (ss : List Value) (s : State) →
-    IsSoundHeap tree h.posted h.has_round words p first.spaces → IsHeap tree whole first s →
-    ((a : ℕ) (n : ObjectName) → whole a ≡ Some n → is_live h.posted first.spaces (record { number = a }) ≡ true) →
-    ((a b : ℕ) (n : ObjectName) → whole a ≡ Some n → other_of (cell_in first.spaces.old (record { number = a })) ≡ Some (record { number = b }) → is_live h.posted first.spaces (record { number = b }) ≡ true → whole b ≡ Some n) →
-    AreStatics whole ss s.statics → ((number : ℕ) (v : Value) → slice_get ss number ≡ Some v → ValuePasses (static_may_hold h.posted first.spaces p number) v) →
-    FitsCollected tree words h p seat first whole (cut_names (first_hold h seat first) h.posted first.spaces whole) first ss s
+    IsSoundHeap tree h.posted_phase h.has_round words p first.spaces → IsHeap tree whole first s →
+    ((a : ℕ) (n : ObjectName) → whole a ≡ Some n → is_live h.posted_phase first.spaces (record { number = a }) ≡ true) →
+    ((a b : ℕ) (n : ObjectName) → whole a ≡ Some n → other_of (cell_in first.spaces.old (record { number = a })) ≡ Some (record { number = b }) → is_live h.posted_phase first.spaces (record { number = b }) ≡ true → whole b ≡ Some n) →
+    AreStatics whole ss s.statics → ((number : ℕ) (v : Value) → slice_get ss number ≡ Some v → ValuePasses (static_may_hold h.posted_phase first.spaces p number) v) →
+    FitsCollected tree words h p seat first whole (cut_names (first_hold h seat first) h.posted_phase first.spaces whole) first ss s
 begins tree words h p seat first whole ss s sound heap live filled refines static_holds = record {
   sound = sound;
   on_time = λ own time. time;
@@ -105,8 +105,8 @@ begins tree words h p seat first whole ss s sound heap live filled refines stati
   heap = heap;
   live = live;
   filled = filled;
-  cut = λ a n is. cut_is (first_hold h seat first) h.posted first.spaces whole a n is;
-  is_cut = λ a n is pass. is_cut_name (first_hold h seat first) h.posted first.spaces whole a n is pass;
+  cut = λ a n is. cut_is (first_hold h seat first) h.posted_phase first.spaces whole a n is;
+  is_cut = λ a n is pass. is_cut_name (first_hold h seat first) h.posted_phase first.spaces whole a n is pass;
   refines = refines;
   static_holds = static_holds;
 }
@@ -116,12 +116,12 @@ module _ (tree : Tree) (words : ℕ) (h : Handshakes) (p : Progress) (seat : Sea
   hold = first_hold h seat first
 
   -- what the hold means
-  pub means : HoldMeans h.posted h.has_round o.spaces hold
-  means = subst (HoldMeans h.posted h.has_round o.spaces) fits.holds (hold_means h o.spaces seat)
+  pub means : HoldMeans h.posted_phase h.has_round o.spaces hold
+  means = subst (HoldMeans h.posted_phase h.has_round o.spaces) fits.holds (hold_means h o.spaces seat)
 
   -- what passes may be held by the phase alone
-  pub passes_is_held : (a : Addr) → passes hold h.posted o.spaces a ≡ true → passes (held_by seat.phase h.posted) h.posted o.spaces a ≡ true
-  passes_is_held a pass = may_hold_is_held h o.spaces seat a (subst (λ x. passes x h.posted o.spaces a ≡ true) (sym fits.holds) pass)
+  pub passes_is_held : (a : Addr) → passes hold h.posted_phase o.spaces a ≡ true → passes (held_by seat.phase h.posted_phase) h.posted_phase o.spaces a ≡ true
+  passes_is_held a pass = may_hold_is_held h o.spaces seat a (subst (λ x. passes x h.posted_phase o.spaces a ≡ true) (sym fits.holds) pass)
 
   module _ (a : ℕ) (n : ObjectName) (is : name a ≡ Some n) where
     -- an own name is one of all,
@@ -129,14 +129,14 @@ module _ (tree : Tree) (words : ℕ) (h : Handshakes) (p : Progress) (seat : Sea
     named_whole = (fits.cut a n is).0
 
     -- may be held,
-    pub named_passes : passes hold h.posted o.spaces (record { number = a }) ≡ true
+    pub named_passes : passes hold h.posted_phase o.spaces (record { number = a }) ≡ true
     named_passes = (fits.cut a n is).1
 
-    pub named_held : passes (held_by seat.phase h.posted) h.posted o.spaces (record { number = a }) ≡ true
+    pub named_held : passes (held_by seat.phase h.posted_phase) h.posted_phase o.spaces (record { number = a }) ≡ true
     named_held = passes_is_held (record { number = a }) named_passes
 
     -- and is live
-    pub named_live : is_live h.posted o.spaces (record { number = a }) ≡ true
+    pub named_live : is_live h.posted_phase o.spaces (record { number = a }) ≡ true
     named_live = fits.live a n named_whole
 
   -- all own names are among the whole ones
@@ -157,12 +157,12 @@ module _ (tree : Tree) (words : ℕ) (h : Handshakes) (p : Progress) (seat : Sea
   named_small a n is = fits.heap.small a n (named_whole a n is)
 
   -- a word of what may be held stands under the own names
-  word_is_cut : (w : ℕ) (u : StateValue) → passes hold h.posted o.spaces (reference_in w) ≡ true → is_reference_state u ≡ true → IsWord fits.whole w u → IsWord name w u
+  word_is_cut : (w : ℕ) (u : StateValue) → passes hold h.posted_phase o.spaces (reference_in w) ≡ true → is_reference_state u ≡ true → IsWord fits.whole w u → IsWord name w u
   word_is_cut w u pass sort refines = by_reference fits.whole w u (λ x. IsWord name w x) sort refines
       (λ zero value. record { value = Ref (record { number = 0 }); refines = value name; is = sym zero })
       (λ a n is named value.
       let again : reference_in w ≡ a = ap reference_in (sym is) ∙ reference_again a (fits.heap.small a.number n named) in
-      record { value = Ref a; refines = value name a (fits.is_cut a.number n named (subst (λ (x : Addr). passes hold h.posted o.spaces x ≡ true) again pass)); is = is })
+      record { value = Ref a; refines = value name a (fits.is_cut a.number n named (subst (λ (x : Addr). passes hold h.posted_phase o.spaces x ≡ true) again pass)); is = is })
 
   -- an object that may be held refers to what may be held
   cell_is_cut : IsLegal tree → IsTyped tree s → (a n : ℕ) → name a ≡ Some (Born n) → IsBornAt tree fits.whole o s a n → IsBornAt tree name o s a n
@@ -175,8 +175,8 @@ module _ (tree : Tree) (words : ℕ) (h : Handshakes) (p : Progress) (seat : Sea
     refines = record { contents = contents_rewritten tree fits.whole name b.cell.kind b.cell.slots b.cell.slots same b.object.contents b.object.thread linked b.refines.contents; monitor = b.refines.monitor };
   }
     where
-      pass : SlotsPass tree (passes hold h.posted o.spaces) b.cell
-      pass = loads_may_be_held tree h.posted h.has_round words p o.spaces fits.sound hold means (record { number = a }) b.cell (named_passes a (Born n) is) b.lies
+      pass : SlotsPass tree (passes hold h.posted_phase o.spaces) b.cell
+      pass = loads_may_be_held tree h.posted_phase h.has_round words p o.spaces fits.sound hold means (record { number = a }) b.cell (named_passes a (Born n) is) b.lies
 
       linked : IsLinked tree b.cell.kind b.object.contents
       linked = typed_is_linked tree legal s fits.whole b.cell.kind b.cell.slots b.object.contents b.object.thread (typed.objects n b.object b.is) b.refines.contents
@@ -196,5 +196,5 @@ module _ (tree : Tree) (words : ℕ) (h : Handshakes) (p : Progress) (seat : Sea
     sizes = slots_few o fits.sound.blocks.spaces;
     born = λ a n is. cell_is_cut legal typed a n is (fits.heap.born a n (named_whole a (Born n) is));
     literals = λ a characters is. fits.heap.literals a characters (named_whole a (Literal characters) is);
-    each_literal = λ n characters is. fits.is_cut (literal n).number (Literal characters) (fits.heap.each_literal n characters is) (permanent_passes hold h.posted o.spaces (literal n) (literal_permanent n));
+    each_literal = λ n characters is. fits.is_cut (literal n).number (Literal characters) (fits.heap.each_literal n characters is) (permanent_passes hold h.posted_phase o.spaces (literal n) (literal_permanent n));
   }

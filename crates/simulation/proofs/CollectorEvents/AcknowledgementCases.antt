@@ -13,18 +13,18 @@ use Rattle.simulation.specs.MachineStates.{MachineState}
 
 -- the posts once a thread with this seat has answered
 abbrev pub posts_after : MachineState → ℕ → Seat → Handshakes
-posts_after c t seat = record c.posts { seats = slice_set c.posts.seats t (Some (seat_after c.posts.posted seat)) }
+posts_after c t seat = record c.posts { seats = slice_set c.posts.seats t (Some (seat_after c.posts.posted_phase seat)) }
 
 -- what each case has to show
 pub record AcknowledgementCases (c : MachineState) (t : ℕ) (P : MachineState → Type 0) : Type 0 where
   pub nothing : P c
-  pub marks : (seat : Seat) → seat_of c.posts t ≡ Some seat → is_open_to c.posts.posted c.posts.has_round seat ≡ true → is_phase seat.phase c.posts.posted ≡ true → is_marking c.posts.posted ≡ true →
+  pub marks : (seat : Seat) → seat_of c.posts t ≡ Some seat → is_open_to c.posts.posted_phase c.posts.has_round seat ≡ true → is_phase seat.phase c.posts.posted_phase ≡ true → is_marking c.posts.posted_phase ≡ true →
       P (record c { posts = posts_after c t seat; objects = with_thread_marked c.objects (slice_get c.threads t) })
-  pub answers : (seat : Seat) → seat_of c.posts t ≡ Some seat → is_open_to c.posts.posted c.posts.has_round seat ≡ true → is_phase seat.phase c.posts.posted ≡ true → is_marking c.posts.posted ≡ false →
+  pub answers : (seat : Seat) → seat_of c.posts t ≡ Some seat → is_open_to c.posts.posted_phase c.posts.has_round seat ≡ true → is_phase seat.phase c.posts.posted_phase ≡ true → is_marking c.posts.posted_phase ≡ false →
       P (record c { posts = posts_after c t seat })
-  pub continues : (seat : Seat) → seat_of c.posts t ≡ Some seat → is_open_to c.posts.posted c.posts.has_round seat ≡ true → is_phase seat.phase c.posts.posted ≡ false → is_phase c.posts.posted ThreadFlip ≡ false →
+  pub continues : (seat : Seat) → seat_of c.posts t ≡ Some seat → is_open_to c.posts.posted_phase c.posts.has_round seat ≡ true → is_phase seat.phase c.posts.posted_phase ≡ false → is_phase c.posts.posted_phase ThreadFlip ≡ false →
       P (record c { posts = posts_after c t seat })
-  pub flips : (seat : Seat) → seat_of c.posts t ≡ Some seat → is_open_to c.posts.posted c.posts.has_round seat ≡ true → is_phase seat.phase c.posts.posted ≡ false → is_phase c.posts.posted ThreadFlip ≡ true →
+  pub flips : (seat : Seat) → seat_of c.posts t ≡ Some seat → is_open_to c.posts.posted_phase c.posts.has_round seat ≡ true → is_phase seat.phase c.posts.posted_phase ≡ false → is_phase c.posts.posted_phase ThreadFlip ≡ true →
       P (record c { threads = with_flipped c.objects c.threads t (slice_get c.threads t); posts = posts_after c t seat })
 
 -- nothing passes both a test and one that fails
@@ -56,81 +56,81 @@ module _ (c : MachineState) (t : ℕ) (P : MachineState → Type 0) (cases : Ack
   seatless : seat_of c.posts t ≡ None → P (with_acknowledgement c t).0
   seatless none =
       of_parts c.threads c.posts c.objects
-      (threads_by false (ap (λ o. is_phase c.posts.posted ThreadFlip && option_map_or (λ (s : Seat). not (is_phase s.phase c.posts.posted)) o false) none ∙ no_second (is_phase c.posts.posted ThreadFlip)))
-      (ap (λ o. option_map_or (λ (s : Seat). if is_open_to c.posts.posted c.posts.has_round s then posts_after c t s else c.posts) o c.posts) none)
+      (threads_by false (ap (λ o. is_phase c.posts.posted_phase ThreadFlip && option_map_or (λ (s : Seat). not (is_phase s.phase c.posts.posted_phase)) o false) none ∙ no_second (is_phase c.posts.posted_phase ThreadFlip)))
+      (ap (λ o. option_map_or (λ (s : Seat). if is_open_to c.posts.posted_phase c.posts.has_round s then posts_after c t s else c.posts) o c.posts) none)
       (objects_by false
-      (ap (λ o. option_map_or (is_open_to c.posts.posted c.posts.has_round) o false && (is_marking c.posts.posted && option_map_or (λ (s : Seat). is_phase s.phase c.posts.posted) (seat_of c.posts t) false)) none))
+      (ap (λ o. option_map_or (is_open_to c.posts.posted_phase c.posts.has_round) o false && (is_marking c.posts.posted_phase && option_map_or (λ (s : Seat). is_phase s.phase c.posts.posted_phase) (seat_of c.posts t) false)) none))
       cases.nothing
 
   module _ (seat : Seat) (here : seat_of c.posts t ≡ Some seat) where
-    flips_is : flips_frames c t ≡ (is_phase c.posts.posted ThreadFlip && not (is_phase seat.phase c.posts.posted))
-    flips_is = ap (λ o. is_phase c.posts.posted ThreadFlip && option_map_or (λ (s : Seat). not (is_phase s.phase c.posts.posted)) o false) here
+    flips_is : flips_frames c t ≡ (is_phase c.posts.posted_phase ThreadFlip && not (is_phase seat.phase c.posts.posted_phase))
+    flips_is = ap (λ o. is_phase c.posts.posted_phase ThreadFlip && option_map_or (λ (s : Seat). not (is_phase s.phase c.posts.posted_phase)) o false) here
 
-    answers_is : (b : Bool) → is_open_to c.posts.posted c.posts.has_round seat ≡ b → answers_round c t ≡ (b && (is_marking c.posts.posted && is_phase seat.phase c.posts.posted))
+    answers_is : (b : Bool) → is_open_to c.posts.posted_phase c.posts.has_round seat ≡ b → answers_round c t ≡ (b && (is_marking c.posts.posted_phase && is_phase seat.phase c.posts.posted_phase))
     answers_is b e =
-        ap (λ o. option_map_or (is_open_to c.posts.posted c.posts.has_round) o false && (is_marking c.posts.posted && option_map_or (λ (s : Seat). is_phase s.phase c.posts.posted) o false)) here ∙
-        ap (λ x. x && (is_marking c.posts.posted && is_phase seat.phase c.posts.posted)) e
+        ap (λ o. option_map_or (is_open_to c.posts.posted_phase c.posts.has_round) o false && (is_marking c.posts.posted_phase && option_map_or (λ (s : Seat). is_phase s.phase c.posts.posted_phase) o false)) here ∙
+        ap (λ x. x && (is_marking c.posts.posted_phase && is_phase seat.phase c.posts.posted_phase)) e
 
-    posts_by : (b : Bool) → is_open_to c.posts.posted c.posts.has_round seat ≡ b → acknowledge_phase c.posts t ≡ (if b then posts_after c t seat else c.posts)
+    posts_by : (b : Bool) → is_open_to c.posts.posted_phase c.posts.has_round seat ≡ b → acknowledge_phase c.posts t ≡ (if b then posts_after c t seat else c.posts)
     posts_by b e =
-        ap (λ o. option_map_or (λ (s : Seat). if is_open_to c.posts.posted c.posts.has_round s then posts_after c t s else c.posts) o c.posts) here ∙
+        ap (λ o. option_map_or (λ (s : Seat). if is_open_to c.posts.posted_phase c.posts.has_round s then posts_after c t s else c.posts) o c.posts) here ∙
         ap (λ x. if x then posts_after c t seat else c.posts) e
 
     -- nothing is open
-    closed_to : is_open_to c.posts.posted c.posts.has_round seat ≡ false → P (with_acknowledgement c t).0
+    closed_to : is_open_to c.posts.posted_phase c.posts.has_round seat ≡ false → P (with_acknowledgement c t).0
     closed_to shut =
-        let seen = first_fails (not (is_phase seat.phase c.posts.posted)) (c.posts.has_round && not seat.answered) shut in
+        let seen = first_fails (not (is_phase seat.phase c.posts.posted_phase)) (c.posts.has_round && not seat.answered) shut in
         of_parts c.threads c.posts c.objects
-        (threads_by false (flips_is ∙ ap (λ x. is_phase c.posts.posted ThreadFlip && x) seen ∙ no_second (is_phase c.posts.posted ThreadFlip)))
+        (threads_by false (flips_is ∙ ap (λ x. is_phase c.posts.posted_phase ThreadFlip && x) seen ∙ no_second (is_phase c.posts.posted_phase ThreadFlip)))
         (posts_by false shut)
         (objects_by false (answers_is false shut))
         cases.nothing
 
-    module _ (opened : is_open_to c.posts.posted c.posts.has_round seat ≡ true) where
+    module _ (opened : is_open_to c.posts.posted_phase c.posts.has_round seat ≡ true) where
       -- the round
-      of_round : (b : Bool) → is_marking c.posts.posted ≡ b → is_phase seat.phase c.posts.posted ≡ true → P (with_acknowledgement c t).0
+      of_round : (b : Bool) → is_marking c.posts.posted_phase ≡ b → is_phase seat.phase c.posts.posted_phase ≡ true → P (with_acknowledgement c t).0
       of_round true marking seen =
           of_parts c.threads (posts_after c t seat) (with_thread_marked c.objects (slice_get c.threads t))
-          (threads_by false (flips_is ∙ ap (λ x. is_phase c.posts.posted ThreadFlip && not x) seen ∙ no_second (is_phase c.posts.posted ThreadFlip)))
+          (threads_by false (flips_is ∙ ap (λ x. is_phase c.posts.posted_phase ThreadFlip && not x) seen ∙ no_second (is_phase c.posts.posted_phase ThreadFlip)))
           (posts_by true opened)
-          (objects_by true (answers_is true opened ∙ ap (λ x. x && is_phase seat.phase c.posts.posted) marking ∙ seen))
+          (objects_by true (answers_is true opened ∙ ap (λ x. x && is_phase seat.phase c.posts.posted_phase) marking ∙ seen))
           (cases.marks seat here opened seen marking)
       of_round false marking seen =
           of_parts c.threads (posts_after c t seat) c.objects
-          (threads_by false (flips_is ∙ ap (λ x. is_phase c.posts.posted ThreadFlip && not x) seen ∙ no_second (is_phase c.posts.posted ThreadFlip)))
+          (threads_by false (flips_is ∙ ap (λ x. is_phase c.posts.posted_phase ThreadFlip && not x) seen ∙ no_second (is_phase c.posts.posted_phase ThreadFlip)))
           (posts_by true opened)
-          (objects_by false (answers_is true opened ∙ ap (λ x. x && is_phase seat.phase c.posts.posted) marking))
+          (objects_by false (answers_is true opened ∙ ap (λ x. x && is_phase seat.phase c.posts.posted_phase) marking))
           (cases.answers seat here opened seen marking)
 
       -- the phase
-      unmarked : is_phase seat.phase c.posts.posted ≡ false → objects_after c t ≡ c.objects
-      unmarked late = objects_by false (answers_is true opened ∙ ap (λ x. is_marking c.posts.posted && x) late ∙ no_second (is_marking c.posts.posted))
+      unmarked : is_phase seat.phase c.posts.posted_phase ≡ false → objects_after c t ≡ c.objects
+      unmarked late = objects_by false (answers_is true opened ∙ ap (λ x. is_marking c.posts.posted_phase && x) late ∙ no_second (is_marking c.posts.posted_phase))
 
-      of_phase : (b : Bool) → is_phase c.posts.posted ThreadFlip ≡ b → is_phase seat.phase c.posts.posted ≡ false → P (with_acknowledgement c t).0
+      of_phase : (b : Bool) → is_phase c.posts.posted_phase ThreadFlip ≡ b → is_phase seat.phase c.posts.posted_phase ≡ false → P (with_acknowledgement c t).0
       of_phase true flip late =
           of_parts (with_flipped c.objects c.threads t (slice_get c.threads t)) (posts_after c t seat) c.objects
-          (threads_by true (flips_is ∙ ap (λ x. x && not (is_phase seat.phase c.posts.posted)) flip ∙ ap not late))
+          (threads_by true (flips_is ∙ ap (λ x. x && not (is_phase seat.phase c.posts.posted_phase)) flip ∙ ap not late))
           (posts_by true opened)
           (unmarked late)
           (cases.flips seat here opened late flip)
       of_phase false flip late =
           of_parts c.threads (posts_after c t seat) c.objects
-          (threads_by false (flips_is ∙ ap (λ x. x && not (is_phase seat.phase c.posts.posted)) flip))
+          (threads_by false (flips_is ∙ ap (λ x. x && not (is_phase seat.phase c.posts.posted_phase)) flip))
           (posts_by true opened)
           (unmarked late)
           (cases.continues seat here opened late flip)
 
-      by_phase : (b : Bool) → is_phase seat.phase c.posts.posted ≡ b → P (with_acknowledgement c t).0
-      by_phase true seen = of_round (is_marking c.posts.posted) refl seen
-      by_phase false late = of_phase (is_phase c.posts.posted ThreadFlip) refl late
+      by_phase : (b : Bool) → is_phase seat.phase c.posts.posted_phase ≡ b → P (with_acknowledgement c t).0
+      by_phase true seen = of_round (is_marking c.posts.posted_phase) refl seen
+      by_phase false late = of_phase (is_phase c.posts.posted_phase ThreadFlip) refl late
 
-    by_open : (b : Bool) → is_open_to c.posts.posted c.posts.has_round seat ≡ b → P (with_acknowledgement c t).0
-    by_open true opened = by_phase opened (is_phase seat.phase c.posts.posted) refl
+    by_open : (b : Bool) → is_open_to c.posts.posted_phase c.posts.has_round seat ≡ b → P (with_acknowledgement c t).0
+    by_open true opened = by_phase opened (is_phase seat.phase c.posts.posted_phase) refl
     by_open false shut = closed_to shut
 
   by_seat : (o : Option Seat) → seat_of c.posts t ≡ o → P (with_acknowledgement c t).0
   by_seat None none = seatless none
-  by_seat (Some seat) here = by_open seat here (is_open_to c.posts.posted c.posts.has_round seat) refl
+  by_seat (Some seat) here = by_open seat here (is_open_to c.posts.posted_phase c.posts.has_round seat) refl
 
   -- what is so in each case is so after an acknowledgement
   pub after_acknowledgement : P (with_acknowledgement c t).0

@@ -164,10 +164,10 @@ module _ (c : MachineState) (s : State) (name : Names) (sound : IsSound c) (refi
     threads = refines.threads;
   })
 
-  module _ (normal : IsNormal c.posts.posted m name) (flip : is_phase c.posts.posted ThreadFlip ≡ true) where
+  module _ (normal : IsNormal c.posts.posted_phase m name) (flip : is_phase c.posts.posted_phase ThreadFlip ≡ true) where
     -- the forward has the name of what it forwards
     forward_named : (a : Addr) (n : ObjectName) → name a.number ≡ Some n → name (forward m a).number ≡ Some n
-    forward_named = normal_forward c.tree c.posts.posted c.posts.has_round c.limits.max_words c.progress c.objects sound.heap (ap has_words (same_phase c.posts.posted ThreadFlip flip)) name normal
+    forward_named = normal_forward c.tree c.posts.posted_phase c.posts.has_round c.limits.max_words c.progress c.objects sound.heap (ap has_words (same_phase c.posts.posted_phase ThreadFlip flip)) name normal
 
     status_refines : (x : ThreadStatus) (xs : List StateFrame) (e : Option End) → StatusRefines c.tree c.limits name x xs e → StatusRefines c.tree c.limits name (status_flipped c.objects x) xs e
     status_refines (Live fs) xs None h = live_flipped name (forward m) (forward_null m sound.heap.blocks.spaces) forward_named c.tree c.limits fs xs h
@@ -183,7 +183,7 @@ module _ (c : MachineState) (s : State) (name : Names) (sound : IsSound c) (refi
     }
 
 -- what stands under normal names stands under them after an acknowledgement
-pub acknowledgement_refines : (c : MachineState) (t : ℕ) (s : State) (name : Names) → IsNormal c.posts.posted c.objects.spaces name → RefinesUnder name c s → IsSound c → RefinesUnder name (with_acknowledgement c t).0 s
+pub acknowledgement_refines : (c : MachineState) (t : ℕ) (s : State) (name : Names) → IsNormal c.posts.posted_phase c.objects.spaces name → RefinesUnder name c s → IsSound c → RefinesUnder name (with_acknowledgement c t).0 s
 acknowledgement_refines c t s name normal refines sound =
     after_acknowledgement c t (λ x. RefinesUnder name x s)
     (record {

@@ -44,7 +44,7 @@ use Rattle.simulation.proofs.Threads.ChangedSeats.{other_seat, own_seat, same_or
 
 -- ---- phases
 
-marking_is_mark : (posted : Phase) → is_marking posted ≡ true → posted ≡ Mark
+marking_is_mark : (posted_phase : Phase) → is_marking posted_phase ≡ true → posted_phase ≡ Mark
 marking_is_mark Idle h = never h
 marking_is_mark Mark h = refl
 marking_is_mark Allocate h = never h
@@ -66,29 +66,29 @@ flipping_before ThreadFlip flipping later = refl
 flipping_before Reclaim flipping later = never flipping
 
 -- what a thread may hold that is flipped is new
-new_by : (h : Handshakes) (m : Spaces) (seat : Seat) (a : Addr) → is_flipping seat.phase ≡ true → is_flipping h.posted ≡ true → may_hold h m seat a ≡ is_new_address m a
-new_by h m seat a own posted = rw (own, posted) refl
+new_by : (h : Handshakes) (m : Spaces) (seat : Seat) (a : Addr) → is_flipping seat.phase ≡ true → is_flipping h.posted_phase ≡ true → may_hold h m seat a ≡ is_new_address m a
+new_by h m seat a own posted_phase = rw (own, posted_phase) refl
 
 -- ---- the new seat
 
-module _ (posted : Phase) (seat : Seat) where
-  seen_after : is_phase seat.phase posted ≡ true → seat_after posted seat ≡ record seat { answered = true }
-  seen_after seen = ap (λ b. if b then record seat { answered = true } else record seat { phase = posted }) seen
+module _ (posted_phase : Phase) (seat : Seat) where
+  seen_after : is_phase seat.phase posted_phase ≡ true → seat_after posted_phase seat ≡ record seat { answered = true }
+  seen_after seen = ap (λ b. if b then record seat { answered = true } else record seat { phase = posted_phase }) seen
 
-  late_after : is_phase seat.phase posted ≡ false → seat_after posted seat ≡ record seat { phase = posted }
-  late_after late = ap (λ b. if b then record seat { answered = true } else record seat { phase = posted }) late
+  late_after : is_phase seat.phase posted_phase ≡ false → seat_after posted_phase seat ≡ record seat { phase = posted_phase }
+  late_after late = ap (λ b. if b then record seat { answered = true } else record seat { phase = posted_phase }) late
 
   -- it is in the posted phase
-  posted_after : (seat_after posted seat).phase ≡ posted
-  posted_after = by_test (is_phase seat.phase posted) refl
+  posted_after : (seat_after posted_phase seat).phase ≡ posted_phase
+  posted_after = by_test (is_phase seat.phase posted_phase) refl
     where
-      by_test : (b : Bool) → is_phase seat.phase posted ≡ b → (seat_after posted seat).phase ≡ posted
-      by_test true seen = ap (λ (x : Seat). x.phase) (seen_after seen) ∙ same_phase seat.phase posted seen
+      by_test : (b : Bool) → is_phase seat.phase posted_phase ≡ b → (seat_after posted_phase seat).phase ≡ posted_phase
+      by_test true seen = ap (λ (x : Seat). x.phase) (seen_after seen) ∙ same_phase seat.phase posted_phase seen
       by_test false late = ap (λ (x : Seat). x.phase) (late_after late)
 
-module _ (c : MachineState) (sound : IsSound c) (t : ℕ) (seat : Seat) (here : seat_of c.posts t ≡ Some seat) (opened : is_open_to c.posts.posted c.posts.has_round seat ≡ true) where
+module _ (c : MachineState) (sound : IsSound c) (t : ℕ) (seat : Seat) (here : seat_of c.posts t ≡ Some seat) (opened : is_open_to c.posts.posted_phase c.posts.has_round seat ≡ true) where
   abbrev next : Seat
-  next = seat_after c.posts.posted seat
+  next = seat_after c.posts.posted_phase seat
 
   abbrev posts : Handshakes
   posts = posts_after c t seat
@@ -110,11 +110,11 @@ module _ (c : MachineState) (sound : IsSound c) (t : ℕ) (seat : Seat) (here : 
 
   -- the machine is sound with these threads and objects, where it holds in them what it may
   sound_then : (threads : List Thread) (o : Objects) → ((n : ℕ) → is_live_at threads n ≡ is_live_at c.threads n) →
-      IsSoundHeap c.tree c.posts.posted c.posts.has_round c.limits.max_words c.progress o.spaces →
-      ((n : ℕ) (x : Seat) → seat_of c.posts n ≡ Some x → IsOnTime x.phase c.posts.posted c.posts.has_round c.progress o.spaces) →
+      IsSoundHeap c.tree c.posts.posted_phase c.posts.has_round c.limits.max_words c.progress o.spaces →
+      ((n : ℕ) (x : Seat) → seat_of c.posts n ≡ Some x → IsOnTime x.phase c.posts.posted_phase c.posts.has_round c.progress o.spaces) →
       ((n left : ℕ) (fs : Frames) (x : Seat) → (n ≡ t → ⊥) → slice_get threads n ≡ Some (record { thread_status = Live fs; steps_left = left }) → seat_of c.posts n ≡ Some x → (a : Addr) → IsListed (roots fs) a → may_hold c.posts o.spaces x a ≡ true) →
       ((left : ℕ) (fs : Frames) → slice_get threads t ≡ Some (record { thread_status = Live fs; steps_left = left }) → (a : Addr) → IsListed (roots fs) a → may_hold c.posts o.spaces next a ≡ true) →
-      ((number : ℕ) (v : Value) → slice_get c.statics number ≡ Some v → ValuePasses (static_may_hold c.posts.posted o.spaces c.progress number) v) →
+      ((number : ℕ) (v : Value) → slice_get c.statics number ≡ Some v → ValuePasses (static_may_hold c.posts.posted_phase o.spaces c.progress number) v) →
       IsSound (record c { threads = threads; posts = posts; objects = o })
   sound_then threads o same heap on_time others own statics = record {
     seated = seated_then threads same;
@@ -125,8 +125,8 @@ module _ (c : MachineState) (sound : IsSound c) (t : ℕ) (seat : Seat) (here : 
     statics = statics;
   }
     where
-      on_time_then : (n : ℕ) (x : Seat) → ((n ≡ t) × (x ≡ next)) ⊎ ((n ≡ t → ⊥) × (seat_of c.posts n ≡ Some x)) → IsOnTime x.phase c.posts.posted c.posts.has_round c.progress o.spaces
-      on_time_then n x (inl (is, new)) late = absurd (late (ap (λ (y : Seat). y.phase) new ∙ posted_after c.posts.posted seat))
+      on_time_then : (n : ℕ) (x : Seat) → ((n ≡ t) × (x ≡ next)) ⊎ ((n ≡ t → ⊥) × (seat_of c.posts n ≡ Some x)) → IsOnTime x.phase c.posts.posted_phase c.posts.has_round c.progress o.spaces
+      on_time_then n x (inl (is, new)) late = absurd (late (ap (λ (y : Seat). y.phase) new ∙ posted_after c.posts.posted_phase seat))
       on_time_then n x (inr (other, was)) late = on_time n x was late
 
       threads_then : (n left : ℕ) (fs : Frames) (x : Seat) → slice_get threads n ≡ Some (record { thread_status = Live fs; steps_left = left }) → ((n ≡ t) × (x ≡ next)) ⊎ ((n ≡ t → ⊥) × (seat_of c.posts n ≡ Some x)) →
@@ -144,20 +144,20 @@ module _ (c : MachineState) (sound : IsSound c) (t : ℕ) (seat : Seat) (here : 
 
   -- ---- a round is answered
 
-  module _ (seen : is_phase seat.phase c.posts.posted ≡ true) where
+  module _ (seen : is_phase seat.phase c.posts.posted_phase ≡ true) where
     same_own : next.phase ≡ seat.phase
-    same_own = ap (λ (x : Seat). x.phase) (seen_after c.posts.posted seat seen)
+    same_own = ap (λ (x : Seat). x.phase) (seen_after c.posts.posted_phase seat seen)
 
     -- in Mark
-    module _ (marking : is_marking c.posts.posted ≡ true) where
+    module _ (marking : is_marking c.posts.posted_phase ≡ true) where
       abbrev vs : List Value
       vs = thread_values (slice_get c.threads t)
 
       abbrev marked : Objects
       marked = with_all_marked c.objects vs
 
-      in_mark : c.posts.posted ≡ Mark
-      in_mark = marking_is_mark c.posts.posted marking
+      in_mark : c.posts.posted_phase ≡ Mark
+      in_mark = marking_is_mark c.posts.posted_phase marking
 
       darker : AreDarker m marked.spaces
       darker = AreDarker-with_all_marked vs c.objects sound.heap.blocks.spaces
@@ -165,11 +165,11 @@ module _ (c : MachineState) (sound : IsSound c) (t : ℕ) (seat : Seat) (here : 
       noted : m.has_marked ≡ true → marked.spaces.has_marked ≡ true
       noted = with_all_marked-noted vs c.objects
 
-      heap_then : IsSoundHeap c.tree c.posts.posted c.posts.has_round c.limits.max_words c.progress marked.spaces
+      heap_then : IsSoundHeap c.tree c.posts.posted_phase c.posts.has_round c.limits.max_words c.progress marked.spaces
       heap_then = subst (λ q. IsSoundHeap c.tree q c.posts.has_round c.limits.max_words c.progress marked.spaces) (sym in_mark)
           (IsSoundHeap-with_all_marked c.tree c.posts.has_round c.limits.max_words c.progress vs c.objects (subst (λ q. IsSoundHeap c.tree q c.posts.has_round c.limits.max_words c.progress m) in_mark sound.heap))
 
-      on_time_then : (n : ℕ) (x : Seat) → seat_of c.posts n ≡ Some x → IsOnTime x.phase c.posts.posted c.posts.has_round c.progress marked.spaces
+      on_time_then : (n : ℕ) (x : Seat) → seat_of c.posts n ≡ Some x → IsOnTime x.phase c.posts.posted_phase c.posts.has_round c.progress marked.spaces
       on_time_then n x is late =
           let was : HasNotBegun Mark c.posts.has_round c.progress m = subst (λ q. HasNotBegun q c.posts.has_round c.progress m) in_mark (sound.on_time n x is late) in
           subst (λ q. HasNotBegun q c.posts.has_round c.progress marked.spaces) (sym in_mark) (HasNotBegun-with_all_marked vs c.objects sound.heap.blocks.spaces c.posts.has_round c.progress was)
@@ -192,39 +192,39 @@ module _ (c : MachineState) (sound : IsSound c) (t : ℕ) (seat : Seat) (here : 
           (sound_then c.threads marked (λ n. refl) heap_then on_time_then
           (λ n left fs x other there was a listed. stays_held c.posts m marked.spaces x darker noted a (sound.threads n left fs x there was a listed))
           own_then
-          (λ number v there. value_weakens (static_may_hold c.posts.posted m c.progress number) (static_may_hold c.posts.posted marked.spaces c.progress number) (stays_held-static c.posts.posted m marked.spaces c.progress number darker) v (sound.statics number v there)))
+          (λ number v there. value_weakens (static_may_hold c.posts.posted_phase m c.progress number) (static_may_hold c.posts.posted_phase marked.spaces c.progress number) (stays_held-static c.posts.posted_phase m marked.spaces c.progress number darker) v (sound.statics number v there)))
 
     -- in other phases it says nothing of what the thread holds
-    answers_sound : is_marking c.posts.posted ≡ false → IsSound (record c { posts = posts })
+    answers_sound : is_marking c.posts.posted_phase ≡ false → IsSound (record c { posts = posts })
     answers_sound other = same_then (held_again c.posts c.posts m m seat next (AreDarker-same m m refl refl refl) refl same_own (ap (λ b. b && (c.posts.has_round && (next.answered && not m.has_marked))) other))
 
   -- ---- a phase is acknowledged
 
-  module _ (late : is_phase seat.phase c.posts.posted ≡ false) where
-    before : phase_after seat.phase ≡ c.posts.posted
+  module _ (late : is_phase seat.phase c.posts.posted_phase ≡ false) where
+    before : phase_after seat.phase ≡ c.posts.posted_phase
     before = by_case (sound.seated.close.phases t seat here)
       where
-        by_case : IsClose c.posts seat → phase_after seat.phase ≡ c.posts.posted
-        by_case (inl same) = never (sym late ∙ eq-eqb (phase_number seat.phase) (phase_number c.posts.posted) (ap phase_number same))
+        by_case : IsClose c.posts seat → phase_after seat.phase ≡ c.posts.posted_phase
+        by_case (inl same) = never (sym late ∙ eq-eqb (phase_number seat.phase) (phase_number c.posts.posted_phase) (ap phase_number same))
         by_case (inr (is, open_to)) = is
 
     same_answer : next.answered ≡ seat.answered
-    same_answer = ap (λ (x : Seat). x.answered) (late_after c.posts.posted seat late)
+    same_answer = ap (λ (x : Seat). x.answered) (late_after c.posts.posted_phase seat late)
 
     -- but for ThreadFlip
-    continues_sound : is_phase c.posts.posted ThreadFlip ≡ false → IsSound (record c { posts = posts })
-    continues_sound later = same_then (λ a held. by_flips a held (is_flipping c.posts.posted) refl)
+    continues_sound : is_phase c.posts.posted_phase ThreadFlip ≡ false → IsSound (record c { posts = posts })
+    continues_sound later = same_then (λ a held. by_flips a held (is_flipping c.posts.posted_phase) refl)
       where
-        by_flips : (a : Addr) → may_hold c.posts m seat a ≡ true → (b : Bool) → is_flipping c.posts.posted ≡ b → may_hold c.posts m next a ≡ true
+        by_flips : (a : Addr) → may_hold c.posts m seat a ≡ true → (b : Bool) → is_flipping c.posts.posted_phase ≡ b → may_hold c.posts m next a ≡ true
         by_flips a held false early = phase_held c.posts c.posts m seat next refl refl same_answer early a held
         by_flips a held true flipping =
             let was : is_flipping seat.phase ≡ true = flipping_before seat.phase (ap is_flipping before ∙ flipping) (ap (λ q. is_phase q ThreadFlip) before ∙ later) in
-            new_by c.posts m next a (ap is_flipping (posted_after c.posts.posted seat) ∙ flipping) flipping ∙ sym (new_by c.posts m seat a was flipping) ∙ held
+            new_by c.posts m next a (ap is_flipping (posted_after c.posts.posted_phase seat) ∙ flipping) flipping ∙ sym (new_by c.posts m seat a was flipping) ∙ held
 
     -- where the frames are flipped
-    module _ (flip : is_phase c.posts.posted ThreadFlip ≡ true) where
-      in_flip : c.posts.posted ≡ ThreadFlip
-      in_flip = same_phase c.posts.posted ThreadFlip flip
+    module _ (flip : is_phase c.posts.posted_phase ThreadFlip ≡ true) where
+      in_flip : c.posts.posted_phase ≡ ThreadFlip
+      in_flip = same_phase c.posts.posted_phase ThreadFlip flip
 
       abbrev flipped : List Thread
       flipped = with_flipped c.objects c.threads t (slice_get c.threads t)
@@ -263,10 +263,10 @@ module _ (c : MachineState) (sound : IsSound c) (t : ℕ) (seat : Seat) (here : 
       new_after : (left : ℕ) (fs : Frames) → slice_get c.threads t ≡ Some (record { thread_status = Live fs; steps_left = left }) → (a : Addr) → IsListed (roots (with_references (forward m) fs)) a → is_new_address m a ≡ true
       new_after left fs there =
           roots_pass (is_new_address m) (with_references (forward m) fs)
-          (frames_replaced (is_live_address c.posts.posted m) (is_new_address m) (forward m)
-          (forward_is_new c.tree c.posts.posted c.progress m sound.heap.blocks.spaces sound.heap.copies (ap has_copies in_flip))
+          (frames_replaced (is_live_address c.posts.posted_phase m) (is_new_address m) (forward m)
+          (forward_is_new c.tree c.posts.posted_phase c.progress m sound.heap.blocks.spaces sound.heap.copies (ap has_copies in_flip))
           (fs.running ∷ fs.below)
-          (roots_passed (is_live_address c.posts.posted m) fs (thread_is_live c (sound_is_held c sound) t left fs there)))
+          (roots_passed (is_live_address c.posts.posted_phase m) fs (thread_is_live c (sound_is_held c sound) t left fs there)))
 
       new_then : (left : ℕ) (fs : Frames) → slice_get flipped t ≡ Some (record { thread_status = Live fs; steps_left = left }) → (a : Addr) → IsListed (roots fs) a → is_new_address m a ≡ true
       new_then left fs there a listed = by_thread (slice_get c.threads t) refl
@@ -285,7 +285,7 @@ module _ (c : MachineState) (sound : IsSound c) (t : ℕ) (seat : Seat) (here : 
       flips_sound : IsSound (record c { threads = flipped; posts = posts })
       flips_sound = sound_then flipped c.objects live_then sound.heap sound.on_time
           (λ n left fs x other there was. sound.threads n left fs x (sym (others_stay n other) ∙ there) was)
-          (λ left fs there a listed. new_by c.posts m next a (ap is_flipping (posted_after c.posts.posted seat) ∙ ap is_flipping in_flip) (ap is_flipping in_flip) ∙ new_then left fs there a listed)
+          (λ left fs there a listed. new_by c.posts m next a (ap is_flipping (posted_after c.posts.posted_phase seat) ∙ ap is_flipping in_flip) (ap is_flipping in_flip) ∙ new_then left fs there a listed)
           sound.statics
 
 -- an acknowledgement keeps a machine sound

@@ -15,14 +15,14 @@ use Rattle.simulation.specs.Reached.{IsReached, from_frame, from_slot, from_stat
 use Rattle.simulation.specs.Sound.{IsSound}
 use Rattle.simulation.proofs.Representation.NormalContents.{has_seat, sound_is_held}
 
-module _ (c : MachineState) (sound : IsSound c) (posted : c.posts.posted ≡ Mark) (closed : is_closed c.progress c.objects c.posts ≡ true) where
+module _ (c : MachineState) (sound : IsSound c) (posted_phase : c.posts.posted_phase ≡ Mark) (closed : is_closed c.progress c.objects c.posts ≡ true) where
   pub reached_is_marked : (a : Addr) → IsReached c a → is_marked_address c.objects.spaces a ≡ true
   reached_is_marked _ (from_frame t left m a there listed) =
       let seat = has_seat c (sound_is_held c sound) t left m there in
-      closed_held c.progress c.objects c.posts closed t seat.0 seat.1 posted a (sound.threads t left m seat.0 there seat.1 a listed)
+      closed_held c.progress c.objects c.posts closed t seat.0 seat.1 posted_phase a (sound.threads t left m seat.0 there seat.1 a listed)
   reached_is_marked _ (from_static number a there) =
-      closed_held-static c.progress c.objects c.posts closed number a (subst (λ (x : Phase). static_may_hold x c.objects.spaces c.progress number a ≡ true) posted (sound.statics number (Ref a) there))
+      closed_held-static c.progress c.objects c.posts closed number a (subst (λ (x : Phase). static_may_hold x c.objects.spaces c.progress number a ≡ true) posted_phase (sound.statics number (Ref a) there))
   reached_is_marked _ (from_slot a cell slot word reached lies inside holds) =
       let old = marked_has_cell c.objects.spaces sound.heap.blocks.spaces a cell lies (reached_is_marked a reached) in
       let means = is_closed-means c.progress c.objects c.posts closed in
-      (sound.heap.marks posted).closed means.round means.clean a cell old.0 old.1 slot word inside holds
+      (sound.heap.marks posted_phase).closed means.round means.clean a cell old.0 old.1 slot word inside holds

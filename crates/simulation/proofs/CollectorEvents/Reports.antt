@@ -22,8 +22,8 @@ use Rattle.simulation.proofs.CollectorEvents.Soundness.{posting}
 -- what results from an event, with its report
 pub data IsCollected (c : MachineState) : MachineState × Report → Type 0 where
   waits : IsCollected c (c, Waiting)
-  works : (d : MachineState) → is_of_cycle d.posts.posted ≡ true → IsCollected c (d, Worked)
-  ends : (d : MachineState) → c.posts.posted ≡ Reclaim → d.posts.posted ≡ Idle → d.objects.spaces ≡ close_cycle c.objects.spaces → IsCollected c (d, CycleDone)
+  works : (d : MachineState) → is_of_cycle d.posts.posted_phase ≡ true → IsCollected c (d, Worked)
+  ends : (d : MachineState) → c.posts.posted_phase ≡ Reclaim → d.posts.posted_phase ≡ Idle → d.objects.spaces ≡ close_cycle c.objects.spaces → IsCollected c (d, CycleDone)
 
 -- one of two transitions, by a test
 either_is : (c : MachineState) (b : Bool) (x y : MachineState × Report) → IsCollected c x → IsCollected c y → IsCollected c (if◌then◌else◌ {A = MachineState × Report} b x y)
@@ -68,4 +68,4 @@ module _ (c : MachineState) where
 
   -- each event is one of the three
   pub collected_is : IsCollected c (collect c)
-  collected_is = either_is c (all_seen c.posts) (work c.posts.posted c) (c, Waiting) (work_is c.posts.posted) waits
+  collected_is = either_is c (all_seen c.posts) (work c.posts.posted_phase c) (c, Waiting) (work_is c.posts.posted_phase) waits

@@ -121,26 +121,26 @@ twins_never : {A : Type 0} (m : Spaces) (live : Addr → Type 0) → ((a b : Add
 twins_never m live none a b la lb (inl e) = absurd (none (record { number = a }) (record { number = b }) la lb e)
 twins_never m live none a b la lb (inr e) = absurd (none (record { number = b }) (record { number = a }) lb la e)
 
-module _ {A : Type 0} (tree : Tree) (posted : Phase) (has_round : Bool) (words : ℕ) (p : Progress) (m : Spaces) (sound : IsSoundHeap tree posted has_round words p m) (a b : ℕ)
-    (live_a : is_live posted m (record { number = a }) ≡ true) (live_b : is_live posted m (record { number = b }) ≡ true) where
+module _ {A : Type 0} (tree : Tree) (posted_phase : Phase) (has_round : Bool) (words : ℕ) (p : Progress) (m : Spaces) (sound : IsSoundHeap tree posted_phase has_round words p m) (a b : ℕ)
+    (live_a : is_live posted_phase m (record { number = a }) ≡ true) (live_b : is_live posted_phase m (record { number = b }) ≡ true) where
   -- until new objects are live
-  twins_early : is_new_live posted ≡ false → AreTwins m a b → A
-  twins_early early = twins_never m (λ x. is_live posted m x ≡ true) none a b live_a live_b
+  twins_early : is_new_live posted_phase ≡ false → AreTwins m a b → A
+  twins_early early = twins_never m (λ x. is_live posted_phase m x ≡ true) none a b live_a live_b
     where
-      none : (x y : Addr) → is_live posted m x ≡ true → is_live posted m y ≡ true → other_of (cell_in m.old x) ≡ Some y → ⊥
+      none : (x y : Addr) → is_live posted_phase m x ≡ true → is_live posted_phase m y ≡ true → other_of (cell_in m.old x) ≡ Some y → ⊥
       none x y lx ly e =
           let c = other_cell (cell_in m.old x) y e in
           let d = sound.copies.out x y c.0 c.1 c.2 in
-          never (sym early ∙ live_is_late m sound.blocks.spaces y d.0 posted d.1 ly)
+          never (sym early ∙ live_is_late m sound.blocks.spaces y d.0 posted_phase d.1 ly)
 
   -- and once old ones aren't
-  twins_late : ((c : Cell) → is_read posted c ≡ false) → AreTwins m a b → A
-  twins_late late = twins_never m (λ x. is_live posted m x ≡ true) none a b live_a live_b
+  twins_late : ((c : Cell) → is_read posted_phase c ≡ false) → AreTwins m a b → A
+  twins_late late = twins_never m (λ x. is_live posted_phase m x ≡ true) none a b live_a live_b
     where
-      none : (x y : Addr) → is_live posted m x ≡ true → is_live posted m y ≡ true → other_of (cell_in m.old x) ≡ Some y → ⊥
+      none : (x y : Addr) → is_live posted_phase m x ≡ true → is_live posted_phase m y ≡ true → other_of (cell_in m.old x) ≡ Some y → ⊥
       none x y lx ly e =
           let c = other_cell (cell_in m.old x) y e in
-          never (sym (late c.0) ∙ live_is_read m sound.blocks.spaces x c.0 posted c.1 lx)
+          never (sym (late c.0) ∙ live_is_read m sound.blocks.spaces x c.0 posted_phase c.1 lx)
 
 -- ---- Idle and Mark
 
@@ -352,5 +352,5 @@ module _ (name : Names) (c : MachineState) (s : State) where
   work_refines Reclaim sound normal refines = clears_refine sound normal refines
 
   -- after an event of the collector a machine represents the same state, under the same names
-  pub collected_refines : IsSound c → IsNormal c.posts.posted c.objects.spaces name → RefinesUnder name c s → RefinesUnder name (collect c).0 s
-  collected_refines sound normal refines = either_refines name s (all_seen c.posts) (work c.posts.posted c) (c, Waiting) (λ seen. work_refines c.posts.posted sound normal refines) (λ late. refines)
+  pub collected_refines : IsSound c → IsNormal c.posts.posted_phase c.objects.spaces name → RefinesUnder name c s → RefinesUnder name (collect c).0 s
+  collected_refines sound normal refines = either_refines name s (all_seen c.posts) (work c.posts.posted_phase c) (c, Waiting) (λ seen. work_refines c.posts.posted_phase sound normal refines) (λ late. refines)

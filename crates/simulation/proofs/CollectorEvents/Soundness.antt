@@ -46,13 +46,13 @@ use Rattle.collector.proofs.ThreadReferences.FlipPhases.{end_keeps_held, flip_ke
 
 -- what a machine holds where a phase is posted
 abbrev pub posting : Phase → MachineState → MachineState
-posting x c = record c { posts = record c.posts { posted = x } }
+posting x c = record c { posts = record c.posts { posted_phase = x } }
 
 -- ---- seats
 
 -- where all have seen the posted phase, each is in it
-pub seen_phase : (h : Handshakes) → all_seen h ≡ true → (t : ℕ) (seat : Seat) → seat_of h t ≡ Some seat → seat.phase ≡ h.posted
-seen_phase h seen t seat there = same_phase seat.phase h.posted (passes_at (has_seen h.posted) h.seats t seat seen (seat_there h t seat there))
+pub seen_phase : (h : Handshakes) → all_seen h ≡ true → (t : ℕ) (seat : Seat) → seat_of h t ≡ Some seat → seat.phase ≡ h.posted_phase
+seen_phase h seen t seat there = same_phase seat.phase h.posted_phase (passes_at (has_seen h.posted_phase) h.seats t seat seen (seat_there h t seat there))
 
 module _ (h k : Handshakes) (asked : k.seats ≡ map clear_answer h.seats) (t : ℕ) where
   -- a seat without its acknowledgement was there before
@@ -87,15 +87,15 @@ either_soundly false x y f g = g refl
 
 -- the next phase is posted, with these objects
 abbrev after_post : MachineState → Objects → MachineState
-after_post c o = record c { posts = record c.posts { posted = phase_after c.posts.posted }; progress = no_progress; objects = o }
+after_post c o = record c { posts = record c.posts { posted_phase = phase_after c.posts.posted_phase }; progress = no_progress; objects = o }
 
 module _ (c : MachineState) (sound : IsSound c) (seen : all_seen c.posts ≡ true) where
   -- a step posts nothing
   works_soundly : (p : Progress) (o : Objects) (statics : List Value)
-      → IsSoundHeap c.tree c.posts.posted c.posts.has_round c.limits.max_words p o.spaces
-      → (c.posts.posted ≡ Mark → c.posts.has_round ≡ true → p.scanned_statics ≡ true)
+      → IsSoundHeap c.tree c.posts.posted_phase c.posts.has_round c.limits.max_words p o.spaces
+      → (c.posts.posted_phase ≡ Mark → c.posts.has_round ≡ true → p.scanned_statics ≡ true)
       → ((seat : Seat) (a : Addr) → may_hold c.posts c.objects.spaces seat a ≡ true → may_hold c.posts o.spaces seat a ≡ true)
-      → StaticsPass c.posts.posted o.spaces p statics
+      → StaticsPass c.posts.posted_phase o.spaces p statics
       → IsSound (record c { progress = p; objects = o; statics = statics })
   works_soundly p o statics heap scanned held pass = record {
     seated = sound.seated;
@@ -107,17 +107,17 @@ module _ (c : MachineState) (sound : IsSound c) (seen : all_seen c.posts ≡ tru
   }
 
   -- a step posts the next phase, which isn't Mark
-  posts_soundly : (o : Objects) → phase_after c.posts.posted ≢ Mark
-      → IsSoundHeap c.tree (phase_after c.posts.posted) c.posts.has_round c.limits.max_words no_progress o.spaces
+  posts_soundly : (o : Objects) → phase_after c.posts.posted_phase ≢ Mark
+      → IsSoundHeap c.tree (phase_after c.posts.posted_phase) c.posts.has_round c.limits.max_words no_progress o.spaces
       → ((t : ℕ) (seat : Seat) (a : Addr) → seat_of c.posts t ≡ Some seat → may_hold c.posts c.objects.spaces seat a ≡ true
-      → may_hold (record c.posts { posted = phase_after c.posts.posted }) o.spaces seat a ≡ true)
-      → StaticsPass (phase_after c.posts.posted) o.spaces no_progress c.statics
+      → may_hold (record c.posts { posted_phase = phase_after c.posts.posted_phase }) o.spaces seat a ≡ true)
+      → StaticsPass (phase_after c.posts.posted_phase) o.spaces no_progress c.statics
       → IsSound (after_post c o)
   posts_soundly o other heap held pass = record {
     seated = record { close = phase_close c.posts sound.seated.close seen; live = sound.seated.live };
     heap = heap;
     rounds = λ mark round. absurd (other mark);
-    on_time = λ t seat there late. HasNotBegun-posted (phase_after c.posts.posted) c.posts.has_round o.spaces other;
+    on_time = λ t seat there late. HasNotBegun-posted (phase_after c.posts.posted_phase) c.posts.has_round o.spaces other;
     threads = λ t left fs seat at there a listed. held t seat a there (sound.threads t left fs seat at there a listed);
     statics = pass;
   }
@@ -128,7 +128,7 @@ worked_soundly c (p, o, true) works posts = works
 worked_soundly c (p, o, false) works posts = posts refl
 
 -- until a thread flips its frames it may hold what is live
-live_held : (h : Handshakes) (m : Spaces) (seat : Seat) (a : Addr) → is_flipping h.posted ≡ false → is_marking h.posted ≡ false → is_live h.posted m a ≡ true → may_hold h m seat a ≡ true
+live_held : (h : Handshakes) (m : Spaces) (seat : Seat) (a : Addr) → is_flipping h.posted_phase ≡ false → is_marking h.posted_phase ≡ false → is_live h.posted_phase m a ≡ true → may_hold h m seat a ≡ true
 live_held h m seat a early other live = may_hold_any h m seat a (rw early (none_both (is_flipping seat.phase))) (rw other refl) live
   where
     none_both : (x : Bool) → (x && false) ≡ false
@@ -233,7 +233,7 @@ module _ (c : MachineState) (sound : IsSound (posting Mark c)) (seen : all_seen 
   pub closes_soundly : is_closed c.progress c.objects marking.posts ≡ true → IsSound (next_posted marking).0
   closes_soundly closed = posts_soundly marking sound seen c.objects (λ e. absurd cc)
       (IsSoundHeap-closed c.tree c.limits.max_words c.progress c.objects marking.posts sound.heap closed)
-      (λ t seat a there held. allocate_held (record marking.posts { posted = Allocate }) c.objects.spaces seat refl a (closed_held c.progress c.objects marking.posts closed t seat there refl a held))
+      (λ t seat a there held. allocate_held (record marking.posts { posted_phase = Allocate }) c.objects.spaces seat refl a (closed_held c.progress c.objects marking.posts closed t seat there refl a held))
       (λ number v there. value_weakens (static_may_hold Mark c.objects.spaces c.progress number) (static_may_hold Allocate c.objects.spaces no_progress number)
       (λ a held. allocate_held-static c.objects.spaces no_progress number a (closed_held-static c.progress c.objects marking.posts closed number a held)) v (sound.statics number v there))
 
@@ -291,7 +291,7 @@ module _ (c : MachineState) (sound : IsSound (posting Allocate c)) (seen : all_s
   pub copies_soundly : after_look.2 ≡ false → IsSound (next_posted (posting Allocate c)).0
   copies_soundly over = posts_soundly (posting Allocate c) sound seen c.objects (λ e. absurd cc)
       (copy_posted c.tree c.posts.has_round c.limits.max_words c.progress c.objects sound.heap over)
-      (λ t seat a there held. live_held (record c.posts { posted = Copy }) c.objects.spaces seat a refl refl (may_hold_live (posting Allocate c).posts c.objects.spaces seat a held))
+      (λ t seat a there held. live_held (record c.posts { posted_phase = Copy }) c.objects.spaces seat a refl refl (may_hold_live (posting Allocate c).posts c.objects.spaces seat a held))
       sound.statics
 
   -- one of both
@@ -331,7 +331,7 @@ module _ (c : MachineState) (sound : IsSound (posting Copy c)) (seen : all_seen 
       let live = pre_flip_live c.tree c.posts.has_round c.limits.max_words c.progress c.objects sound.heap in
       posts_soundly (posting Copy c) sound seen c.objects (λ e. absurd cc)
       (pre_flip_posted c.tree c.posts.has_round c.limits.max_words c.progress c.objects sound.heap over)
-      (λ t seat a there held. live_held (record c.posts { posted = PreFlip }) c.objects.spaces seat a refl refl (live a (may_hold_live (posting Copy c).posts c.objects.spaces seat a held)))
+      (λ t seat a there held. live_held (record c.posts { posted_phase = PreFlip }) c.objects.spaces seat a refl refl (live a (may_hold_live (posting Copy c).posts c.objects.spaces seat a held)))
       (λ number v there. value_weakens (is_live Copy c.objects.spaces) (is_live PreFlip c.objects.spaces) live v (sound.statics number v there))
 
   -- one of both
@@ -430,4 +430,4 @@ work_soundly Reclaim c sound seen = reclaim_work_soundly c sound seen
 
 -- an event of the collector keeps a machine sound
 pub collected_soundly : (c : MachineState) → IsSound c → IsSound (collect c).0
-collected_soundly c sound = either_soundly (all_seen c.posts) (work c.posts.posted c) (c, Waiting) (work_soundly c.posts.posted c sound) (λ late. sound)
+collected_soundly c sound = either_soundly (all_seen c.posts) (work c.posts.posted_phase c) (c, Waiting) (work_soundly c.posts.posted_phase c sound) (λ late. sound)

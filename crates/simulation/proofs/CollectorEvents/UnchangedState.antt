@@ -85,10 +85,10 @@ module _ (c : MachineState) where
 
   -- and so in all
   pub collected_keeps : KeepsRest c (collect c).0
-  collected_keeps = either_keeps (all_seen c.posts) (work c.posts.posted c) (c, Waiting) (work_keeps c.posts.posted) itself
+  collected_keeps = either_keeps (all_seen c.posts) (work c.posts.posted_phase c) (c, Waiting) (work_keeps c.posts.posted_phase) itself
 
 -- a machine that represents a state under names of what is live represents it after an event of the collector
-pub collected_represents : (c : MachineState) (s : State) → Represents c s → (name : Names) → IsNormal c.posts.posted c.objects.spaces name → RefinesUnder name c s → Represents (collect c).0 s
+pub collected_represents : (c : MachineState) (s : State) → Represents c s → (name : Names) → IsNormal c.posts.posted_phase c.objects.spaces name → RefinesUnder name c s → Represents (collect c).0 s
 collected_represents c s r name normal refines =
     let keeps = collected_keeps c in
     record {

@@ -79,14 +79,14 @@ module _ (c : MachineState) where
 
   -- it waits for a thread that hasn't acknowledged the phase or answered the round
   pub waits_rightly : WaitsRightly c (collect c)
-  waits_rightly = either_waits c (all_seen c.posts) (work c.posts.posted c) (c, Waiting) (λ seen. work_waits c.posts.posted) (λ late e. (inl late, refl))
+  waits_rightly = either_waits c (all_seen c.posts) (work c.posts.posted_phase c) (c, Waiting) (λ seen. work_waits c.posts.posted_phase) (λ late e. (inl late, refl))
 
   -- between cycles the next one opens
-  pub opens_next : c.posts.posted ≡ Idle → all_seen c.posts ≡ true → ((collect c).1 ≡ Worked) × ((collect c).0.posts.posted ≡ Mark)
-  opens_next idle seen = subst (λ (x : MachineState × Report). (x.1 ≡ Worked) × (x.0.posts.posted ≡ Mark)) (sym opens) (refl, refl)
+  pub opens_next : c.posts.posted_phase ≡ Idle → all_seen c.posts ≡ true → ((collect c).1 ≡ Worked) × ((collect c).0.posts.posted_phase ≡ Mark)
+  opens_next idle seen = subst (λ (x : MachineState × Report). (x.1 ≡ Worked) × (x.0.posts.posted_phase ≡ Mark)) (sym opens) (refl, refl)
     where
-      opens : collect c ≡ work Idle (record c { posts = record c.posts { posted = Idle } })
-      opens = ap (λ b. if◌then◌else◌ {A = MachineState × Report} b (work c.posts.posted c) (c, Waiting)) seen ∙ ap (λ (x : Phase). work x (record c { posts = record c.posts { posted = x } })) idle
+      opens : collect c ≡ work Idle (record c { posts = record c.posts { posted_phase = Idle } })
+      opens = ap (λ b. if◌then◌else◌ {A = MachineState × Report} b (work c.posts.posted_phase c) (c, Waiting)) seen ∙ ap (λ (x : Phase). work x (record c { posts = record c.posts { posted_phase = x } })) idle
 
 -- ---- acknowledgements
 
@@ -108,56 +108,56 @@ no_second false = refl
 
 module _ (h : Handshakes) (t : ℕ) (seat : Seat) (here : seat_of h t ≡ Some seat) where
   abbrev next : Seat
-  next = seat_after h.posted seat
+  next = seat_after h.posted_phase seat
 
   abbrev answered : Seat → Handshakes
-  answered s = record h { seats = slice_set h.seats t (Some (seat_after h.posted s)) }
+  answered s = record h { seats = slice_set h.seats t (Some (seat_after h.posted_phase s)) }
 
   -- the posts then, by whether something was open
-  posts_then : (b : Bool) → is_open_to h.posted h.has_round seat ≡ b → acknowledge_phase h t ≡ (if b then answered seat else h)
+  posts_then : (b : Bool) → is_open_to h.posted_phase h.has_round seat ≡ b → acknowledge_phase h t ≡ (if b then answered seat else h)
   posts_then b is =
-      ap (λ o. option_map_or {U = Handshakes} (λ (s : Seat). if is_open_to h.posted h.has_round s then answered s else h) o h) here ∙ ap (λ x. if◌then◌else◌ {A = Handshakes} x (answered seat) h) is
+      ap (λ o. option_map_or {U = Handshakes} (λ (s : Seat). if is_open_to h.posted_phase h.has_round s then answered s else h) o h) here ∙ ap (λ x. if◌then◌else◌ {A = Handshakes} x (answered seat) h) is
 
   -- a thread in another phase is in the posted one then
-  phase_then : is_phase seat.phase h.posted ≡ false → own_phase (acknowledge_phase h t) t ≡ (acknowledge_phase h t).posted
+  phase_then : is_phase seat.phase h.posted_phase ≡ false → own_phase (acknowledge_phase h t) t ≡ (acknowledge_phase h t).posted_phase
   phase_then late =
-      subst (λ (k : Handshakes). own_phase k t ≡ k.posted) (sym (posts_then true (ap (λ b. not b || (h.has_round && not seat.answered)) late)))
-      (ap (λ o. option_map_or (λ (s : Seat). s.phase) o Idle) (own_seat h t next seat here) ∙ ap (λ b. (if◌then◌else◌ {A = Seat} b (record seat { answered = true }) (record seat { phase = h.posted })).phase) late)
+      subst (λ (k : Handshakes). own_phase k t ≡ k.posted_phase) (sym (posts_then true (ap (λ b. not b || (h.has_round && not seat.answered)) late)))
+      (ap (λ o. option_map_or (λ (s : Seat). s.phase) o Idle) (own_seat h t next seat here) ∙ ap (λ b. (if◌then◌else◌ {A = Seat} b (record seat { answered = true }) (record seat { phase = h.posted_phase })).phase) late)
 
   -- to one in that phase nothing is open then
-  shut_then : is_phase seat.phase h.posted ≡ true → is_open (acknowledge_phase h t) t ≡ false
-  shut_then seen = by_open (is_open_to h.posted h.has_round seat) refl
+  shut_then : is_phase seat.phase h.posted_phase ≡ true → is_open (acknowledge_phase h t) t ≡ false
+  shut_then seen = by_open (is_open_to h.posted_phase h.has_round seat) refl
     where
-      now_shut : is_open_to h.posted h.has_round next ≡ false
+      now_shut : is_open_to h.posted_phase h.has_round next ≡ false
       now_shut =
-          ap (λ b. is_open_to h.posted h.has_round (if◌then◌else◌ {A = Seat} b (record seat { answered = true }) (record seat { phase = h.posted }))) seen
+          ap (λ b. is_open_to h.posted_phase h.has_round (if◌then◌else◌ {A = Seat} b (record seat { answered = true }) (record seat { phase = h.posted_phase }))) seen
           ∙ ap (λ b. not b || (h.has_round && false)) seen ∙ no_second h.has_round
 
-      by_open : (b : Bool) → is_open_to h.posted h.has_round seat ≡ b → is_open (acknowledge_phase h t) t ≡ false
+      by_open : (b : Bool) → is_open_to h.posted_phase h.has_round seat ≡ b → is_open (acknowledge_phase h t) t ≡ false
       by_open true opened =
-          subst (λ (k : Handshakes). is_open k t ≡ false) (sym (posts_then true opened)) (ap (λ o. option_map_or (is_open_to h.posted h.has_round) o false) (own_seat h t next seat here) ∙ now_shut)
+          subst (λ (k : Handshakes). is_open k t ≡ false) (sym (posts_then true opened)) (ap (λ o. option_map_or (is_open_to h.posted_phase h.has_round) o false) (own_seat h t next seat here) ∙ now_shut)
       by_open false shut =
-          subst (λ (k : Handshakes). is_open k t ≡ false) (sym (posts_then false shut)) (ap (λ o. option_map_or (is_open_to h.posted h.has_round) o false) here ∙ shut)
+          subst (λ (k : Handshakes). is_open k t ≡ false) (sym (posts_then false shut)) (ap (λ o. option_map_or (is_open_to h.posted_phase h.has_round) o false) here ∙ shut)
 
   own_is : own_phase h t ≡ seat.phase
   own_is = ap (λ o. option_map_or (λ (s : Seat). s.phase) o Idle) here
 
 -- a thread that is live has a seat
 module _ (h : Handshakes) (t : ℕ) (seated : is_some (seat_of h t) ≡ true) where
-  pub acknowledges_phase : own_phase h t ≢ h.posted → own_phase (acknowledge_phase h t) t ≡ (acknowledge_phase h t).posted
+  pub acknowledges_phase : own_phase h t ≢ h.posted_phase → own_phase (acknowledge_phase h t) t ≡ (acknowledge_phase h t).posted_phase
   acknowledges_phase late = by_seat (seat_of h t) refl seated
     where
-      by_test : (seat : Seat) → seat_of h t ≡ Some seat → (b : Bool) → is_phase seat.phase h.posted ≡ b → own_phase (acknowledge_phase h t) t ≡ (acknowledge_phase h t).posted
-      by_test seat here true same = absurd (late (own_is h t seat here ∙ same_phase seat.phase h.posted same))
+      by_test : (seat : Seat) → seat_of h t ≡ Some seat → (b : Bool) → is_phase seat.phase h.posted_phase ≡ b → own_phase (acknowledge_phase h t) t ≡ (acknowledge_phase h t).posted_phase
+      by_test seat here true same = absurd (late (own_is h t seat here ∙ same_phase seat.phase h.posted_phase same))
       by_test seat here false other = phase_then h t seat here other
 
-      by_seat : (o : Option Seat) → seat_of h t ≡ o → is_some o ≡ true → own_phase (acknowledge_phase h t) t ≡ (acknowledge_phase h t).posted
+      by_seat : (o : Option Seat) → seat_of h t ≡ o → is_some o ≡ true → own_phase (acknowledge_phase h t) t ≡ (acknowledge_phase h t).posted_phase
       by_seat None none some = absurd cc
-      by_seat (Some seat) here some = by_test seat here (is_phase seat.phase h.posted) refl
+      by_seat (Some seat) here some = by_test seat here (is_phase seat.phase h.posted_phase) refl
 
-  pub answers_once : own_phase h t ≡ h.posted → is_open (acknowledge_phase h t) t ≡ false
+  pub answers_once : own_phase h t ≡ h.posted_phase → is_open (acknowledge_phase h t) t ≡ false
   answers_once now = by_seat (seat_of h t) refl seated
     where
       by_seat : (o : Option Seat) → seat_of h t ≡ o → is_some o ≡ true → is_open (acknowledge_phase h t) t ≡ false
       by_seat None none some = absurd cc
-      by_seat (Some seat) here some = shut_then h t seat here (eq-eqb (phase_number seat.phase) (phase_number h.posted) (ap phase_number (sym (own_is h t seat here) ∙ now)))
+      by_seat (Some seat) here some = shut_then h t seat here (eq-eqb (phase_number seat.phase) (phase_number h.posted_phase) (ap phase_number (sym (own_is h t seat here) ∙ now)))

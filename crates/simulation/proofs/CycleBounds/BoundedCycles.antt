@@ -50,10 +50,10 @@ use Rattle.simulation.proofs.Runs.EventCorrespondence.{acknowledgement_keeps, co
 -- so the heap alone may make a difference to the work that is left
 heap_alone : (c d : MachineState) → d.tree ≡ c.tree → KeepsCollector c d → work_left d ≡ left_with c d.objects.spaces
 heap_alone c d tree keeps =
-    ap (λ (x : Phase). left_in x d.objects.spaces.new.words (static_count d) d.posts.has_round d.progress d.objects.spaces) keeps.posts.posted
-    ∙ ap (λ (u : Tree). left_in c.posts.posted d.objects.spaces.new.words (length (static_fields u)) d.posts.has_round d.progress d.objects.spaces) tree
-    ∙ ap (λ (b : Bool). left_in c.posts.posted d.objects.spaces.new.words (static_count c) b d.progress d.objects.spaces) keeps.posts.round
-    ∙ ap (λ (p : Progress). left_in c.posts.posted d.objects.spaces.new.words (static_count c) c.posts.has_round p d.objects.spaces) keeps.progress
+    ap (λ (x : Phase). left_in x d.objects.spaces.new.words (static_count d) d.posts.has_round d.progress d.objects.spaces) keeps.posts.posted_phase
+    ∙ ap (λ (u : Tree). left_in c.posts.posted_phase d.objects.spaces.new.words (length (static_fields u)) d.posts.has_round d.progress d.objects.spaces) tree
+    ∙ ap (λ (b : Bool). left_in c.posts.posted_phase d.objects.spaces.new.words (static_count c) b d.progress d.objects.spaces) keeps.posts.round
+    ∙ ap (λ (p : Progress). left_in c.posts.posted_phase d.objects.spaces.new.words (static_count c) c.posts.has_round p d.objects.spaces) keeps.progress
 
 -- and no step makes it more
 step_leaves : (c : MachineState) (s : State) → Represents c s → (t : ℕ) (after : MachineState × Report) → IsTransition c (Step t) after → (s' : State) → KeepsOwnRoom c s t after.0.objects s' → work_left after.0 ≤ work_left c
@@ -88,7 +88,7 @@ record Goes (c : MachineState) (s : State) (e : Event) (after : MachineState × 
 goes : (c : MachineState) (s : State) → Represents c s → (e : Event) (after : MachineState × Report) → IsTransition c e after → Goes c s e after
 goes c s r (Step t) after transition =
     let follows = step_follows each_alike c s r t after transition in
-    record { state = follows.0; next = follows.1; represents = follows.2; takes = takes_nothing c (Step t) after.0 after.1 refl refl (λ is. sym (step_keeps c t after transition).posts.posted ∙ is) (step_leaves c s r t after transition follows.0 follows.3) follows.3.large }
+    record { state = follows.0; next = follows.1; represents = follows.2; takes = takes_nothing c (Step t) after.0 after.1 refl refl (λ is. sym (step_keeps c t after transition).posts.posted_phase ∙ is) (step_leaves c s r t after transition follows.0 follows.3) follows.3.large }
 goes c s r (Ack t) after transition = record {
   state = s;
   next = refl;
@@ -124,7 +124,7 @@ module _ (tree : Tree) (limits : Limits) where
   -- after these events, the newest first
   record IsBounded (past : List (Event × Report)) (c : MachineState) : Type 0 where
     tree_is : c.tree ≡ tree
-    between : c.posts.posted ≡ Idle → work_since past ≡ 0
+    between : c.posts.posted_phase ≡ Idle → work_since past ≡ 0
     since : work_since past + work_left c ≤ bound c
     newest : work_of_newest past ≤ bound c
 
@@ -138,13 +138,13 @@ module _ (tree : Tree) (limits : Limits) where
 
     -- what was done since the last cycle, and what is left
     all_then : (work_of (e, after.1) + work_since past) + work_left after.0 ≤ bound after.0
-    all_then = elim (is_idle_or c.posts.posted) [
+    all_then = elim (is_idle_or c.posts.posted_phase) [
       | inl is ↦ (let anew = takes.anew is in let none = h.between is in let all = whole after.0 tree_then in omega (arith, anew, none, all))
       | inr going ↦ (let less = takes.less going in let since = h.since in let larger_now = takes.larger_stays in omega (arith, less, since, larger_now))
     ]
 
     left_then : ends_cycle e after.1 ≡ true → work_left after.0 ≡ 0
-    left_then ends = none_left after.0.posts.posted after.0.objects.spaces.new.words (static_count after.0) after.0.posts.has_round after.0.progress after.0.objects.spaces (takes.ended ends)
+    left_then ends = none_left after.0.posts.posted_phase after.0.objects.spaces.new.words (static_count after.0) after.0.posts.has_round after.0.progress after.0.objects.spaces (takes.ended ends)
 
     bounded_then : IsBounded ((e, after.1) ∷ past) after.0
     bounded_then = record {
@@ -154,7 +154,7 @@ module _ (tree : Tree) (limits : Limits) where
       newest = (let all = all_then in omega (arith, all));
     }
       where
-        by_end : (b : Bool) → ends_cycle e after.1 ≡ b → (ends_cycle e after.1 ≡ true) ⊎ ((c.posts.posted ≡ Idle) × (work_of (e, after.1) ≡ 0)) → (if b then 0 else work_of (e, after.1) + work_since past) ≡ 0
+        by_end : (b : Bool) → ends_cycle e after.1 ≡ b → (ends_cycle e after.1 ≡ true) ⊎ ((c.posts.posted_phase ≡ Idle) × (work_of (e, after.1) ≡ 0)) → (if b then 0 else work_of (e, after.1) + work_since past) ≡ 0
         by_end true is how = refl
         by_end false is (inl ends) = (let wrong : false ≡ true = sym is ∙ ends in absurd cc)
         by_end false is (inr idle) = (let none = h.between idle.0 in let work = idle.1 in omega (arith, none, work))
@@ -212,7 +212,7 @@ module _ (tree : Tree) (limits : Limits) where
       by_open true is = refl
       by_open false is =
           let few = sound.heap.blocks.new_words in
-          let cycle : is_of_cycle c.posts.posted ≡ false = sym sound.heap.blocks.held ∙ is in
+          let cycle : is_of_cycle c.posts.posted_phase ≡ false = sym sound.heap.blocks.held ∙ is in
           let few' : c.objects.spaces.new.words ≤ 0 = subst (λ t. c.objects.spaces.new.words ≤ (if t then c.limits.max_words else 0)) cycle few in
           let none : c.objects.spaces.new.words ≡ 0 = omega (arith, few') in
           sym (ap (λ w. max c.objects.spaces.old.words w) none ∙ max-eq_left {n = c.objects.spaces.old.words} {m = 0} (omega arith))

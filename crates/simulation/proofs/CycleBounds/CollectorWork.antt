@@ -55,7 +55,7 @@ waits : (c : MachineState) → TakesWork c Gc (c, Waiting)
 waits c = takes_nothing c Gc c Waiting refl refl (λ is. is) (omega arith) (record { old = refl; new = refl })
 
 -- one that works in a cycle and leaves less, and continues the cycle
-works : (c d : MachineState) → c.posts.posted ≢ Idle → d.posts.posted ≢ Idle → AreAsLarge c.objects.spaces d.objects.spaces → 1 + work_left d ≤ work_left c → TakesWork c Gc (d, Worked)
+works : (c d : MachineState) → c.posts.posted_phase ≢ Idle → d.posts.posted_phase ≢ Idle → AreAsLarge c.objects.spaces d.objects.spaces → 1 + work_left d ≤ work_left c → TakesWork c Gc (d, Worked)
 works c d going continues large less = record {
   less = λ is. less;
   anew = λ is. absurd (going is);
@@ -69,7 +69,7 @@ itself_large : (m : Spaces) → AreAsLarge m m
 itself_large m = record { old = refl; new = refl }
 
 -- a step of a phase leaves less of it, or the next phase is posted
-worked_takes : (c : MachineState) (x : Progress × Objects × Bool) → c.posts.posted ≢ Idle → phase_after c.posts.posted ≢ Idle → AreAsLarge c.objects.spaces x.1.spaces
+worked_takes : (c : MachineState) (x : Progress × Objects × Bool) → c.posts.posted_phase ≢ Idle → phase_after c.posts.posted_phase ≢ Idle → AreAsLarge c.objects.spaces x.1.spaces
     → (x.2 ≡ true → 1 + work_left (record c { progress = x.0; objects = x.1 }) ≤ work_left c) → 1 + work_left (next_posted c).0 ≤ work_left c → TakesWork c Gc (do_work c x)
 worked_takes c (p, o, true) going continues large step post = works c (record c { progress = p; objects = o }) going going large (step refl)
 worked_takes c (p, o, false) going continues large step post = works c (next_posted c).0 going continues (itself_large c.objects.spaces) post
@@ -438,4 +438,4 @@ module _ (c : MachineState) (statics : length c.statics ≡ static_count c) wher
 
   -- so does each event of the collector
   pub collector_takes : IsSound c → TakesWork c Gc (collect c)
-  collector_takes sound = either_takes c (all_seen c.posts) (work c.posts.posted c) (c, Waiting) (λ seen. work_takes c.posts.posted sound) (λ late. waits c)
+  collector_takes sound = either_takes c (all_seen c.posts) (work c.posts.posted_phase c) (c, Waiting) (λ seen. work_takes c.posts.posted_phase sound) (λ late. waits c)

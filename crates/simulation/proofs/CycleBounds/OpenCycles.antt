@@ -47,7 +47,7 @@ pub open_then : (xs : List (Event × Report)) (e : Event) (r : Report) → is_cy
 open_then xs e r = ap (λ l. nat_lt 0 (work_since l)) (reverse-append xs ((e, r) ∷ [])) ∙ open_by (ends_cycle e r) (is_working e r) (work_since (reverse xs))
 
 -- a phase of a cycle is posted then too
-posted_then : (c : MachineState) (x : MachineState × Report) → IsCollected c x → (b : Bool) → is_of_cycle c.posts.posted ≡ b → is_of_cycle x.0.posts.posted ≡ then_open (ends_cycle Gc x.1) (is_working Gc x.1) b
+posted_then : (c : MachineState) (x : MachineState × Report) → IsCollected c x → (b : Bool) → is_of_cycle c.posts.posted_phase ≡ b → is_of_cycle x.0.posts.posted_phase ≡ then_open (ends_cycle Gc x.1) (is_working Gc x.1) b
 posted_then c _ waits b is = is
 posted_then c _ (works d of) b is = of
 posted_then c _ (ends d last idle spaces) b is = ap is_of_cycle idle
@@ -61,7 +61,7 @@ gc_is c x transition = subst (IsCollected c) (sym transition) (collected_is c)
 -- a machine represents the state, and a phase of a cycle is posted where the events leave one open
 pub record IsBefore (done : List (Event × Report)) (c : MachineState) (s : State) : Type 0 where
   pub represents : Represents c s
-  pub posted : is_of_cycle c.posts.posted ≡ is_cycle_open done
+  pub posted_phase : is_of_cycle c.posts.posted_phase ≡ is_cycle_open done
 
 module _ (each : InstructionsAreAlike) where
   pub before_goes : (done : List (Event × Report)) (e : Event) (r : Report) (c next : MachineState) (s after : State) → IsBefore done c s → IsTransition c e (next, r) → IsNext c.tree c.limits s e r after → IsBefore (done ++ (e, r) ∷ []) next after
@@ -69,15 +69,15 @@ module _ (each : InstructionsAreAlike) where
       let f = step_follows each c s h.represents t (next, r) transition in
       record {
         represents = subst (λ (u : State). Represents next u) (same_after r r f.0 after (sym f.1 ∙ is)) f.2;
-        posted = ap is_of_cycle (step_posted c t (next, r) transition) ∙ (h.posted ∙ sym (open_then done (Step t) r));
+        posted_phase = ap is_of_cycle (step_posted c t (next, r) transition) ∙ (h.posted_phase ∙ sym (open_then done (Step t) r));
       }
   before_goes done (Ack t) r c next s after h transition is = record {
     represents = subst (λ (u : State). Represents next u) (sym is) (acknowledgement_keeps c s h.represents t (next, r) transition);
-    posted = ap (λ (x : MachineState × Report). is_of_cycle x.0.posts.posted) transition ∙ (ap is_of_cycle (acknowledged_posted c t) ∙ (h.posted ∙ sym (open_then done (Ack t) r)));
+    posted_phase = ap (λ (x : MachineState × Report). is_of_cycle x.0.posts.posted_phase) transition ∙ (ap is_of_cycle (acknowledged_posted c t) ∙ (h.posted_phase ∙ sym (open_then done (Ack t) r)));
   }
   before_goes done Gc r c next s after h transition is = record {
     represents = subst (λ (u : State). Represents next u) (sym is) (collection_keeps c s h.represents (next, r) transition);
-    posted = posted_then c (next, r) (gc_is c (next, r) transition) (is_cycle_open done) h.posted ∙ sym (open_then done Gc r);
+    posted_phase = posted_then c (next, r) (gc_is c (next, r) transition) (is_cycle_open done) h.posted_phase ∙ sym (open_then done Gc r);
   }
 
 -- ---- the initial state
@@ -86,7 +86,7 @@ module _ (each : InstructionsAreAlike) where
 pub record IsOpened (tree : Tree) (limits : Limits) (c : MachineState) : Type 0 where
   pub tree_is : c.tree ≡ tree
   pub limits_are : c.limits ≡ limits
-  pub idle : c.posts.posted ≡ Idle
+  pub idle : c.posts.posted_phase ≡ Idle
 
 pub opened_is : (tree : Tree) (limits : Limits) (c : MachineState) → initial_machine_state tree limits ≡ Some c → IsOpened tree limits c
 opened_is tree limits c e = by_entry (slice_get (entry_points tree) 0) e

@@ -51,7 +51,7 @@ static_count c = length (static_fields c.tree)
 
 -- with other objects, and as it is
 abbrev pub left_with : MachineState → Spaces → ℕ
-left_with c m = left_in c.posts.posted m.new.words (static_count c) c.posts.has_round c.progress m
+left_with c m = left_in c.posts.posted_phase m.new.words (static_count c) c.posts.has_round c.progress m
 
 abbrev pub work_left : MachineState → ℕ
 work_left c = left_with c c.objects.spaces
@@ -67,10 +67,10 @@ cycle_work c = 10 + static_count c + 13 * larger c.objects.spaces
 -- In a cycle an event that works takes one of them at least, and one that ends the cycle is the last. Between cycles none works but the one that opens a cycle,
 -- which is the first of all that the cycle may have. No event makes the larger block smaller.
 pub record TakesWork (c : MachineState) (e : Event) (after : MachineState × Report) : Type 0 where
-  pub less : c.posts.posted ≢ Idle → work_of (e, after.1) + work_left after.0 ≤ work_left c
-  pub anew : c.posts.posted ≡ Idle → work_of (e, after.1) + work_left after.0 ≤ cycle_work after.0
-  pub between : after.0.posts.posted ≡ Idle → (ends_cycle e after.1 ≡ true) ⊎ ((c.posts.posted ≡ Idle) × (work_of (e, after.1) ≡ 0))
-  pub ended : ends_cycle e after.1 ≡ true → after.0.posts.posted ≡ Idle
+  pub less : c.posts.posted_phase ≢ Idle → work_of (e, after.1) + work_left after.0 ≤ work_left c
+  pub anew : c.posts.posted_phase ≡ Idle → work_of (e, after.1) + work_left after.0 ≤ cycle_work after.0
+  pub between : after.0.posts.posted_phase ≡ Idle → (ends_cycle e after.1 ≡ true) ⊎ ((c.posts.posted_phase ≡ Idle) × (work_of (e, after.1) ≡ 0))
+  pub ended : ends_cycle e after.1 ≡ true → after.0.posts.posted_phase ≡ Idle
   pub larger_stays : larger c.objects.spaces ≤ larger after.0.objects.spaces
 
 -- between cycles nothing is left
@@ -82,10 +82,10 @@ pub larger_same : (m n : Spaces) → AreAsLarge m n → larger m ≤ larger n
 larger_same m n same = subst (λ w. larger m ≤ max w n.new.words) (sym same.old) (subst (λ w. larger m ≤ max m.old.words w) (sym same.new) (omega arith))
 
 -- an event that doesn't work takes nothing
-pub takes_nothing : (c : MachineState) (e : Event) (d : MachineState) (r : Report) → work_of (e, r) ≡ 0 → ends_cycle e r ≡ false → (d.posts.posted ≡ Idle → c.posts.posted ≡ Idle) → work_left d ≤ work_left c → AreAsLarge c.objects.spaces d.objects.spaces → TakesWork c e (d, r)
+pub takes_nothing : (c : MachineState) (e : Event) (d : MachineState) (r : Report) → work_of (e, r) ≡ 0 → ends_cycle e r ≡ false → (d.posts.posted_phase ≡ Idle → c.posts.posted_phase ≡ Idle) → work_left d ≤ work_left c → AreAsLarge c.objects.spaces d.objects.spaces → TakesWork c e (d, r)
 takes_nothing c e d r idles stays posts less large = record {
   less = λ going. omega (arith, idles, less);
-  anew = λ is. (let none = none_left c.posts.posted c.objects.spaces.new.words (static_count c) c.posts.has_round c.progress c.objects.spaces is in omega (arith, idles, less, none));
+  anew = λ is. (let none = none_left c.posts.posted_phase c.objects.spaces.new.words (static_count c) c.posts.has_round c.progress c.objects.spaces is in omega (arith, idles, less, none));
   between = λ is. inr (posts is, idles);
   ended = λ ends. absurd (false_is (sym stays ∙ ends));
   larger_stays = larger_same c.objects.spaces d.objects.spaces large;
@@ -108,13 +108,13 @@ heap_matters ThreadFlip words statics has_round p m n h = omega arith
 heap_matters Reclaim words statics has_round p m n h = omega arith
 
 -- where the new block is as large
-pub heap_leaves : (c : MachineState) (n : Spaces) → n.new.words ≡ c.objects.spaces.new.words → (c.posts.posted ≡ Mark → AreGreyThere c.objects.spaces × LeavesNoMore c.objects.spaces n) → left_with c n ≤ work_left c
+pub heap_leaves : (c : MachineState) (n : Spaces) → n.new.words ≡ c.objects.spaces.new.words → (c.posts.posted_phase ≡ Mark → AreGreyThere c.objects.spaces × LeavesNoMore c.objects.spaces n) → left_with c n ≤ work_left c
 heap_leaves c n same h =
-    subst (λ w. left_in c.posts.posted w (static_count c) c.posts.has_round c.progress n ≤ work_left c) (sym same)
-    (heap_matters c.posts.posted c.objects.spaces.new.words (static_count c) c.posts.has_round c.progress c.objects.spaces n h)
+    subst (λ w. left_in c.posts.posted_phase w (static_count c) c.posts.has_round c.progress n ≤ work_left c) (sym same)
+    (heap_matters c.posts.posted_phase c.objects.spaces.new.words (static_count c) c.posts.has_round c.progress c.objects.spaces n h)
 
 -- in Mark each grey object is there
-pub grey_there : (c : MachineState) → IsSound c → c.posts.posted ≡ Mark → AreGreyThere c.objects.spaces
+pub grey_there : (c : MachineState) → IsSound c → c.posts.posted_phase ≡ Mark → AreGreyThere c.objects.spaces
 grey_there c sound marking =
     All-weaker (λ a. is_marked_old c.objects.spaces a ≡ true) (λ a. is_old c.objects.spaces a ≡ true) (λ a dark. ap is_some (marked_cell c.objects.spaces a dark).1) c.objects.spaces.grey (sound.heap.marks marking).listed
 
@@ -129,7 +129,7 @@ early_own HeapFlip e = absurd cc
 early_own ThreadFlip e = absurd cc
 early_own Reclaim e = absurd cc
 
-pub own_is_early : (h : Handshakes) → AreClose h → h.posted ≡ Mark → (t : ℕ) → is_before_copies (own_phase h t) ≡ true
+pub own_is_early : (h : Handshakes) → AreClose h → h.posted_phase ≡ Mark → (t : ℕ) → is_before_copies (own_phase h t) ≡ true
 own_is_early h close marking t = by_seat (seat_of h t) refl
   where
     by_closeness : (s : Seat) → IsClose h s → is_before_copies s.phase ≡ true
@@ -162,9 +162,9 @@ acknowledgement_large c t =
         (let uses = all_marked_uses (thread_values (slice_get c.threads t)) c.objects in record { old = uses.old_words; new = uses.new_words })
 
 -- and the posted phase
-pub acknowledgement_posted : (c : MachineState) (t : ℕ) → (with_acknowledgement c t).0.posts.posted ≡ c.posts.posted
+pub acknowledgement_posted : (c : MachineState) (t : ℕ) → (with_acknowledgement c t).0.posts.posted_phase ≡ c.posts.posted_phase
 acknowledgement_posted c t =
-    after_acknowledgement c t (λ d. d.posts.posted ≡ c.posts.posted)
+    after_acknowledgement c t (λ d. d.posts.posted_phase ≡ c.posts.posted_phase)
     (record {
       nothing = refl;
       marks = λ seat here opened seen marking. refl;

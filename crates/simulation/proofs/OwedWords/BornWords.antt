@@ -192,9 +192,9 @@ module _ (least all : ℕ) where
     flipped_within (p, statics, true) = h
     flipped_within (p, statics, false) = h
 
-    cleared_within : c.posts.posted ≡ Reclaim → (x : Progress × Objects × Bool) → AreWithin least all x.1.spaces → Within (clear_object c x)
-    cleared_within posted (p, o, true) done = done
-    cleared_within posted (p, o, false) done = record { words = omega (arith, h.words, sound.heap.blocks.grows (ap is_of_cycle posted)); old = h.new; new = omega arith }
+    cleared_within : c.posts.posted_phase ≡ Reclaim → (x : Progress × Objects × Bool) → AreWithin least all x.1.spaces → Within (clear_object c x)
+    cleared_within posted_phase (p, o, true) done = done
+    cleared_within posted_phase (p, o, false) done = record { words = omega (arith, h.words, sound.heap.blocks.grows (ap is_of_cycle posted_phase)); old = h.new; new = omega arith }
 
     mark_within : Within (mark_work c)
     mark_within =
@@ -203,7 +203,7 @@ module _ (least all : ℕ) where
         (marked_within (marked_on c.tree c.progress c.objects) (uses_within c.objects.spaces _ (mark_uses c.tree c.progress c.objects c.objects.spaces.grey (oldest_cell c.objects c.objects.spaces.grey)) h))
         (uses_within c.objects.spaces _ (all_marked_uses c.statics c.objects) h)
 
-    work_within : (posted : Phase) → c.posts.posted ≡ posted → Within (work posted c)
+    work_within : (posted_phase : Phase) → c.posts.posted_phase ≡ posted_phase → Within (work posted_phase c)
     work_within Idle is = record { words = h.words; old = h.old; new = omega arith }
     work_within Mark is = mark_within
     work_within Allocate is =
@@ -220,7 +220,7 @@ module _ (least all : ℕ) where
         (uses_within c.objects.spaces _ (clear_uses c.progress c.objects (found_in is_noted c.objects.spaces.new (c.objects.spaces.new.start + c.progress.cursor))) h)
 
     collected_within : Within (collect c)
-    collected_within = either Within (all_seen c.posts) (work c.posts.posted c) (c, Waiting) (work_within c.posts.posted refl) h
+    collected_within = either Within (all_seen c.posts) (work c.posts.posted_phase c) (c, Waiting) (work_within c.posts.posted_phase refl) h
 
 -- what is no step keeps within births
 pub collection_within : (c : MachineState) (s : State) → Represents c s → IsWithinBirths c s → (after : MachineState × Report) → IsTransition c Gc after → AreWithin c.limits.words (words_of_all c.tree s.objects) after.0.objects.spaces

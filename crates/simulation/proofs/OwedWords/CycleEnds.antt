@@ -55,7 +55,7 @@ module _ (each : InstructionsAreAlike) where
       (Inside : ℕ → Type 0) (is_inside : ℕ → Bool) (decoded : (n : ℕ) → Inside n → is_inside n ≡ true) (inside : (n : ℕ) → is_inside n ≡ true → Inside n) where
     -- the cycle is over, and no other one begins
     record IsOver (done : List (Event × Report)) (c : MachineState) : Type 0 where
-      idle : is_of_cycle c.posts.posted ≡ false
+      idle : is_of_cycle c.posts.posted_phase ≡ false
       some : 0 < length done
       closed_now : is_cycle_open (earlier ++ done) ≡ false
 
@@ -88,7 +88,7 @@ module _ (each : InstructionsAreAlike) where
     within_goes done rest (Step t) r c next s after split (inr o) transition is =
         inr (record { idle = ap is_of_cycle (step_posted c t (next, r) transition) ∙ o.idle; some = some_done done (Step t, r); closed_now = open_after done (Step t) r ∙ o.closed_now })
     within_goes done rest (Ack t) r c next s after split (inr o) transition is = inr (record {
-      idle = ap (λ (x : MachineState × Report). is_of_cycle x.0.posts.posted) transition ∙ (ap is_of_cycle (acknowledged_posted c t) ∙ o.idle);
+      idle = ap (λ (x : MachineState × Report). is_of_cycle x.0.posts.posted_phase) transition ∙ (ap is_of_cycle (acknowledged_posted c t) ∙ o.idle);
       some = some_done done (Ack t, r);
       closed_now = open_after done (Ack t) r ∙ o.closed_now;
     })
@@ -97,13 +97,13 @@ module _ (each : InstructionsAreAlike) where
     -- ---- its end
 
     -- the collector was in its last phase, and the new block is the only one then
-    ended : (c : MachineState) (x : MachineState × Report) → IsCollected c x → x.1 ≡ CycleDone → (c.posts.posted ≡ Reclaim) × (x.0.objects.spaces ≡ close_cycle c.objects.spaces)
+    ended : (c : MachineState) (x : MachineState × Report) → IsCollected c x → x.1 ≡ CycleDone → (c.posts.posted_phase ≡ Reclaim) × (x.0.objects.spaces ≡ close_cycle c.objects.spaces)
     ended c _ waits e = absurd cc
     ended c _ (works d of) e = absurd cc
     ended c _ (ends d last idle spaces) e = (last, spaces)
 
     -- each object of the new block has words that are owed
-    owed_words : (c : MachineState) (s : State) → c.posts.posted ≡ Reclaim → IsOwedBy Inside is_inside decoded inside c s → (names : List ℕ) → ((n : ℕ) → n < length s.objects → is_inside n ≡ true → is_listed names n ≡ true) →
+    owed_words : (c : MachineState) (s : State) → c.posts.posted_phase ≡ Reclaim → IsOwedBy Inside is_inside decoded inside c s → (names : List ℕ) → ((n : ℕ) → n < length s.objects → is_inside n ≡ true → is_listed names n ≡ true) →
         used_words c.objects.spaces.new.cells ≤ sum_by (λ n. words_of_object c.tree (slice_get s.objects n)) names
     owed_words c s last h names listed =
         let own = normally c s h.represents in
@@ -187,13 +187,13 @@ module _ (each : InstructionsAreAlike) (tree : Tree) (accepted : IsAccepted tree
   abbrev begun : OwnEffect tree limits all o.now h.last IsBefore (λ done rest e r d next s after split k transition is. before_goes each done e r d next s after k transition is) o.earlier o.later [] o.first
   begun =
       walk tree limits all o.now h.last IsBefore (λ done rest e r d next s after split k transition is. before_goes each done e r d next s after k transition is) o.earlier o.later [] h.machine o.first at_first
-      (record { represents = first_represents; posted = ap is_of_cycle opened.idle })
+      (record { represents = first_represents; posted_phase = ap is_of_cycle opened.idle })
 
   same_before : begun.state ≡ o.before
   same_before = same_state (step_reports o.earlier) (step_reports o.earlier) begun.state o.before (sym begun.ran ∙ o.began)
 
-  none_open : begun.machine_state.posts.posted ≡ Idle
-  none_open = idle_of begun.machine_state.posts.posted (begun.holds.posted ∙ o.split.none_was_open)
+  none_open : begun.machine_state.posts.posted_phase ≡ Idle
+  none_open = idle_of begun.machine_state.posts.posted_phase (begun.holds.posted_phase ∙ o.split.none_was_open)
 
   abbrev owes : OwesWords tree begun.state o.now words
   owes = subst (λ (u : State). OwesWords tree u o.now words) (sym same_before) o.owes
@@ -227,7 +227,7 @@ module _ (each : InstructionsAreAlike) (tree : Tree) (accepted : IsAccepted tree
   same_now : come.state ≡ o.now
   same_now = sym on.is_next ∙ same_state [] [] on.after o.now on.there.runs
 
-  done : (come.machine_state.posts.posted ≡ Reclaim) × (on.next.objects.spaces ≡ close_cycle come.machine_state.objects.spaces)
+  done : (come.machine_state.posts.posted_phase ≡ Reclaim) × (on.next.objects.spaces ≡ close_cycle come.machine_state.objects.spaces)
   done = ended each o.earlier o.later o.split.newest (IsReachedOrUnborn begun.state) owed (owed_decoded tree begun.state o.now words owes) (owed_is tree begun.state o.now words owes) come.machine_state (on.next, CycleDone) (gc_is come.machine_state (on.next, CycleDone) on.transition) refl
 
   new_is_owed : used_words come.machine_state.objects.spaces.new.cells ≤ words

@@ -46,7 +46,7 @@ is_kept ThreadFlip m a = is_new m a
 is_kept Reclaim m a = is_new m a
 
 -- it is live
-pub kept_is_live : (posted : Phase) (m : Spaces) (a : Addr) → is_kept posted m a ≡ true → is_live posted m a ≡ true
+pub kept_is_live : (posted_phase : Phase) (m : Spaces) (a : Addr) → is_kept posted_phase m a ≡ true → is_live posted_phase m a ≡ true
 kept_is_live Idle m a h = never h
 kept_is_live Mark m a h = or_right (is_permanent a) (is_old m a) (marked_is_old m a h)
 kept_is_live Allocate m a h = or_right (is_permanent a) (is_marked_old m a) h
@@ -57,10 +57,10 @@ kept_is_live ThreadFlip m a h = or_right (is_permanent a) (is_marked_old m a || 
 kept_is_live Reclaim m a h = or_right (is_permanent a) (is_new m a) h
 
 -- and may be held by each thread
-pub kept_is_held : (posted : Phase) (has_round : Bool) (m : Spaces) (hold : Hold) → HoldMeans posted has_round m hold → (a : Addr) → is_kept posted m a ≡ true → passes hold posted m a ≡ true
-kept_is_held posted has_round m AnyLive means a h = kept_is_live posted m a h
-kept_is_held posted has_round m MarkedOnly means a h = or_right (is_permanent a) (is_marked_old m a) (subst (λ x. is_kept x m a ≡ true) means.0 h)
-kept_is_held posted has_round m NewOnly means a h = or_right (is_permanent a) (is_new m a) (by_phase posted means h)
+pub kept_is_held : (posted_phase : Phase) (has_round : Bool) (m : Spaces) (hold : Hold) → HoldMeans posted_phase has_round m hold → (a : Addr) → is_kept posted_phase m a ≡ true → passes hold posted_phase m a ≡ true
+kept_is_held posted_phase has_round m AnyLive means a h = kept_is_live posted_phase m a h
+kept_is_held posted_phase has_round m MarkedOnly means a h = or_right (is_permanent a) (is_marked_old m a) (subst (λ x. is_kept x m a ≡ true) means.0 h)
+kept_is_held posted_phase has_round m NewOnly means a h = or_right (is_permanent a) (is_new m a) (by_phase posted_phase means h)
   where
     by_phase : (x : Phase) → is_new_live x ≡ true → is_kept x m a ≡ true → is_new m a ≡ true
     by_phase Idle late k = never k
@@ -73,8 +73,8 @@ kept_is_held posted has_round m NewOnly means a h = or_right (is_permanent a) (i
     by_phase Reclaim late k = k
 
 -- it is either marked or new
-pub kept_cases : {A : Type 0} (posted : Phase) (m : Spaces) (a : Addr) → is_kept posted m a ≡ true →
-    (is_marked_old m a ≡ true → ((n : Spaces) → is_kept posted n a ≡ is_marked_old n a) → A) → (is_new m a ≡ true → ((n : Spaces) → is_kept posted n a ≡ is_new n a) → A) → A
+pub kept_cases : {A : Type 0} (posted_phase : Phase) (m : Spaces) (a : Addr) → is_kept posted_phase m a ≡ true →
+    (is_marked_old m a ≡ true → ((n : Spaces) → is_kept posted_phase n a ≡ is_marked_old n a) → A) → (is_new m a ≡ true → ((n : Spaces) → is_kept posted_phase n a ≡ is_new n a) → A) → A
 kept_cases Idle m a h marked new = never h
 kept_cases Mark m a h marked new = marked h (λ n. refl)
 kept_cases Allocate m a h marked new = marked h (λ n. refl)
@@ -103,7 +103,7 @@ pub record IsCopyOfMarked (m : Spaces) (y : Addr) : Type 0 where
 
 -- each new object is the copy of a marked one then
 abbrev pub AreCopiesOfMarked : Phase → Spaces → Type 0
-AreCopiesOfMarked posted m = is_copying posted ≡ true → (y : Addr) → is_new m y ≡ true → IsCopyOfMarked m y
+AreCopiesOfMarked posted_phase m = is_copying posted_phase ≡ true → (y : Addr) → is_new m y ≡ true → IsCopyOfMarked m y
 
 -- ---- names
 
@@ -112,17 +112,17 @@ abbrev pub IsNamed : Names → Addr → Type 0
 IsNamed name a = (n : ObjectName) × (name a.number ≡ Some n)
 
 -- From some blocks to others, where a phase is posted: all names are of some kind, and what is kept was kept before or has a name.
-pub record KeepsNames (posted : Phase) (IsKnown : ObjectName → Type 0) (first m : Spaces) (name : Names) : Type 0 where
+pub record KeepsNames (posted_phase : Phase) (IsKnown : ObjectName → Type 0) (first m : Spaces) (name : Names) : Type 0 where
   pub known : (a : ℕ) (n : ObjectName) → name a ≡ Some n → IsKnown n
-  pub kept : (a : Addr) → is_kept posted m a ≡ true → (is_kept posted first a ≡ true) ⊎ IsNamed name a
-  pub copies : AreCopiesOfMarked posted first → AreCopiesOfMarked posted m
+  pub kept : (a : Addr) → is_kept posted_phase m a ≡ true → (is_kept posted_phase first a ≡ true) ⊎ IsNamed name a
+  pub copies : AreCopiesOfMarked posted_phase first → AreCopiesOfMarked posted_phase m
 
 -- where the same addresses are old, marked and new
-module _ (posted : Phase) (m n : Spaces) (alike : AreAlike m n) where
-  pub kept_alike : (a : Addr) → is_kept posted n a ≡ true → is_kept posted m a ≡ true
-  kept_alike a h = kept_cases posted n a h (λ marked each. each m ∙ (sym (alike.marked a) ∙ marked)) (λ new each. each m ∙ (sym (alike.new a) ∙ new))
+module _ (posted_phase : Phase) (m n : Spaces) (alike : AreAlike m n) where
+  pub kept_alike : (a : Addr) → is_kept posted_phase n a ≡ true → is_kept posted_phase m a ≡ true
+  kept_alike a h = kept_cases posted_phase n a h (λ marked each. each m ∙ (sym (alike.marked a) ∙ marked)) (λ new each. each m ∙ (sym (alike.new a) ∙ new))
 
-  pub copies_alike : AreCopiesOfMarked posted m → AreCopiesOfMarked posted n
+  pub copies_alike : AreCopiesOfMarked posted_phase m → AreCopiesOfMarked posted_phase n
   copies_alike are copying y new =
       let x = are copying y (sym (alike.new y) ∙ new) in
       record { old = x.old; marked = alike.marked x.old ∙ x.marked; copy = alike.forwards x.old ∙ x.copy }
@@ -149,14 +149,14 @@ module _ (m n : Spaces) (darker : AreDarker m n) where
       let d = darker.kept a c.0 c.1 in
       mark_is n a d.0 d.1 ∙ d.2.marked c.2
 
-  pub copies_darker : (posted : Phase) → AreCopiesOfMarked posted m → AreCopiesOfMarked posted n
-  copies_darker posted are copying y new =
+  pub copies_darker : (posted_phase : Phase) → AreCopiesOfMarked posted_phase m → AreCopiesOfMarked posted_phase n
+  copies_darker posted_phase are copying y new =
       let x = are copying y (sym (darker_new y) ∙ new) in
       record { old = x.old; marked = darker_marked x.old x.marked; copy = darker_forward x.old ∙ x.copy }
 
   -- what is kept then was kept before, or was marked since
-  pub kept_darker : (posted : Phase) (a : Addr) → is_kept posted n a ≡ true → (is_kept posted m a ≡ true) ⊎ ((is_marked_old n a ≡ true) × (is_marked_old m a ≡ true → is_kept posted m a ≡ true))
-  kept_darker posted a h = kept_cases posted n a h (λ marked each. inr (marked, λ was. each m ∙ was)) (λ new each. inl (each m ∙ (sym (darker_new a) ∙ new)))
+  pub kept_darker : (posted_phase : Phase) (a : Addr) → is_kept posted_phase n a ≡ true → (is_kept posted_phase m a ≡ true) ⊎ ((is_marked_old n a ≡ true) × (is_marked_old m a ≡ true → is_kept posted_phase m a ≡ true))
+  kept_darker posted_phase a h = kept_cases posted_phase n a h (λ marked each. inr (marked, λ was. each m ∙ was)) (λ new each. inl (each m ∙ (sym (darker_new a) ∙ new)))
 
 -- an old object is marked where it was marked, or where the mark was of it
 pub mark_adds : (m : Spaces) (q a : Addr) → is_marked_old (mark m q).0 a ≡ true → (is_marked_old m a ≡ true) ⊎ ((q ≡ a) × (is_old m a ≡ true))
@@ -179,18 +179,18 @@ value_mark_adds o (Int32 n) a h = inl h
 value_mark_adds o (Int64 n) a h = inl h
 value_mark_adds o (Native n) a h = inl h
 
-module _ (own posted : Phase) (o : Objects) (spaces : AreSpaces o.spaces) (v : Value) where
+module _ (own posted_phase : Phase) (o : Objects) (spaces : AreSpaces o.spaces) (v : Value) where
   -- what a store marks first, by the phase of the thread
-  pub first_adds : (a : Addr) → is_kept posted (marked_first own o v).spaces a ≡ true → (is_kept posted o.spaces a ≡ true) ⊎ ((v ≡ Ref a) × (is_old o.spaces a ≡ true))
+  pub first_adds : (a : Addr) → is_kept posted_phase (marked_first own o v).spaces a ≡ true → (is_kept posted_phase o.spaces a ≡ true) ⊎ ((v ≡ Ref a) × (is_old o.spaces a ≡ true))
   first_adds a h = by_own own h
     where
-      by_mark : is_kept posted (with_marked o v).spaces a ≡ true → (is_kept posted o.spaces a ≡ true) ⊎ ((v ≡ Ref a) × (is_old o.spaces a ≡ true))
-      by_mark k = elim (kept_darker o.spaces (with_marked o v).spaces (AreDarker-with_marked o spaces v) posted a k) [
+      by_mark : is_kept posted_phase (with_marked o v).spaces a ≡ true → (is_kept posted_phase o.spaces a ≡ true) ⊎ ((v ≡ Ref a) × (is_old o.spaces a ≡ true))
+      by_mark k = elim (kept_darker o.spaces (with_marked o v).spaces (AreDarker-with_marked o spaces v) posted_phase a k) [
         | inl was ↦ inl was
         | inr new ↦ elim (value_mark_adds o v a new.0) [ inl was ↦ inl (new.1 was) | inr here ↦ inr here ]
       ]
 
-      by_own : (x : Phase) → is_kept posted (marked_first x o v).spaces a ≡ true → (is_kept posted o.spaces a ≡ true) ⊎ ((v ≡ Ref a) × (is_old o.spaces a ≡ true))
+      by_own : (x : Phase) → is_kept posted_phase (marked_first x o v).spaces a ≡ true → (is_kept posted_phase o.spaces a ≡ true) ⊎ ((v ≡ Ref a) × (is_old o.spaces a ≡ true))
       by_own Idle k = inl k
       by_own Mark k = by_mark k
       by_own Allocate k = inl k
@@ -201,12 +201,12 @@ module _ (own posted : Phase) (o : Objects) (spaces : AreSpaces o.spaces) (v : V
       by_own Reclaim k = inl k
 
   -- leaves copies
-  pub first_copies : AreCopiesOfMarked posted o.spaces → AreCopiesOfMarked posted (marked_first own o v).spaces
+  pub first_copies : AreCopiesOfMarked posted_phase o.spaces → AreCopiesOfMarked posted_phase (marked_first own o v).spaces
   first_copies are = by_own own
     where
-      by_own : (x : Phase) → AreCopiesOfMarked posted (marked_first x o v).spaces
+      by_own : (x : Phase) → AreCopiesOfMarked posted_phase (marked_first x o v).spaces
       by_own Idle = are
-      by_own Mark = copies_darker o.spaces (with_marked o v).spaces (AreDarker-with_marked o spaces v) posted are
+      by_own Mark = copies_darker o.spaces (with_marked o v).spaces (AreDarker-with_marked o spaces v) posted_phase are
       by_own Allocate = are
       by_own Copy = are
       by_own PreFlip = are
@@ -276,8 +276,8 @@ module _ (m : Spaces) (spaces : AreSpaces m) (k : Kind) (n : ℕ) where
       ]
 
 -- no thread that bears in the new block alone is near the phases in which objects get their copies
-not_in_new : (own posted : Phase) (is_open : Bool) → IsNear own posted → is_copying posted ≡ true → birth_space_of own is_open ≡ InNew → ⊥
-not_in_new own posted is_open near copying = by_near near
+not_in_new : (own posted_phase : Phase) (is_open : Bool) → IsNear own posted_phase → is_copying posted_phase ≡ true → birth_space_of own is_open ≡ InNew → ⊥
+not_in_new own posted_phase is_open near copying = by_near near
   where
     at_own : (x : Phase) (t : Bool) → is_copying x ≡ true → birth_space_of x t ≡ InNew → ⊥
     at_own Idle t e h = never e
@@ -299,11 +299,11 @@ not_in_new own posted is_open near copying = by_near near
     at_next ThreadFlip t e h = never e
     at_next Reclaim t e h = never e
 
-    by_near : IsNear own posted → birth_space_of own is_open ≡ InNew → ⊥
+    by_near : IsNear own posted_phase → birth_space_of own is_open ≡ InNew → ⊥
     by_near (inl is) = at_own own is_open (ap is_copying is ∙ copying)
     by_near (inr is) = at_next own is_open (ap is_copying is ∙ copying)
 
-module _ (own posted : Phase) (near : IsNear own posted) (o : Objects) (spaces : AreSpaces o.spaces) (k : Kind) (n : ℕ) (o' : Objects) (a : Addr) (e : ◌≡◌ {A = Objects × Option Addr} (object_born own o k n) (o', Some a)) where
+module _ (own posted_phase : Phase) (near : IsNear own posted_phase) (o : Objects) (spaces : AreSpaces o.spaces) (k : Kind) (n : ℕ) (o' : Objects) (a : Addr) (e : ◌≡◌ {A = Objects × Option Addr} (object_born own o k n) (o', Some a)) where
   abbrev space : BirthSpace
   space = birth_space_of own o.spaces.is_open
 
@@ -327,13 +327,13 @@ module _ (own posted : Phase) (near : IsNear own posted) (o : Objects) (spaces :
       ]
 
   -- so is what is kept
-  pub birth_adds : (x : Addr) → is_kept posted o'.spaces x ≡ true → (is_kept posted o.spaces x ≡ true) ⊎ ((x ≡ a) ⊎ (other_of (cell_in o'.spaces.old a) ≡ Some x))
-  birth_adds x h = kept_cases posted o'.spaces x h
+  pub birth_adds : (x : Addr) → is_kept posted_phase o'.spaces x ≡ true → (is_kept posted_phase o.spaces x ≡ true) ⊎ ((x ≡ a) ⊎ (other_of (cell_in o'.spaces.old a) ≡ Some x))
+  birth_adds x h = kept_cases posted_phase o'.spaces x h
       (λ marked each. elim (marked_before_birth x marked) [ inl was ↦ inl (each o.spaces ∙ was) | inr here ↦ inr (inl here) ])
       (λ new each. elim (new_before_birth x new) [ inl was ↦ inl (each o.spaces ∙ was) | inr here ↦ inr here ])
 
-  pub birth_copies : AreCopiesOfMarked posted o.spaces → AreCopiesOfMarked posted o'.spaces
+  pub birth_copies : AreCopiesOfMarked posted_phase o.spaces → AreCopiesOfMarked posted_phase o'.spaces
   birth_copies are copying =
       let g = granted own o k n o' a e in
       subst (λ (z : Objects). (y : Addr) → is_new z.spaces y ≡ true → IsCopyOfMarked z.spaces y) g.1
-      (copies_born o.spaces spaces k n (birth_space_of own o.spaces.is_open) (not_in_new own posted o.spaces.is_open near copying) (are copying))
+      (copies_born o.spaces spaces k n (birth_space_of own o.spaces.is_open) (not_in_new own posted_phase o.spaces.is_open near copying) (are copying))

@@ -61,18 +61,18 @@ use Rattle.simulation.proofs.CollectorEvents.RootMarks.{status_values, thread_ma
 
 -- What is kept has a name; and while objects get their copies, each new one is the copy of a marked one.
 pub record HasNames (name : Names) (c : MachineState) : Type 0 where
-  pub kept : (a : Addr) → is_kept c.posts.posted c.objects.spaces a ≡ true → IsNamed name a
-  pub copies : AreCopiesOfMarked c.posts.posted c.objects.spaces
+  pub kept : (a : Addr) → is_kept c.posts.posted_phase c.objects.spaces a ≡ true → IsNamed name a
+  pub copies : AreCopiesOfMarked c.posts.posted_phase c.objects.spaces
 
 -- normal names that what is live keeps
 pub record Renames (name : Names) (c : MachineState) (names : Names) : Type 0 where
-  pub live : (a : ℕ) (n : ObjectName) → is_live c.posts.posted c.objects.spaces (record { number = a }) ≡ true → name a ≡ Some n → names a ≡ Some n
-  pub normal : IsNormal c.posts.posted c.objects.spaces names
+  pub live : (a : ℕ) (n : ObjectName) → is_live c.posts.posted_phase c.objects.spaces (record { number = a }) ≡ true → name a ≡ Some n → names a ≡ Some n
+  pub normal : IsNormal c.posts.posted_phase c.objects.spaces names
 
 -- what is kept keeps its name
 pub renamed : (name : Names) (c : MachineState) (names : Names) → Renames name c names → HasNames name c → HasNames names c
 renamed name c names renames has = record {
-  kept = λ a kept. let n = has.kept a kept in (n.0, renames.live a.number n.0 (kept_is_live c.posts.posted c.objects.spaces a kept) n.1);
+  kept = λ a kept. let n = has.kept a kept in (n.0, renames.live a.number n.0 (kept_is_live c.posts.posted_phase c.objects.spaces a kept) n.1);
   copies = has.copies;
 }
 
@@ -196,9 +196,9 @@ module _ (m : Spaces) (spaces : AreSpaces m) (y : Addr) (new : is_new m y ≡ tr
           absurd (apart m spaces x.old y c.0 d.0 c.1 d.1 (ap (λ (a : Addr). a.number) same))
       by_other (Some z) is = ap Some (sym (ap (λ (o : Option Addr). unwrap_or o x.old) is) ∙ x.copy)
 
-module _ (tree : Tree) (posted : Phase) (has_round : Bool) (words : ℕ) (p : Progress) (m : Spaces) (sound : IsSoundHeap tree posted has_round words p m) (y : Addr) (d : Cell) (lies : cell_in m.new y ≡ Some d) where
+module _ (tree : Tree) (posted_phase : Phase) (has_round : Bool) (words : ℕ) (p : Progress) (m : Spaces) (sound : IsSoundHeap tree posted_phase has_round words p m) (y : Addr) (d : Cell) (lies : cell_in m.new y ≡ Some d) where
   -- it identifies the one that it is a copy of
-  copy_back : (posted ≡ Reclaim → ⊥) → (x : IsCopyOfMarked m y) → d.other ≡ Some x.old
+  copy_back : (posted_phase ≡ Reclaim → ⊥) → (x : IsCopyOfMarked m y) → d.other ≡ Some x.old
   copy_back early x =
       let out = copy_other m sound.blocks.spaces y (new_is m y d lies) x in
       let c = other_cell (cell_in m.old x.old) y out in
@@ -227,7 +227,7 @@ module _ (c : MachineState) (s : State) (legal : IsLegal c.tree) (typed : IsType
   either_then false x y f g = g refl
 
   -- it is so where it had a name
-  by_old : (x : MachineState × Report) → ((a : Addr) → is_kept x.0.posts.posted x.0.objects.spaces a ≡ true → IsNamed name a) → AreCopiesOfMarked x.0.posts.posted x.0.objects.spaces → Then x
+  by_old : (x : MachineState × Report) → ((a : Addr) → is_kept x.0.posts.posted_phase x.0.objects.spaces a ≡ true → IsNamed name a) → AreCopiesOfMarked x.0.posts.posted_phase x.0.objects.spaces → Then x
   by_old x kept copies renames = renamed name x.0 names renames (record { kept = kept; copies = copies })
 
   -- a step was done, or none was left
@@ -377,7 +377,7 @@ module _ (c : MachineState) (s : State) (legal : IsLegal c.tree) (typed : IsType
   -- after an event of the collector what is kept has a name
   pub collected_has : IsSound c → HasNames name c → Renames name (collect c).0 names → HasNames names (collect c).0
   collected_has sound has =
-      either_then (all_seen c.posts) (work c.posts.posted c) (c, Waiting) (λ seen. work_then c.posts.posted sound has) (λ late. by_old (c, Waiting) has.kept has.copies)
+      either_then (all_seen c.posts) (work c.posts.posted_phase c) (c, Waiting) (λ seen. work_then c.posts.posted_phase sound has) (λ late. by_old (c, Waiting) has.kept has.copies)
 
 -- ---- acknowledgements
 
@@ -401,8 +401,8 @@ module _ (c : MachineState) (s : State) (name : Names) (refines : RefinesUnder n
   darker : AreDarker c.objects.spaces after.spaces
   darker = AreDarker-with_all_marked vs c.objects spaces
 
-  kept_then : (a : Addr) → is_kept c.posts.posted after.spaces a ≡ true → IsNamed name a
-  kept_then a h = elim (kept_darker c.objects.spaces after.spaces darker c.posts.posted a h) [
+  kept_then : (a : Addr) → is_kept c.posts.posted_phase after.spaces a ≡ true → IsNamed name a
+  kept_then a h = elim (kept_darker c.objects.spaces after.spaces darker c.posts.posted_phase a h) [
     | inl was ↦ has.kept a was
     | inr new ↦ elim (all_adds name vs c.objects (thread_is (slice_get c.threads t) refl) a new.0) [
       | inl was ↦ has.kept a (new.1 was)
@@ -410,10 +410,10 @@ module _ (c : MachineState) (s : State) (name : Names) (refines : RefinesUnder n
     ]
   ]
 
-  marked_has : (posts : Handshakes) → posts.posted ≡ c.posts.posted → HasNames name (record c { posts = posts; objects = with_all_marked c.objects (thread_values (slice_get c.threads t)) })
+  marked_has : (posts : Handshakes) → posts.posted_phase ≡ c.posts.posted_phase → HasNames name (record c { posts = posts; objects = with_all_marked c.objects (thread_values (slice_get c.threads t)) })
   marked_has posts same = record {
     kept = λ a h. kept_then a (subst (λ x. is_kept x after.spaces a ≡ true) same h);
-    copies = subst (λ x. AreCopiesOfMarked x after.spaces) (sym same) (copies_darker c.objects.spaces after.spaces darker c.posts.posted has.copies);
+    copies = subst (λ x. AreCopiesOfMarked x after.spaces) (sym same) (copies_darker c.objects.spaces after.spaces darker c.posts.posted_phase has.copies);
   }
 
   -- what is kept has a name after an acknowledgement

@@ -181,7 +181,7 @@ owed_once tree limits events reports words words' o o' =
 -- ---- runs
 
 -- only where a phase of a cycle is posted does a cycle end
-was_open : (c : MachineState) (x : MachineState × Report) → IsCollected c x → x.1 ≡ CycleDone → is_of_cycle c.posts.posted ≡ true
+was_open : (c : MachineState) (x : MachineState × Report) → IsCollected c x → x.1 ≡ CycleDone → is_of_cycle c.posts.posted_phase ≡ true
 was_open c _ waits e = absurd cc
 was_open c _ (works d of) e = absurd cc
 was_open c _ (ends d last idle spaces) e = ap is_of_cycle last
@@ -207,7 +207,7 @@ module _ (each : InstructionsAreAlike) (tree : Tree) (accepted : IsAccepted tree
 
   -- what the run reaches after the first of its events
   come : (xs ys : Events) → all ≡ xs ++ ys → OwnEffect tree limits all s h.last IsBefore goes xs ys [] h.first
-  come xs ys split = walk tree limits all s h.last IsBefore goes xs ys [] h.machine h.first (at_first xs ys split) (record { represents = first_represents; posted = ap is_of_cycle (opened_is tree limits h.machine h.opened).idle })
+  come xs ys split = walk tree limits all s h.last IsBefore goes xs ys [] h.machine h.first (at_first xs ys split) (record { represents = first_represents; posted_phase = ap is_of_cycle (opened_is tree limits h.machine h.opened).idle })
 
   -- there are words that the newest cycle must keep
   pub cycle_owes : (earlier later : Events) → BeginsNewestCycle all earlier later → (words : ℕ) × OwesAfter tree limits events reports words
@@ -223,6 +223,6 @@ module _ (each : InstructionsAreAlike) (tree : Tree) (accepted : IsAccepted tree
   end_owes most over =
       let begun = come most ((Gc, CycleDone) ∷ []) over in
       let on = continues tree limits all s h.last ([] ++ most) [] begun.machine_state begun.state Gc CycleDone begun.there in
-      let opened : is_cycle_open most ≡ true = sym begun.holds.posted ∙ was_open begun.machine_state (on.next, CycleDone) (gc_is begun.machine_state (on.next, CycleDone) on.transition) refl in
+      let opened : is_cycle_open most ≡ true = sym begun.holds.posted_phase ∙ was_open begun.machine_state (on.next, CycleDone) (gc_is begun.machine_state (on.next, CycleDone) on.transition) refl in
       let newest = newest_of most opened in
       cycle_owes newest.0 (newest.1 ++ (Gc, CycleDone) ∷ []) (subst (λ l. BeginsNewestCycle l newest.0 (newest.1 ++ (Gc, CycleDone) ∷ [])) (sym over) (cycle_continues most newest.0 newest.1 newest.2 opened (Gc, CycleDone)))

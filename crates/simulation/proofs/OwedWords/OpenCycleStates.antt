@@ -31,8 +31,8 @@ use Rattle.simulation.proofs.Threads.StepResults.{KeepsOwnRoom}
 use Rattle.simulation.proofs.Threads.Steps.{step_names}
 
 -- no acknowledgement posts a phase
-pub acknowledged_posted : (c : MachineState) (t : ℕ) → (with_acknowledgement c t).0.posts.posted ≡ c.posts.posted
-acknowledged_posted c t = after_acknowledgement c t (λ (x : MachineState). x.posts.posted ≡ c.posts.posted) (record {
+pub acknowledged_posted : (c : MachineState) (t : ℕ) → (with_acknowledgement c t).0.posts.posted_phase ≡ c.posts.posted_phase
+acknowledged_posted c t = after_acknowledgement c t (λ (x : MachineState). x.posts.posted_phase ≡ c.posts.posted_phase) (record {
   nothing = refl;
   marks = λ seat here opened seen marking. refl;
   answers = λ seat here opened seen other. refl;
@@ -71,7 +71,7 @@ module _ (Inside : ℕ → Type 0) (is_inside : ℕ → Bool) (decoded : (n : �
     }
 
   -- where a machine begins that has no cycle open
-  pub begins_owed : (c : MachineState) (s : State) → Represents c s → IsClosed Inside s → c.posts.posted ≡ Idle → IsOwedBy c s
+  pub begins_owed : (c : MachineState) (s : State) → Represents c s → IsClosed Inside s → c.posts.posted_phase ≡ Idle → IsOwedBy c s
   begins_owed c s r set idle =
       owed_by c s r set (cut_inside is_inside r.refines.name) (refines_inside is_inside Inside decoded r.refines.name c s set inside r.refines.by) (λ a n is. inside_is is_inside r.refines.name a n is)
       (record {
@@ -132,13 +132,13 @@ module _ (Inside : ℕ → Type 0) (is_inside : ℕ → Bool) (decoded : (n : �
         let new : name_inside is_inside (Born k) ≡ Some (Born k) = ap (λ t. if t then Some (Born k) else None) (decoded k (h.closed_set.unborn k more)) in
         subst (λ (x : ObjectName). name_inside is_inside x ≡ Some x) same new
 
-    kept_then : (a : Addr) → is_kept c.posts.posted next.objects.spaces a ≡ true → IsNamed cut a
+    kept_then : (a : Addr) → is_kept c.posts.posted_phase next.objects.spaces a ≡ true → IsNamed cut a
     kept_then a kept = elim (follows.4.kept a kept) [
       | inl was ↦ (let n = h.has.kept a was in (n.0, is_cut_inside is_inside all a.number n.0 (h.known a.number n.0 n.1) (follows.4.extends a.number n.0 n.1)))
       | inr new ↦ (new.0, is_cut_inside is_inside all a.number new.0 (new_known new.0 new.2) new.1)
     ]
 
-    same : next.posts.posted ≡ c.posts.posted
+    same : next.posts.posted_phase ≡ c.posts.posted_phase
     same = step_posted c t (next, r) transition
 
     has_then : HasNames cut next

@@ -50,44 +50,44 @@ module _ (name : Names) (o : Objects) (spaces : AreSpaces o.spaces) (x : Addr) (
       none_is_some c.0 (sym (subst (λ (a : Addr). cell_in o.spaces.old a ≡ None) (reference_is null x e) (permanent_not_old o.spaces spaces null refl)) ∙ c.1)
   value_named v u (reference a n is) e = (n, subst (λ (b : Addr). name b.number ≡ Some n) (reference_is a x e) is)
 
-module _ (tree : Tree) (legal : IsLegal tree) (words : ℕ) (h : Handshakes) (p : Progress) (seat : Seat) (close : IsClose h seat) (rounds : h.posted ≡ Mark → h.has_round ≡ true → p.scanned_statics ≡ true) (first : Objects)
-    (time : IsOnTime seat.phase h.posted h.has_round p first.spaces) (all : Names) (own : Names) (begun : ℕ) where
+module _ (tree : Tree) (legal : IsLegal tree) (words : ℕ) (h : Handshakes) (p : Progress) (seat : Seat) (close : IsClose h seat) (rounds : h.posted_phase ≡ Mark → h.has_round ≡ true → p.scanned_statics ≡ true) (first : Objects)
+    (time : IsOnTime seat.phase h.posted_phase h.has_round p first.spaces) (all : Names) (own : Names) (begun : ℕ) where
   -- the heap with its names
   pub record FitsNamed (name : Names) (o : Objects) (ss : List Value) (s : State) : Type 0 where
     pub fits : FitsCollected tree words h p seat first all name o ss s
-    pub names : KeepsNames h.posted (IsKnown own begun) first.spaces o.spaces name
+    pub names : KeepsNames h.posted_phase (IsKnown own begun) first.spaces o.spaces name
     pub more : begun ≤ length s.objects
 
   module _ (name : Names) (o : Objects) (ss : List Value) (s : State) (fit : FitsNamed name o ss s) where
     -- ---- the same names
 
     -- where the same addresses are marked and new
-    pub alike_names : (o' : Objects) → AreAlike o.spaces o'.spaces → KeepsNames h.posted (IsKnown own begun) first.spaces o'.spaces name
+    pub alike_names : (o' : Objects) → AreAlike o.spaces o'.spaces → KeepsNames h.posted_phase (IsKnown own begun) first.spaces o'.spaces name
     alike_names o' alike = record {
       known = fit.names.known;
-      kept = λ x kept. fit.names.kept x (kept_alike h.posted o.spaces o'.spaces alike x kept);
-      copies = λ are. copies_alike h.posted o.spaces o'.spaces alike (fit.names.copies are);
+      kept = λ x kept. fit.names.kept x (kept_alike h.posted_phase o.spaces o'.spaces alike x kept);
+      copies = λ are. copies_alike h.posted_phase o.spaces o'.spaces alike (fit.names.copies are);
     }
 
     -- where a named value is marked first
-    pub marked_names : (v : Value) (u : StateValue) → IsValue name v u → KeepsNames h.posted (IsKnown own begun) first.spaces (marked_first seat.phase o v).spaces name
+    pub marked_names : (v : Value) (u : StateValue) → IsValue name v u → KeepsNames h.posted_phase (IsKnown own begun) first.spaces (marked_first seat.phase o v).spaces name
     marked_names v u refines = record {
       known = fit.names.known;
-      kept = λ x kept. elim (first_adds seat.phase h.posted o fit.fits.sound.blocks.spaces v x kept) [
+      kept = λ x kept. elim (first_adds seat.phase h.posted_phase o fit.fits.sound.blocks.spaces v x kept) [
         | inl was ↦ fit.names.kept x was
         | inr here ↦ inr (value_named name o fit.fits.sound.blocks.spaces x here.1 v u refines here.0)
       ];
-      copies = λ are. first_copies seat.phase h.posted o fit.fits.sound.blocks.spaces v (fit.names.copies are);
+      copies = λ are. first_copies seat.phase h.posted_phase o fit.fits.sound.blocks.spaces v (fit.names.copies are);
     }
 
-    pub stored_names : (a : Addr) (slot : ℕ) (v : Value) (u : StateValue) → IsValue name v u → KeepsNames h.posted (IsKnown own begun) first.spaces (stored_value seat.phase o a slot v).spaces name
+    pub stored_names : (a : Addr) (slot : ℕ) (v : Value) (u : StateValue) → IsValue name v u → KeepsNames h.posted_phase (IsKnown own begun) first.spaces (stored_value seat.phase o a slot v).spaces name
     stored_names a slot v u refines =
         let marked = marked_names v u refines in
         let alike = value_alike o a slot v seat.phase in
         record {
           known = marked.known;
-          kept = λ x kept. marked.kept x (kept_alike h.posted (marked_first seat.phase o v).spaces (stored_value seat.phase o a slot v).spaces alike x kept);
-          copies = λ are. copies_alike h.posted (marked_first seat.phase o v).spaces (stored_value seat.phase o a slot v).spaces alike (marked.copies are);
+          kept = λ x kept. marked.kept x (kept_alike h.posted_phase (marked_first seat.phase o v).spaces (stored_value seat.phase o a slot v).spaces alike x kept);
+          copies = λ are. copies_alike h.posted_phase (marked_first seat.phase o v).spaces (stored_value seat.phase o a slot v).spaces alike (marked.copies are);
         }
 
     -- an object in place of another leaves the same number
@@ -106,25 +106,25 @@ module _ (tree : Tree) (legal : IsLegal tree) (words : ℕ) (h : Handshakes) (p 
         | inr new ↦ inr (length s.objects, new, fit.more)
       ]
 
-      kept_then : (x : Addr) → is_kept h.posted born.spaces x ≡ true → (is_kept h.posted first.spaces x ≡ true) ⊎ IsNamed b.names x
-      kept_then x kept = elim (birth_adds seat.phase h.posted (near_of_close h seat close) o fit.fits.sound.blocks.spaces k count born a e x kept) [
+      kept_then : (x : Addr) → is_kept h.posted_phase born.spaces x ≡ true → (is_kept h.posted_phase first.spaces x ≡ true) ⊎ IsNamed b.names x
+      kept_then x kept = elim (birth_adds seat.phase h.posted_phase (near_of_close h seat close) o fit.fits.sound.blocks.spaces k count born a e x kept) [
         | inl was ↦ elim (fit.names.kept x was) [ inl before ↦ inl before | inr named ↦ inr (named.0, b.extends x.number named.0 named.1) ]
         | inr here ↦ inr (
           next_name s,
           elim here [
             | inl same ↦ subst (λ (y : Addr). b.names y.number ≡ Some (next_name s)) (sym same) b.named
             | inr other ↦
-                births_copied tree words h p seat close first time all name o ss s fit.fits k count contents refines born a e x other (kept_is_live h.posted born.spaces x kept)
-                (kept_is_held h.posted h.has_round born.spaces (first_hold h seat first) (means tree words h p seat first all b.names born ss (with_state_birth s contents) b.fits) x kept)
+                births_copied tree words h p seat close first time all name o ss s fit.fits k count contents refines born a e x other (kept_is_live h.posted_phase born.spaces x kept)
+                (kept_is_held h.posted_phase h.has_round born.spaces (first_hold h seat first) (means tree words h p seat first all b.names born ss (with_state_birth s contents) b.fits) x kept)
           ],
         )
       ]
 
-      names_then : KeepsNames h.posted (IsKnown own begun) first.spaces born.spaces b.names
+      names_then : KeepsNames h.posted_phase (IsKnown own begun) first.spaces born.spaces b.names
       names_then = record {
         known = known_then;
         kept = kept_then;
-        copies = λ are. birth_copies seat.phase h.posted (near_of_close h seat close) o fit.fits.sound.blocks.spaces k count born a e (fit.names.copies are);
+        copies = λ are. birth_copies seat.phase h.posted_phase (near_of_close h seat close) o fit.fits.sound.blocks.spaces k count born a e (fit.names.copies are);
       }
 
       more_then : begun ≤ length (with_state_birth s contents).objects
@@ -179,7 +179,7 @@ module _ (tree : Tree) (legal : IsLegal tree) (words : ℕ) (h : Handshakes) (p 
         static_storable = λ name o ss s fit v u refines. base.static_storable name o ss s fit.fits v u refines;
         static_stores = λ name o ss s fit n v u inside refines entries fields. record {
           fits = base.static_stores name o ss s fit.fits n v u inside refines entries fields;
-          names = subst (λ (x : Objects). KeepsNames h.posted (IsKnown own begun) first.spaces x.spaces name) (sym (static_marks o ss n v seat.phase)) (marked_names name o ss s fit v u refines);
+          names = subst (λ (x : Objects). KeepsNames h.posted_phase (IsKnown own begun) first.spaces x.spaces name) (sym (static_marks o ss n v seat.phase)) (marked_names name o ss s fit v u refines);
           more = fit.more;
         };
         bears = λ name o ss s fit. base.bears name o ss s fit.fits;

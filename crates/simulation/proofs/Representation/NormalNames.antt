@@ -37,9 +37,9 @@ use Rattle.simulation.proofs.Memory.ReferenceSlots.{is_reference_kind}
 use Rattle.simulation.proofs.Representation.RenamedSlots.{ShowAlike, contents_shown}
 
 -- What is named is live, and the new copy of a named old object has its name where it is live too.
-pub record IsNormal (posted : Phase) (m : Spaces) (name : Names) : Type 0 where
-  pub live : (a : ℕ) (n : ObjectName) → name a ≡ Some n → is_live posted m (record { number = a }) ≡ true
-  pub filled : (a b : ℕ) (n : ObjectName) → name a ≡ Some n → other_of (cell_in m.old (record { number = a })) ≡ Some (record { number = b }) → is_live posted m (record { number = b }) ≡ true → name b ≡ Some n
+pub record IsNormal (posted_phase : Phase) (m : Spaces) (name : Names) : Type 0 where
+  pub live : (a : ℕ) (n : ObjectName) → name a ≡ Some n → is_live posted_phase m (record { number = a }) ≡ true
+  pub filled : (a b : ℕ) (n : ObjectName) → name a ≡ Some n → other_of (cell_in m.old (record { number = a })) ≡ Some (record { number = b }) → is_live posted_phase m (record { number = b }) ≡ true → name b ≡ Some n
 
 -- ---- the names
 
@@ -52,10 +52,10 @@ first_cases : {X : Type 0} (x y : Option X) (n : X) → first_of x y ≡ Some n 
 first_cases None y n e = inr e
 first_cases (Some k) y n e = inl e
 
-module _ (posted : Phase) (m : Spaces) (name : Names) where
+module _ (posted_phase : Phase) (m : Spaces) (name : Names) where
   -- the names of live addresses
   abbrev cut : Names
-  cut a = if is_live posted m (record { number = a }) then name a else None
+  cut a = if is_live posted_phase m (record { number = a }) then name a else None
 
   abbrev cut_at : Option Addr → Option ObjectName
   cut_at None = None
@@ -63,32 +63,32 @@ module _ (posted : Phase) (m : Spaces) (name : Names) where
 
   -- a new address without a name has that of its old copy
   abbrev pub filled : Names
-  filled a = first_of (cut a) (if is_live posted m (record { number = a }) then cut_at (other_of (cell_in m.new (record { number = a }))) else None)
+  filled a = first_of (cut a) (if is_live posted_phase m (record { number = a }) then cut_at (other_of (cell_in m.new (record { number = a }))) else None)
 
   -- a name that a live address has then: its own, or that of its old copy
   data IsFilled (a : ℕ) (n : ObjectName) : Type 0 where
     own : name a ≡ Some n → IsFilled a n
-    copied : (b : Addr) → other_of (cell_in m.new (record { number = a })) ≡ Some b → is_live posted m b ≡ true → name b.number ≡ Some n → IsFilled a n
+    copied : (b : Addr) → other_of (cell_in m.new (record { number = a })) ≡ Some b → is_live posted_phase m b ≡ true → name b.number ≡ Some n → IsFilled a n
 
   cut_copied : (a : ℕ) (n : ObjectName) (o : Option Addr) → other_of (cell_in m.new (record { number = a })) ≡ o → cut_at o ≡ Some n → IsFilled a n
   cut_copied a n None is e = none_is_some n e
-  cut_copied a n (Some b) is e = let parts = some_if (is_live posted m b) (name b.number) n e in copied b is parts.0 parts.1
+  cut_copied a n (Some b) is e = let parts = some_if (is_live posted_phase m b) (name b.number) n e in copied b is parts.0 parts.1
 
-  filled_is : (a : ℕ) (n : ObjectName) → filled a ≡ Some n → (is_live posted m (record { number = a }) ≡ true) × IsFilled a n
+  filled_is : (a : ℕ) (n : ObjectName) → filled a ≡ Some n → (is_live posted_phase m (record { number = a }) ≡ true) × IsFilled a n
   filled_is a n e = by_part (first_cases (cut a) _ n e)
     where
-      by_part : (cut a ≡ Some n) ⊎ ((if is_live posted m (record { number = a }) then cut_at (other_of (cell_in m.new (record { number = a }))) else None) ≡ Some n) → (is_live posted m (record { number = a }) ≡ true) × IsFilled a n
-      by_part (inl k) = let parts = some_if (is_live posted m (record { number = a })) (name a) n k in (parts.0, own parts.1)
+      by_part : (cut a ≡ Some n) ⊎ ((if is_live posted_phase m (record { number = a }) then cut_at (other_of (cell_in m.new (record { number = a }))) else None) ≡ Some n) → (is_live posted_phase m (record { number = a }) ≡ true) × IsFilled a n
+      by_part (inl k) = let parts = some_if (is_live posted_phase m (record { number = a })) (name a) n k in (parts.0, own parts.1)
       by_part (inr k) =
-          let parts = some_if (is_live posted m (record { number = a })) (cut_at (other_of (cell_in m.new (record { number = a })))) n k in
+          let parts = some_if (is_live posted_phase m (record { number = a })) (cut_at (other_of (cell_in m.new (record { number = a })))) n k in
           (parts.0, cut_copied a n (other_of (cell_in m.new (record { number = a }))) refl parts.1)
 
-  is_cut : (a : ℕ) (n : ObjectName) → is_live posted m (record { number = a }) ≡ true → name a ≡ Some n → cut a ≡ Some n
+  is_cut : (a : ℕ) (n : ObjectName) → is_live posted_phase m (record { number = a }) ≡ true → name a ≡ Some n → cut a ≡ Some n
   is_cut a n live is = ap (λ b. if b then name a else None) live ∙ is
 
   -- a live address keeps its name
-  pub is_filled : (a : ℕ) (n : ObjectName) → is_live posted m (record { number = a }) ≡ true → name a ≡ Some n → filled a ≡ Some n
-  is_filled a n live is = ap (λ x. first_of x (if is_live posted m (record { number = a }) then cut_at (other_of (cell_in m.new (record { number = a }))) else None)) (is_cut a n live is)
+  pub is_filled : (a : ℕ) (n : ObjectName) → is_live posted_phase m (record { number = a }) ≡ true → name a ≡ Some n → filled a ≡ Some n
+  is_filled a n live is = ap (λ x. first_of x (if is_live posted_phase m (record { number = a }) then cut_at (other_of (cell_in m.new (record { number = a }))) else None)) (is_cut a n live is)
 
   -- and each of these names was there
   pub filled_from : (a : ℕ) (n : ObjectName) → filled a ≡ Some n → (b : ℕ) × (name b ≡ Some n)
@@ -106,35 +106,35 @@ other_cell None b e = none_is_some b e
 other_cell (Some c) b e = (c, refl, e)
 
 -- an old object and its new copy, both of them live
-record ArePair (tree : Tree) (posted : Phase) (m : Spaces) (a b : Addr) : Type 0 where
+record ArePair (tree : Tree) (posted_phase : Phase) (m : Spaces) (a b : Addr) : Type 0 where
   from : Cell
   to : Cell
   old : cell_in m.old a ≡ Some from
   new : cell_in m.new b ≡ Some to
   out : from.other ≡ Some b
   back : to.other ≡ Some a
-  late : has_words posted ≡ true
+  late : has_words posted_phase ≡ true
   same : ShowSame tree m from to
 
-module _ (tree : Tree) (posted : Phase) (has_round : Bool) (words : ℕ) (p : Progress) (o : Objects) (sound : IsSoundHeap tree posted has_round words p o.spaces) where
+module _ (tree : Tree) (posted_phase : Phase) (has_round : Bool) (words : ℕ) (p : Progress) (o : Objects) (sound : IsSoundHeap tree posted_phase has_round words p o.spaces) where
   abbrev m : Spaces
   m = o.spaces
 
   -- ---- both copies
 
-  pair : (a b : Addr) (c : Cell) → cell_in m.old a ≡ Some c → c.other ≡ Some b → is_live posted m a ≡ true → is_live posted m b ≡ true → ArePair tree posted m a b
+  pair : (a b : Addr) (c : Cell) → cell_in m.old a ≡ Some c → c.other ≡ Some b → is_live posted_phase m a ≡ true → is_live posted_phase m b ≡ true → ArePair tree posted_phase m a b
   pair a b c lies other live_old live_new =
       let copy = sound.copies.out a b c lies other in
-      let read = live_is_read m sound.blocks.spaces a c posted lies live_old in
-      let words_there = late_of posted c (live_is_late m sound.blocks.spaces b copy.0 posted copy.1 live_new) read in
-      let shown = old_shows tree posted p m sound.blocks.spaces sound.copies words_there a b c lies other in
+      let read = live_is_read m sound.blocks.spaces a c posted_phase lies live_old in
+      let words_there = late_of posted_phase c (live_is_late m sound.blocks.spaces b copy.0 posted_phase copy.1 live_new) read in
+      let shown = old_shows tree posted_phase p m sound.blocks.spaces sound.copies words_there a b c lies other in
       record { from = c; to = shown.0; old = lies; new = shown.1; out = other; back = shown.2; late = words_there; same = shown.3 }
 
   -- through the old address, and through the new one
-  old_pair : (a b : Addr) → other_of (cell_in m.old a) ≡ Some b → is_live posted m a ≡ true → is_live posted m b ≡ true → ArePair tree posted m a b
+  old_pair : (a b : Addr) → other_of (cell_in m.old a) ≡ Some b → is_live posted_phase m a ≡ true → is_live posted_phase m b ≡ true → ArePair tree posted_phase m a b
   old_pair a b is live_old live_new = let c = other_cell (cell_in m.old a) b is in pair a b c.0 c.1 c.2 live_old live_new
 
-  new_pair : (a b : Addr) → other_of (cell_in m.new b) ≡ Some a → is_live posted m a ≡ true → is_live posted m b ≡ true → ArePair tree posted m a b
+  new_pair : (a b : Addr) → other_of (cell_in m.new b) ≡ Some a → is_live posted_phase m a ≡ true → is_live posted_phase m b ≡ true → ArePair tree posted_phase m a b
   new_pair a b is live_old live_new =
       let d = other_cell (cell_in m.new b) a is in
       let c = sound.copies.back a b d.0 d.1 d.2 in
@@ -149,14 +149,14 @@ module _ (tree : Tree) (posted : Phase) (has_round : Bool) (words : ℕ) (p : Pr
 
   module _ (name : Names) where
     abbrev names : Names
-    names = filled posted m name
+    names = filled posted_phase m name
 
     module _ (s : State) (heap : IsHeap tree name o s) where
       -- ---- the new copy
 
       -- a new copy without a name gets that of the old one
-      copy_named : (a b : Addr) (n : ObjectName) → ArePair tree posted m a b → is_live posted m a ≡ true → is_live posted m b ≡ true → name a.number ≡ Some n → names b.number ≡ Some n
-      copy_named a b n are live_old live_new named = by_own (cut posted m name b.number) refl
+      copy_named : (a b : Addr) (n : ObjectName) → ArePair tree posted_phase m a b → is_live posted_phase m a ≡ true → is_live posted_phase m b ≡ true → name a.number ≡ Some n → names b.number ≡ Some n
+      copy_named a b n are live_old live_new named = by_own (cut posted_phase m name b.number) refl
         where
           there : other_of (cell_in m.new b) ≡ Some a
           there = ap other_of are.new ∙ are.back
@@ -164,21 +164,21 @@ module _ (tree : Tree) (posted : Phase) (has_round : Bool) (words : ℕ) (p : Pr
           twins : AreTwins m a.number b.number
           twins = inl (ap other_of are.old ∙ are.out)
 
-          by_own : (x : Option ObjectName) → cut posted m name b.number ≡ x → first_of x (if is_live posted m b then cut_at posted m name (other_of (cell_in m.new b)) else None) ≡ Some n
+          by_own : (x : Option ObjectName) → cut posted_phase m name b.number ≡ x → first_of x (if is_live posted_phase m b then cut_at posted_phase m name (other_of (cell_in m.new b)) else None) ≡ Some n
           by_own None is =
-              ap (λ t. if t then cut_at posted m name (other_of (cell_in m.new b)) else None) live_new ∙ ap (cut_at posted m name) there ∙ is_cut posted m name a.number n live_old named
+              ap (λ t. if t then cut_at posted_phase m name (other_of (cell_in m.new b)) else None) live_new ∙ ap (cut_at posted_phase m name) there ∙ is_cut posted_phase m name a.number n live_old named
           by_own (Some k) is =
-              let own_name = (some_if (is_live posted m b) (name b.number) k is).1 in
+              let own_name = (some_if (is_live posted_phase m b) (name b.number) k is).1 in
               ap Some (sym (heap.names.twins a.number b.number n k named own_name twins))
 
       -- the new copy has the name of the old one
-      full : (a b : Addr) (n : ObjectName) → names a.number ≡ Some n → other_of (cell_in m.old a) ≡ Some b → is_live posted m b ≡ true → names b.number ≡ Some n
-      full a b n is other live_new = by_name (filled_is posted m name a.number n is).1
+      full : (a b : Addr) (n : ObjectName) → names a.number ≡ Some n → other_of (cell_in m.old a) ≡ Some b → is_live posted_phase m b ≡ true → names b.number ≡ Some n
+      full a b n is other live_new = by_name (filled_is posted_phase m name a.number n is).1
         where
-          live_old : is_live posted m a ≡ true
-          live_old = (filled_is posted m name a.number n is).0
+          live_old : is_live posted_phase m a ≡ true
+          live_old = (filled_is posted_phase m name a.number n is).0
 
-          by_name : IsFilled posted m name a.number n → names b.number ≡ Some n
+          by_name : IsFilled posted_phase m name a.number n → names b.number ≡ Some n
           by_name (own named) = copy_named a b n (old_pair a b other live_old live_new) live_old live_new named
           by_name (copied c there live named) =
               let from = other_cell (cell_in m.old a) b other in
@@ -186,16 +186,16 @@ module _ (tree : Tree) (posted : Phase) (has_round : Bool) (words : ℕ) (p : Pr
               absurd (apart m sound.blocks.spaces a a from.0 to.0 from.1 to.1 refl)
 
       -- these names are normal
-      pub filled_is_normal : IsNormal posted m names
+      pub filled_is_normal : IsNormal posted_phase m names
       filled_is_normal = record {
-        live = λ a n is. (filled_is posted m name a n is).0;
+        live = λ a n is. (filled_is posted_phase m name a n is).0;
         filled = λ a b n is other live. full (record { number = a }) (record { number = b }) n is other live;
       }
 
       -- ---- one name
 
       -- an address of the name of an old copy is that copy or the new one
-      one_copied : (a b c : Addr) (n : ObjectName) → name a.number ≡ Some n → ArePair tree posted m c b → name c.number ≡ Some n → (a.number ≡ b.number) ⊎ AreTwins m a.number b.number
+      one_copied : (a b c : Addr) (n : ObjectName) → name a.number ≡ Some n → ArePair tree posted_phase m c b → name c.number ≡ Some n → (a.number ≡ b.number) ⊎ AreTwins m a.number b.number
       one_copied a b c n named are named_old = by_old (heap.names.one a.number c.number n named named_old)
         where
           out : other_of (cell_in m.old c) ≡ Some b
@@ -212,7 +212,7 @@ module _ (tree : Tree) (posted : Phase) (has_round : Bool) (words : ℕ) (p : Pr
       swapped a b (inr (inr h)) = inr (inl h)
 
       -- two new copies of old ones of one name are one
-      two_copied : (a b c d : Addr) (n : ObjectName) → ArePair tree posted m c a → ArePair tree posted m d b → name c.number ≡ Some n → name d.number ≡ Some n → (a.number ≡ b.number) ⊎ AreTwins m a.number b.number
+      two_copied : (a b c d : Addr) (n : ObjectName) → ArePair tree posted_phase m c a → ArePair tree posted_phase m d b → name c.number ≡ Some n → name d.number ≡ Some n → (a.number ≡ b.number) ⊎ AreTwins m a.number b.number
       two_copied a b c d n first second named named_also = by_old (heap.names.one c.number d.number n named named_also)
         where
           out : other_of (cell_in m.old c) ≡ Some a
@@ -229,12 +229,12 @@ module _ (tree : Tree) (posted : Phase) (has_round : Bool) (words : ℕ) (p : Pr
           by_old (inr (inr wrong)) = absurd (never_old d c first.from wrong first.old)
 
       one_name : (a b : ℕ) (n : ObjectName) → names a ≡ Some n → names b ≡ Some n → (a ≡ b) ⊎ AreTwins m a b
-      one_name a b n is also = by_names (filled_is posted m name a n is).1 (filled_is posted m name b n also).1
+      one_name a b n is also = by_names (filled_is posted_phase m name a n is).1 (filled_is posted_phase m name b n also).1
         where
-          pair_at : (x : ℕ) (c : Addr) → names x ≡ Some n → other_of (cell_in m.new (record { number = x })) ≡ Some c → is_live posted m c ≡ true → ArePair tree posted m c (record { number = x })
-          pair_at x c named there live = new_pair c (record { number = x }) there live (filled_is posted m name x n named).0
+          pair_at : (x : ℕ) (c : Addr) → names x ≡ Some n → other_of (cell_in m.new (record { number = x })) ≡ Some c → is_live posted_phase m c ≡ true → ArePair tree posted_phase m c (record { number = x })
+          pair_at x c named there live = new_pair c (record { number = x }) there live (filled_is posted_phase m name x n named).0
 
-          by_names : IsFilled posted m name a n → IsFilled posted m name b n → (a ≡ b) ⊎ AreTwins m a b
+          by_names : IsFilled posted_phase m name a n → IsFilled posted_phase m name b n → (a ≡ b) ⊎ AreTwins m a b
           by_names (own h) (own k) = heap.names.one a b n h k
           by_names (own h) (copied c there live k) = one_copied (record { number = a }) (record { number = b }) c n h (pair_at b c also there live) k
           by_names (copied c there live h) (own k) = swapped b a (one_copied (record { number = b }) (record { number = a }) c n k (pair_at a c is there live) h)
@@ -244,8 +244,8 @@ module _ (tree : Tree) (posted : Phase) (has_round : Bool) (words : ℕ) (p : Pr
       have_one_name = record { one = one_name; twins = twins }
         where
           twins : (a b : ℕ) (n k : ObjectName) → names a ≡ Some n → names b ≡ Some k → AreTwins m a b → n ≡ k
-          twins a b n k is also (inl out) = same_Some n k (sym (full (record { number = a }) (record { number = b }) n is out (filled_is posted m name b k also).0) ∙ also)
-          twins a b n k is also (inr out) = same_Some n k (sym is ∙ full (record { number = b }) (record { number = a }) k also out (filled_is posted m name a n is).0)
+          twins a b n k is also (inl out) = same_Some n k (sym (full (record { number = a }) (record { number = b }) n is out (filled_is posted_phase m name b k also).0) ∙ also)
+          twins a b n k is also (inr out) = same_Some n k (sym is ∙ full (record { number = b }) (record { number = a }) k also out (filled_is posted_phase m name a n is).0)
 
       -- ---- words
 
@@ -254,17 +254,17 @@ module _ (tree : Tree) (posted : Phase) (has_round : Bool) (words : ℕ) (p : Pr
         again = reference_again a (heap.small a.number n named)
 
         -- the forward of a live reference has its name
-        pub forward_named : has_words posted ≡ true → is_live posted m a ≡ true → names (forward m a).number ≡ Some n
+        pub forward_named : has_words posted_phase ≡ true → is_live posted_phase m a ≡ true → names (forward m a).number ≡ Some n
         forward_named late live = by_cell (cell_in m.old a) refl
           where
             itself : forward m a ≡ a → names (forward m a).number ≡ Some n
-            itself same = subst (λ (x : Addr). names x.number ≡ Some n) (sym same) (is_filled posted m name a.number n live named)
+            itself same = subst (λ (x : Addr). names x.number ≡ Some n) (sym same) (is_filled posted_phase m name a.number n live named)
 
             by_other : (c : Cell) → cell_in m.old a ≡ Some c → (x : Option Addr) → c.other ≡ x → names (forward m a).number ≡ Some n
             by_other c lies None bare = itself (forward_bare m a c lies bare)
             by_other c lies (Some b) other =
                 let copy = sound.copies.out a b c lies other in
-                let live_new = new_is_live posted m b (words_are_live posted late) (or_right (is_permanent b) (is_new m b) (new_is m b copy.0 copy.1)) in
+                let live_new = new_is_live posted_phase m b (words_are_live posted_phase late) (or_right (is_permanent b) (is_new m b) (new_is m b copy.0 copy.1)) in
                 subst (λ (x : Addr). names x.number ≡ Some n) (sym (forward_copy m a b c lies other)) (copy_named a b n (pair a b c lies other live live_new) live live_new named)
 
             by_cell : (x : Option Cell) → cell_in m.old a ≡ x → names (forward m a).number ≡ Some n
@@ -272,28 +272,28 @@ module _ (tree : Tree) (posted : Phase) (has_round : Bool) (words : ℕ) (p : Pr
             by_cell (Some c) lies = by_other c lies c.other refl
 
       -- a word that refers to what is live stands as it is,
-      word_named : (word : ℕ) (u : StateValue) → is_live posted m (reference_in word) ≡ true → IsWord name word u → IsWord names word u
-      word_named word u live h = record { value = h.value; refines = by_value h.value u h.refines (subst (λ w. is_live posted m (reference_in w) ≡ true) (sym h.is) live); is = h.is }
+      word_named : (word : ℕ) (u : StateValue) → is_live posted_phase m (reference_in word) ≡ true → IsWord name word u → IsWord names word u
+      word_named word u live h = record { value = h.value; refines = by_value h.value u h.refines (subst (λ w. is_live posted_phase m (reference_in w) ≡ true) (sym h.is) live); is = h.is }
         where
-          by_value : (v : Value) (x : StateValue) → IsValue name v x → is_live posted m (reference_in (value_word v)) ≡ true → IsValue names v x
+          by_value : (v : Value) (x : StateValue) → IsValue name v x → is_live posted_phase m (reference_in (value_word v)) ≡ true → IsValue names v x
           by_value v x (int32 z fits) l = int32 z fits
           by_value v x (int64 z fits) l = int64 z fits
           by_value v x (native z fits) l = native z fits
           by_value v x null_reference l = null_reference
-          by_value v x (reference a n is) l = reference a n (is_filled posted m name a.number n (subst (λ x. is_live posted m x ≡ true) (again a n is) l) is)
+          by_value v x (reference a n is) l = reference a n (is_filled posted_phase m name a.number n (subst (λ x. is_live posted_phase m x ≡ true) (again a n is) l) is)
 
       -- and so does its forward
-      word_forwarded : has_words posted ≡ true → (word : ℕ) (u : StateValue) → is_reference_kind (kind_of_state u) ≡ true → is_live posted m (reference_in word) ≡ true → IsWord name word u → IsWord names (forward_word m word) u
-      word_forwarded late word u kind live h = subst (λ w. IsWord names (forward_word m w) u) h.is (by_value h.value u h.refines kind (subst (λ w. is_live posted m (reference_in w) ≡ true) (sym h.is) live))
+      word_forwarded : has_words posted_phase ≡ true → (word : ℕ) (u : StateValue) → is_reference_kind (kind_of_state u) ≡ true → is_live posted_phase m (reference_in word) ≡ true → IsWord name word u → IsWord names (forward_word m word) u
+      word_forwarded late word u kind live h = subst (λ w. IsWord names (forward_word m w) u) h.is (by_value h.value u h.refines kind (subst (λ w. is_live posted_phase m (reference_in w) ≡ true) (sym h.is) live))
         where
-          by_value : (v : Value) (x : StateValue) → IsValue name v x → is_reference_kind (kind_of_state x) ≡ true → is_live posted m (reference_in (value_word v)) ≡ true → IsWord names (forward_word m (value_word v)) x
+          by_value : (v : Value) (x : StateValue) → IsValue name v x → is_reference_kind (kind_of_state x) ≡ true → is_live posted_phase m (reference_in (value_word v)) ≡ true → IsWord names (forward_word m (value_word v)) x
           by_value v x (int32 z fits) wrong l = never wrong
           by_value v x (int64 z fits) wrong l = never wrong
           by_value v x (native z fits) wrong l = never wrong
           by_value v x null_reference k l = record { value = Ref null; refines = null_reference; is = ap (λ (y : Addr). y.number) (sym (ap (forward m) (reference_again null (omega arith)) ∙ forward_null m sound.blocks.spaces)) }
           by_value v x (reference a n is) k l = record {
             value = Ref (forward m a);
-            refines = reference (forward m a) n (forward_named a n is late (subst (λ x. is_live posted m x ≡ true) (again a n is) l));
+            refines = reference (forward m a) n (forward_named a n is late (subst (λ x. is_live posted_phase m x ≡ true) (again a n is) l));
             is = ap (λ (y : Addr). (forward m y).number) (sym (again a n is));
           }
 
@@ -301,7 +301,7 @@ module _ (tree : Tree) (posted : Phase) (has_round : Bool) (words : ℕ) (p : Pr
 
       module _ (legal : IsLegal tree) (typed : IsTyped tree s) where
         -- a live object with a name
-        own_born : (a : ℕ) (n : ℕ) → is_live posted m (record { number = a }) ≡ true → name a ≡ Some (Born n) → IsBornAt tree names o s a n
+        own_born : (a : ℕ) (n : ℕ) → is_live posted_phase m (record { number = a }) ≡ true → name a ≡ Some (Born n) → IsBornAt tree names o s a n
         own_born a n live named =
             let b = heap.born a n named in
             record {
@@ -320,11 +320,11 @@ module _ (tree : Tree) (posted : Phase) (has_round : Bool) (words : ℕ) (p : Pr
             alike cell lies = record {
               count = refl;
               integers = λ slot word held there. there;
-              references = λ slot word u held there kind h. (word, there, word_named word u (live_loads tree posted p m sound.blocks.spaces sound.copies (record { number = a }) cell lies live slot word there held) h);
+              references = λ slot word u held there kind h. (word, there, word_named word u (live_loads tree posted_phase p m sound.blocks.spaces sound.copies (record { number = a }) cell lies live slot word there held) h);
             }
 
         -- the new copy of one
-        copied_born : (a : ℕ) (n : ℕ) (b : Addr) → is_live posted m b ≡ true → ArePair tree posted m b (record { number = a }) → name b.number ≡ Some (Born n) → IsBornAt tree names o s a n
+        copied_born : (a : ℕ) (n : ℕ) (b : Addr) → is_live posted_phase m b ≡ true → ArePair tree posted_phase m b (record { number = a }) → name b.number ≡ Some (Born n) → IsBornAt tree names o s a n
         copied_born a n b live are named = record {
           no_literal = no_literal m sound.blocks.spaces (record { number = a }) are.to lies;
           cell = are.to;
@@ -359,17 +359,17 @@ module _ (tree : Tree) (posted : Phase) (has_round : Bool) (words : ℕ) (p : Pr
               references = λ slot word u held there kind w. (
                 forward_word m word,
                 word_there slot word true held there,
-                word_forwarded are.late word u kind (live_loads tree posted p m sound.blocks.spaces sound.copies b are.from here live slot word there held) w,
+                word_forwarded are.late word u kind (live_loads tree posted_phase p m sound.blocks.spaces sound.copies b are.from here live slot word there held) w,
               );
             }
 
         born_then : (a n : ℕ) → names a ≡ Some (Born n) → IsBornAt tree names o s a n
-        born_then a n is = by_name (filled_is posted m name a (Born n) is).1
+        born_then a n is = by_name (filled_is posted_phase m name a (Born n) is).1
           where
-            live : is_live posted m (record { number = a }) ≡ true
-            live = (filled_is posted m name a (Born n) is).0
+            live : is_live posted_phase m (record { number = a }) ≡ true
+            live = (filled_is posted_phase m name a (Born n) is).0
 
-            by_name : IsFilled posted m name a (Born n) → IsBornAt tree names o s a n
+            by_name : IsFilled posted_phase m name a (Born n) → IsBornAt tree names o s a n
             by_name (own named) = own_born a n live named
             by_name (copied b there live_old named) = copied_born a n b live_old (new_pair b (record { number = a }) there live_old live) named
 
@@ -377,9 +377,9 @@ module _ (tree : Tree) (posted : Phase) (has_round : Bool) (words : ℕ) (p : Pr
 
         -- a literal lies in no block
         literal_then : (a : ℕ) (characters : List ℕ) → names a ≡ Some (Literal characters) → IsLiteralAt tree o s a characters
-        literal_then a characters is = by_name (filled_is posted m name a (Literal characters) is).1
+        literal_then a characters is = by_name (filled_is posted_phase m name a (Literal characters) is).1
           where
-            by_name : IsFilled posted m name a (Literal characters) → IsLiteralAt tree o s a characters
+            by_name : IsFilled posted_phase m name a (Literal characters) → IsLiteralAt tree o s a characters
             by_name (own named) = heap.literals a characters named
             by_name (copied b there live named) =
                 let to = other_cell (cell_in m.new (record { number = a })) b there in
@@ -388,24 +388,24 @@ module _ (tree : Tree) (posted : Phase) (has_round : Bool) (words : ℕ) (p : Pr
                 none_is_some _ (sym none ∙ (heap.literals b.number characters named).has_id)
 
         literal_named : (n : ℕ) (characters : List ℕ) → slice_get (literals_of tree) n ≡ Some characters → names (literal n).number ≡ Some (Literal characters)
-        literal_named n characters is = is_filled posted m name (literal n).number (Literal characters) live named
+        literal_named n characters is = is_filled posted_phase m name (literal n).number (Literal characters) live named
           where
             named : name (literal n).number ≡ Some (Literal characters)
             named = heap.each_literal n characters is
 
-            live : is_live posted m (literal n) ≡ true
+            live : is_live posted_phase m (literal n) ≡ true
             live =
                 let has_id = (heap.literals (literal n).number characters named).has_id in
-                ap (λ x. (((literal n).number == 0) || x) || is_live_object posted m (literal n)) (ap is_some has_id) ∙ either ((literal n).number == 0) (is_live_object posted m (literal n))
+                ap (λ x. (((literal n).number == 0) || x) || is_live_object posted_phase m (literal n)) (ap is_some has_id) ∙ either ((literal n).number == 0) (is_live_object posted_phase m (literal n))
               where
                 either : (x y : Bool) → ((x || true) || y) ≡ true
                 either true y = refl
                 either false y = refl
 
         small_then : (a : ℕ) (n : ObjectName) → names a ≡ Some n → a < ADDRESSES
-        small_then a n is = by_name (filled_is posted m name a n is).1
+        small_then a n is = by_name (filled_is posted_phase m name a n is).1
           where
-            by_name : IsFilled posted m name a n → a < ADDRESSES
+            by_name : IsFilled posted_phase m name a n → a < ADDRESSES
             by_name (own named) = heap.small a n named
             by_name (copied b there live named) =
                 let to = other_cell (cell_in m.new (record { number = a })) b there in
@@ -414,9 +414,9 @@ module _ (tree : Tree) (posted : Phase) (has_round : Bool) (words : ℕ) (p : Pr
 
         null_then : (x : Option ObjectName) → names 0 ≡ x → names 0 ≡ None
         null_then None is = is
-        null_then (Some n) is = by_name (filled_is posted m name 0 n is).1
+        null_then (Some n) is = by_name (filled_is posted_phase m name 0 n is).1
           where
-            by_name : IsFilled posted m name 0 n → names 0 ≡ None
+            by_name : IsFilled posted_phase m name 0 n → names 0 ≡ None
             by_name (own named) = none_is_some n (sym heap.null_unnamed ∙ named)
             by_name (copied b there live named) =
                 let to = other_cell (cell_in m.new null) b there in
@@ -436,7 +436,7 @@ module _ (tree : Tree) (posted : Phase) (has_round : Bool) (words : ℕ) (p : Pr
 
 -- ---- what normal names say
 
-module _ (tree : Tree) (posted : Phase) (has_round : Bool) (words : ℕ) (p : Progress) (o : Objects) (sound : IsSoundHeap tree posted has_round words p o.spaces) (late : has_words posted ≡ true) (name : Names) (normal : IsNormal posted o.spaces name) where
+module _ (tree : Tree) (posted_phase : Phase) (has_round : Bool) (words : ℕ) (p : Progress) (o : Objects) (sound : IsSoundHeap tree posted_phase has_round words p o.spaces) (late : has_words posted_phase ≡ true) (name : Names) (normal : IsNormal posted_phase o.spaces name) where
   -- the forward has the name of what it forwards, where both copies are live
   pub normal_forward : (a : Addr) (n : ObjectName) → name a.number ≡ Some n → name (forward o.spaces a).number ≡ Some n
   normal_forward a n named = by_cell (cell_in o.spaces.old a) refl
@@ -448,7 +448,7 @@ module _ (tree : Tree) (posted : Phase) (has_round : Bool) (words : ℕ) (p : Pr
       by_other c lies None bare = itself (forward_bare o.spaces a c lies bare)
       by_other c lies (Some b) other =
           let copy = sound.copies.out a b c lies other in
-          let live = new_is_live posted o.spaces b (words_are_live posted late) (or_right (is_permanent b) (is_new o.spaces b) (new_is o.spaces b copy.0 copy.1)) in
+          let live = new_is_live posted_phase o.spaces b (words_are_live posted_phase late) (or_right (is_permanent b) (is_new o.spaces b) (new_is o.spaces b copy.0 copy.1)) in
           subst (λ (x : Addr). name x.number ≡ Some n) (sym (forward_copy o.spaces a b c lies other)) (normal.filled a.number b.number n named (ap other_of lies ∙ other) live)
 
       by_cell : (x : Option Cell) → cell_in o.spaces.old a ≡ x → name (forward o.spaces a).number ≡ Some n

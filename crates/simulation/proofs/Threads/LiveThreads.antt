@@ -36,7 +36,7 @@ module _ (c : MachineState) (s : State) (r : Represents c s) where
   unfolding normally
   normally_from = normal_from c (sound_is_held c r.sound) r.accepted.legal s r.typed r.refines.name r.refines.by
 
-  pub normally_keeps : (a : ℕ) (n : ObjectName) → is_live c.posts.posted c.objects.spaces (record { number = a }) ≡ true → r.refines.name a ≡ Some n → normally.name a ≡ Some n
+  pub normally_keeps : (a : ℕ) (n : ObjectName) → is_live c.posts.posted_phase c.objects.spaces (record { number = a }) ≡ true → r.refines.name a ≡ Some n → normally.name a ≡ Some n
   unfolding normally
   normally_keeps = normal_keeps c (sound_is_held c r.sound) r.accepted.legal s r.typed r.refines.name r.refines.by
 
@@ -44,8 +44,8 @@ module _ (c : MachineState) (s : State) (r : Represents c s) where
   -- that of an object born in the step.
   pub record KeepsOwnNames (o : Objects) (name : Names) : Type 0 where
     pub extends : Extends normally.name name
-    pub kept : (a : Addr) → is_kept c.posts.posted o.spaces a ≡ true → (is_kept c.posts.posted c.objects.spaces a ≡ true) ⊎ ((n : ObjectName) × (name a.number ≡ Some n) × IsKnown normally.name (length s.objects) n)
-    pub copies : AreCopiesOfMarked c.posts.posted c.objects.spaces → AreCopiesOfMarked c.posts.posted o.spaces
+    pub kept : (a : Addr) → is_kept c.posts.posted_phase o.spaces a ≡ true → (is_kept c.posts.posted_phase c.objects.spaces a ≡ true) ⊎ ((n : ObjectName) × (name a.number ≡ Some n) × IsKnown normally.name (length s.objects) n)
+    pub copies : AreCopiesOfMarked c.posts.posted_phase c.objects.spaces → AreCopiesOfMarked c.posts.posted_phase o.spaces
 
   module _ (t left : ℕ) (m : Frames) (there : slice_get c.threads t ≡ Some (record { thread_status = Live m; steps_left = left })) where
     -- ---- the seat
@@ -59,18 +59,18 @@ module _ (c : MachineState) (s : State) (r : Represents c s) where
     close : IsClose c.posts seat
     close = r.sound.seated.close.phases t seat seat_there.1
 
-    time : IsOnTime seat.phase c.posts.posted c.posts.has_round c.progress c.objects.spaces
+    time : IsOnTime seat.phase c.posts.posted_phase c.posts.has_round c.progress c.objects.spaces
     time = r.sound.on_time t seat seat_there.1
 
     -- what the thread may hold in this step
     abbrev pub own_passes : Objects → Addr → Type 0
-    own_passes o a = passes (first_hold c.posts seat c.objects) c.posts.posted o.spaces a ≡ true
+    own_passes o a = passes (first_hold c.posts seat c.objects) c.posts.posted_phase o.spaces a ≡ true
 
     -- ---- the memory
 
     -- the names of what the thread may hold
     pub own_names : Names
-    own_names = cut_names (first_hold c.posts seat c.objects) c.posts.posted c.objects.spaces normally.name
+    own_names = cut_names (first_hold c.posts seat c.objects) c.posts.posted_phase c.objects.spaces normally.name
 
     -- the heap as it is for the thread
     abbrev pub FitsOwn : Names → Objects → List Value → State → Type 0
@@ -118,7 +118,7 @@ module _ (c : MachineState) (s : State) (r : Represents c s) where
             is.0,
             (memory.fits.fits.fits.cut a.number is.0 is.1).0,
             elim (memory.fits.fits.names.known a.number is.0 is.1) [
-              | inl own ↦ inl (own.0, (cut_is (first_hold c.posts seat c.objects) c.posts.posted c.objects.spaces normally.name own.0 is.0 own.1).0)
+              | inl own ↦ inl (own.0, (cut_is (first_hold c.posts seat c.objects) c.posts.posted_phase c.objects.spaces normally.name own.0 is.0 own.1).0)
               | inr new ↦ inr new
             ],
           )

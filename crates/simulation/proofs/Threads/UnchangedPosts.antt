@@ -11,23 +11,23 @@ use Rattle.simulation.proofs.Threads.StepEffects.{HasBegun, IsFinished, finished
 
 -- the same phase and rounds are posted
 pub record KeepsPosts (h k : Handshakes) : Type 0 where
-  pub posted : k.posted ≡ h.posted
+  pub posted_phase : k.posted_phase ≡ h.posted_phase
   pub round : k.has_round ≡ h.has_round
 
 -- a thread that ends leaves, and with any other report the seats stay
 seats_keep : (h : Handshakes) (t : ℕ) (r : Report) → KeepsPosts h (seats_after h t r)
-seats_keep h t (HasEnded e) = record { posted = refl; round = refl }
-seats_keep h t Ran = record { posted = refl; round = refl }
-seats_keep h t Blocked = record { posted = refl; round = refl }
-seats_keep h t Absent = record { posted = refl; round = refl }
-seats_keep h t Acked = record { posted = refl; round = refl }
-seats_keep h t NothingPosted = record { posted = refl; round = refl }
-seats_keep h t Worked = record { posted = refl; round = refl }
-seats_keep h t Waiting = record { posted = refl; round = refl }
-seats_keep h t CycleDone = record { posted = refl; round = refl }
+seats_keep h t (HasEnded e) = record { posted_phase = refl; round = refl }
+seats_keep h t Ran = record { posted_phase = refl; round = refl }
+seats_keep h t Blocked = record { posted_phase = refl; round = refl }
+seats_keep h t Absent = record { posted_phase = refl; round = refl }
+seats_keep h t Acked = record { posted_phase = refl; round = refl }
+seats_keep h t NothingPosted = record { posted_phase = refl; round = refl }
+seats_keep h t Worked = record { posted_phase = refl; round = refl }
+seats_keep h t Waiting = record { posted_phase = refl; round = refl }
+seats_keep h t CycleDone = record { posted_phase = refl; round = refl }
 
 keeps_then : {h k l : Handshakes} → KeepsPosts h k → KeepsPosts k l → KeepsPosts h l
-keeps_then f g = record { posted = g.posted ∙ f.posted; round = g.round ∙ f.round }
+keeps_then f g = record { posted_phase = g.posted_phase ∙ f.posted_phase; round = g.round ∙ f.round }
 
 -- and the collector is as far
 pub record KeepsCollector (c d : MachineState) : Type 0 where
@@ -36,18 +36,18 @@ pub record KeepsCollector (c d : MachineState) : Type 0 where
 
 pub step_keeps : (c : MachineState) (t : ℕ) (after : MachineState × Report) → IsTransition c (Step t) after → KeepsCollector c after.0
 step_keeps c t after transition =
-    step_by c after (λ (x : MachineState × Report). KeepsCollector c x.0) (λ r. record { posts = record { posted = refl; round = refl }; progress = refl }) (λ t left m a there done is. by_way t left a (finished_by c t left a after a.outcome is)) t transition
+    step_by c after (λ (x : MachineState × Report). KeepsCollector c x.0) (λ r. record { posts = record { posted_phase = refl; round = refl }; progress = refl }) (λ t left m a there done is. by_way t left a (finished_by c t left a after a.outcome is)) t transition
   where
     begun : (t left : ℕ) (a : Answer) (way : IsFinished c t left a a.outcome after) → KeepsPosts c.posts way.posts
     begun t left a way = by_case way.are
       where
         by_case : ((way.threads ≡ (left_by c t left a).threads) × (way.posts ≡ c.posts)) ⊎ (HasBegun c.limits.budget (left_by c t left a).threads way.threads × (way.posts ≡ join_thread c.posts (length (left_by c t left a).threads) t)) → KeepsPosts c.posts way.posts
-        by_case (inl (same, posts)) = record { posted = ap (λ (h : Handshakes). h.posted) posts; round = ap (λ (h : Handshakes). h.has_round) posts }
-        by_case (inr (more, posts)) = record { posted = ap (λ (h : Handshakes). h.posted) posts; round = ap (λ (h : Handshakes). h.has_round) posts }
+        by_case (inl (same, posts)) = record { posted_phase = ap (λ (h : Handshakes). h.posted_phase) posts; round = ap (λ (h : Handshakes). h.has_round) posts }
+        by_case (inr (more, posts)) = record { posted_phase = ap (λ (h : Handshakes). h.posted_phase) posts; round = ap (λ (h : Handshakes). h.has_round) posts }
 
     by_way : (t left : ℕ) (a : Answer) → IsFinished c t left a a.outcome after → KeepsCollector c after.0
     by_way t left a way = subst (λ (x : MachineState × Report). KeepsCollector c x.0) way.is (record { posts = keeps_then (begun t left a way) (seats_keep way.posts t _); progress = refl })
 
 -- so no step posts a phase
-pub step_posted : (c : MachineState) (t : ℕ) (after : MachineState × Report) → IsTransition c (Step t) after → after.0.posts.posted ≡ c.posts.posted
-step_posted c t after transition = (step_keeps c t after transition).posts.posted
+pub step_posted : (c : MachineState) (t : ℕ) (after : MachineState × Report) → IsTransition c (Step t) after → after.0.posts.posted_phase ≡ c.posts.posted_phase
+step_posted c t after transition = (step_keeps c t after transition).posts.posted_phase

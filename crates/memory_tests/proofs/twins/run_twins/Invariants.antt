@@ -5,5 +5,5 @@ use Rattle.memory_tests.proofs.twins.run_twins.Given as goal
 abbrev pub ghosts-run_shared-M-Initial : goal.ghosts-run_shared-M-Initial
 ghosts-run_shared-M-Initial g a = record { initial_state = a.core; workers = 1; most_printed = None }
 
-abbrev pub ghosts-run_shared-M-Naming : goal.ghosts-run_shared-M-Naming
-ghosts-run_shared-M-Naming g a = record { table = a.blank }
+abbrev pub ghosts-run_shared-M-TableName : goal.ghosts-run_shared-M-TableName
+ghosts-run_shared-M-TableName g a = record { table = a.blank }

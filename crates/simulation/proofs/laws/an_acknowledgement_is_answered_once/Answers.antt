@@ -15,6 +15,6 @@ has_seat c seated t lives = sym (seated.live t) ∙ lives
 pub returns : goal.returns
 returns c = record {
   counts = λ here t after r transition. subst (λ (x : MachineState × Report). (x.1 ≡ Acked) ↔ (is_open here.posts t ≡ true)) (sym transition) (acked_where_open here t);
-  phase = λ here seated t lives after r transition late. subst (λ (x : MachineState × Report). own_phase x.0.posts t ≡ x.0.posts.posted) (sym transition) (acknowledges_phase here.posts t (has_seat here seated t lives) late);
+  phase = λ here seated t lives after r transition late. subst (λ (x : MachineState × Report). own_phase x.0.posts t ≡ x.0.posts.posted_phase) (sym transition) (acknowledges_phase here.posts t (has_seat here seated t lives) late);
   round = λ here seated t lives after r transition now. subst (λ (x : MachineState × Report). is_open x.0.posts t ≡ false) (sym transition) (answers_once here.posts t (has_seat here seated t lives) now);
 }

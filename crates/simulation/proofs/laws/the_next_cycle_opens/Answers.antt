@@ -5,4 +5,4 @@ use Rattle.simulation.specs.MachineStates.{MachineState}
 use Rattle.simulation.proofs.laws.the_next_cycle_opens.Goals as goal
 
 pub returns : goal.returns
-returns c = λ here idle seen after r transition. let opens = opens_next here idle seen in (ap (λ (x : MachineState × Report). x.1) transition ∙ opens.0, ap (λ (x : MachineState × Report). x.0.posts.posted) transition ∙ opens.1)
+returns c = λ here idle seen after r transition. let opens = opens_next here idle seen in (ap (λ (x : MachineState × Report). x.1) transition ∙ opens.0, ap (λ (x : MachineState × Report). x.0.posts.posted_phase) transition ∙ opens.1)

@@ -4,5 +4,5 @@ use Rattle.source_runs.proofs.threads.run.Given as goal
 abbrev pub ghosts-run_together-M-Initial : goal.ghosts-run_together-M-Initial
 ghosts-run_together-M-Initial g a = record { initial_state = a.core; workers = a.workers; most_printed = a.most_printed }
 
-abbrev pub ghosts-run_together-M-Naming : goal.ghosts-run_together-M-Naming
-ghosts-run_together-M-Naming g a = record { table = a.blank }
+abbrev pub ghosts-run_together-M-TableName : goal.ghosts-run_together-M-TableName
+ghosts-run_together-M-TableName g a = record { table = a.blank }

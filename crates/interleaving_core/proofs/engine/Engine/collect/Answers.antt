@@ -15,8 +15,8 @@ open_cycle-requires-clause-limits c = c.requires.limits
 pub open_cycle-requires-clause-sound : goal.open_cycle-requires-clause-sound
 open_cycle-requires-clause-sound c = c.requires.sound
 
-pub open_cycle-requires-clause-posted : goal.open_cycle-requires-clause-posted
-open_cycle-requires-clause-posted c = sym c.in-Idle.ensures.posted
+pub open_cycle-requires-clause-posted_phase : goal.open_cycle-requires-clause-posted_phase
+open_cycle-requires-clause-posted_phase c = sym c.in-Idle.ensures.posted_phase
 
 pub open_cycle-requires-clause-seen : goal.open_cycle-requires-clause-seen
 open_cycle-requires-clause-seen c = sym c.if-not-all_seen.ensures
@@ -24,8 +24,8 @@ open_cycle-requires-clause-seen c = sym c.if-not-all_seen.ensures
 pub mark_on-requires-clause-sound : goal.mark_on-requires-clause-sound
 mark_on-requires-clause-sound c = c.requires.sound
 
-pub mark_on-requires-clause-posted : goal.mark_on-requires-clause-posted
-mark_on-requires-clause-posted c = sym c.in-Mark.ensures.posted
+pub mark_on-requires-clause-posted_phase : goal.mark_on-requires-clause-posted_phase
+mark_on-requires-clause-posted_phase c = sym c.in-Mark.ensures.posted_phase
 
 pub mark_on-requires-clause-seen : goal.mark_on-requires-clause-seen
 mark_on-requires-clause-seen c = sym c.if-not-all_seen.ensures
@@ -33,8 +33,8 @@ mark_on-requires-clause-seen c = sym c.if-not-all_seen.ensures
 pub look_on-requires-clause-sound : goal.look_on-requires-clause-sound
 look_on-requires-clause-sound c = c.requires.sound
 
-pub look_on-requires-clause-posted : goal.look_on-requires-clause-posted
-look_on-requires-clause-posted c = sym c.in-Allocate.ensures.posted
+pub look_on-requires-clause-posted_phase : goal.look_on-requires-clause-posted_phase
+look_on-requires-clause-posted_phase c = sym c.in-Allocate.ensures.posted_phase
 
 pub look_on-requires-clause-seen : goal.look_on-requires-clause-seen
 look_on-requires-clause-seen c = sym c.if-not-all_seen.ensures
@@ -42,8 +42,8 @@ look_on-requires-clause-seen c = sym c.if-not-all_seen.ensures
 pub copy_on-requires-clause-sound : goal.copy_on-requires-clause-sound
 copy_on-requires-clause-sound c = c.requires.sound
 
-pub copy_on-requires-clause-posted : goal.copy_on-requires-clause-posted
-copy_on-requires-clause-posted c = sym c.in-Copy.ensures.posted
+pub copy_on-requires-clause-posted_phase : goal.copy_on-requires-clause-posted_phase
+copy_on-requires-clause-posted_phase c = sym c.in-Copy.ensures.posted_phase
 
 pub copy_on-requires-clause-seen : goal.copy_on-requires-clause-seen
 copy_on-requires-clause-seen c = sym c.if-not-all_seen.ensures
@@ -54,8 +54,8 @@ flip_on-requires-clause-sound c = c.requires.sound
 pub flip_on-requires-clause-few : goal.flip_on-requires-clause-few
 flip_on-requires-clause-few c = c.requires.few
 
-pub flip_on-requires-clause-posted : goal.flip_on-requires-clause-posted
-flip_on-requires-clause-posted c = sym c.in-HeapFlip.ensures.posted
+pub flip_on-requires-clause-posted_phase : goal.flip_on-requires-clause-posted_phase
+flip_on-requires-clause-posted_phase c = sym c.in-HeapFlip.ensures.posted_phase
 
 pub flip_on-requires-clause-seen : goal.flip_on-requires-clause-seen
 flip_on-requires-clause-seen c = sym c.if-not-all_seen.ensures
@@ -63,20 +63,20 @@ flip_on-requires-clause-seen c = sym c.if-not-all_seen.ensures
 pub clear_on-requires-clause-sound : goal.clear_on-requires-clause-sound
 clear_on-requires-clause-sound c = c.requires.sound
 
-pub clear_on-requires-clause-posted : goal.clear_on-requires-clause-posted
-clear_on-requires-clause-posted c = sym c.in-Reclaim.ensures.posted
+pub clear_on-requires-clause-posted_phase : goal.clear_on-requires-clause-posted_phase
+clear_on-requires-clause-posted_phase c = sym c.in-Reclaim.ensures.posted_phase
 
 pub clear_on-requires-clause-seen : goal.clear_on-requires-clause-seen
 clear_on-requires-clause-seen c = sym c.if-not-all_seen.ensures
 
 pub post-requires-clause-next : goal.post-requires-clause-next
-post-requires-clause-next c = ap phase_after c.in-PreFlip.ensures.posted
+post-requires-clause-next c = ap phase_after c.in-PreFlip.ensures.posted_phase
 
 pub post-requires-clause-seen : goal.post-requires-clause-seen
 post-requires-clause-seen c = sym c.if-not-all_seen.ensures
 
 pub post-requires-in-ThreadFlip-clause-next : goal.post-requires-in-ThreadFlip-clause-next
-post-requires-in-ThreadFlip-clause-next c = ap phase_after c.in-ThreadFlip.ensures.posted
+post-requires-in-ThreadFlip-clause-next c = ap phase_after c.in-ThreadFlip.ensures.posted_phase
 
 pub post-requires-in-ThreadFlip-clause-seen : goal.post-requires-in-ThreadFlip-clause-seen
 post-requires-in-ThreadFlip-clause-seen c = sym c.if-not-all_seen.ensures
@@ -84,35 +84,35 @@ post-requires-in-ThreadFlip-clause-seen c = sym c.if-not-all_seen.ensures
 pub returns-in-Idle-clause-transitions : goal.returns-in-Idle-clause-transitions
 returns-in-Idle-clause-transitions c =
     IfOk-weaker c.open_cycle.result _ _
-    (λ report opened. ap₂ (λ after decoded. (after, decoded)) opened.0 opened.1 ∙ sym (collects (machine_state_of c.args.self.now) Idle (sym c.if-not-all_seen.ensures) (sym c.in-Idle.ensures.posted)))
+    (λ report opened. ap₂ (λ after decoded. (after, decoded)) opened.0 opened.1 ∙ sym (collects (machine_state_of c.args.self.now) Idle (sym c.if-not-all_seen.ensures) (sym c.in-Idle.ensures.posted_phase)))
     c.open_cycle.ensures.opened
 
 pub returns-in-Idle-clause-memory : goal.returns-in-Idle-clause-memory
 returns-in-Idle-clause-memory c =
-    on_err_weaker c.open_cycle.result (λ refused. initial_takes_memory (machine_state_of c.args.self.now) c.requires.sound (sym c.if-not-all_seen.ensures) (sym c.in-Idle.ensures.posted)) c.open_cycle.ensures.refused
+    on_err_weaker c.open_cycle.result (λ refused. initial_takes_memory (machine_state_of c.args.self.now) c.requires.sound (sym c.if-not-all_seen.ensures) (sym c.in-Idle.ensures.posted_phase)) c.open_cycle.ensures.refused
 
 pub returns-in-Idle-clause-refused : goal.returns-in-Idle-clause-refused
 returns-in-Idle-clause-refused c = c.open_cycle.ensures.refused
 
 pub returns-in-Mark-clause-transitions : goal.returns-in-Mark-clause-transitions
-returns-in-Mark-clause-transitions c = c.mark_on.ensures ∙ sym (collects (machine_state_of c.args.self.now) Mark (sym c.if-not-all_seen.ensures) (sym c.in-Mark.ensures.posted))
+returns-in-Mark-clause-transitions c = c.mark_on.ensures ∙ sym (collects (machine_state_of c.args.self.now) Mark (sym c.if-not-all_seen.ensures) (sym c.in-Mark.ensures.posted_phase))
 
 pub returns-in-Allocate-clause-transitions : goal.returns-in-Allocate-clause-transitions
-returns-in-Allocate-clause-transitions c = c.look_on.ensures ∙ sym (collects (machine_state_of c.args.self.now) Allocate (sym c.if-not-all_seen.ensures) (sym c.in-Allocate.ensures.posted))
+returns-in-Allocate-clause-transitions c = c.look_on.ensures ∙ sym (collects (machine_state_of c.args.self.now) Allocate (sym c.if-not-all_seen.ensures) (sym c.in-Allocate.ensures.posted_phase))
 
 pub returns-in-Copy-clause-transitions : goal.returns-in-Copy-clause-transitions
-returns-in-Copy-clause-transitions c = c.copy_on.ensures ∙ sym (collects (machine_state_of c.args.self.now) Copy (sym c.if-not-all_seen.ensures) (sym c.in-Copy.ensures.posted))
+returns-in-Copy-clause-transitions c = c.copy_on.ensures ∙ sym (collects (machine_state_of c.args.self.now) Copy (sym c.if-not-all_seen.ensures) (sym c.in-Copy.ensures.posted_phase))
 
 pub returns-in-HeapFlip-clause-transitions : goal.returns-in-HeapFlip-clause-transitions
-returns-in-HeapFlip-clause-transitions c = c.flip_on.ensures ∙ sym (collects (machine_state_of c.args.self.now) HeapFlip (sym c.if-not-all_seen.ensures) (sym c.in-HeapFlip.ensures.posted))
+returns-in-HeapFlip-clause-transitions c = c.flip_on.ensures ∙ sym (collects (machine_state_of c.args.self.now) HeapFlip (sym c.if-not-all_seen.ensures) (sym c.in-HeapFlip.ensures.posted_phase))
 
 pub returns-in-Reclaim-clause-transitions : goal.returns-in-Reclaim-clause-transitions
-returns-in-Reclaim-clause-transitions c = c.clear_on.ensures ∙ sym (collects (machine_state_of c.args.self.now) Reclaim (sym c.if-not-all_seen.ensures) (sym c.in-Reclaim.ensures.posted))
+returns-in-Reclaim-clause-transitions c = c.clear_on.ensures ∙ sym (collects (machine_state_of c.args.self.now) Reclaim (sym c.if-not-all_seen.ensures) (sym c.in-Reclaim.ensures.posted_phase))
 
 pub returns-in-PreFlip-clause-transitions : goal.returns-in-PreFlip-clause-transitions
 returns-in-PreFlip-clause-transitions c =
-    ap₂ (λ after decoded. (after, decoded)) c.post.ensures.after c.post.ensures.report ∙ sym (collects (machine_state_of c.args.self.now) PreFlip (sym c.if-not-all_seen.ensures) (sym c.in-PreFlip.ensures.posted))
+    ap₂ (λ after decoded. (after, decoded)) c.post.ensures.after c.post.ensures.report ∙ sym (collects (machine_state_of c.args.self.now) PreFlip (sym c.if-not-all_seen.ensures) (sym c.in-PreFlip.ensures.posted_phase))
 
 pub returns-in-ThreadFlip-clause-transitions : goal.returns-in-ThreadFlip-clause-transitions
 returns-in-ThreadFlip-clause-transitions c =
-    ap₂ (λ after decoded. (after, decoded)) c.post-in-ThreadFlip.ensures.after c.post-in-ThreadFlip.ensures.report ∙ sym (collects (machine_state_of c.args.self.now) ThreadFlip (sym c.if-not-all_seen.ensures) (sym c.in-ThreadFlip.ensures.posted))
+    ap₂ (λ after decoded. (after, decoded)) c.post-in-ThreadFlip.ensures.after c.post-in-ThreadFlip.ensures.report ∙ sym (collects (machine_state_of c.args.self.now) ThreadFlip (sym c.if-not-all_seen.ensures) (sym c.in-ThreadFlip.ensures.posted_phase))

@@ -11,7 +11,7 @@ pub returns-in_err-memory-clause-refused : goal.returns-in_err-memory-clause-ref
 returns-in_err-memory-clause-refused c = on_err c.from_residual.result refl
 
 pub post-requires-clause-next : goal.post-requires-clause-next
-post-requires-clause-next c = sym (ap phase_after c.requires.posted)
+post-requires-clause-next c = sym (ap phase_after c.requires.posted_phase)
 
 pub post-requires-clause-seen : goal.post-requires-clause-seen
 post-requires-clause-seen c = c.requires.seen

@@ -10,10 +10,10 @@ use Rattle.name_tables.proofs.lookups.NameTables.find_virtual.Goals as goal
 pub returns : goal.returns
 returns c =
     let t = c.args.self.now.classes.tree.now in
-    let with_owner : ClassName → MethodReference = λ o. record { owner = o; name = (method_of_key c.named.result).name; signature = (method_of_key c.named.result).signature } in
+    let with_owner : ClassName → MethodReference = λ o. record { owner = o; name = (method_of_key c.by_name.result).name; signature = (method_of_key c.by_name.result).signature } in
     let with_key : MethodIdentity → MethodReference = λ k. record { owner = c.args.owner.now; name = k.name; signature = k.signature } in
-    let same : reference_of_keys c.of.result c.named.result ≡ with_key (method_of_key c.named.result) = ap with_owner c.of.ensures in
-    let whole = same ∙ ap with_key c.named.ensures in
+    let same : reference_of_keys c.of.result c.by_name.result ≡ with_key (method_of_key c.by_name.result) = ap with_owner c.of.ensures in
+    let whole = same ∙ ap with_key c.by_name.ensures in
     record {
       number = c.find_call.ensures.number ∙ ap (method_number t true) whole;
       member = c.find_call.ensures.member ∙ ap (λ r. option_map Some (find_method t true r)) whole;
