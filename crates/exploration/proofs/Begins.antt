@@ -1,12 +1,8 @@
 -- Machines of one program stay so.
 use Rattle.std.proofs.Common.{◌≡◌, Some, Result, Ok, Err, sym, ap, ◌∙◌, subst}
 use Rattle.std.specs.Prelude.{OnErr, OnOk}
-use Rattle.std.proofs.lemmas.Option.{same_Some}
-use Rattle.interleaving_core.specs.simulation.cil_model.declared.limits.Limits.{Limits}
 use Rattle.interleaving_core.specs.simulation.cil_model.declared.memory.NoMemory.{NoMemory}
-use Rattle.interleaving_core.specs.simulation.cil_model.declared.trees.Tree.{Tree}
-use Rattle.interleaving_core.specs.simulation.MachineStates.{MachineState}
-use Rattle.interleaving_core.specs.simulation.Transitions.{initial_machine_state}
+use Rattle.exploration.proofs.Names.{same_Some, Limits, Tree, MachineState, initial_machine_state}
 use Rattle.exploration.specs.Begins.{Begins}
 use Rattle.exploration.proofs.Running.{opened_of}
 

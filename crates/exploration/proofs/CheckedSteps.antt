@@ -1,19 +1,7 @@
 -- Entries of checked steps, and what they say together.
 use Rattle.std.proofs.Common.{◌≡◌, ◌≢◌, ◌⊎◌, ◌<◌, ◌≤◌, ◌+◌, ◌*◌, ◌||◌, ℕ, zero, suc, Bool, true, false, List, Option, Some, None, length, map, replicate, slice_get, slice_set, refl, inl, inr, sym, ap, ◌∙◌, subst, arith}
-use Rattle.std.proofs.lemmas.Option.{none-some, same_Some}
-use Rattle.interleaving_core.specs.simulation.cil_model.declared.events.Event.{Event}
-use Rattle.interleaving_core.specs.simulation.cil_model.declared.events.Event.TheVariants.{Step}
-use Rattle.interleaving_core.specs.simulation.cil_model.declared.limits.TheConstants.{MOST_THREADS}
-use Rattle.interleaving_core.specs.simulation.cil_model.declared.reports.Report.{Report}
-use Rattle.interleaving_core.specs.simulation.cil_model.declared.reports.Report.TheVariants.{Blocked}
-use Rattle.interleaving_core.specs.simulation.threads_monitors.Threads.{is_live_at}
-use Rattle.interleaving_core.specs.simulation.MachineStates.{MachineState}
 use Rattle.interleaving_core.proofs.simulation.collector.PhaseChanges.StaticFlips.{set_here_or_there}
-use Rattle.exploration.specs.CheckedSteps.{AreAllChecked, AreEntries, IsLedToBy, IsStepChecked, IsStepInto}
-use Rattle.exploration.specs.Paths.{AreStepsChecked, IsNotTerminalAt, LeadsTo, events_of}
-use Rattle.exploration.specs.declared.findings.Path.{Path}
-use Rattle.exploration.specs.Searches.{IsLedTo, LeadsInto}
-use Rattle.exploration.specs.Shown.{CannotStep}
+use Rattle.exploration.proofs.Names.{none-some, same_Some, Event, MOST_THREADS, is_live_at, MachineState, AreAllChecked, AreEntries, IsLedToBy, IsStepChecked, IsStepInto, AreStepsChecked, IsNotTerminalAt, LeadsTo, events_of, Path, IsLedTo, LeadsInto}
 use Rattle.exploration.proofs.Paths.{IsOneOperation, beyond_dead, events_there, led_together, moves_on, nat_cases}
 
 -- no entry says anything at first

@@ -1,15 +1,7 @@
 -- A content that lags behind one that lags behind a third.
 use Rattle.std.proofs.Common.{◌≡◌, List, [], ◌∷◌, refl, ap, ◌∙◌, subst, map}
-use Rattle.interleaving_core.specs.simulation.cil_model.declared.trees.Tree.{Tree}
-use Rattle.interleaving_core.specs.simulation.threads_monitors.Frames.{Frames}
-use Rattle.interleaving_core.specs.simulation.threads_monitors.declared.threads.ThreadStatus.{ThreadStatus}
-use Rattle.interleaving_core.specs.simulation.threads_monitors.declared.threads.ThreadStatus.TheVariants.{Live, Ended}
-use Rattle.interleaving_core.specs.simulation.threads_monitors.declared.threads.Thread.{Thread}
-use Rattle.interleaving_core.specs.simulation.Agreement.{Agree}
-use Rattle.interleaving_core.specs.simulation.MachineStates.{MachineState}
 use Rattle.interleaving_core.specs.Alike.{AreAlike, status_of}
-use Rattle.exploration.specs.Lagging.{IsLagging, IsAhead, here, onward, IsStatusLagging, IsThreadLagging}
-use Rattle.exploration.specs.Searches.{IsCovered}
+use Rattle.exploration.proofs.Names.{Tree, Frames, ThreadStatus, Live, Ended, Thread, Agree, MachineState, IsLagging, IsAhead, here, onward, IsStatusLagging, IsThreadLagging, IsCovered}
 use Rattle.exploration.proofs.Settling.{thread_itself}
 
 module _ (tree : Tree) where

@@ -1,20 +1,9 @@
 -- A machine whose thread did local instructions on a lent frame is further.
 use Rattle.std.proofs.Common.{◌≡◌, ◌<◌, ◌+◌, ◌-◌, ℕ, zero, suc, List, [], ◌∷◌, Some, slice_get, slice_set, replicate, refl, sym, ap, ◌∙◌, subst}
-use Rattle.std.proofs.lemmas.Option.{same_Some}
-use Rattle.interleaving_core.specs.simulation.cil_model.declared.events.Event.TheVariants.{Step}
-use Rattle.interleaving_core.specs.simulation.cil_model.declared.reports.Report.TheVariants.{Ran}
-use Rattle.interleaving_core.specs.simulation.cil_model.declared.trees.Tree.{Tree}
-use Rattle.interleaving_core.specs.simulation.interpreter.Local.{AreLocalSteps, frames_over}
-use Rattle.interleaving_core.specs.simulation.threads_monitors.Frames.{Frame}
-use Rattle.interleaving_core.specs.simulation.threads_monitors.declared.threads.Thread.{Thread}
-use Rattle.interleaving_core.specs.simulation.Agreement.{Agree}
 use Rattle.interleaving_core.specs.simulation.Lending.{RunsFrame, with_live}
-use Rattle.interleaving_core.specs.simulation.MachineStates.{MachineState, frame_room}
-use Rattle.interleaving_core.specs.simulation.Runs.{AreTransitions}
-use Rattle.interleaving_core.specs.simulation.Transitions.{live_thread}
 use Rattle.interleaving_core.proofs.simulation.Threads.LocalInstructions.{local_transitions}
 use Rattle.interleaving_core.specs.Loans.{Begins, IsAtOrigin, IsLent, Lent, RanLocally}
-use Rattle.exploration.specs.Lagging.{IsLagging, IsThreadLagging}
+use Rattle.exploration.proofs.Names.{same_Some, Step, Ran, Tree, AreLocalSteps, frames_over, Frame, Thread, Agree, MachineState, frame_room, AreTransitions, live_thread, IsLagging, IsThreadLagging}
 use Rattle.exploration.proofs.Covering.{threads_itself}
 use Rattle.exploration.proofs.Local.{steps_further}
 use Rattle.exploration.proofs.Paths.{IsOneOperation, led_once}

@@ -10,3 +10,4 @@ pub mod Paths
 pub mod CheckedSteps
 pub mod Going
 pub mod Begins
+mod Names

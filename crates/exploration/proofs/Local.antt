@@ -1,9 +1,6 @@
 -- Local instructions of the top frame lead to frames that are further.
 use Rattle.std.proofs.Common.{ℕ, zero, suc, List, sym, subst}
-use Rattle.interleaving_core.specs.simulation.cil_model.declared.trees.Tree.{Tree}
-use Rattle.interleaving_core.specs.simulation.interpreter.Local.{AreLocalSteps, IsLocalStep, frames_over}
-use Rattle.interleaving_core.specs.simulation.threads_monitors.Frames.{Frame, Frames}
-use Rattle.exploration.specs.Lagging.{IsAhead, here, onward, IsLocalMove}
+use Rattle.exploration.proofs.Names.{Tree, AreLocalSteps, IsLocalStep, frames_over, Frame, Frames, IsAhead, here, onward, IsLocalMove}
 
 module _ (tree : Tree) (room : ℕ) (below : List Frame) (depth : ℕ) where
   abbrev over : Frame → Frames

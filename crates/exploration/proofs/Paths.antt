@@ -1,30 +1,11 @@
 -- Where lists of events lead.
-use Rattle.std.proofs.Common.{Contains, ◌≡◌, ◌≢◌, ◌⊎◌, ◌<◌, ◌≤◌, ◌+◌, ◌||◌, ℕ, zero, suc, Bool, true, false, List, [], ◌∷◌, Option, Some, None, is_none, is_some, length, map, option_map, slice_get, Result, Ok, Err, refl, inl, inr, sym, ap, ◌∙◌, subst, arith}
+use Rattle.std.proofs.Common.{Contains, ◌≡◌, ◌≢◌, ◌⊎◌, ◌<◌, ◌≤◌, ℕ, zero, suc, true, false, List, [], ◌∷◌, Some, length, map, option_map, slice_get, Result, Ok, Err, refl, inl, inr, sym, ap, ◌∙◌, subst, arith}
 use Rattle.std.specs.Prelude.{IfOk}
-use Rattle.std.proofs.lemmas.Option.{get_or_from_slice_get, slice_get-map, slice_get_within, same_Some}
-use Rattle.interleaving_core.specs.simulation.cil_model.declared.events.Event.{Event}
-use Rattle.interleaving_core.specs.simulation.cil_model.declared.events.Event.TheVariants.{Step}
 use Rattle.interleaving_core.specs.simulation.cil_model.declared.instructions.Instruction.{Instruction}
-use Rattle.interleaving_core.specs.simulation.cil_model.declared.reports.End.{End}
-use Rattle.interleaving_core.specs.simulation.cil_model.declared.reports.Report.{Report}
-use Rattle.interleaving_core.specs.simulation.cil_model.declared.reports.Report.TheVariants.{Blocked}
 use Rattle.interleaving_core.specs.simulation.cil_model.declared.trees.Line.{Line}
-use Rattle.interleaving_core.specs.simulation.cil_model.declared.trees.Tree.{Tree}
 use Rattle.interleaving_core.specs.simulation.resolved_code.Resolved.{IsOperation}
 use Rattle.interleaving_core.specs.simulation.resolved_code.declared.operations.Operation.{Operation}
-use Rattle.interleaving_core.specs.simulation.MachineStates.{MachineState}
-use Rattle.interleaving_core.specs.simulation.Runs.{AreTransitions}
-use Rattle.interleaving_core.specs.simulation.Transitions.{IsTransition}
-use Rattle.interleaving_core.specs.simulation.threads_monitors.declared.threads.Thread.{Thread}
-use Rattle.interleaving_core.proofs.simulation.Runs.UniqueTransitions.{one_transition}
-use Rattle.interleaving_core.proofs.simulation.Threads.StepEffects.{same_program}
-use Rattle.interleaving_core.specs.simulation.threads_monitors.Threads.{end_of, is_live_at}
-use Rattle.interleaving_core.proofs.simulation.cil_model.Lists.{none_is_some}
-use Rattle.exploration.specs.Paths.{IsNotTerminalAt, IsReal, IsTerminalAt, CanStepAt, CannotStepAt, AreStepsChecked, LeadsTo, ShowsOneOf, events_of, outcome_found}
-use Rattle.exploration.specs.declared.findings.Found.{Found}
-use Rattle.exploration.specs.Searches.{IsClosed, IsLedTo, LeadsInto}
-use Rattle.exploration.specs.Shown.{CannotStep, IsTerminal, ShownOutcome, ShowOnly, outcome_shown}
-use Rattle.exploration.specs.declared.findings.Path.{Path}
+use Rattle.exploration.proofs.Names.{get_or_from_slice_get, slice_get-map, slice_get_within, Event, Step, Report, Blocked, Tree, MachineState, AreTransitions, IsTransition, Thread, one_transition, same_program, is_live_at, IsNotTerminalAt, IsReal, IsTerminalAt, CanStepAt, CannotStepAt, AreStepsChecked, LeadsTo, ShowsOneOf, events_of, outcome_found, Found, IsClosed, IsLedTo, LeadsInto, CannotStep, IsTerminal, ShownOutcome, ShowOnly, outcome_shown, Path}
 
 -- the events of a path at an index
 pub events_there : (paths : List Path) (n : ℕ) (p : Path) → slice_get paths n ≡ Some p → slice_get (map events_of paths) n ≡ Some p.events.items

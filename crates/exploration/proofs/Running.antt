@@ -1,7 +1,6 @@
 -- A run from a content that a closed list covers.
 use Rattle.std.proofs.Common.{◌≡◌, ◌⊎◌, ◌≢◌, IsTrue, ℕ, Bool, true, false, List, [], ◌∷◌, Option, Some, None, option_map, option_and_then, length, slice_get, refl, inl, inr, sym, ap, ◌∙◌, subst, arith}
 use Rattle.std.specs.List.{zip}
-use Rattle.std.proofs.lemmas.Option.{same_Some}
 use Rattle.interleaving_core.specs.simulation.cil_model.Bodies.{entry_points}
 use Rattle.interleaving_core.specs.simulation.cil_model.Ranges.{are_in_range}
 use Rattle.interleaving_core.specs.simulation.cil_model.Typings.{IsAccepted}
@@ -9,31 +8,12 @@ use Rattle.interleaving_core.specs.simulation.cil_model.declared.trees.Method.{M
 use Rattle.interleaving_core.specs.simulation.cil_model.declared.types.ClassName.{ClassName}
 use Rattle.interleaving_core.specs.simulation.loaded_program.MethodNumbers.{number_of}
 use Rattle.interleaving_core.specs.simulation.Rooms.{HasNoRoom}
-use Rattle.interleaving_core.specs.simulation.Runs.{AreSteps, AreTransitions, IsRunOf, RefusesBeyondRoom}
-use Rattle.interleaving_core.proofs.simulation.cil_model.Lists.{none_is_some}
-use Rattle.interleaving_core.specs.simulation.cil_model.declared.events.Event.{Event}
-use Rattle.interleaving_core.specs.simulation.cil_model.declared.events.Event.TheVariants.{Step, Ack, Gc}
-use Rattle.interleaving_core.specs.simulation.cil_model.declared.limits.Limits.{Limits}
-use Rattle.interleaving_core.specs.simulation.cil_model.declared.reports.End.TheVariants.{Budget}
-use Rattle.interleaving_core.specs.simulation.cil_model.declared.reports.Report.{Report}
-use Rattle.interleaving_core.specs.simulation.cil_model.declared.reports.Report.TheVariants.{Absent, Ran, Ended as HasEnded}
-use Rattle.interleaving_core.specs.simulation.cil_model.declared.trees.Tree.{Tree}
 use Rattle.interleaving_core.specs.simulation.reference_machine.Rooms.{ExceedsRoom, words_of_all}
-use Rattle.interleaving_core.specs.simulation.reference_machine.Runs.{RunsTo, is_refusal, initial_state, run, step_reports, thread_part}
-use Rattle.interleaving_core.specs.simulation.reference_machine.States.{State}
-use Rattle.interleaving_core.specs.simulation.reference_machine.Steps.{Answers, step}
-use Rattle.interleaving_core.specs.simulation.threads_monitors.Threads.{is_live_at}
-use Rattle.interleaving_core.specs.simulation.MachineStates.{MachineState}
 use Rattle.interleaving_core.specs.simulation.Refines.{Represents}
-use Rattle.interleaving_core.specs.simulation.Transitions.{IsTransition, machine_state_at, initial_machine_state}
 use Rattle.interleaving_core.proofs.simulation.reference_machine.Runs.JoinedRuns.{first_of, same_state}
-use Rattle.interleaving_core.proofs.simulation.Threads.StepEffects.{same_program}
-use Rattle.interleaving_core.proofs.simulation.Runs.UniqueTransitions.{one_transition}
 use Rattle.interleaving_core.proofs.simulation.OwedWords.BornWords.{AreWithin, IsWithinBirths, acknowledgement_granted, acknowledgement_within, collection_granted, collection_within, exceeds_one_space, opened_within, step_within}
 use Rattle.interleaving_core.proofs.simulation.Runs.RunsWithoutCollection.{HasWhole, beyond_own, opened_whole, whole_stepped}
-use Rattle.interleaving_core.proofs.simulation.Runs.EventCorrespondence.{acknowledgement_keeps, collection_keeps, each_alike, step_is_refused}
-use Rattle.exploration.specs.Lagging.{IsLagging}
-use Rattle.exploration.specs.Searches.{AreOrdinary, IsClosed, IsCovered, IsSeen, KeepBudgets, LeadsInto}
+use Rattle.exploration.proofs.Names.{same_Some, AreSteps, AreTransitions, IsRunOf, RefusesBeyondRoom, none_is_some, Event, Step, Ack, Gc, Limits, Budget, Report, Absent, Ran, HasEnded, Tree, RunsTo, is_refusal, initial_state, run, step_reports, thread_part, State, Answers, step, is_live_at, MachineState, IsTransition, machine_state_at, initial_machine_state, same_program, one_transition, acknowledgement_keeps, collection_keeps, each_alike, step_is_refused, IsLagging, AreOrdinary, IsClosed, IsCovered, IsSeen, KeepBudgets, LeadsInto}
 use Rattle.exploration.proofs.Covering.{covered_more, one_covers}
 use Rattle.exploration.proofs.Paths.{IsOneOperation}
 use Rattle.exploration.proofs.Settling.{live_alike}

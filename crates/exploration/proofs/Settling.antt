@@ -1,32 +1,13 @@
 -- What a counted step leaves of a thread, on two machines of which one lags behind the other.
 use Rattle.std.proofs.Common.{◌≡◌, ◌⊎◌, ◌≢◌, ◌+◌, ◌-◌, ◌==◌, nat_le, ℕ, zero, suc, Bool, true, false, if◌then◌else◌, List, [], ◌∷◌, ◌++◌, length, Option, Some, None, option_map, is_some, slice_set, refl, inl, inr, sym, ap, subst}
-use Rattle.std.specs.Option.{option_map_or}
-use Rattle.std.proofs.lemmas.Option.{same_Some}
-use Rattle.interleaving_core.specs.simulation.cil_model.declared.limits.TheConstants.{MOST_THREADS}
-use Rattle.interleaving_core.specs.simulation.cil_model.declared.reports.End.TheVariants.{Budget}
 use Rattle.interleaving_core.specs.simulation.cil_model.declared.reports.Fault.{Fault}
 use Rattle.interleaving_core.specs.simulation.cil_model.declared.reports.Fault.TheVariants.{NullReference, ThreadState, TooManyThreads}
-use Rattle.interleaving_core.specs.simulation.cil_model.declared.reports.Report.{Report}
-use Rattle.interleaving_core.specs.simulation.cil_model.declared.reports.Report.TheVariants.{Ended as HasEnded}
-use Rattle.interleaving_core.specs.simulation.cil_model.declared.trees.Tree.{Tree}
 use Rattle.interleaving_core.specs.simulation.object_memory.declared.addresses.Addr.{Addr}
 use Rattle.interleaving_core.specs.simulation.object_memory.Objects.{Objects}
 use Rattle.interleaving_core.specs.simulation.instructions.barriers.Barriers.{stored_int}
-use Rattle.interleaving_core.specs.simulation.threads_monitors.Frames.{Frames}
-use Rattle.interleaving_core.specs.simulation.threads_monitors.Threads.{is_live, is_live_at, join_effect, charge, status_after, thread_on, wait_for}
 use Rattle.interleaving_core.specs.simulation.threads_monitors.declared.effects.Effect.{Effect}
-use Rattle.interleaving_core.specs.simulation.threads_monitors.declared.effects.Effect.TheVariants.{Continues, Returns, Blocks, Raises}
-use Rattle.interleaving_core.specs.simulation.threads_monitors.declared.threads.ThreadStatus.{ThreadStatus}
-use Rattle.interleaving_core.specs.simulation.threads_monitors.declared.threads.ThreadStatus.TheVariants.{Live, Ended}
-use Rattle.interleaving_core.specs.simulation.threads_monitors.declared.threads.Thread.{Thread}
 use Rattle.interleaving_core.specs.simulation.interpreter.declared.outcomes.InstructionOutcome.{InstructionOutcome}
-use Rattle.interleaving_core.specs.simulation.interpreter.declared.outcomes.InstructionOutcome.TheVariants.{OwnEffect, Starts, Joins}
-use Rattle.interleaving_core.specs.simulation.Agreement.{Agree}
-use Rattle.interleaving_core.specs.simulation.MachineStates.{MachineState, mutator_of}
-use Rattle.interleaving_core.specs.simulation.Transitions.{after_request, answer_step, count_step, finish, live_thread, seat_thread, seats_after, thread_for}
-use Rattle.interleaving_core.proofs.simulation.ListLaws.AgreeingLists.{agree_append, agree_length, agree_set}
-use Rattle.interleaving_core.proofs.simulation.cil_model.Lists.{none_is_some}
-use Rattle.exploration.specs.Lagging.{IsLagging, here, IsStatusLagging, IsThreadLagging}
+use Rattle.exploration.proofs.Names.{option_map_or, same_Some, MOST_THREADS, Budget, Report, HasEnded, Tree, Frames, is_live, is_live_at, join_effect, charge, status_after, thread_on, wait_for, Continues, Returns, Blocks, Raises, ThreadStatus, Live, Ended, Thread, OwnEffect, Starts, Joins, Agree, MachineState, mutator_of, after_request, answer_step, count_step, finish, live_thread, seat_thread, seats_after, thread_for, agree_append, agree_length, agree_set, none_is_some, IsLagging, here, IsStatusLagging, IsThreadLagging}
 
 -- ---- a thread and itself
 

@@ -1,27 +1,8 @@
 -- What a covered state shows.
 use Rattle.std.proofs.Common.{Contains, ◌≡◌, ◌⊎◌, ℕ, Bool, true, false, List, [], ◌∷◌, map, Some, refl, inl, inr, sym, ap, ◌∙◌, subst}
-use Rattle.interleaving_core.specs.simulation.cil_model.declared.events.Event.TheVariants.{Step}
-use Rattle.interleaving_core.specs.simulation.cil_model.declared.reports.End.TheVariants.{Budget}
-use Rattle.interleaving_core.specs.simulation.cil_model.declared.reports.Report.{Report}
-use Rattle.interleaving_core.specs.simulation.cil_model.declared.reports.Report.TheVariants.{Blocked, Ran, Ended as HasEnded}
-use Rattle.interleaving_core.specs.simulation.cil_model.declared.limits.Limits.{Limits}
-use Rattle.interleaving_core.specs.simulation.cil_model.declared.trees.Tree.{Tree}
-use Rattle.interleaving_core.specs.simulation.reference_machine.Runs.{is_refusal}
-use Rattle.interleaving_core.specs.simulation.reference_machine.States.{State, is_live as is_live_state}
-use Rattle.interleaving_core.specs.simulation.reference_machine.Steps.{Answers, step}
-use Rattle.interleaving_core.specs.simulation.threads_monitors.Threads.{end_of, is_live_at}
-use Rattle.interleaving_core.specs.simulation.threads_monitors.declared.threads.ThreadStatus.{ThreadStatus}
-use Rattle.interleaving_core.specs.simulation.threads_monitors.declared.threads.ThreadStatus.TheVariants.{Live, Ended}
-use Rattle.interleaving_core.specs.simulation.threads_monitors.declared.threads.Thread.{Thread}
-use Rattle.interleaving_core.specs.simulation.Agreement.{Agree}
-use Rattle.interleaving_core.specs.simulation.MachineStates.{MachineState}
-use Rattle.interleaving_core.specs.simulation.Transitions.{IsTransition}
 use Rattle.interleaving_core.proofs.simulation.Threads.Joins.{lives_alike}
 use Rattle.interleaving_core.proofs.simulation.Representation.VisibleState.{ends_refine, printed_refines}
-use Rattle.interleaving_core.proofs.simulation.Runs.EventCorrespondence.{step_is_followed}
-use Rattle.exploration.specs.Lagging.{IsLagging, IsStatusLagging, IsThreadLagging}
-use Rattle.exploration.specs.Searches.{IsClosed, IsSeen, LeadsInto}
-use Rattle.exploration.specs.Shown.{CannotStep, IsTerminal, IsOver, ShownOutcome, ShowOnly, outcome_of, outcome_shown}
+use Rattle.exploration.proofs.Names.{Step, Budget, Report, Blocked, Ran, HasEnded, Limits, Tree, is_refusal, State, is_live_state, Answers, step, end_of, is_live_at, ThreadStatus, Live, Ended, Thread, Agree, MachineState, IsTransition, step_is_followed, IsLagging, IsStatusLagging, IsThreadLagging, IsClosed, IsSeen, LeadsInto, CannotStep, IsTerminal, IsOver, ShownOutcome, ShowOnly, outcome_of, outcome_shown}
 use Rattle.exploration.proofs.Running.{same_answer}
 use Rattle.exploration.proofs.Settling.{live_alike}
 use Rattle.exploration.proofs.Stepping.{stays_lagging}

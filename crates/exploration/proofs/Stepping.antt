@@ -1,42 +1,13 @@
 -- A step of a machine that lags behind another.
 use Rattle.std.proofs.Common.{◌≡◌, ◌⊎◌, ◌≢◌, ◌-◌, ◌==◌, ℕ, zero, suc, Bool, true, false, if◌then◌else◌, List, [], ◌∷◌, Option, Some, None, slice_get, slice_set, refl, inl, inr, sym, subst}
-use Rattle.std.specs.Option.{option_map_or}
-use Rattle.std.proofs.lemmas.List.{set-set}
-use Rattle.std.proofs.lemmas.Option.{same_Some}
-use Rattle.interleaving_core.specs.simulation.cil_model.declared.events.Event.TheVariants.{Step}
-use Rattle.interleaving_core.specs.simulation.cil_model.declared.reports.End.TheVariants.{Budget}
-use Rattle.interleaving_core.specs.simulation.cil_model.declared.reports.Report.{Report}
-use Rattle.interleaving_core.specs.simulation.cil_model.declared.reports.Report.TheVariants.{Absent, Ran, Ended as HasEnded}
-use Rattle.interleaving_core.specs.simulation.threads_monitors.Frames.{Frames}
-use Rattle.interleaving_core.specs.simulation.threads_monitors.Threads.{is_live, is_live_at, status_after}
-use Rattle.interleaving_core.specs.simulation.threads_monitors.declared.effects.Effect.TheVariants.{Continues}
-use Rattle.interleaving_core.specs.simulation.threads_monitors.declared.threads.ThreadStatus.{ThreadStatus}
-use Rattle.interleaving_core.specs.simulation.threads_monitors.declared.threads.ThreadStatus.TheVariants.{Live, Ended}
-use Rattle.interleaving_core.specs.simulation.threads_monitors.declared.threads.Thread.{Thread}
-use Rattle.interleaving_core.specs.simulation.interpreter.declared.outcomes.InstructionOutcome.TheVariants.{OwnEffect}
 use Rattle.interleaving_core.specs.simulation.interpreter.Instructions.{Answer, IsDone, answer_of}
-use Rattle.interleaving_core.specs.simulation.Agreement.{Agree}
-use Rattle.interleaving_core.specs.simulation.MachineStates.{MachineState, mutator_of}
-use Rattle.interleaving_core.specs.simulation.Transitions.{IsStatusTransition, IsThreadTransition, IsTransition, count_step, left_by, live_thread, seats_after}
-use Rattle.interleaving_core.proofs.simulation.ListLaws.AgreeingLists.{agree_at, agree_set}
-use Rattle.exploration.specs.Lagging.{IsLagging, IsAhead, here, onward, IsLocalMove, IsStatusLagging, IsThreadLagging}
+use Rattle.interleaving_core.proofs.Threads.HalfSteps.{live_there}
+use Rattle.exploration.proofs.Names.{option_map_or, set-set, same_Some, Step, Budget, Report, Absent, Ran, HasEnded, Frames, is_live, is_live_at, status_after, Continues, ThreadStatus, Live, Ended, Thread, OwnEffect, Agree, MachineState, mutator_of, IsStatusTransition, IsThreadTransition, IsTransition, count_step, left_by, live_thread, seats_after, agree_at, agree_set, IsLagging, IsAhead, here, onward, IsLocalMove, IsStatusLagging, IsThreadLagging}
 use Rattle.exploration.proofs.Settling.{TransitionsAlike, finish_alike}
 
--- ---- a live thread, or none
+-- ---- a thread that is not live
 
-pub live_there : (threads : List Thread) (n : ℕ) → is_live_at threads n ≡ true → (left : ℕ) × (m : Frames) × (slice_get threads n ≡ Some (live_thread left m))
-live_there threads n live = by_thread (slice_get threads n) refl live
-  where
-    by_thread_status : (s : ThreadStatus) (left : ℕ) → slice_get threads n ≡ Some (record { thread_status = s; steps_left = left }) → is_live (record { thread_status = s; steps_left = left }) ≡ true
-        → (l : ℕ) × (m : Frames) × (slice_get threads n ≡ Some (live_thread l m))
-    by_thread_status (Live m) left is h = (left, m, is)
-    by_thread_status (Ended e) left is h = absurd cc
-
-    by_thread : (o : Option Thread) → slice_get threads n ≡ o → option_map_or is_live o false ≡ true → (l : ℕ) × (m : Frames) × (slice_get threads n ≡ Some (live_thread l m))
-    by_thread None is h = absurd cc
-    by_thread (Some t) is h = by_thread_status t.thread_status t.steps_left is h
-
--- the step of another one changes nothing
+-- its step changes nothing
 pub absent_transition : (c : MachineState) (t : ℕ) → is_live_at c.threads t ≡ false → IsTransition c (Step t) (c, Absent)
 absent_transition c t dead = by_thread (slice_get c.threads t) dead
   where

@@ -1,5 +1,5 @@
 -- Lists of events that lead from the initial content to others, and what is known of these (this profile).
-use Rattle.std.specs.Prelude.{Contains, ◌≡◌, ℕ, true, List}
+use Rattle.std.specs.Prelude.{Contains, ◌≡◌, ◌<◌, ℕ, true, List, Some, slice_get}
 use Rattle.interleaving_core.specs.simulation.cil_model.declared.events.Event.{Event}
 use Rattle.interleaving_core.specs.simulation.cil_model.declared.reports.Report.{Report}
 use Rattle.interleaving_core.specs.simulation.threads_monitors.Threads.{is_live_at}
@@ -48,6 +48,10 @@ AreStepsChecked first paths events = (c : MachineState) × LeadsTo first events 
 -- if no thread can make a step there, the content shows one of these outcomes
 abbrev pub ShowsOneOf : MachineState → List ShownOutcome → List Event → Type 0
 ShowsOneOf first outcomes events = (c : MachineState) × LeadsTo first events c × (IsTerminal c → Contains outcomes (outcome_shown c))
+
+-- both hold of each of this many lists, the first ones
+abbrev pub AreFirstChecked : MachineState → List (List Event) → List ShownOutcome → ℕ → Type 0
+AreFirstChecked first paths outcomes count = (n : ℕ) → n < count → (events : List Event) → slice_get paths n ≡ Some events → AreStepsChecked first paths events × ShowsOneOf first outcomes events
 
 -- the events of an outcome lead to a content that shows it, and in which no thread can make a step
 pub record IsReal (first : MachineState) (found : Found) : Type 0 where

@@ -7,7 +7,7 @@ ghost use Rattle.interleaving_core.specs.simulation.cil_model.declared.limits.Th
 ghost use Rattle.interleaving_core.specs.simulation.cil_model.declared.reports.End.TheVariants.{Budget};
 ghost use Rattle.interleaving_core.specs.simulation.cil_model.declared.reports.Report.TheVariants.{Blocked, Ended};
 ghost use Rattle.interleaving_core.specs.simulation.reference_machine.Runs.{is_refusal};
-ghost use Rattle.exploration.specs.Paths.{IsNotTerminalAt, IsTerminalAt, CanStepAt, IsComplete, IsReal, CannotStepAt, AreStepsChecked, ShowsOneOf, events_of, outcome_found};
+ghost use Rattle.exploration.specs.Paths.{AreFirstChecked, IsNotTerminalAt, IsTerminalAt, CanStepAt, IsComplete, IsReal, CannotStepAt, AreStepsChecked, ShowsOneOf, events_of, outcome_found};
 ghost use Rattle.exploration.specs.CheckedSteps.{AreAllChecked, AreEntries, IsLedToBy, IsStepInto};
 ghost use Rattle.exploration.specs.Searches.{IsClosed, IsCovered, IsLedTo};
 ghost use Rattle.exploration.specs.Shown.{ShowOnly, outcome_shown};
@@ -65,8 +65,8 @@ fn check_step<M: First>(
         return Ok(None);
     }
     replayer.run_local(alloc, thread)?;
-    let newest = replayer.newest();
-    replayer.run_local(alloc, newest)?;
+    let count = replayer.started();
+    replayer.run_local(alloc, count.saturating_sub(1) as u8)?;
     let is_known = replayer.is_like(other);
     if !is_known {
         return Ok(None);
@@ -243,6 +243,28 @@ fn check_path<M: First>(
     shows_one_of(replayer, alloc, found)
 }
 
+/// Whether each of the first `count` paths passes `check_path`. True only if so.
+fn check_each<M: First>(
+    replayer: &mut Replayer<M>,
+    alloc: Global,
+    paths: &[Path],
+    found: &[Found],
+    count: u32,
+    entries: &[Option<bool>],
+) -> Result<bool, NoMemory>
+    requires legal { IsLegal M.first.tree }
+    requires entries { AreEntries M.first (map events_of paths.now) entries.now }
+    ensures { IfOk result (λ known. known ≡ true → AreFirstChecked M.first (map events_of paths.now) (map outcome_found found.now) count) }
+{
+    for path_index in 0..count {
+        let is_checked = check_path(replayer, alloc, paths, found, path_index, entries)?;
+        if !is_checked {
+            return Ok(false);
+        }
+    }
+    Ok(true)
+}
+
 /// The number of paths. None if the index of a path may not fit in 32 bits.
 fn count_of(paths: &[Path]) -> Option<u32>
     ensures { IfSome result (λ count. count ≡ length paths.now) }
@@ -270,13 +292,8 @@ fn check_paths<M: First>(
         return Ok(false);
     };
     let entries = check_steps(replayer, other, alloc, paths, count)?;
-    for path_index in 0..count {
-        let is_checked = check_path(replayer, alloc, paths, found, path_index, &entries)?;
-        if !is_checked {
-            return Ok(false);
-        }
-    }
-    Ok(true)
+    let are_checked = check_each(replayer, alloc, paths, found, count, &entries)?;
+    Ok(are_checked)
 }
 
 /// Whether local instructions of the first thread lead from the initial state to the state of the first path. True only if so.
@@ -292,7 +309,7 @@ fn covers_start<M: First>(
     let Some(path) = paths.get(0) else {
         return Ok(false);
     };
-    replayer.reopen(alloc)?;
+    replayer.replay(alloc, &[])?;
     replayer.run_local(alloc, FIRST_THREAD)?;
     other.replay(alloc, path.events.as_slice())?;
     let is_covered = replayer.is_like(other);

@@ -1,6 +1,6 @@
 //! Machines of one program that replay lists of events.
 
-ghost use Rattle.std.specs.Prelude.{◌≡◌, ◌≤◌, ◌-◌, ◌&&◌, IfOk, OnOk, is_none, length, true};
+ghost use Rattle.std.specs.Prelude.{◌≡◌, ◌≤◌, ◌&&◌, IfOk, OnOk, is_none, length, true};
 ghost use Rattle.interleaving_core.specs.simulation.cil_model.Legality.{IsLegal};
 ghost use Rattle.interleaving_core.specs.simulation.cil_model.declared.events.Event.TheVariants.{Step as StepOf};
 ghost use Rattle.interleaving_core.specs.simulation.cil_model.declared.limits.TheConstants.{MOST_THREADS};
@@ -71,13 +71,6 @@ impl<M: First> Replayer<M> {
         }
     }
 
-    /// Takes the machine back to its initial state. It fails only if memory runs out.
-    pub fn reopen(&mut self, alloc: Global) -> Result<(), NoMemory>
-        ensures { OnOk result (self.new ≡ M.first) }
-    {
-        self.machine.reopen(alloc)
-    }
-
     /// Takes the machine from its initial state to the state after a list of events. It fails only if memory runs out.
     pub fn replay(&mut self, alloc: Global, events: &[Event]) -> Result<(), NoMemory>
         ensures { OnOk result (LeadsTo M.first events.now self.new) }
@@ -125,13 +118,6 @@ impl<M: First> Replayer<M> {
         ensures few { result ≤ MOST_THREADS }
     {
         self.machine.started()
-    }
-
-    /// The number of the thread that was started last.
-    pub fn newest(&self) -> u8
-        ensures { result ≡ length self.now.threads - 1 }
-    {
-        self.machine.started().saturating_sub(1) as u8
     }
 
     /// Whether two machines differ in nothing but the remaining steps of threads. True only if so.

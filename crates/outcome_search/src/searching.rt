@@ -72,7 +72,7 @@ fn start<M: First>(
 ) -> Result<Searching, NoMemory>
     requires { IsLegal M.first.tree }
 {
-    replayer.reopen(alloc)?;
+    replayer.replay(alloc, &[])?;
     let count = replayer.run_local(alloc, FIRST_THREAD)?;
     let mut states = States::new(alloc);
     let state = states.add(replayer.digest())?;

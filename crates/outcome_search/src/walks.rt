@@ -50,7 +50,7 @@ fn lead_of<M: First>(
         return Ok(Lead::Out(stop_of(report, thread)));
     }
     let count = replayer.run_local(alloc, thread)?;
-    let newest = replayer.newest();
+    let newest = replayer.started().saturating_sub(1) as u8;
     let more = replayer.run_local(alloc, newest)?;
     let by = Move {
         thread,

@@ -1,8 +1,5 @@
 use Rattle.std.proofs.Common.{◌≡◌, ℕ, Some, length, refl, slice_get, sym, ◌∙◌, subst, arith}
-use Rattle.std.proofs.lemmas.Option.{same_Some, slice_get_read, slice_get_within}
-use native.Mathlib.Decide.{ℕ_discrete}
-use mathlib.Core.Logic.{dite}
-use Rattle.exploration.specs.Paths.{IsReal}
+use Rattle.exploration.proofs.Names.{same_Some, slice_get_read, slice_get_within, ℕ_discrete, dite, IsReal}
 use Rattle.exploration.proofs.checking.are_real.Goals as goal
 
 pub loop-index-preserved : goal.loop-index-preserved

@@ -1,6 +1,5 @@
 use Rattle.std.proofs.Common.{◌≡◌, ◌<◌, ℕ, Some, slice_get}
-use Rattle.exploration.specs.Paths.{IsReal}
-use Rattle.exploration.specs.declared.findings.Found.{Found}
+use Rattle.exploration.proofs.Names.{IsReal, Found}
 use Rattle.exploration.proofs.checking.are_real.Given as goal
 
 -- the findings so far

@@ -1,8 +1,5 @@
-use Rattle.std.proofs.Common.{◌≡◌, ◌+◌, ◌*◌, ℕ, Bool, Option, Some, length, refl, sym, ap, ◌∙◌, slice_get, subst, arith}
-use Rattle.std.proofs.lemmas.Option.{slice_get_read}
-use native.Mathlib.Decide.{ℕ_discrete}
-use mathlib.Core.Logic.{dite}
-use Rattle.interleaving_core.specs.simulation.cil_model.declared.limits.TheConstants.{MOST_THREADS}
+use Rattle.std.proofs.Common.{◌≡◌, ◌+◌, ◌*◌, ℕ, Bool, Some, length, refl, sym, ap, ◌∙◌, slice_get, subst, arith}
+use Rattle.exploration.proofs.Names.{slice_get_read, ℕ_discrete, dite, MOST_THREADS}
 use Rattle.exploration.proofs.CheckedSteps.{either_true}
 use Rattle.exploration.proofs.checking.can_any_step.Goals as goal
 

@@ -1,5 +1,5 @@
 use Rattle.std.proofs.Common.{◌≡◌, ◌<◌, ◌+◌, ◌*◌, ℕ, Bool, Some, true, slice_get}
-use Rattle.interleaving_core.specs.simulation.cil_model.declared.limits.TheConstants.{MOST_THREADS}
+use Rattle.exploration.proofs.Names.{MOST_THREADS}
 use Rattle.exploration.proofs.checking.can_any_step.Given as goal
 
 -- the threads so far are checked, and one of them can make a step if some can

@@ -1,8 +1,5 @@
 use Rattle.std.proofs.Common.{inl, inr, sym, ◌∙◌, subst}
-use Rattle.interleaving_core.specs.simulation.cil_model.declared.events.Event.TheVariants.{Step}
-use Rattle.interleaving_core.specs.simulation.cil_model.declared.reports.Report.{Report}
-use Rattle.interleaving_core.specs.simulation.Transitions.{IsTransition}
-use Rattle.interleaving_core.proofs.simulation.resolved_code.InstructionOperations.UniqueOperations.{one_operation}
+use Rattle.exploration.proofs.Names.{Step, Report, IsTransition, one_operation}
 use Rattle.exploration.proofs.Paths.{continues_at}
 use Rattle.exploration.proofs.checking.can_step.Goals as goal
 

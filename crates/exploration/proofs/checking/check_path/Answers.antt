@@ -1,8 +1,5 @@
 use Rattle.std.proofs.Common.{◌≡◌, Bool, IsSome, List, Option, Some, length, map, refl, sym, ap, ◌∙◌, slice_get, subst}
-use Rattle.std.proofs.lemmas.Option.{same_Some, slice_get_read}
-use Rattle.interleaving_core.proofs.simulation.resolved_code.InstructionOperations.UniqueOperations.{one_operation}
-use Rattle.interleaving_core.specs.simulation.cil_model.declared.events.Event.{Event}
-use Rattle.exploration.specs.Paths.{LeadsTo, events_of, outcome_found}
+use Rattle.exploration.proofs.Names.{same_Some, slice_get_read, one_operation, Event, LeadsTo, events_of, outcome_found}
 use Rattle.exploration.proofs.CheckedSteps.{all_steps, some_step}
 use Rattle.exploration.proofs.Paths.{events_there, if_ok, not_terminal_shown}
 use Rattle.exploration.proofs.checking.check_path.Goals as goal

@@ -1,6 +1,5 @@
-use Rattle.std.proofs.Common.{◌≤◌, ℕ, refl, sym, ap, ◌∙◌, length, subst}
-use Rattle.std.proofs.lemmas.Option.{same_Some}
-use Rattle.interleaving_core.specs.simulation.cil_model.declared.limits.TheConstants.{MOST_THREADS}
+use Rattle.std.proofs.Common.{◌≤◌, ℕ, refl, sym, ◌∙◌, subst}
+use Rattle.exploration.proofs.Names.{same_Some, MOST_THREADS}
 use Rattle.exploration.proofs.Covering.{alike_lagging, lagging_more}
 use Rattle.exploration.proofs.checking.check_step.Goals as goal
 

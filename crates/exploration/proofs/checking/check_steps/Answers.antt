@@ -1,6 +1,5 @@
 use Rattle.std.proofs.Common.{◌*◌, map, rules}
-use Rattle.interleaving_core.specs.simulation.cil_model.declared.limits.TheConstants.{MOST_THREADS}
-use Rattle.exploration.specs.Paths.{events_of}
+use Rattle.exploration.proofs.Names.{MOST_THREADS, events_of}
 use Rattle.exploration.proofs.CheckedSteps.{none_noted}
 use Rattle.exploration.proofs.checking.check_steps.Goals as goal
 

@@ -1,7 +1,5 @@
 use Rattle.std.proofs.Common.{List, subst}
-use Rattle.interleaving_core.specs.simulation.cil_model.declared.events.Event.{Event}
-use Rattle.interleaving_core.proofs.simulation.resolved_code.InstructionOperations.UniqueOperations.{one_operation}
-use Rattle.exploration.specs.Paths.{IsTerminalAt, LeadsTo}
+use Rattle.exploration.proofs.Names.{Event, one_operation, IsTerminalAt, LeadsTo}
 use Rattle.exploration.proofs.Paths.{if_ok, is_real}
 use Rattle.exploration.proofs.checking.is_real.Goals as goal
 

@@ -1,8 +1,5 @@
 use Rattle.std.proofs.Common.{sym, subst, arith}
-use native.Mathlib.Decide.{ℕ_discrete}
-use mathlib.Core.Logic.{dite}
-use Rattle.interleaving_core.proofs.simulation.resolved_code.InstructionOperations.UniqueOperations.{one_operation}
-use Rattle.exploration.specs.Paths.{CannotStepAt}
+use Rattle.exploration.proofs.Names.{ℕ_discrete, dite, one_operation, CannotStepAt}
 use Rattle.exploration.proofs.Paths.{does_not_end_at, ends_at}
 use Rattle.exploration.proofs.checking.is_terminal.Goals as goal
 

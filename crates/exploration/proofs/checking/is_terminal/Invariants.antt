@@ -1,5 +1,5 @@
 use Rattle.std.proofs.Common.{◌<◌, ℕ}
-use Rattle.exploration.specs.Paths.{CannotStepAt}
+use Rattle.exploration.proofs.Names.{CannotStepAt}
 use Rattle.exploration.proofs.checking.is_terminal.Given as goal
 
 -- the threads so far

@@ -1,7 +1,5 @@
-use Rattle.std.proofs.Common.{◌≤◌, ℕ, false, length, map, sym, ◌∙◌, subst, arith}
-use Rattle.interleaving_core.specs.simulation.cil_model.declared.limits.TheConstants.{MOST_THREADS}
-use Rattle.exploration.specs.CheckedSteps.{AreEntries}
-use Rattle.exploration.specs.Paths.{events_of}
+use Rattle.std.proofs.Common.{◌≤◌, ℕ, false, map, sym, ◌∙◌, subst, arith}
+use Rattle.exploration.proofs.Names.{MOST_THREADS, AreEntries, events_of}
 use Rattle.exploration.proofs.CheckedSteps.{ended, noted}
 use Rattle.exploration.proofs.checking.note_ended.Goals as goal
 

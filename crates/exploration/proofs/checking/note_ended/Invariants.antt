@@ -1,6 +1,5 @@
 use Rattle.std.proofs.Common.{map}
-use Rattle.exploration.specs.CheckedSteps.{AreEntries}
-use Rattle.exploration.specs.Paths.{events_of}
+use Rattle.exploration.proofs.Names.{AreEntries, events_of}
 use Rattle.exploration.proofs.checking.note_ended.Given as goal
 
 -- the entries so far

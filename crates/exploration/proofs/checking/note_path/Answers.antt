@@ -1,5 +1,5 @@
 use Rattle.std.proofs.Common.{length, refl}
-use Rattle.std.proofs.lemmas.Option.{slice_get_read}
+use Rattle.exploration.proofs.Names.{slice_get_read}
 use Rattle.exploration.proofs.CheckedSteps.{led_by}
 use Rattle.exploration.proofs.checking.note_path.Goals as goal
 

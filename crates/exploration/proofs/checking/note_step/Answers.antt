@@ -1,9 +1,5 @@
-use Rattle.std.proofs.Common.{◌≡◌, List, Some, length, map, refl, sym, ap, ◌∙◌, slice_get, subst, arith}
-use Rattle.std.proofs.lemmas.Option.{same_Some, slice_get_read}
-use Rattle.interleaving_core.proofs.simulation.resolved_code.InstructionOperations.UniqueOperations.{one_operation}
-use Rattle.interleaving_core.specs.simulation.cil_model.declared.events.Event.{Event}
-use Rattle.exploration.specs.CheckedSteps.{AreEntries, IsStepChecked}
-use Rattle.exploration.specs.Paths.{events_of}
+use Rattle.std.proofs.Common.{◌≡◌, List, Some, length, map, refl, sym, ◌∙◌, slice_get, subst, arith}
+use Rattle.exploration.proofs.Names.{same_Some, slice_get_read, one_operation, Event, AreEntries, IsStepChecked, events_of}
 use Rattle.exploration.proofs.CheckedSteps.{led_among, noted, stepped}
 use Rattle.exploration.proofs.Paths.{events_there}
 use Rattle.exploration.proofs.checking.note_step.Goals as goal

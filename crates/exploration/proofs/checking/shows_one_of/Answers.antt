@@ -1,5 +1,5 @@
 use Rattle.std.proofs.Common.{length, refl, arith}
-use Rattle.std.proofs.lemmas.Option.{slice_get_read}
+use Rattle.exploration.proofs.Names.{slice_get_read}
 use Rattle.exploration.proofs.Paths.{contains_at}
 use Rattle.exploration.proofs.checking.shows_one_of.Goals as goal
 

@@ -1,5 +1,4 @@
-use Rattle.interleaving_core.proofs.simulation.resolved_code.InstructionOperations.UniqueOperations.{one_operation}
-use Rattle.exploration.specs.Searches.{IsLedTo}
+use Rattle.exploration.proofs.Names.{one_operation, IsLedTo}
 use Rattle.exploration.proofs.Running.{steps_are_covered}
 use Rattle.exploration.proofs.laws.steps_alone_stay_covered.Goals as goal
 

@@ -1,7 +1,5 @@
 use Rattle.std.proofs.Common.{List, drop, length, subst}
-use Rattle.interleaving_core.specs.simulation.cil_model.declared.reports.Report.{Report}
-use Rattle.interleaving_core.specs.simulation.MachineStates.{MachineState}
-use Rattle.interleaving_core.specs.simulation.Runs.{AreTransitions}
+use Rattle.exploration.proofs.Names.{Report, MachineState, AreTransitions}
 use Rattle.exploration.proofs.Begins.{begins_first, on_ok, reopened_begins}
 use Rattle.exploration.proofs.replayers.Replayer.replay.Goals as goal
 

@@ -1,8 +1,6 @@
 use Rattle.std.proofs.Common.{subst, sym}
 use Rattle.interleaving_core.specs.simulation.cil_model.Legality.{IsLegal}
-use Rattle.interleaving_core.specs.simulation.MachineStates.{MachineState}
-use Rattle.interleaving_core.proofs.simulation.resolved_code.InstructionOperations.UniqueOperations.{one_operation}
-use Rattle.exploration.specs.Lagging.{IsLagging}
+use Rattle.exploration.proofs.Names.{MachineState, one_operation, IsLagging}
 use Rattle.exploration.proofs.Begins.{begins_program, begins_still}
 use Rattle.exploration.proofs.Covering.{lagging_itself}
 use Rattle.exploration.proofs.Going.{still_at_origin, taken_back}
