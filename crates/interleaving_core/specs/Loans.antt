@@ -1,9 +1,9 @@
 -- A thread's top frame on loan: a copy of it outside of the machine, on which local instructions are done (this profile).
-use Rattle.std.specs.Prelude.{◌≡◌, ◌⊎◌, ◌<◌, ◌≤◌, ◌+◌, ℕ}
+use Rattle.std.specs.Prelude.{◌≡◌, ◌⊎◌, ◌<◌, ◌≤◌, ◌+◌, ◌-◌, ℕ}
 use Rattle.cil_model.specs.declared.trees.Tree.{Tree}
 use Rattle.threads_monitors.specs.Frames.{Frame, Frames}
-use Rattle.simulation.specs.interpreter.Local.{AreLocalSteps, EndsLocal, IsReadySomewhere, alone}
-use Rattle.simulation.specs.Lending.{RunsFrame}
+use Rattle.simulation.specs.interpreter.Local.{AreLocalSteps, EndsLocal, IsReadySomewhere, alone, frames_over}
+use Rattle.simulation.specs.Lending.{RunsFrame, with_live}
 use Rattle.simulation.specs.MachineStates.{MachineState, frame_room}
 
 -- the program, the thread, how many steps it had left as the loan began, the frame that it had then, the frame as it is now, and how many instructions
@@ -57,3 +57,20 @@ IsAtOrigin c l = RunsFrame c l.thread l.left l.origin
 -- the memory of a frame that is alone
 abbrev pub IsAlone : Frames → Type 0
 IsAlone m = m ≡ alone frame_room m.running
+
+-- from this frame of a thread that has this many steps left, n local instructions lead to that frame: at most `most`, a step is left after them, and
+-- they are fewer only where no further one is done
+pub record IsLocalRun (tree : Tree) (left : ℕ) (f : Frame) (most n : ℕ) (g : Frame) : Type 0 where
+  pub steps : AreLocalSteps tree frame_room n f g
+  pub few : n ≤ most
+  pub less : n < left
+  pub stops : n < most → EndsLocal tree frame_room g ⊎ (left ≡ n + 1)
+
+-- a live thread did n local instructions where it is, and nothing else changed
+pub record RanInPlace (old : MachineState) (t most n : ℕ) (new : MachineState) : Type 0 where
+  pub left : ℕ
+  pub origin : Frame
+  pub frame : Frame
+  pub at : RunsFrame old t left origin
+  pub ran : IsLocalRun old.tree left origin most n frame
+  pub is : new ≡ with_live old t (left - n) (frames_over frame at.below at.depth frame_room)

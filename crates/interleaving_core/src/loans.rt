@@ -3,12 +3,12 @@
 ghost use Rattle.std.specs.Prelude.{◌≡◌, ◌↔◌, ◌<◌, ◌≤◌, ◌-◌, ℕ, IfOk, IsTrue, Some, slice_get, true, false};
 ghost use Rattle.threads_monitors.specs.Frames.{Frame, Frames, with_running};
 ghost use Rattle.simulation.specs.interpreter.Local.{AreLocalSteps, IsNextLocal, IsReadySomewhere, alone, frames_over};
-ghost use Rattle.threads_monitors.specs.Threads.{is_live_at};
+ghost use Rattle.threads_monitors.specs.Threads.{is_live, is_live_at};
 ghost use Rattle.simulation.specs.Lending.{with_live};
 ghost use Rattle.interleaving_core.specs.Views.{machine_state_of};
 ghost use Rattle.simulation.specs.MachineStates.{frame_room};
 ghost use Rattle.simulation.specs.Transitions.{live_thread};
-ghost use Rattle.interleaving_core.specs.Loans.{Begins, CanContinueLocally, IsAlone, IsAtOrigin, IsLent, RanLocally};
+ghost use Rattle.interleaving_core.specs.Loans.{Begins, CanContinueLocally, IsAlone, IsAtOrigin, IsLent, IsLocalRun, RanInPlace, RanLocally};
 
 use crate::beginnings::FRAME_ROOM;
 use crate::engine::Engine;
@@ -210,6 +210,21 @@ impl Loan {
     }
 }
 
+/// Has a live thread do local instructions where it is, at most the given number, and returns how many it did. It stops as a loan does.
+fn run_in_place(program: &LoadedProgram, thread: &mut Thread, most: u32) -> u32
+    requires live { is_live thread.old ≡ true }
+    requires ready { (left : ℕ) (m : Frames) → thread.old ≡ live_thread left m → (m.room ≡ frame_room) × (0 < left) × CanContinueLocally program.now left m.running }
+    ensures { (left : ℕ) (m : Frames) → thread.old ≡ live_thread left m → (f : Frame) × IsLocalRun program.now left m.running most result f × (thread.new ≡ live_thread (left - result) (with_running m f)) }
+{
+    let ThreadStatus::Live(frames) = &mut thread.thread_status else {
+        unreachable!()
+    };
+    let spare = thread.steps_left - 1;
+    let count = run_local(program, frames, most.min(spare));
+    thread.steps_left -= count;
+    count
+}
+
 impl Engine {
     /// Whether the next instruction of a live thread is a local one; false for any other thread.
     pub(crate) fn is_next_local(&self, thread: u8) -> bool
@@ -262,5 +277,14 @@ impl Engine {
             unreachable!()
         };
         loan.give_back_to(thread);
+    }
+
+    /// Has a live thread do local instructions where it is, at most the given number, and returns how many it did.
+    pub(crate) fn run_local(&mut self, thread: u8, most: u32) -> u32
+        requires live { is_live_at self.old.threads.items thread ≡ true }
+        requires ready { (left : ℕ) (m : Frames) → slice_get self.old.threads.items thread ≡ Some (live_thread left m) → (m.room ≡ frame_room) × (0 < left) × CanContinueLocally self.old.program left m.running }
+        ensures { RanInPlace (machine_state_of self.old) thread most result (machine_state_of self.new) }
+    {
+        run_in_place(&self.program, &mut self.threads[usize::from(thread)], most)
     }
 }

@@ -22,7 +22,7 @@ ghost use Rattle.simulation.specs.Refines.{Represents};
 ghost use Rattle.simulation.specs.Transitions.{IsTransition, TakesMemory, live_thread, initial_machine_state};
 ghost use Rattle.simulation.specs.interpreter.Local.{IsNextLocal};
 ghost use Rattle.threads_monitors.specs.Frames.{Frames};
-ghost use Rattle.interleaving_core.specs.Loans.{Begins, IsAtOrigin};
+ghost use Rattle.interleaving_core.specs.Loans.{Begins, IsAtOrigin, RanInPlace};
 ghost use Rattle.cil_model.specs.declared.events.Event.TheVariants.{Step as StepOf};
 ghost use Rattle.cil_model.specs.declared.phases.Phase.TheVariants.{Copy as CopyOf};
 ghost use Rattle.cil_model.specs.declared.reports.Report.TheVariants.{Ran as RanOf};
@@ -228,6 +228,27 @@ impl Machine {
         loan.laws();
         self.engine.take_back(&loan);
         loan.into_room()
+    }
+
+    /// Has a thread do local instructions where it is, at most the given number, and returns how many it did: each is a step of the thread that
+    /// reports that it ran. It stops before one that is not local or that would raise a fault, and before the last one of the thread's budget.
+    /// A thread that is not live does none. It takes no memory.
+    pub fn run_local(&mut self, thread: u8, most: u32) -> u32
+        ensures transitions { AreTransitions self.old (replicate result (StepOf thread)) self.new (replicate result RanOf) }
+        ensures follows { FollowsReference self.old self.new (zip (replicate result (StepOf thread)) (replicate result RanOf)) }
+        ensures does { DoesMore self.old (replicate result (StepOf thread)) (replicate result RanOf) self.new }
+        ensures live { is_live_at self.old.threads thread ≡ true → RanInPlace self.old thread most result self.new }
+        ensures others { is_live_at self.old.threads thread ≡ false → (result ≡ 0) × (self.new ≡ self.old) }
+        ensures few { result ≤ most }
+        ensures printed { self.new.printed ≡ self.old.printed }
+        ensures same { (self.new.tree ≡ self.old.tree) × (self.new.limits ≡ self.old.limits) }
+    {
+        // For the prover alone: it brings in the laws of the field.
+        let _engine = &self.engine;
+        if !self.engine.is_live(thread) {
+            return 0;
+        }
+        self.engine.run_local(thread, most)
     }
 
     /// The bytes printed so far.

@@ -1,5 +1,7 @@
 -- A linked instruction that was done to a frame alone is a local instruction of it, over any frames and in any memory.
 use Rattle.std.proofs.Common.{◌≡◌, ◌⊎◌, inl, inr, ℕ, Bool, true, false, List, [], Some, None, refl, sym, ap, ◌∙◌, subst}
+use Rattle.std.proofs.lemmas.Option.{same_Some}
+use Rattle.cil_model.proofs.Lists.{none_is_some}
 use Rattle.std.specs.Option.{option_map_or}
 use Rattle.std.specs.Prelude.{IsSome, option_and_then, slice_get}
 use Rattle.cil_model.specs.declared.types.ClassName.{ClassName}
@@ -23,6 +25,7 @@ use Rattle.interpreter.specs.Instructions.{IsAt, IsDone, answer_of, link_of, lin
 use Rattle.interpreter.specs.Local.{EndsLocal, IsLocalStep, IsNextLocal, IsReadySomewhere, alone, frames_over, is_local, is_local_link, local_link_transition}
 use Rattle.interpreter.proofs.Executing.{linked_here}
 use Rattle.interpreter.proofs.Linking.{link_does, link_is}
+use Rattle.interpreter.proofs.LocalKeeps.{local_keeps}
 use Rattle.interpreter.proofs.LocalRules.{local_is, local_moves, moved_transition}
 
 -- where a transition is given by another, it has a result where that has one
@@ -33,6 +36,17 @@ framed_some o ss c (Some x) h = refl
 moved_some : (below : List Frame) (depth : ℕ) (t : Transition) → IsSome (moved_transition below depth t) → IsSome t
 moved_some below depth None h = absurd cc
 moved_some below depth (Some x) h = refl
+
+some_moved : (below : List Frame) (depth : ℕ) (t : Transition) → IsSome t → IsSome (moved_transition below depth t)
+some_moved below depth None h = absurd cc
+some_moved below depth (Some x) h = refl
+
+-- a transition over other frames comes from that on the frame alone
+moved_from : (below : List Frame) (depth : ℕ) (t : Transition) (m : Frames) (e : Effect) → moved_transition below depth t ≡ Some (m, e) → (k : Frames) × (t ≡ Some (k, e)) × (m ≡ record k { below = below; depth = depth })
+moved_from below depth None m e is = none_is_some (m, e) is
+moved_from below depth (Some x) m e is =
+    let same : (record x.0 { below = below; depth = depth }, x.1) ≡ (m, e) = same_Some _ _ is in
+    (x.0, ap (λ (y : Frames × Effect). Some (x.0, y.1)) same, sym (ap (λ (y : Frames × Effect). y.0) same))
 
 module _ (tree : Tree) (room : ℕ) (f : Frame) (l : LinkedInstruction) (at : IsLinkedAt tree f.method f.pc l) (ready : IsReadySomewhere tree room f) where
   abbrev op : Operation
@@ -56,7 +70,7 @@ module _ (tree : Tree) (room : ℕ) (f : Frame) (l : LinkedInstruction) (at : Is
   is_alike = sym (ap (λ x. option_map_or is_local_link x false) linked)
 
   -- a local one has a result on the frame alone
-  pub has_local : is_local_link l ≡ true → IsSome (local_link_transition l (alone room f))
+  has_local : is_local_link l ≡ true → IsSome (local_link_transition l (alone room f))
   has_local local =
       let there : IsSome (linked_transition tree ready.mutator l somewhere ready.objects ready.statics ready.printed) =
       subst IsSome (link_does tree ready.mutator somewhere ready.objects ready.statics ready.printed op l linked) has_answer in
@@ -86,7 +100,7 @@ module _ (tree : Tree) (room : ℕ) (f : Frame) (l : LinkedInstruction) (at : Is
   next_is local is = (op, at_over [] 1, sym is_alike ∙ sym is)
 
   -- it is one of the frame
-  pub local_step : is_local_link l ≡ true → (m : Frames) → local_link_transition l (alone room f) ≡ Some (m, Continues) → m ≡ alone room m.running → IsLocalStep tree room f m.running
+  local_step : is_local_link l ≡ true → (m : Frames) → local_link_transition l (alone room f) ≡ Some (m, Continues) → m ≡ alone room m.running → IsLocalStep tree room f m.running
   local_step local m is same = record {
     operation = op;
     at = at_over [] 1;
@@ -97,7 +111,7 @@ module _ (tree : Tree) (room : ℕ) (f : Frame) (l : LinkedInstruction) (at : Is
   }
 
   -- or it is none, or raises a fault
-  pub ends_here : (is_local_link l ≡ false) ⊎ ((is_local_link l ≡ true) × IsFaulty (local_link_transition l (alone room f))) → EndsLocal tree room f
+  ends_here : (is_local_link l ≡ false) ⊎ ((is_local_link l ≡ true) × IsFaulty (local_link_transition l (alone room f))) → EndsLocal tree room f
   ends_here (inl other) = inl (op, at_over [] 1, sym is_alike ∙ other)
   ends_here (inr (local, (m, fault, raises))) =
       inr (record {
@@ -107,6 +121,26 @@ module _ (tree : Tree) (room : ℕ) (f : Frame) (l : LinkedInstruction) (at : Is
         fault = fault;
         raises = λ below depth mutator o statics printed. (record m { below = below; depth = depth }, done_here local below depth mutator o statics printed m (Raises fault) raises);
       })
+
+  -- the same over the frames below
+  module _ (below : List Frame) (depth : ℕ) where
+    alone_from : (m : Frames) (e : Effect) → local_link_transition l (frames_over f below depth room) ≡ Some (m, e) → (k : Frames) × (local_link_transition l (alone room f) ≡ Some (k, e)) × (m ≡ record k { below = below; depth = depth })
+    alone_from m e is = moved_from below depth (local_link_transition l (alone room f)) m e (sym (local_moves below depth l (alone room f)) ∙ is)
+
+    pub has_local_over : is_local_link l ≡ true → IsSome (local_link_transition l (frames_over f below depth room))
+    has_local_over local = subst IsSome (sym (local_moves below depth l (alone room f))) (some_moved below depth (local_link_transition l (alone room f)) (has_local local))
+
+    pub step_over : is_local_link l ≡ true → (m : Frames) → local_link_transition l (frames_over f below depth room) ≡ Some (m, Continues) → IsLocalStep tree room f m.running
+    step_over local m is =
+        let on_frame = alone_from m Continues is in
+        let keeps = local_keeps l (alone room f) (on_frame.0, Continues) on_frame.1 in
+        subst (IsLocalStep tree room f) (ap (λ (k : Frames). k.running) (sym on_frame.2)) (local_step local on_frame.0 on_frame.1 keeps.frames)
+
+    pub ends_over : (is_local_link l ≡ false) ⊎ ((is_local_link l ≡ true) × IsFaulty (local_link_transition l (frames_over f below depth room))) → EndsLocal tree room f
+    ends_over (inl other) = ends_here (inl other)
+    ends_over (inr (local, (m, fault, raises))) =
+        let on_frame = alone_from m (Raises fault) raises in
+        ends_here (inr (local, (on_frame.0, fault, on_frame.1)))
 
 -- ---- a method's code
 

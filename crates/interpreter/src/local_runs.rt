@@ -3,10 +3,10 @@
 ghost use Rattle.std.specs.Prelude.{◌≡◌, ◌⊎◌, ◌<◌, ◌≤◌, ℕ, List, IsSome, Some, length, slice_get, true, false};
 ghost use Rattle.cil_model.specs.declared.trees.Tree.{Tree};
 ghost use Rattle.loaded_program.specs.Loaded.{IsCode, IsLinkedAt, line_in};
-ghost use Rattle.threads_monitors.specs.Frames.{Frame};
+ghost use Rattle.threads_monitors.specs.Frames.{Frame, with_running};
 ghost use Rattle.threads_monitors.specs.declared.effects.Effect.TheVariants.{Continues};
 ghost use Rattle.instructions.specs.LocalTransitions.{IsFaulty, is_ordered, is_ordered_branch};
-ghost use Rattle.interpreter.specs.Local.{AreLocalSteps, EndsLocal, IsNextLocal, IsReadySomewhere, alone, is_local_link, local_link_transition};
+ghost use Rattle.interpreter.specs.Local.{AreLocalSteps, EndsLocal, IsNextLocal, IsReadySomewhere, is_local_link, local_link_transition};
 
 use cil_model::instructions::{BranchComparison, Comparison};
 use instructions::{arithmetic, branches, control, stack};
@@ -142,13 +142,12 @@ pub fn is_next_local(program: &LoadedProgram, frames: &FrameMemory) -> bool
     is_local(program.instruction(frames.method(), frames.pc()))
 }
 
-/// Does local instructions of the only frame, at most the given number, and returns how many it did. It stops before one that is not local or that
-/// would raise a fault. It takes no memory, and reads nothing but the program and the frame.
+/// Does local instructions of the frame that runs, at most the given number, and returns how many it did. It stops before one that is not local or
+/// that would raise a fault. The frames below stay. It takes no memory, and reads nothing but the program and the frame that runs.
 pub fn run_local(program: &LoadedProgram, frames: &mut FrameMemory, most: u32) -> u32
-    requires alone { frames.old ≡ alone frames.old.room frames.old.running }
     requires ready { (k : ℕ) (f : Frame) → k < most → AreLocalSteps program.now frames.old.room k frames.old.running f → IsReadySomewhere program.now frames.old.room f }
     ensures ran { AreLocalSteps program.now frames.old.room result frames.old.running frames.new.running }
-    ensures alone { frames.new ≡ alone frames.old.room frames.new.running }
+    ensures below { frames.new ≡ with_running frames.old frames.new.running }
     ensures most { result ≤ most }
     ensures ends { result < most → EndsLocal program.now frames.old.room frames.new.running }
 {

@@ -1,5 +1,5 @@
 -- What a loan that comes back leaves: n entries more.
-use Rattle.std.proofs.Common.{◌≡◌, ◌<◌, ◌+◌, ℕ, zero, suc, Bool, true, false, List, [], ◌∷◌, ◌++◌, inl, inr, length, map, set, Option, None, Some, is_none, refl, sym, ap, ◌∙◌, subst, arith, append_assoc, append-nil, replicate}
+use Rattle.std.proofs.Common.{◌≡◌, ◌<◌, ◌+◌, ℕ, zero, suc, Bool, true, List, [], ◌∷◌, ◌++◌, inl, inr, length, map, set, Option, None, Some, is_none, refl, sym, ap, ◌∙◌, subst, arith, append_assoc, append-nil, replicate}
 use Rattle.std.specs.Prelude.{slice_get, slice_index_or}
 use Rattle.std.proofs.lemmas.List.{length-set, length_push}
 use Rattle.std.proofs.lemmas.Option.{same_Some, slice_get_read}
@@ -31,6 +31,10 @@ set_twice : (xs : List ℕ) (k p q : ℕ) → set (set xs k p) k q ≡ set xs k 
 set_twice [] k p q = refl
 set_twice (x ∷ xs) zero p q = refl
 set_twice (x ∷ xs) (suc k) p q = ap (λ (l : List ℕ). x ∷ l) (set_twice xs k p q)
+
+-- the number of a thread is a byte
+pub small_step : (thread : ℕ) → thread < 256 → IsSmall (Step thread)
+small_step thread less = omega (arith, less)
 
 module _ (o : MachineState) (workers w : ℕ) (e : Event) (r : Report) (small : IsSmall e) (next : MachineState) where
   -- the same entry n times more, of a worker whose count is in the book

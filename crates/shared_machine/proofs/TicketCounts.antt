@@ -1,6 +1,6 @@
 -- What tickets have counted of their workers' own events.
-use Rattle.std.proofs.Common.{◌≡◌, ℕ, zero, suc, ◌+◌, ◌<◌, List, [], ◌∷◌, ◌++◌, length, get_or, refl, sym, ap, ◌∙◌, subst, arith, eq-eqb, nat_eq, All, Bool, true, false, true≢false}
-use Rattle.std.specs.Prelude.{◌&&◌}
+use Rattle.std.proofs.Common.{◌≡◌, ℕ, zero, suc, ◌+◌, ◌<◌, List, [], ◌∷◌, ◌++◌, length, get_or, refl, sym, ap, ◌∙◌, subst, arith, eq-eqb, nat_eq, All, Bool, true, false, true≢false, Result, Ok, Err}
+use Rattle.std.specs.Prelude.{◌&&◌, IfOk, OnErr}
 use Rattle.std.proofs.lemmas.List.{get_or_append_left, get_or_push, length_push}
 use Rattle.std.proofs.lemmas.List.Elements.{All-append, All-cons, All-nil}
 use native.Mathlib.Decide.{ℕ_discrete}
@@ -8,6 +8,7 @@ use mathlib.Core.Logic.{dite}
 use Rattle.cil_model.specs.declared.events.Event.{Event}
 use Rattle.cil_model.specs.declared.limits.TheConstants.{MOST_THREADS}
 use Rattle.cil_model.specs.declared.reports.Report.{Report}
+use Rattle.cil_model.specs.declared.reports.Report.TheVariants.{Ran}
 use Rattle.shared_machine.specs.Codes.{add}
 use Rattle.shared_machine.specs.Histories.{IsSmall, add_if, count_in_history, entry}
 use Rattle.shared_machine.specs.Worlds.{IfDid, IfNoMemory, add_event, added_times}
@@ -73,6 +74,15 @@ pub worked_times : (workers : ℕ) (t u : Count) (n lent thread : ℕ) (r : Repo
     → HasWorked workers t u
 worked_times workers t u n lent thread r same is inside own =
     subst (λ (v : Count). HasWorked workers t v) (sym (is ∙ ap (λ x. added_times t n (Step x) r) same)) (worked_more workers t n (Step thread) r (omega (arith, inside)) own)
+
+-- local instructions in place, unless memory ran out
+pub worked_in_place : {X : Type 0} (workers : ℕ) (t u : Count) (thread : ℕ) (x : Result ℕ X) → IfOk x (λ n. u ≡ added_times t n (Step thread) Ran) → OnErr x (u ≡ t) → IsOwn workers t.worker (Step thread) → HasWorked workers t u
+worked_in_place workers t u thread (Ok n) counted same own = worked_times workers t u n thread thread Ran refl counted own.0 own
+worked_in_place workers t u thread (Err e) counted same own = subst (λ (v : Count). HasWorked workers t v) (sym same) (worked_nothing workers t)
+
+-- steps of a thread, and then more of it
+pub worked_then : (workers : ℕ) (t u v : Count) (thread : ℕ) → IsOwn workers t.worker (Step thread) → HasWorked workers t u → ((n : ℕ) → IsOwn n u.worker (Step thread) → HasWorked n u v) → HasWorked workers t v
+worked_then workers t u v thread own before more = worked_both workers t u v before (more workers (own.0, subst (λ w. is_driven_by workers w thread ≡ true) (sym before.same) own.1))
 
 -- the same workers and the same ticket under equations
 pub worked_as : (workers workers' : ℕ) (t t' u : Count) → workers' ≡ workers → t' ≡ t → HasWorked workers' t' u → HasWorked workers t u

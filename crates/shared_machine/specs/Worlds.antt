@@ -8,7 +8,7 @@ use Rattle.cil_model.specs.declared.limits.TheConstants.{MOST_THREADS}
 use Rattle.cil_model.specs.declared.reports.Report.{Report}
 use Rattle.cil_model.specs.declared.reports.Report.TheVariants.{Ran}
 use Rattle.cil_model.specs.declared.trees.Tree.{Tree}
-use Rattle.interleaving_core.specs.Loans.{Begins, IsAtOrigin, Lent}
+use Rattle.interleaving_core.specs.Loans.{Begins, IsAtOrigin, Lent, RanInPlace}
 use Rattle.interleaving_core.specs.simulation.threads_monitors.Threads.{is_live_at}
 use Rattle.object_memory.specs.Objects.{no_objects}
 use Rattle.interleaving_core.specs.Histories.{DoesMore}
@@ -150,15 +150,17 @@ abbrev pub book_times : List ℕ → Count → ℕ → Event → Report → List
 book_times book t zero e r = book
 book_times book t (suc n) e r = slice_set book t.worker (add_times (suc n) t.count e r)
 
--- n entries more, with the machine in this state, and the thread is no longer lent
-abbrev pub with_entries : Shown → Count → ℕ → (thread : ℕ) → MachineState → Shown
-with_entries world t n thread core = record {
+-- n entries more, of steps of a thread that ran, with the machine in this state
+abbrev pub with_steps : Shown → Count → ℕ → (thread : ℕ) → MachineState → Shown
+with_steps world t n thread core = record world {
   core = core;
   history = world.history ++ replicate n (entry t.worker (Step thread) Ran);
   book = book_times world.book t n (Step thread) Ran;
-  lent = slice_set world.lent thread false;
-  stopped = world.stopped;
 }
+
+-- the same, and the thread is no longer lent
+abbrev pub with_entries : Shown → Count → ℕ → (thread : ℕ) → MachineState → Shown
+with_entries world t n thread core = record (with_steps world t n thread core) { lent = slice_set world.lent thread false }
 
 -- a loan came back: each of its instructions is a step of its thread, which reports that it ran, and is recorded and counted
 pub record IsCheckedIn (old : Shown) (t : Count) (l : Lent) (n : ℕ) (new : Shown) (u : Count) : Type 0 where
@@ -167,6 +169,15 @@ pub record IsCheckedIn (old : Shown) (t : Count) (l : Lent) (n : ℕ) (new : Sho
   pub transitions : AreTransitions old.core (replicate n (Step l.thread)) new.core (replicate n Ran)
   pub recorded : new ≡ with_entries old t n l.thread new.core
   pub counted : u ≡ added_times t n (Step l.thread) Ran
+
+-- A thread did n local instructions where it is: none if it is lent or not live, else as many as there are, at most `most`. Each is a step of it, which
+-- reports that it ran, and is recorded and counted.
+pub record HasSteppedLocally (old : Shown) (t : Count) (thread most n : ℕ) (new : Shown) (u : Count) : Type 0 where
+  pub none : CannotLend old thread → n ≡ 0
+  pub ran : is_live_at old.core.threads thread ≡ true → is_lent_in old.lent thread ≡ false → RanInPlace old.core thread most n new.core
+  pub transitions : AreTransitions old.core (replicate n (Step thread)) new.core (replicate n Ran)
+  pub recorded : new ≡ with_steps old t n thread new.core
+  pub counted : u ≡ added_times t n (Step thread) Ran
 
 -- the ticket's count is that of its worker's entries
 abbrev pub AgreesWith : List Entry → Count → Type 0

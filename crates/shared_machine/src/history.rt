@@ -65,7 +65,12 @@ impl History {
         ensures entries { self.new.entries ≡ self.old.entries }
         ensures ready { OnOk result (self.new.ready ≡ true) }
     {
-        self.runs.reserve(1)
+        let count = self.runs.len();
+        if count < self.runs.capacity() {
+            return Ok(());
+        }
+        // Four times as much, since each growth moves all runs.
+        self.runs.reserve(count.saturating_mul(3).saturating_add(1))
     }
 
     /// Adds an entry at the end, for which there has to be room. The entries before it stay.
@@ -74,10 +79,7 @@ impl History {
         ensures { self.new.entries ≡ self.old.entries ++ entry ∷ [] }
     {
         if !lengthen(&mut self.runs, &entry) {
-            match self.runs.push(Run { entry, times: 1 }) {
-                Ok(()) => {}
-                Err(_) => unreachable!(),
-            }
+            self.runs.push_reserved(Run { entry, times: 1 });
         }
     }
 
@@ -89,10 +91,7 @@ impl History {
     {
         let times = u64::from(times);
         if !lengthen_by(&mut self.runs, &entry, times) {
-            match self.runs.push(Run { entry, times }) {
-                Ok(()) => {}
-                Err(_) => unreachable!(),
-            }
+            self.runs.push_reserved(Run { entry, times });
         }
     }
 

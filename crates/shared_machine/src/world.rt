@@ -1,6 +1,6 @@
 //! What lies under the lock, and one event on it.
 
-ghost use Rattle.std.specs.Prelude.{◌≡◌, ◌++◌, ◌↔◌, ◌<◌, ◌⊎◌, IfErr, IfOk, IfSome, None, ℕ, replicate, [], ◌∷◌, Some, length, slice_get, slice_set, true, false, All};
+ghost use Rattle.std.specs.Prelude.{◌≡◌, ◌++◌, ◌↔◌, ◌<◌, ◌⊎◌, IfErr, IfOk, IfSome, OnErr, None, ℕ, replicate, [], ◌∷◌, Some, length, slice_get, slice_set, true, false, All};
 ghost use Rattle.interleaving_core.specs.Histories.{DoesMore};
 ghost use Rattle.interleaving_core.specs.simulation.MachineStates.{MachineState};
 ghost use Rattle.interleaving_core.specs.simulation.Runs.{FollowsReference};
@@ -11,7 +11,7 @@ ghost use Rattle.shared_machine.specs.Histories.{AreOf, IsSmall, entry, events_o
 ghost use Rattle.cil_model.specs.declared.events.Event.TheVariants.{Step as StepOf};
 ghost use Rattle.cil_model.specs.declared.reports.Report.{Report as AnyReport};
 ghost use Rattle.cil_model.specs.declared.reports.Report.TheVariants.{Ran as RanOf};
-ghost use Rattle.shared_machine.specs.Worlds.{AgreesWith, CannotLend, HasRooms, HasRun, IfDid, IfNoMemory, IsCheckedIn, IsDid, IsIn, IsKept, IsLentOut, IsPrintedWithin, IsSoundWorld, add_event, added_times, book_times, is_away, is_lent_in, lent_of};
+ghost use Rattle.shared_machine.specs.Worlds.{AgreesWith, CannotLend, HasRooms, HasRun, HasSteppedLocally, IfDid, IfNoMemory, IsCheckedIn, IsDid, IsIn, IsKept, IsLentOut, IsPrintedWithin, IsSoundWorld, add_event, added_times, book_times, is_away, is_lent_in, lent_of};
 ghost use Rattle.shared_machine.specs.declared.answer.Answer.TheVariants.{Away};
 
 use crate::answer::Answer;
@@ -24,7 +24,7 @@ use cil_model::limits::MOST_THREADS;
 use cil_model::memory::NoMemory;
 use cil_model::reports::Report;
 use interleaving_core::{Loan, LoanRoom, Machine};
-use std::alloc::Global;
+use std::alloc::{AllocError, Global};
 use std::marker::{Brand, Model, PhantomData};
 
 /// Names a shared machine: what it held when it was opened, how many workers it has, how many bytes it may print, if there is a bound, and its book
@@ -308,6 +308,41 @@ fn record_steps<M: Initial>(
     };
     history.add_times(entry, times);
     note_times::<Brand, M>(book, ticket, entry, times);
+}
+
+/// Has a thread that is not lent do local instructions where it is, at most the given number, and returns how many it did. It stops as a loan does.
+/// It waits for nobody.
+///
+/// Each of them is recorded and counted, for the ticket's worker, as a step of the thread that ran, and is one. A thread that is lent or not live
+/// does none; nothing changes then.
+///
+/// # Errors
+/// Out of memory, for the entry; nothing changes then. That never happens where the thread is lent.
+pub(crate) fn step_locally<M: Initial>(
+    world: &mut World<M>,
+    ticket: &mut Ticket<M>,
+    thread: u8,
+    most: u32,
+) -> Result<u32, AllocError>
+    ensures done { IfOk result (λ n. HasSteppedLocally world.old ticket.old thread most n world.new ticket.new) }
+    ensures same { OnErr result ((world.new ≡ world.old) × (ticket.new ≡ ticket.old)) }
+    ensures needful { OnErr result (is_lent_in world.old.lent thread ≡ false) }
+{
+    let World {
+        core,
+        history,
+        book,
+        rooms,
+        stopped: _,
+        most_printed: _,
+    } = world;
+    if is_lent(rooms, thread) {
+        return Ok(0);
+    }
+    history.make_room()?;
+    let count = core.run_local(thread, most);
+    record_steps(history, book, ticket, thread, count);
+    Ok(count)
 }
 
 /// Takes a lent frame back, for the ticket's worker, and returns how many local instructions were done on it. It waits for nobody.

@@ -1,6 +1,6 @@
 -- Where a machine represents a state, the frames of each live thread have the room that they should, steps are left to it, and local instructions can be
 -- done on its top frame.
-use Rattle.std.proofs.Common.{◌≡◌, ◌<◌, ◌≤◌, ◌-◌, ℕ, List, false, length, Option, Some, None, slice_get, sym, ap, subst, ◌∙◌}
+use Rattle.std.proofs.Common.{◌≡◌, ◌<◌, ◌≤◌, ◌-◌, ℕ, List, false, length, Option, Some, None, slice_get, slice_set, sym, ap, subst, ◌∙◌}
 use Rattle.std.specs.Prelude.{option_map}
 use Rattle.std.proofs.Common.{Bor}
 use Rattle.std.proofs.lemmas.List.{length-set}
@@ -8,7 +8,7 @@ use Rattle.std.specs.Option.{option_map_or}
 use Rattle.cil_model.specs.declared.limits.TheConstants.{MOST_THREADS}
 use Rattle.cil_model.specs.declared.reports.End.{End}
 use Rattle.reference_machine.specs.States.{State, Thread as StateThread}
-use Rattle.threads_monitors.specs.Frames.{Frame, Frames}
+use Rattle.threads_monitors.specs.Frames.{Frame, Frames, with_running}
 use Rattle.threads_monitors.specs.Threads.{is_live}
 use Rattle.threads_monitors.specs.declared.threads.Thread.{Thread}
 use Rattle.simulation.specs.interpreter.Local.{AreLocalSteps, frames_over}
@@ -18,7 +18,7 @@ use Rattle.simulation.specs.Refines.{IsThread, Represents, StatusRefines}
 use Rattle.simulation.specs.Transitions.{live_thread}
 use Rattle.simulation.proofs.ListLaws.AgreeingLists.{agree_at}
 use Rattle.simulation.proofs.Threads.LocalInstructions.{local_ready, local_represents}
-use Rattle.interleaving_core.specs.Loans.{CanContinueLocally}
+use Rattle.interleaving_core.specs.Loans.{CanContinueLocally, IsLocalRun, RanInPlace}
 use Rattle.interleaving_core.specs.Views.{IsSoundEngine, machine_state_of}
 use Rattle.interleaving_core.specs.declared.engine.Engine.{Engine}
 use Rattle.interleaving_core.proofs.Threads.LiveThreads.{live_have_steps}
@@ -73,4 +73,18 @@ runs_frame c t left f m thread there is same room = record {
   below = m.below;
   depth = m.depth;
   there = there ∙ ap Some is ∙ (λ i. Some (live_thread left (frames_over (same i) m.below m.depth (room i))));
+}
+
+-- ---- local instructions in place
+
+pub ran_in_place : (c : MachineState) (t i left most n : ℕ) (m : Frames) (g : Frame) (new : Thread) → i ≡ t → slice_get c.threads t ≡ Some (live_thread left m) → m.room ≡ frame_room → IsLocalRun c.tree left m.running most n g
+    → new ≡ live_thread (left - n) (with_running m g) → RanInPlace c t most n (record c { threads = slice_set c.threads i new })
+ran_in_place c t i left most n m g new same there room ran is = record {
+  left = left;
+  origin = m.running;
+  frame = g;
+  at = record { below = m.below; depth = m.depth; there = there ∙ ap (λ k. Some (live_thread left (frames_over m.running m.below m.depth k))) room };
+  ran = ran;
+  is = ap (λ (k : ℕ). record c { threads = slice_set c.threads k new }) same ∙ ap (λ (x : Thread). record c { threads = slice_set c.threads t x }) is
+      ∙ ap (λ k. with_live c t (left - n) (frames_over g m.below m.depth k)) room;
 }

@@ -6,7 +6,7 @@ use cil_model::reports::Report;
 /// In how many passes of a row in which the collector waits for another worker each is followed by double the yields of the one before.
 const PATIENT_PASSES: u32 = 8;
 
-/// In how many passes of such a row in which the worker's threads did nothing but local instructions, which take no memory, it yields once.
+/// In how many passes of such a row in which the lock was given back for local instructions, which take no memory, it yields once.
 const LOCAL_PASSES: u32 = 64;
 
 /// How often a worker that drives no live thread yields after the first pass of a row of them; after each of the next ones twice as often.

@@ -14,17 +14,20 @@ use crate::workers::findings::{Findings, found_in, is_served, served_threads};
 use crate::workers::pace::{Pace, Passed, Progress};
 use crate::workers::plan::Plan;
 use crate::workers::seats::{Parked, seat_of};
-use crate::world::{Initial, Lent, World, check_in, lend, perform, run_local, stop};
+use crate::world::{Initial, Lent, World, check_in, lend, perform, run_local, step_locally, stop};
 use cil_model::events::Event;
 use cil_model::reports::Report;
 use cil_model::stops::StopAt;
 use epoch_words::{Epochs, Herald, Post, Seat};
 use interleaving_core::Machine;
-use std::alloc::Global;
+use std::alloc::{AllocError, Global};
 use std::sync::{Mutex, MutexGuard, Wait};
 
 /// The most local instructions of a thread in a pass.
 const MOST_LOCAL: u32 = 64;
+
+/// How many of them one of several workers does under the lock, before it lends the frame for the others.
+const FEW_LOCAL: u32 = 16;
 
 /// How many passes a worker makes on one loan, where they need nothing but the lent frame.
 const PASSES_ON_A_LOAN: u32 = 64;
@@ -57,10 +60,8 @@ fn ask<M: Initial>(
     perform(world, alloc, ticket, event)
 }
 
-/// Takes a lent frame back, and has its thread make a step where no instruction was done on the frame. Where the thread is the worker's
-/// own, the worker has done nothing else.
-fn charge_step<M: Initial>(
-    alloc: Global,
+/// Takes a lent frame back. Where its thread is the worker's own, the worker has done nothing else.
+fn take_back<M: Initial>(
     world: &mut World<M>,
     ticket: &mut Ticket<M>,
     lent: Lent<M>,
@@ -70,7 +71,6 @@ fn charge_step<M: Initial>(
     ensures { (workers : ℕ) → IsOwn workers ticket.old.worker (StepOf thread) → HasWorked workers ticket.old ticket.new }
 {
     match check_in(world, ticket, lent) {
-        Ok(0) => Progress::of(perform(world, alloc, ticket, Event::Step(thread))),
         Ok(_) => Progress::MadeApart,
         Err(_) => Progress::OutOfMemory,
     }
@@ -90,30 +90,80 @@ fn most_on_loan(plan: Plan, worker: u8, served: usize) -> u32
     }
 }
 
-/// Advances a thread, under the lock that is held: by one step, or, where its next instruction is local, by up to `most` local instructions
-/// without the lock. The lock is held again at the end. Where the thread is the worker's own, the worker has done nothing else.
+/// How many of the local instructions of a thread a worker does under the lock, before it lends the frame for the others: all of a pass where it is
+/// alone, since nobody waits for the lock.
+fn most_in_place(workers: u8) -> u32 {
+    if workers == 1 { MOST_LOCAL } else { FEW_LOCAL }
+}
+
+/// Has a thread do local instructions where it is, as `step_locally`. Where the thread is the worker's own, the worker has done nothing else.
+fn step_in_place<M: Initial>(
+    world: &mut World<M>,
+    ticket: &mut Ticket<M>,
+    thread: u8,
+    most: u32,
+) -> Result<u32, AllocError>
+    ensures { (workers : ℕ) → IsOwn workers ticket.old.worker (StepOf thread) → HasWorked workers ticket.old ticket.new }
+{
+    // To ask first takes less time than to begin.
+    if !world.machine().is_next_local(thread) {
+        return Ok(0);
+    }
+    step_locally(world, ticket, thread, most)
+}
+
+/// Does local instructions on a lent frame without the lock, at most the given number, and takes the frame back. The lock is held again at the end.
+/// Where the thread is the worker's own, the worker has done nothing else.
+fn run_apart<'s, M: Initial, R: Wait>(
+    rt: &R,
+    shared: &'s Shared<M>,
+    world: MutexGuard<'s, World<M>>,
+    ticket: &mut Ticket<M>,
+    lent: Lent<M>,
+    thread: u8,
+    most: u32,
+) -> (Progress, MutexGuard<'s, World<M>>)
+    requires { lent.thread ≡ thread }
+    ensures { (workers : ℕ) → IsOwn workers ticket.old.worker (StepOf thread) → HasWorked workers ticket.old ticket.new }
+{
+    drop(world);
+    let lent = run_local(lent, most);
+    let mut again = shared.lock_soon(rt);
+    let progress = take_back(&mut *again, ticket, lent, thread);
+    (progress, again)
+}
+
+/// Advances a thread, under the lock that is held: by up to `most` local instructions, the first few of them where it is and the others without the
+/// lock, or, where its next instruction is not local, by one step. The lock is held again at the end. Where the thread is the worker's own, the
+/// worker has done nothing else.
+// To lend a frame takes longer than a few instructions.
 fn advance<'s, M: Initial, R: Wait>(
     rt: &R,
     alloc: Global,
     shared: &'s Shared<M>,
     mut world: MutexGuard<'s, World<M>>,
     ticket: &mut Ticket<M>,
+    workers: u8,
     thread: u8,
     most: u32,
 ) -> (Progress, MutexGuard<'s, World<M>>)
     ensures { (workers : ℕ) → IsOwn workers ticket.old.worker (StepOf thread) → HasWorked workers ticket.old ticket.new }
 {
-    if world.machine().is_next_local(thread) {
-        if let Some(lent) = lend(&mut *world, thread) {
-            drop(world);
-            let lent = run_local(lent, most);
-            let mut again = shared.lock_soon(rt);
-            let progress = charge_step(alloc, &mut *again, ticket, lent, thread);
-            return (progress, again);
-        }
+    let few = most.min(most_in_place(workers));
+    let Ok(done) = step_in_place(&mut *world, ticket, thread, few) else {
+        return (Progress::OutOfMemory, world);
+    };
+    if done == 0 {
+        let answer = ask(alloc, &mut *world, ticket, Event::Step(thread));
+        return (Progress::of(answer), world);
     }
-    let answer = ask(alloc, &mut *world, ticket, Event::Step(thread));
-    (Progress::of(answer), world)
+    if done < few || done == most || !world.machine().is_next_local(thread) {
+        return (Progress::Made, world);
+    }
+    let Some(lent) = lend(&mut *world, thread) else {
+        return (Progress::Made, world);
+    };
+    run_apart(rt, shared, world, ticket, lent, thread, most - few)
 }
 
 /// Advances each live thread that the worker drives and that was started before the pass, in the order of their numbers. It stops where memory
@@ -136,7 +186,16 @@ fn step_each<'s, M: Initial, R: Wait>(
     for thread in 0..found.started {
         let number = thread as u8;
         if is_served(world.machine(), plan.workers, ticket.worker(), number) {
-            let (came, held) = advance(rt, alloc, shared, world, ticket, number, most);
+            let (came, held) = advance(
+                rt,
+                alloc,
+                shared,
+                world,
+                ticket,
+                plan.workers,
+                number,
+                most,
+            );
             world = held;
             progress = progress.then(came);
             if !progress.lasts() {

@@ -1,14 +1,14 @@
-use Rattle.std.proofs.Common.{◌≡◌, ◌<◌, ◌++◌, ◌∙◌, ℕ, List, Some, length, true, replicate, refl, sym, ap, subst, arith, rules, vec_len}
+use Rattle.std.proofs.Common.{◌≡◌, ◌++◌, ◌∙◌, ℕ, List, Some, length, replicate, refl, sym, ap, subst, arith, rules, vec_len}
 use Rattle.cil_model.specs.declared.events.Event.TheVariants.{Step}
 use Rattle.cil_model.specs.declared.reports.Report.TheVariants.{Ran}
 use Rattle.interleaving_core.specs.Loans.{IsAtOrigin, Lent}
 use Rattle.interleaving_core.specs.simulation.MachineStates.{MachineState}
 use Rattle.interleaving_core.specs.simulation.Runs.{AreTransitions}
-use Rattle.shared_machine.specs.Histories.{Log, IsSmall, entry}
+use Rattle.shared_machine.specs.Histories.{Log, entry}
 use Rattle.shared_machine.specs.Worlds.{IsCheckedIn, Shown, is_lent_in, lent_of}
 use Rattle.shared_machine.specs.declared.history.Entry.{Entry}
 use Rattle.shared_machine.proofs.Bounds.{same_within}
-use Rattle.shared_machine.proofs.Lendings.{checked_in, lent_within, room_back, same_tree, shown_as, sound_times, world_at}
+use Rattle.shared_machine.proofs.Lendings.{checked_in, lent_within, room_back, same_tree, shown_as, small_step, sound_times, world_at}
 use Rattle.std.specs.Prelude.{slice_set}
 use Rattle.shared_machine.proofs.world.check_in.Goals as goal
 use Rattle.shared_machine.proofs.world.check_in.Goals.{else-times-gt0-via-then-times-gt0+else-is_err, else-times-gt0-via-else-times-gt0}
@@ -16,9 +16,6 @@ use Rattle.shared_machine.proofs.world.check_in.Goals.{else-times-gt0-via-then-t
 -- the transitions of a loan by the numbers that were read of it
 transitions_as : (core next : MachineState) (l : Lent) (n thread : ℕ) → l.done ≡ n → l.thread ≡ thread → AreTransitions core (replicate l.done (Step l.thread)) next (replicate l.done Ran) → AreTransitions core (replicate n (Step thread)) next (replicate n Ran)
 transitions_as core next l n thread d t transitions = subst (λ (x : ℕ × ℕ). AreTransitions core (replicate x.0 (Step x.1)) next (replicate x.0 Ran)) (λ i. (d i, t i)) transitions
-
-small_step : (thread : ℕ) → thread < 256 → IsSmall (Step thread)
-small_step thread less = omega (arith, less)
 
 pub take_back-requires-clause-tree : goal.take_back-requires-clause-tree
 take_back-requires-clause-tree g c = c.into_loan.ensures.tree ∙ sym (same_tree _ _ _ _ _ c.world.invariant.sound)

@@ -1,6 +1,5 @@
 use Rattle.std.proofs.Common.{ℕ, List, [], ◌∷◌, All, refl, sym, subst, ◌∙◌}
 use Rattle.std.proofs.lemmas.List.Elements.{All-append, All-cons, All-nil}
-use Rattle.shared_machine.specs.Counts.{Count}
 use Rattle.shared_machine.specs.Worlds.{IsIn}
 use Rattle.shared_machine.proofs.world.compare_all.Goals as goal
 

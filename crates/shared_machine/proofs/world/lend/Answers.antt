@@ -1,4 +1,4 @@
-use Rattle.std.proofs.Common.{◌≡◌, ◌<◌, ◌≤◌, ℕ, List, Option, None, Some, length, true, inr, sym, ap, subst, arith, ◌∙◌}
+use Rattle.std.proofs.Common.{◌≡◌, ◌<◌, ◌≤◌, ℕ, List, Option, Some, length, true, inr, sym, ap, subst, arith, ◌∙◌}
 use Rattle.std.specs.Prelude.{slice_set}
 use Rattle.cil_model.specs.declared.limits.TheConstants.{MOST_THREADS}
 use Rattle.cil_model.specs.declared.trees.Tree.{Tree}
@@ -6,7 +6,7 @@ use Rattle.interleaving_core.specs.simulation.MachineStates.{MachineState}
 use Rattle.interleaving_core.specs.simulation.threads_monitors.Threads.{is_live_at}
 use Rattle.interleaving_core.specs.simulation.threads_monitors.declared.threads.Thread.{Thread}
 use Rattle.interleaving_core.proofs.Threads.IndexedThreads.{live_within}
-use Rattle.shared_machine.specs.Worlds.{CannotLend, HasRooms, IsLentOut, Shown, is_lent_in, lent_of}
+use Rattle.shared_machine.specs.Worlds.{HasRooms, IsLentOut, Shown, is_lent_in, lent_of}
 use Rattle.shared_machine.proofs.Lendings.{lent_out, nothing_taken, read_room, same_tree, shown_as, taken_rooms}
 use Rattle.shared_machine.proofs.world.lend.Goals as goal
 

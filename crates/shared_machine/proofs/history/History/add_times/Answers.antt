@@ -1,11 +1,11 @@
-use Rattle.std.proofs.Common.{◌≡◌, ◌++◌, refl, ap, ◌∙◌, replicate}
+use Rattle.std.proofs.Common.{◌++◌, refl, ap, ◌∙◌, replicate}
 use Rattle.shared_machine.specs.Histories.{Log, plain}
 use Rattle.shared_machine.proofs.Histories.{plain-push_by}
 use Rattle.shared_machine.proofs.history.History.add_times.Goals as goal
 
-pub returns-in-Ok : goal.returns-in-Ok
-returns-in-Ok c =
-    ap plain c.in-Ok.ensures.items
+pub returns-then-not-lengthen_by : goal.returns-then-not-lengthen_by
+returns-then-not-lengthen_by c =
+    ap plain c.push_reserved.ensures.items
     ∙ plain-push_by c.lengthen_by.new.runs.items c.args.entry c.from-times.result
     ∙ ap (λ n. plain c.lengthen_by.new.runs.items ++ replicate n c.args.entry) c.from-times.ensures
     ∙ ap (λ v. plain v.items ++ replicate c.args.times c.args.entry) (c.if-not-lengthen_by.ensures.same refl)
