@@ -2,15 +2,10 @@
 pub mod CollectedMemory
 pub mod VisibleNames
 pub mod TwoCopies
-pub mod LiveCopies
 pub mod RewrittenCells
 pub mod HeapChanges
 pub mod ObjectChanges
-pub mod ObjectStores
-pub mod StaticStores
 pub mod LiteralMonitors
 pub mod NewObjects
-pub mod ReferenceComparisons
 pub mod UsedWords
 pub mod MemoryWithRoom
-pub mod ReportedRoom

@@ -6,7 +6,6 @@ pub mod Reports
 pub mod WaitsAndInitialStates
 pub mod NextBlockSize
 pub mod ClosedMarking
-pub mod AcknowledgementSoundness
 pub mod AcknowledgementNames
 pub mod AcknowledgementCases
 pub mod RootMarks

@@ -2,4 +2,3 @@
 pub mod TestsAndLengths
 pub mod ChangedItems
 pub mod AgreeingLists
-pub mod InsertedItems

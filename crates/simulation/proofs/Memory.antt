@@ -11,7 +11,4 @@ pub mod FieldSlots
 pub mod InheritedFields
 pub mod FieldPositions
 pub mod CellSizes
-pub mod TypedWords
 pub mod InitialValues
-pub mod NewObjectContents
-pub mod Allocation

@@ -9,4 +9,3 @@ pub mod NamesAfterEvents
 pub mod ThreadNames
 pub mod SumsOverNames
 pub mod BornWords
-pub mod NewBlockWords

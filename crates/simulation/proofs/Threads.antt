@@ -2,16 +2,12 @@
 pub mod NextInstruction
 pub mod LiveThreads
 pub mod Requests
-pub mod ThreadStarts
 pub mod StartSteps
 pub mod Joins
 pub mod StepEffects
 pub mod StepResults
-pub mod StepSoundness
 pub mod Steps
 pub mod UnchangedPosts
-pub mod RefusedSteps
 pub mod LocalInstructions
 pub mod OtherThreads
 pub mod Seats
-pub mod ChangedSeats

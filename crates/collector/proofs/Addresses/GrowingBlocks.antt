@@ -4,11 +4,11 @@ use Rattle.std.specs.Prelude.{◌==◌, Option, is_some}
 use Rattle.std.proofs.lemmas.Bool.{or_left, or_right}
 use Rattle.std.proofs.lemmas.Bool.Decides.{nat_tests}
 use Rattle.cil_model.specs.declared.phases.Phase.{Phase}
-use Rattle.cil_model.specs.declared.phases.Phase.TheVariants.{Idle, Mark, Allocate, Copy, PreFlip, HeapFlip, ThreadFlip, Reclaim}
+use Rattle.cil_model.specs.declared.phases.Phase.TheVariants.{Idle, Mark, Allocate, Copy, Reclaim}
 use Rattle.cil_model.specs.declared.trees.Tree.{Tree}
 use Rattle.object_memory.specs.declared.addresses.Addr.{Addr}
 use Rattle.object_memory.specs.declared.values.Value.{Value}
-use Rattle.object_memory.specs.declared.values.Value.TheVariants.{Int32, Int64, Native, Ref}
+use Rattle.object_memory.specs.declared.values.Value.TheVariants.{Ref}
 use Rattle.object_memory.specs.Cells.{Cell, cell_in}
 use Rattle.object_memory.specs.Spaces.{Spaces, AreSpaces, cell_at, forward, is_old}
 use Rattle.object_memory.proofs.TwoBlocks.{forward_else, no_literal, old_is_cell, are_distinct}
@@ -80,10 +80,8 @@ module _ (m : Spaces) (a : Addr) where
   object_lies Mark e = old_lies e
   object_lies Allocate e = marked_lies e
   object_lies Copy e = marked_lies e
-  object_lies PreFlip e = by_either (is_marked_old m a) (is_new m a) e marked_lies new_lies
-  object_lies HeapFlip e = by_either (is_marked_old m a) (is_new m a) e marked_lies new_lies
-  object_lies ThreadFlip e = by_either (is_marked_old m a) (is_new m a) e marked_lies new_lies
   object_lies Reclaim e = new_lies e
+  object_lies _ e = by_either (is_marked_old m a) (is_new m a) e marked_lies new_lies
 
   -- a live address is that of null, a literal or a cell
   pub live_lies : (posted_phase : Phase) → is_live posted_phase m a ≡ true → IsLying m a
@@ -98,9 +96,7 @@ slots_weaken tree P Q f c h slot word there holds = f (reference_in word) (h slo
 -- so do values
 pub value_weakens : (P Q : Test) → ((a : Addr) → P a ≡ true → Q a ≡ true) → (v : Value) → ValuePasses P v → ValuePasses Q v
 value_weakens P Q f (Ref a) h = f a h
-value_weakens P Q f (Int32 x) h = tt
-value_weakens P Q f (Int64 x) h = tt
-value_weakens P Q f (Native x) h = tt
+value_weakens P Q f _ h = tt
 
 -- what is old, marked or new stays so
 pub record TestsStay (m m' : Spaces) : Type 0 where
@@ -124,10 +120,8 @@ module _ (m m' : Spaces) (stay : TestsStay m m') (a : Addr) where
   object_stays Mark e = stay.old a e
   object_stays Allocate e = stay.marked a e
   object_stays Copy e = stay.marked a e
-  object_stays PreFlip e = both_stay e
-  object_stays HeapFlip e = both_stay e
-  object_stays ThreadFlip e = both_stay e
   object_stays Reclaim e = stay.new a e
+  object_stays _ e = both_stay e
 
   -- so does a live address,
   pub live_stays : (posted_phase : Phase) → is_live posted_phase m a ≡ true → is_live posted_phase m' a ≡ true

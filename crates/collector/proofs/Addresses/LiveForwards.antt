@@ -42,25 +42,13 @@ has_copies ThreadFlip = true
 has_copies Reclaim = true
 
 abbrev is_reclaim : Phase → Bool
-is_reclaim Idle = false
-is_reclaim Mark = false
-is_reclaim Allocate = false
-is_reclaim Copy = false
-is_reclaim PreFlip = false
-is_reclaim HeapFlip = false
-is_reclaim ThreadFlip = false
 is_reclaim Reclaim = true
+is_reclaim _ = false
 
 -- Reclaim is posted, or another phase
 pub reclaim_or : (q : Phase) → (q ≡ Reclaim) ⊎ (q ≢ Reclaim)
-reclaim_or Idle = inr (λ e. false_is_true (ap is_reclaim e))
-reclaim_or Mark = inr (λ e. false_is_true (ap is_reclaim e))
-reclaim_or Allocate = inr (λ e. false_is_true (ap is_reclaim e))
-reclaim_or Copy = inr (λ e. false_is_true (ap is_reclaim e))
-reclaim_or PreFlip = inr (λ e. false_is_true (ap is_reclaim e))
-reclaim_or HeapFlip = inr (λ e. false_is_true (ap is_reclaim e))
-reclaim_or ThreadFlip = inr (λ e. false_is_true (ap is_reclaim e))
 reclaim_or Reclaim = inl refl
+reclaim_or _ = inr (λ e. false_is_true (ap is_reclaim e))
 
 -- ---- null and literals
 
@@ -119,21 +107,16 @@ live_is_old Idle m a alone live = live
 live_is_old Mark m a alone live = live
 live_is_old Allocate m a alone live = marked_is_some (cell_in m.old a) live
 live_is_old Copy m a alone live = marked_is_some (cell_in m.old a) live
-live_is_old PreFlip m a alone live = false_is_true alone
-live_is_old HeapFlip m a alone live = false_is_true alone
-live_is_old ThreadFlip m a alone live = false_is_true alone
-live_is_old Reclaim m a alone live = false_is_true alone
+live_is_old _ m a alone live = false_is_true alone
 
 -- once objects have copies, what is live is marked or new
 pub live_marked_or_new : (posted_phase : Phase) (m : Spaces) (a : Addr) → has_copies posted_phase ≡ true → is_live_object posted_phase m a ≡ true → (is_marked_old m a ≡ true) ⊎ (is_new m a ≡ true)
-live_marked_or_new Idle m a copied live = false_is_true copied
-live_marked_or_new Mark m a copied live = false_is_true copied
-live_marked_or_new Allocate m a copied live = false_is_true copied
 live_marked_or_new Copy m a copied live = inl live
 live_marked_or_new PreFlip m a copied live = either_true (is_marked_old m a) (is_new m a) live
 live_marked_or_new HeapFlip m a copied live = either_true (is_marked_old m a) (is_new m a) live
 live_marked_or_new ThreadFlip m a copied live = either_true (is_marked_old m a) (is_new m a) live
 live_marked_or_new Reclaim m a copied live = inr live
+live_marked_or_new _ m a copied live = false_is_true copied
 
 new_or_marked : (m : Spaces) (a : Addr) → is_new_address m a ≡ true → (is_permanent a || (is_marked_old m a || is_new m a)) ≡ true
 new_or_marked m a new = elim (either_true (is_permanent a) (is_new m a) new) [
@@ -143,36 +126,26 @@ new_or_marked m a new = elim (either_true (is_permanent a) (is_new m a) new) [
 
 -- what is new is live from PreFlip on
 pub new_is_live : (posted_phase : Phase) (m : Spaces) (a : Addr) → is_old_alone posted_phase ≡ false → is_new_address m a ≡ true → is_live posted_phase m a ≡ true
-new_is_live Idle m a late new = false_is_true (sym late)
-new_is_live Mark m a late new = false_is_true (sym late)
-new_is_live Allocate m a late new = false_is_true (sym late)
-new_is_live Copy m a late new = false_is_true (sym late)
 new_is_live PreFlip m a late new = new_or_marked m a new
 new_is_live HeapFlip m a late new = new_or_marked m a new
 new_is_live ThreadFlip m a late new = new_or_marked m a new
 new_is_live Reclaim m a late new = new
+new_is_live _ m a late new = false_is_true (sym late)
 
 -- new objects are live while threads are flipped
 pub flipping_has_new : (posted_phase : Phase) → is_flipping posted_phase ≡ true → is_old_alone posted_phase ≡ false
-flipping_has_new Idle flipping = false_is_true flipping
-flipping_has_new Mark flipping = false_is_true flipping
-flipping_has_new Allocate flipping = false_is_true flipping
-flipping_has_new Copy flipping = false_is_true flipping
 flipping_has_new PreFlip flipping = refl
 flipping_has_new HeapFlip flipping = refl
 flipping_has_new ThreadFlip flipping = refl
 flipping_has_new Reclaim flipping = refl
+flipping_has_new _ flipping = false_is_true flipping
 
 -- the collector has looked at all
 looked_at_all : (posted_phase : Phase) (p : Progress) (m : Spaces) (a : Addr) → has_copies posted_phase ≡ true → HasLooked posted_phase p m a
 looked_at_all Idle p m a copied = false_is_true copied
 looked_at_all Mark p m a copied = false_is_true copied
 looked_at_all Allocate p m a copied = false_is_true copied
-looked_at_all Copy p m a copied = tt
-looked_at_all PreFlip p m a copied = tt
-looked_at_all HeapFlip p m a copied = tt
-looked_at_all ThreadFlip p m a copied = tt
-looked_at_all Reclaim p m a copied = tt
+looked_at_all _ p m a copied = tt
 
 module _ (tree : Tree) (posted_phase : Phase) (has_round : Bool) (words : ℕ) (p : Progress) (m : Spaces) (sound : IsSoundHeap tree posted_phase has_round words p m) where
   abbrev spaces : AreSpaces m

@@ -78,9 +78,8 @@ readable layout tree o test laid a c slot at inside there passes =
 -- ---- what is live
 
 permanent_or : (x y s t : Bool) → (s ≡ true → t ≡ true) → ((x || y) || s) ≡ true → (x || (y || t)) ≡ true
-permanent_or true y s t h e = refl
-permanent_or false true s t h e = refl
 permanent_or false false s t h e = h e
+permanent_or _ _ s t h e = refl
 
 some_there : (o p : Option Cell) → is_some o ≡ true → is_some (first_of o p) ≡ true
 some_there None p e = absurd cc

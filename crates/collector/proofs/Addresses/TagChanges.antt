@@ -3,7 +3,7 @@ use Rattle.std.proofs.Common.{◌≡◌, ℕ, ◌+◌, Bool, true, false, length
 use Rattle.std.specs.Prelude.{◌==◌, if◌then◌else◌, is_some, option_map, unwrap_or, ◌||◌, Option, Some, None}
 use Rattle.std.proofs.lemmas.Bool.Decides.{nat_tests}
 use Rattle.cil_model.specs.declared.phases.Phase.{Phase}
-use Rattle.cil_model.specs.declared.phases.Phase.TheVariants.{Idle, Mark, Allocate, Copy, PreFlip, HeapFlip, ThreadFlip, Reclaim}
+use Rattle.cil_model.specs.declared.phases.Phase.TheVariants.{Idle, Mark, Allocate, Copy, Reclaim}
 use Rattle.object_memory.specs.declared.addresses.Addr.{Addr}
 use Rattle.object_memory.specs.declared.monitors.Monitor.{Monitor}
 use Rattle.object_memory.specs.Cells.{Cell, Cells, size, cell_in, change_in, store_monitor, store_slot}
@@ -161,10 +161,8 @@ module _ (m n : Spaces) (alike : AreAlike m n) where
   live_object_stays Mark x = alike.old x
   live_object_stays Allocate x = alike.marked x
   live_object_stays Copy x = alike.marked x
-  live_object_stays PreFlip x = rw (alike.marked x, alike.new x) refl
-  live_object_stays HeapFlip x = rw (alike.marked x, alike.new x) refl
-  live_object_stays ThreadFlip x = rw (alike.marked x, alike.new x) refl
   live_object_stays Reclaim x = alike.new x
+  live_object_stays _ x = rw (alike.marked x, alike.new x) refl
 
   -- what is live stays live
   pub live_stays : (posted_phase : Phase) (x : Addr) → is_live posted_phase n x ≡ is_live posted_phase m x

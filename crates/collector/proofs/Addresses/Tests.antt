@@ -9,7 +9,7 @@ use Rattle.cil_model.specs.declared.trees.Tree.{Tree}
 use Rattle.object_memory.specs.declared.addresses.Addr.{Addr}
 use Rattle.object_memory.specs.declared.addresses.TheConstants.{FIRST_LITERAL}
 use Rattle.object_memory.specs.declared.values.Value.{Value}
-use Rattle.object_memory.specs.declared.values.Value.TheVariants.{Int32, Int64, Native, Ref}
+use Rattle.object_memory.specs.declared.values.Value.TheVariants.{Ref}
 use Rattle.object_memory.specs.Cells.{Cell, cell_from, cell_in}
 use Rattle.object_memory.specs.Spaces.{Spaces, AreSpaces, cell_at, is_old}
 use Rattle.object_memory.proofs.TwoBlocks.{either, new_is_cell, not_new, not_old, old_is_cell, are_distinct}
@@ -28,9 +28,7 @@ slots_weaken tree P Q f c h slot word there held = f (reference_in word) (h slot
 
 pub value_weakens : (P Q : Test) → ((a : Addr) → P a ≡ true → Q a ≡ true) → (v : Value) → ValuePasses P v → ValuePasses Q v
 value_weakens P Q f (Ref a) h = f a h
-value_weakens P Q f (Int32 n) h = tt
-value_weakens P Q f (Int64 n) h = tt
-value_weakens P Q f (Native n) h = tt
+value_weakens P Q f _ h = tt
 
 -- ---- the cells of tests
 
@@ -121,14 +119,11 @@ is_new_live ThreadFlip = true
 is_new_live Reclaim = true
 
 new_object_is_live : (posted_phase : Phase) (m : Spaces) (a : Addr) → is_new_live posted_phase ≡ true → is_new m a ≡ true → is_live_object posted_phase m a ≡ true
-new_object_is_live Idle m a late h = never late
-new_object_is_live Mark m a late h = never late
-new_object_is_live Allocate m a late h = never late
-new_object_is_live Copy m a late h = never late
 new_object_is_live PreFlip m a late h = or_right (is_marked_old m a) (is_new m a) h
 new_object_is_live HeapFlip m a late h = or_right (is_marked_old m a) (is_new m a) h
 new_object_is_live ThreadFlip m a late h = or_right (is_marked_old m a) (is_new m a) h
 new_object_is_live Reclaim m a late h = h
+new_object_is_live _ m a late h = never late
 
 -- what is new is live from PreFlip on
 pub new_is_live : (posted_phase : Phase) (m : Spaces) (a : Addr) → is_new_live posted_phase ≡ true → is_new_address m a ≡ true → is_live posted_phase m a ≡ true
@@ -159,20 +154,15 @@ module _ (m : Spaces) (spaces : AreSpaces m) (a : Addr) (c : Cell) where
   old_object_is_read Mark e h = refl
   old_object_is_read Allocate e h = marked_of e h
   old_object_is_read Copy e h = marked_of e h
-  old_object_is_read PreFlip e h = marked_of_either e h
-  old_object_is_read HeapFlip e h = marked_of_either e h
-  old_object_is_read ThreadFlip e h = marked_of_either e h
   old_object_is_read Reclaim e h = never (sym (old_not_new m spaces a c e) ∙ h)
+  old_object_is_read _ e h = marked_of_either e h
 
   new_object_is_late : (posted_phase : Phase) → cell_in m.new a ≡ Some c → is_live_object posted_phase m a ≡ true → is_new_live posted_phase ≡ true
   new_object_is_late Idle e h = never (sym (new_not_old m spaces a c e) ∙ h)
   new_object_is_late Mark e h = never (sym (new_not_old m spaces a c e) ∙ h)
   new_object_is_late Allocate e h = never (sym (new_not_marked m spaces a c e) ∙ h)
   new_object_is_late Copy e h = never (sym (new_not_marked m spaces a c e) ∙ h)
-  new_object_is_late PreFlip e h = refl
-  new_object_is_late HeapFlip e h = refl
-  new_object_is_late ThreadFlip e h = refl
-  new_object_is_late Reclaim e h = refl
+  new_object_is_late _ e h = refl
 
   -- a cell is live as an object alone
   live_object : (posted_phase : Phase) → cell_at m a ≡ Some c → is_live posted_phase m a ≡ true → is_live_object posted_phase m a ≡ true
@@ -235,24 +225,13 @@ HoldMeans posted_phase has_round m MarkedOnly = (posted_phase ≡ Mark) × (has_
 HoldMeans posted_phase has_round m NewOnly = is_new_live posted_phase ≡ true
 
 marking_is_mark : (posted_phase : Phase) → is_marking posted_phase ≡ true → posted_phase ≡ Mark
-marking_is_mark Idle h = never h
 marking_is_mark Mark h = refl
-marking_is_mark Allocate h = never h
-marking_is_mark Copy h = never h
-marking_is_mark PreFlip h = never h
-marking_is_mark HeapFlip h = never h
-marking_is_mark ThreadFlip h = never h
-marking_is_mark Reclaim h = never h
+marking_is_mark _ h = never h
 
 flipping_is_late : (posted_phase : Phase) → is_flipping posted_phase ≡ true → is_new_live posted_phase ≡ true
-flipping_is_late Idle h = never h
-flipping_is_late Mark h = never h
-flipping_is_late Allocate h = never h
-flipping_is_late Copy h = never h
-flipping_is_late PreFlip h = never h
-flipping_is_late HeapFlip h = never h
 flipping_is_late ThreadFlip h = refl
 flipping_is_late Reclaim h = refl
+flipping_is_late _ h = never h
 
 module _ (h : Handshakes) (m : Spaces) (seat : Seat) where
   -- whether the thread holds marked objects alone, where it isn't flipped
@@ -289,15 +268,11 @@ may_hold_live h m seat a held = held_is_live h.posted_phase h.has_round m (hold_
 -- and so is what a static field holds
 pub static_may_hold_live : (posted_phase : Phase) (m : Spaces) (p : Progress) (number : ℕ) (a : Addr) → static_may_hold posted_phase m p number a ≡ true
     → is_live posted_phase m a ≡ true
-static_may_hold_live Idle m p number a h = h
 static_may_hold_live Mark m p number a h = by_scan p.scanned_statics h
   where
     by_scan : (b : Bool) → passes (if b then MarkedOnly else AnyLive) Mark m a ≡ true → is_live Mark m a ≡ true
     by_scan true h = marked_is_live m a h
     by_scan false h = h
-static_may_hold_live Allocate m p number a h = h
-static_may_hold_live Copy m p number a h = h
-static_may_hold_live PreFlip m p number a h = h
 static_may_hold_live HeapFlip m p number a h = by_flip (nat_lt number p.flipped_statics) h
   where
     by_flip : (b : Bool) → passes (if b then NewOnly else AnyLive) HeapFlip m a ≡ true → is_live HeapFlip m a ≡ true
@@ -305,6 +280,7 @@ static_may_hold_live HeapFlip m p number a h = by_flip (nat_lt number p.flipped_
     by_flip false h = h
 static_may_hold_live ThreadFlip m p number a h = new_is_live ThreadFlip m a refl h
 static_may_hold_live Reclaim m p number a h = new_is_live Reclaim m a refl h
+static_may_hold_live _ m p number a h = h
 
 module _ (tree : Tree) (posted_phase : Phase) (has_round : Bool) (words : ℕ) (p : Progress) (m : Spaces) (sound : IsSoundHeap tree posted_phase has_round words p m) where
   -- what may be held is closed under loads
@@ -313,9 +289,3 @@ module _ (tree : Tree) (posted_phase : Phase) (has_round : Bool) (words : ℕ) (
   loads_may_be_held AnyLive means a cell held is = live_loads tree posted_phase p m sound.blocks.spaces sound.copies a cell is held
   loads_may_be_held MarkedOnly means a cell held is = marked_loads tree m sound.blocks.spaces ((sound.marks means.0).closed means.1 means.2) a cell is held
   loads_may_be_held NewOnly means a cell held is = new_loads tree posted_phase p m sound.blocks.spaces sound.copies a cell is held
-
--- so a thread may hold what it loads from an object that it may hold
-pub thread_loads : (tree : Tree) (h : Handshakes) (words : ℕ) (p : Progress) (m : Spaces) → IsSoundHeap tree h.posted_phase h.has_round words p m
-    → (seat : Seat) (a : Addr) (cell : Cell) → may_hold h m seat a ≡ true → cell_at m a ≡ Some cell → SlotsPass tree (may_hold h m seat) cell
-thread_loads tree h words p m sound seat a cell held is =
-    loads_may_be_held tree h.posted_phase h.has_round words p m sound (hold_of h m.has_marked seat) (hold_means h m seat) a cell held is

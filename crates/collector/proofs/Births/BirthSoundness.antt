@@ -21,11 +21,11 @@ use Rattle.phase_handshake.specs.declared.posts.Seat.{Seat}
 use Rattle.collector.specs.Soundness.{IsSoundHeap}
 use Rattle.object_memory.proofs.Births.{born-new_last, born-old_last}
 use Rattle.collector.specs.Phases.{HasLooked, is_before_copies, is_live, is_marked_address, is_marked_cell, is_marked_old, is_new, is_of_cycle, no_progress}
-use Rattle.collector.specs.Holding.{AnyLive, HasNotBegun, Hold, IsOnTime, MarkedOnly, NewOnly, is_flipping, is_marking, may_hold, passes, hold_of}
+use Rattle.collector.specs.Holding.{AnyLive, HasNotBegun, Hold, IsOnTime, MarkedOnly, NewOnly, is_flipping, is_marking, may_hold, passes}
 use Rattle.object_memory.specs.Spaces.{is_old}
 use Rattle.collector.specs.References.{is_permanent}
 use Rattle.collector.specs.declared.progress.Progress.{Progress}
-use Rattle.collector.proofs.Addresses.GrowingBlocks.{TestsStay, false_true, passes_stays}
+use Rattle.collector.proofs.Addresses.GrowingBlocks.{TestsStay, false_true}
 use Rattle.collector.proofs.Births.HeapsAfterBirths.{Suits, born_flags, born_forward, born_heap, born_not_begun, born_stays}
 use Rattle.collector.proofs.Births.NewCells.{IsBirth, birth_in}
 
@@ -152,13 +152,7 @@ near_of_close h s (inr before) = inr before.0
 -- no phase comes after itself
 pub phase_continues : (own : Phase) → phase_after own ≡ own → ⊥
 phase_continues Idle e = absurd cc
-phase_continues Mark e = absurd cc
-phase_continues Allocate e = absurd cc
-phase_continues Copy e = absurd cc
-phase_continues PreFlip e = absurd cc
-phase_continues HeapFlip e = absurd cc
-phase_continues ThreadFlip e = absurd cc
-phase_continues Reclaim e = absurd cc
+phase_continues _ e = absurd cc
 
 -- ---- births
 
@@ -202,24 +196,12 @@ module _ (own posted_phase : Phase) (near : IsNear own posted_phase) where
   -- a phase in which a thread bears only in a cycle is of a cycle,
   can_on_time : (x : Phase) → (if is_within_cycle x then is_of_cycle x else true) ≡ true
   can_on_time Idle = refl
-  can_on_time Mark = refl
-  can_on_time Allocate = refl
-  can_on_time Copy = refl
-  can_on_time PreFlip = refl
-  can_on_time HeapFlip = refl
-  can_on_time ThreadFlip = refl
-  can_on_time Reclaim = refl
+  can_on_time _ = refl
 
   -- and so is the one after it
   can_late : (x : Phase) → (if is_within_cycle x then is_of_cycle (phase_after x) else true) ≡ true
   can_late Idle = refl
-  can_late Mark = refl
-  can_late Allocate = refl
-  can_late Copy = refl
-  can_late PreFlip = refl
-  can_late HeapFlip = refl
-  can_late ThreadFlip = refl
-  can_late Reclaim = refl
+  can_late _ = refl
 
   -- so the cycle is open where it has to be
   can_near : (if is_within_cycle own then is_of_cycle posted_phase else true) ≡ true
@@ -293,10 +275,6 @@ module _ (tree : Tree) (own posted_phase : Phase) (near : IsNear own posted_phas
         subst (λ (x : Objects). TestsStay o.spaces x.spaces) g.1
         (born_stays tree (birth_hold own posted_phase) posted_phase has_round words p o.spaces k n (birth_space_of own o.spaces.is_open) sound g.0 (suits k n))
 
-    -- what may be held stays so, for each hold
-    pub birth_stays : (hold : Hold) (b : Addr) → passes hold posted_phase o.spaces b ≡ true → passes hold posted_phase o'.spaces b ≡ true
-    birth_stays hold b pass = passes_stays o.spaces o'.spaces birth_tests b hold posted_phase pass
-
     -- and each live address has the forward that it had
     pub birth_forwards : (b : Addr) → is_live posted_phase o.spaces b ≡ true → forward o'.spaces b ≡ forward o.spaces b
     birth_forwards b live =
@@ -323,14 +301,8 @@ module _ (tree : Tree) (h : Handshakes) (seat : Seat) (close : IsClose h seat) (
 
   -- marking is done in Mark alone
   marking_is : (x : Phase) → is_marking x ≡ true → x ≡ Mark
-  marking_is Idle is = absurd cc
   marking_is Mark is = refl
-  marking_is Allocate is = absurd cc
-  marking_is Copy is = absurd cc
-  marking_is PreFlip is = absurd cc
-  marking_is HeapFlip is = absurd cc
-  marking_is ThreadFlip is = absurd cc
-  marking_is Reclaim is = absurd cc
+  marking_is _ is = absurd cc
 
   -- a thread that has answered a round has acknowledged Mark, and bears marked objects
   in_round : is_marking h.posted_phase ≡ true → h.has_round ≡ true → is_marked_address o'.spaces a ≡ true
@@ -345,19 +317,10 @@ module _ (tree : Tree) (h : Handshakes) (seat : Seat) (close : IsClose h seat) (
     where
       by_round : (x y z : Bool) → is_marking h.posted_phase ≡ x → h.has_round ≡ y → passes AnyLive h.posted_phase o'.spaces a ≡ true
           → passes (if x && (y && z) then MarkedOnly else AnyLive) h.posted_phase o'.spaces a ≡ true
-      by_round false y z is is' live = live
-      by_round true false z is is' live = live
-      by_round true true false is is' live = live
       by_round true true true is is' live = in_round is is'
+      by_round _ _ _ is is' live = live
 
       by_flip : (t : Bool) → passes (if t then NewOnly else AnyLive) h.posted_phase o'.spaces a ≡ true
           → passes (if t then NewOnly else if is_marking h.posted_phase && (h.has_round && (seat.answered && not o'.spaces.has_marked)) then MarkedOnly else AnyLive) h.posted_phase o'.spaces a ≡ true
       by_flip true pass = pass
       by_flip false pass = by_round (is_marking h.posted_phase) h.has_round (seat.answered && not o'.spaces.has_marked) refl refl pass
-
-  -- and each thread what it held
-  pub birth_keeps_held : (other : Seat) (b : Addr) → may_hold h o.spaces other b ≡ true → may_hold h o'.spaces other b ≡ true
-  birth_keeps_held other b pass =
-      let same = birth_marks_nothing tree seat.phase h.posted_phase near h.has_round words p o time sound k n o' a e in
-      birth_stays tree seat.phase h.posted_phase near h.has_round words p o time sound k n o' a e (hold_of h o'.spaces.has_marked other) b
-      (subst (λ t. passes (hold_of h t other) h.posted_phase o.spaces b ≡ true) (sym same) pass)

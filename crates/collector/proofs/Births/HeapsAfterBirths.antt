@@ -6,7 +6,7 @@ use Rattle.std.proofs.lemmas.List.{get_or-replicate, length-replicate}
 use Rattle.std.proofs.lemmas.List.Elements.{All-append, All-cons, All-nil}
 use Rattle.std.proofs.lemmas.Option.{get_or_from_slice_get, none-some, same_Some, slice_get_within}
 use Rattle.cil_model.specs.declared.phases.Phase.{Phase}
-use Rattle.cil_model.specs.declared.phases.Phase.TheVariants.{Idle, Mark, Allocate, Copy, PreFlip, HeapFlip, ThreadFlip, Reclaim}
+use Rattle.cil_model.specs.declared.phases.Phase.TheVariants.{Mark, Allocate, Copy, PreFlip, HeapFlip, ThreadFlip, Reclaim}
 use Rattle.cil_model.specs.declared.trees.Tree.{Tree}
 use Rattle.object_memory.specs.declared.addresses.Addr.{Addr}
 use Rattle.object_memory.specs.declared.kinds.Kind.{Kind}
@@ -29,10 +29,9 @@ use Rattle.collector.proofs.Addresses.GrowingBlocks.{IsLying, TestsStay, false_t
 
 -- an offset of the new block stays one
 new_space : (m : Spaces) (k : Kind) (n words : ℕ) (space : BirthSpace) → IsOffset m.new (m.new.start + words) → IsOffset (give_birth space m k n).new ((give_birth space m k n).new.start + words)
-new_space m k n words InOld h = h
-new_space m k n words Listed h = h
 new_space m k n words InBoth h = IsOffset-last m.new (empty_cell k n true (Some (next_address m.old))) (m.new.start + words) h
 new_space m k n words InNew h = IsOffset-last m.new (empty_cell k n false None) (m.new.start + words) h
+new_space m k n words _ h = h
 
 -- ---- empty slots
 
@@ -65,14 +64,11 @@ zeros_copied tree m h from to n empty empty' slot word there =
 -- ---- what is copied is read
 
 read_by : (posted_phase : Phase) (p : Progress) (m : Spaces) (a : Addr) (word : ℕ) (c : Cell) → HasCopied posted_phase p m a word → c.marked ≡ true → is_read posted_phase c ≡ true
-read_by Idle p m a word c h marked = elim h [ ]
-read_by Mark p m a word c h marked = elim h [ ]
-read_by Allocate p m a word c h marked = elim h [ ]
 read_by Copy p m a word c h marked = marked
 read_by PreFlip p m a word c h marked = marked
 read_by HeapFlip p m a word c h marked = marked
 read_by ThreadFlip p m a word c h marked = marked
-read_by Reclaim p m a word c h marked = elim h [ ]
+read_by _ p m a word c h marked = elim h [ ]
 
 pub read_once_copied : (posted_phase : Phase) (p : Progress) (m : Spaces) (a : Addr) (word : ℕ) (c : Cell) → IsInCopy posted_phase p m a c word → c.marked ≡ true → is_read posted_phase c ≡ true
 read_once_copied posted_phase p m a word c (inl h) marked = read_by posted_phase p m a word c h marked
@@ -81,28 +77,16 @@ read_once_copied posted_phase p m a word c (inr h) marked = ap (λ q. is_read q 
 -- how far the collector is depends on no cells
 module _ (p : Progress) (m m' : Spaces) (start : m'.old.start ≡ m.old.start) (a : Addr) where
   pub copied_before : (posted_phase : Phase) (word : ℕ) → HasCopied posted_phase p m' a word → HasCopied posted_phase p m a word
-  copied_before Idle word h = h
-  copied_before Mark word h = h
-  copied_before Allocate word h = h
   copied_before Copy word h = subst (λ s. (a.number < s + p.cursor) ⊎ ((a.number ≡ s + p.cursor) × (word < p.copied_words))) start h
-  copied_before PreFlip word h = h
-  copied_before HeapFlip word h = h
-  copied_before ThreadFlip word h = h
-  copied_before Reclaim word h = h
+  copied_before _ word h = h
 
   pub in_copy_before : (posted_phase : Phase) (from : Cell) (word : ℕ) → IsInCopy posted_phase p m' a from word → IsInCopy posted_phase p m a from word
   in_copy_before posted_phase from word (inl h) = inl (copied_before posted_phase word h)
   in_copy_before posted_phase from word (inr h) = inr (record { copying = h.copying; here = h.here ∙ ap (λ s. s + p.cursor) start; next = h.next; stored = h.stored; same = h.same })
 
   pub looked_before : (posted_phase : Phase) → HasLooked posted_phase p m' a → HasLooked posted_phase p m a
-  looked_before Idle h = h
-  looked_before Mark h = h
   looked_before Allocate h = subst (λ s. a.number < s + p.cursor) start h
-  looked_before Copy h = h
-  looked_before PreFlip h = h
-  looked_before HeapFlip h = h
-  looked_before ThreadFlip h = h
-  looked_before Reclaim h = h
+  looked_before _ h = h
 
 -- ---- lists of addresses
 
@@ -139,28 +123,20 @@ module _ (m : Spaces) (k : Kind) (n : ℕ) where
   -- both blocks begin where they began, and have the same numbers of words
   born_start : (space : BirthSpace) → (give_birth space m k n).old.start ≡ m.old.start
   born_start InOld = refl
-  born_start Listed = refl
-  born_start InBoth = refl
-  born_start InNew = refl
+  born_start _ = refl
 
   born_new_start : (space : BirthSpace) → (give_birth space m k n).new.start ≡ m.new.start
   born_new_start InOld = refl
-  born_new_start Listed = refl
-  born_new_start InBoth = refl
-  born_new_start InNew = refl
+  born_new_start _ = refl
 
   born_words : (space : BirthSpace) → ((give_birth space m k n).old.words ≡ m.old.words) × ((give_birth space m k n).new.words ≡ m.new.words)
   born_words InOld = (refl, refl)
-  born_words Listed = (refl, refl)
-  born_words InBoth = (refl, refl)
-  born_words InNew = (refl, refl)
+  born_words _ = (refl, refl)
 
   -- the cycle is open or not as before, and the same counts as marked
   pub born_flags : (space : BirthSpace) → ((give_birth space m k n).is_open ≡ m.is_open) × ((give_birth space m k n).has_marked ≡ m.has_marked)
   born_flags InOld = (refl, refl)
-  born_flags Listed = (refl, refl)
-  born_flags InBoth = (refl, refl)
-  born_flags InNew = (refl, refl)
+  born_flags _ = (refl, refl)
 
   -- nothing comes in the new block before there are copies
   none_added : (space : BirthSpace) → (space ≡ InOld) ⊎ (space ≡ Listed) → (give_birth space m k n).new.cells ≡ m.new.cells
@@ -169,10 +145,8 @@ module _ (m : Spaces) (k : Kind) (n : ℕ) where
 
   -- what was grey is grey
   grey_before : (space : BirthSpace) (a : Addr) → IsListed m.grey a → IsListed (give_birth space m k n).grey a
-  grey_before InOld a h = h
   grey_before Listed a h = listed_before m.grey (next_address m.old) a h
-  grey_before InBoth a h = h
-  grey_before InNew a h = h
+  grey_before _ a h = h
 
   -- ---- the parts
 
@@ -183,17 +157,15 @@ module _ (m : Spaces) (k : Kind) (n : ℕ) where
 
   -- a marked one without another copy is listed
   listed_part : (space : BirthSpace) → is_marked_cell (old_part space m k n) ≡ true → other_of (old_part space m k n) ≡ None → space ≡ Listed
-  listed_part InOld e none = false_true e
   listed_part Listed e none = refl
   listed_part InBoth e none = elim (none-some (next_address m.new) (sym none)) [ ]
-  listed_part InNew e none = false_true e
+  listed_part _ e none = false_true e
 
   -- one with another copy is marked
   marked_part : (space : BirthSpace) → other_of (old_part space m k n) ≢ None → is_marked_cell (old_part space m k n) ≡ true
-  marked_part InOld some = elim (some refl) [ ]
   marked_part Listed some = refl
   marked_part InBoth some = refl
-  marked_part InNew some = elim (some refl) [ ]
+  marked_part _ some = elim (some refl) [ ]
 
   -- each part has empty slots
   empty_of : (b : Bool) (o : Option Addr) (c : Cell) → Some (empty_cell k n b o) ≡ Some c → c.slots ≡ replicate n 0
@@ -206,17 +178,15 @@ module _ (m : Spaces) (k : Kind) (n : ℕ) where
   old_empty InNew c e = elim (none-some c e) [ ]
 
   new_empty : (space : BirthSpace) (c : Cell) → new_part space m k n ≡ Some c → c.slots ≡ replicate n 0
-  new_empty InOld c e = elim (none-some c e) [ ]
-  new_empty Listed c e = elim (none-some c e) [ ]
   new_empty InBoth c e = empty_of true (Some (next_address m.old)) c e
   new_empty InNew c e = empty_of false None c e
+  new_empty _ c e = elim (none-some c e) [ ]
 
   -- one that is born in the new block alone has neither a mark nor another copy
   clear_part : (space : BirthSpace) (d : Cell) → space ≢ InBoth → new_part space m k n ≡ Some d → is_noted d ≡ false
-  clear_part InOld d ne e = elim (none-some d e) [ ]
-  clear_part Listed d ne e = elim (none-some d e) [ ]
   clear_part InBoth d ne e = elim (ne refl) [ ]
   clear_part InNew d ne e = ap is_noted (sym (same_Some (empty_cell k n false None) d e))
+  clear_part _ d ne e = elim (none-some d e) [ ]
 
   -- ---- the two parts of one object
 
@@ -238,8 +208,6 @@ module _ (m : Spaces) (k : Kind) (n : ℕ) where
     -- what the old part refers to as its copy is there, and is its copy
     out_part : (space : BirthSpace) → AreSpaces (give_birth space m k n) → (a b : Addr) (c : Cell) → a.number ≡ (next_address m.old).number → old_part space m k n ≡ Some c → c.other ≡ Some b
         → (d : Cell) × (cell_in (give_birth space m k n).new b ≡ Some d) × AreCopies tree posted_phase p (give_birth space m k n) a c d
-    out_part InOld h' a b c at e other = elim (none-some b (ap other_of e ∙ other)) [ ]
-    out_part Listed h' a b c at e other = elim (none-some b (ap other_of e ∙ other)) [ ]
     out_part InBoth h' a b c at e other =
         let x = empty_cell k n true (Some (next_address m.new)) in
         let d = empty_cell k n true (Some (next_address m.old)) in
@@ -249,18 +217,18 @@ module _ (m : Spaces) (k : Kind) (n : ℕ) where
         let lies = subst (λ y. cell_in (give_birth InBoth m k n).new y ≡ Some d) there (born-new_last m h k n InBoth d refl) in
         (d, lies, subst (λ y. AreCopies tree posted_phase p (give_birth InBoth m k n) y c d) here are)
     out_part InNew h' a b c at e other = elim (none-some c e) [ ]
+    out_part _ h' a b c at e other = elim (none-some b (ap other_of e ∙ other)) [ ]
 
     -- and the other way round
     back_part : (space : BirthSpace) (a b : Addr) (d : Cell) → b.number ≡ (next_address m.new).number → new_part space m k n ≡ Some d → d.other ≡ Some a
         → (c : Cell) × (cell_in (give_birth space m k n).old a ≡ Some c) × (c.other ≡ Some b)
-    back_part InOld a b d at e other = elim (none-some d e) [ ]
-    back_part Listed a b d at e other = elim (none-some d e) [ ]
     back_part InBoth a b d at e other =
         let c = empty_cell k n true (Some (next_address m.new)) in
         let there : next_address m.old ≡ a = same_Some (next_address m.old) a (ap other_of e ∙ other) in
         let here : next_address m.new ≡ b = sym (same_address b (next_address m.new) at) in
         (c, subst (λ y. cell_in (give_birth InBoth m k n).old y ≡ Some c) there (born-old_last m h k n InBoth c refl), ap Some here)
     back_part InNew a b d at e other = elim (none-some a (ap other_of e ∙ other)) [ ]
+    back_part _ a b d at e other = elim (none-some d e) [ ]
 
 -- ---- a heap in which one more is born
 

@@ -58,25 +58,19 @@ pub record IsBirth (own : Phase) (k : Kind) (n : ℕ) (o o' : Objects) (a : Addr
 
 -- in both blocks only where a thread bears two copies
 two_of : (own : Phase) (is_open : Bool) → birth_space_of own is_open ≡ InBoth → bears_two own ≡ true
-two_of Idle is_open e = absurd cc
-two_of Mark is_open e = absurd cc
 two_of Allocate is_open e = refl
 two_of Copy is_open e = refl
 two_of PreFlip is_open e = refl
 two_of HeapFlip is_open e = refl
-two_of ThreadFlip is_open e = absurd cc
-two_of Reclaim true e = absurd cc
 two_of Reclaim false e = absurd cc
+two_of _ _ e = absurd cc
 
 both_of : (own : Phase) (is_open : Bool) → bears_two own ≡ true → birth_space_of own is_open ≡ InBoth
-both_of Idle is_open e = absurd cc
-both_of Mark is_open e = absurd cc
 both_of Allocate is_open e = refl
 both_of Copy is_open e = refl
 both_of PreFlip is_open e = refl
 both_of HeapFlip is_open e = refl
-both_of ThreadFlip is_open e = absurd cc
-both_of Reclaim is_open e = absurd cc
+both_of _ is_open e = absurd cc
 
 module _ (k : Kind) (n : ℕ) where
   -- such a cell is empty
@@ -91,10 +85,9 @@ module _ (k : Kind) (n : ℕ) where
   old_is_empty m InNew c e = elim (none-some c e) [ ]
 
   new_is_empty : (m : Spaces) (space : BirthSpace) (c : Cell) → new_part space m k n ≡ Some c → IsEmpty k n c
-  new_is_empty m InOld c e = elim (none-some c e) [ ]
-  new_is_empty m Listed c e = elim (none-some c e) [ ]
   new_is_empty m InBoth c e = empty_is true (Some (next_address m.old)) c e
   new_is_empty m InNew c e = empty_is false None c e
+  new_is_empty m _ c e = elim (none-some c e) [ ]
 
   module _ (m : Spaces) (h : AreSpaces m) (space : BirthSpace) (room : 3 + n ≤ room_at space m) where
     abbrev m' : Spaces
@@ -141,10 +134,9 @@ main_part InNew m k n = new_part InNew m k n
 
 -- each space has a main cell
 main_cell : (space : BirthSpace) (m : Spaces) (k : Kind) (n : ℕ) → (c : Cell) × (main_part space m k n ≡ Some c)
-main_cell InOld m k n = (empty_cell k n false None, refl)
 main_cell Listed m k n = (empty_cell k n true None, refl)
 main_cell InBoth m k n = (empty_cell k n true (Some (next_address m.new)), refl)
-main_cell InNew m k n = (empty_cell k n false None, refl)
+main_cell _ m k n = (empty_cell k n false None, refl)
 
 module _ (own : Phase) (k : Kind) (n : ℕ) (o : Objects) (h : AreSpaces o.spaces) where
   abbrev m : Spaces
@@ -176,10 +168,8 @@ module _ (own : Phase) (k : Kind) (n : ℕ) (o : Objects) (h : AreSpaces o.space
 
   -- what comes in the old block is what is born
   old_came : (space : BirthSpace) (b : Addr) (c : Cell) → b.number ≡ (next_address m.old).number → old_part space m k n ≡ Some c → b ≡ address_at space m
-  old_came InOld b c at e = same_address b (next_address m.old) at
-  old_came Listed b c at e = same_address b (next_address m.old) at
-  old_came InBoth b c at e = same_address b (next_address m.old) at
   old_came InNew b c at e = elim (none-some c e) [ ]
+  old_came _ b c at e = same_address b (next_address m.old) at
 
   -- the other copy
   other_born : 3 + n ≤ room_at InBoth m → birth_space_of own m.is_open ≡ InBoth → (b : Addr) (c : Cell) → b ≡ next_address m.new → new_part InBoth m k n ≡ Some c
@@ -196,23 +186,20 @@ module _ (own : Phase) (k : Kind) (n : ℕ) (o : Objects) (h : AreSpaces o.space
   -- what comes in the new block is what is born too, or its other copy
   new_came : (space : BirthSpace) → 3 + n ≤ room_at space m → birth_space_of own m.is_open ≡ space → (b : Addr) (c : Cell) → b.number ≡ (next_address m.new).number → new_part space m k n ≡ Some c
       → (b ≡ address_at space m) ⊎ IsOtherBorn own k n o (after space) (address_at space m) b c
-  new_came InOld room is b c at e = elim (none-some c e) [ ]
-  new_came Listed room is b c at e = elim (none-some c e) [ ]
   new_came InBoth room is b c at e = inr (other_born room is b c (same_address b (next_address m.new) at) e)
   new_came InNew room is b c at e = inl (same_address b (next_address m.new) at)
+  new_came _ room is b c at e = elim (none-some c e) [ ]
 
   -- where there are two, the other one is the forward of the one that the thread gets,
   main_twin : (space : BirthSpace) → 3 + n ≤ room_at space m → birth_space_of own m.is_open ≡ space → space ≡ InBoth
       → (c : Cell) × (cell_at (give_birth space m k n) (forward (give_birth space m k n) (address_at space m)) ≡ Some c) × IsOtherBorn own k n o (after space) (address_at space m) (forward (give_birth space m k n) (address_at space m)) c
-  main_twin InOld room is e = absurd cc
-  main_twin Listed room is e = absurd cc
   main_twin InBoth room is e =
       let x = empty_cell k n true (Some (next_address m.new)) in
       let d = empty_cell k n true (Some (next_address m.old)) in
       let copy = forward_copy (give_birth InBoth m k n) (next_address m.old) (next_address m.new) x (born-old_last m h k n InBoth x refl) refl in
       let lies = ap (cell_at (give_birth InBoth m k n)) copy ∙ new_lies k n m h InBoth room d refl in
       (d, lies, other_born room is (forward (give_birth InBoth m k n) (next_address m.old)) d copy refl)
-  main_twin InNew room is e = absurd cc
+  main_twin _ room is e = absurd cc
 
   -- and where there is one, it is its own forward
   main_alone : (space : BirthSpace) → 3 + n ≤ room_at space m → space ≢ InBoth → forward (give_birth space m k n) (address_at space m) ≡ address_at space m

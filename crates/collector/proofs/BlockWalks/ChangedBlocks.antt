@@ -107,10 +107,9 @@ module _ (q : Cell → Bool) where
           → (if v then Some x else cell_from (at + size x) xs a) ≡ Some c
           → (found_from q (at + size x) xs p ≡ None → cell_from (at + size x) xs a ≡ Some c → q c ≡ false) → q c ≡ false
       by_tests true u true test fails here g h rest = absurd (grind (arith, nat_tests))
-      by_tests true u false test fails here g h rest = rest g h
       by_tests false true v test fails here g h rest = absurd cc
       by_tests false false true test fails here g h rest = let same : x ≡ c = cc in ap q (sym same) ∙ fails
-      by_tests false false false test fails here g h rest = rest g h
+      by_tests _ _ false test fails here g h rest = rest g h
 
   -- where nothing is found no cell at the offset or after it has the property
   pub found_none : (s : Cells) (p : ℕ) → found_in q s p ≡ None → (a : Addr) (c : Cell) → cell_in s a ≡ Some c → p ≤ a.number → q c ≡ false

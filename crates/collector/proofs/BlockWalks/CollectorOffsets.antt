@@ -1,16 +1,16 @@
 -- Which changes keep the cursor of the collector: births, marks and stores, and the post of the next phase.
-use Rattle.std.proofs.Common.{◌≡◌, ◌≢◌, ◌⊎◌, ℕ, Bool, true, false, inl, inr, ◌+◌, ◌≤◌, length, refl, sym, ap, subst, ◌∙◌, arith}
-use Rattle.std.specs.Prelude.{if◌then◌else◌, nat_le, Option, Some, None}
+use Rattle.std.proofs.Common.{◌≡◌, ◌≢◌, ℕ, true, false, inl, inr, ◌+◌, ◌≤◌, length, refl, sym, ap, subst, ◌∙◌, arith}
+use Rattle.std.specs.Prelude.{Some, None}
 use Rattle.cil_model.specs.declared.phases.Phase.{Phase}
 use Rattle.cil_model.specs.declared.phases.Phase.TheVariants.{Allocate, Copy}
 use Rattle.object_memory.specs.declared.addresses.Addr.{Addr}
 use Rattle.object_memory.specs.declared.kinds.Kind.{Kind}
-use Rattle.object_memory.specs.Cells.{Cell, Cells, size, used_words, cell_in, change_in, with_last, empty_cell, next_address}
-use Rattle.object_memory.specs.Spaces.{Spaces, IsOffset, address_at, birth_at, give_birth, cell_at, change_at, change_copies, change_if, is_white, mark, marked_if, other_of, room_at, set_mark}
+use Rattle.object_memory.specs.Cells.{Cell, Cells, size, cell_in, change_in, with_last, empty_cell, next_address}
+use Rattle.object_memory.specs.Spaces.{Spaces, IsOffset, give_birth}
 use Rattle.object_memory.specs.declared.birth_spaces.BirthSpace.{BirthSpace}
 use Rattle.object_memory.specs.declared.birth_spaces.BirthSpace.TheVariants.{InOld, Listed, InBoth, InNew}
 use Rattle.object_memory.proofs.Blocks.{kept_in}
-use Rattle.object_memory.proofs.Offsets.{IsOffset-last, IsOffset-start, offset-le-end}
+use Rattle.object_memory.proofs.Offsets.{IsOffset-last, IsOffset-start}
 use Rattle.object_memory.proofs.TwoBlocks.{own, still, before_in}
 use Rattle.collector.specs.Phases.{no_progress}
 use Rattle.collector.specs.Soundness.{HasCursor}
@@ -33,10 +33,6 @@ module _ (posted_phase : Phase) (p : Progress) where
     attempts = λ now. absurd (not_copy now);
     words = λ now. absurd (not_copy now);
   }
-
-  -- the cursor lies within the words in use
-  pub offset_within : (m : Spaces) → HasCursor posted_phase p m → (posted_phase ≡ Allocate) ⊎ (posted_phase ≡ Copy) → p.cursor ≤ used_words m.old.cells
-  offset_within m h now = let r = offset-le-end m.old (m.old.start + p.cursor) (h.offset now) in omega (arith, r.1)
 
   module _ (m n : Spaces) (h : HasCursor posted_phase p m) where
     -- the old block alone matters
@@ -102,34 +98,3 @@ module _ (posted_phase : Phase) (p : Progress) where
     HasCursor-born Listed k n = HasCursor-last m (give_birth Listed m k n) h (empty_cell k n true None) refl
     HasCursor-born InBoth k n = HasCursor-last m (give_birth InBoth m k n) h (empty_cell k n true (Some (next_address m.new))) refl
     HasCursor-born InNew k n = HasCursor-same m (give_birth InNew m k n) h refl
-
-    abbrev outcome : BirthSpace → Kind → ℕ → Bool → Spaces × Option Addr
-    outcome q k n t = if t then (give_birth q m k n, Some (address_at q m)) else (m, None)
-
-    born_by : (q : BirthSpace) (k : Kind) (n : ℕ) (t : Bool) → HasCursor posted_phase p (outcome q k n t).0
-    born_by q k n true = HasCursor-born q k n
-    born_by q k n false = h
-
-    -- which may be refused
-    pub HasCursor-birth_at : (q : BirthSpace) (k : Kind) (n : ℕ) → HasCursor posted_phase p (birth_at q m k n).0
-    HasCursor-birth_at q k n = born_by q k n (nat_le (3 + n) (room_at q m))
-
-    -- a mark
-    pub HasCursor-mark : (a : Addr) → HasCursor posted_phase p (mark m a).0
-    HasCursor-mark a = by_white (is_white (cell_in m.old a))
-      where
-        by_white : (t : Bool) → HasCursor posted_phase p (marked_if t m a)
-        by_white true = HasCursor-change m (marked_if true m a) h set_mark (λ c. refl) (λ c. refl) a refl
-        by_white false = h
-
-    -- a store to both copies
-    pub HasCursor-change_copies : (f g : Cell → Cell) → ((c : Cell) → length (f c).slots ≡ length c.slots) → ((c : Cell) → (f c).other ≡ c.other)
-        → ((c : Cell) → length (g c).slots ≡ length c.slots) → ((c : Cell) → (g c).other ≡ c.other) → (a : Addr) → HasCursor posted_phase p (change_copies f g m a)
-    HasCursor-change_copies f g count others count' others' a = by_other (other_of (cell_at m a))
-      where
-        one : HasCursor posted_phase p (change_at f m a)
-        one = HasCursor-change m (change_at f m a) h f count others a refl
-
-        by_other : (o : Option Addr) → HasCursor posted_phase p (change_if g (change_at f m a) o)
-        by_other None = one
-        by_other (Some b) = HasCursor-change (change_at f m a) (change_at g (change_at f m a) b) one g count' others' b refl

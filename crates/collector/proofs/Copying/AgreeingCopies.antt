@@ -31,11 +31,9 @@ set_there (y ∷ xs) zero w x e = same_Some w x e
 set_there (y ∷ xs) (suc i) w x e = set_there xs i w x e
 
 set_other : (xs : List ℕ) (i j w : ℕ) → i ≢ j → slice_get (slice_set xs i w) j ≡ slice_get xs j
-set_other [] i j w ne = refl
 set_other (x ∷ xs) zero zero w ne = absurd (ne refl)
-set_other (x ∷ xs) zero (suc j) w ne = refl
-set_other (x ∷ xs) (suc i) zero w ne = refl
 set_other (x ∷ xs) (suc i) (suc j) w ne = set_other xs i j w (λ e. ne (ap suc e))
+set_other _ _ _ w ne = refl
 
 -- ---- one cell
 

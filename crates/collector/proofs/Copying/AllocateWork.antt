@@ -1,17 +1,17 @@
 -- The work of Allocate keeps the heap sound: an object that is marked gets its copy, the cursor moves on, and at the end of it each marked object has one.
-use Rattle.std.proofs.Common.{◌≡◌, ◌≢◌, ◌⊎◌, inl, inr, ℕ, zero, suc, ◌+◌, ◌<◌, ◌≤◌, Bool, true, false, length, refl, sym, ap, subst, ◌∙◌, arith}
+use Rattle.std.proofs.Common.{◌≡◌, ◌≢◌, ◌⊎◌, inl, inr, ℕ, zero, suc, ◌+◌, ◌<◌, Bool, true, false, length, refl, sym, ap, subst, ◌∙◌, arith}
 use Rattle.std.specs.Prelude.{◌&&◌, is_none, if◌then◌else◌, replicate, Option, Some, None, slice_get}
 use Rattle.std.proofs.lemmas.List.{length-replicate}
 use Rattle.std.proofs.lemmas.Option.{same_Some}
 use Rattle.cil_model.specs.declared.phases.Phase.TheVariants.{Allocate, Copy}
 use Rattle.cil_model.specs.declared.trees.Tree.{Tree}
 use Rattle.object_memory.specs.declared.addresses.Addr.{Addr}
-use Rattle.object_memory.specs.Cells.{Cell, size, used_words, free_words, next_address, cell_in, slots_in}
+use Rattle.object_memory.specs.Cells.{Cell, size, used_words, next_address, cell_in}
 use Rattle.object_memory.specs.Spaces.{Spaces, AreSpaces, HasShellRoom, IsOffset, set_other, shell_of, with_shell}
 use Rattle.object_memory.specs.Objects.{Objects}
 use Rattle.object_memory.proofs.Blocks.{range_in}
 use Rattle.object_memory.proofs.Offsets.{cell, end, at_offset, below_next}
-use Rattle.object_memory.proofs.Rooms.{shell_fits, size-shell, HasShellRoom-shell}
+use Rattle.object_memory.proofs.Rooms.{HasShellRoom-shell}
 use Rattle.object_memory.proofs.TwoBlocks.{own, still, after_in, before_in}
 use Rattle.object_memory.proofs.TwoCopies.{AreSpaces-shell, shell-old, shell-new, shell-kept_new, shell-was_new}
 use Rattle.collector.specs.References.{SlotsPass}
@@ -235,8 +235,7 @@ needs_parts c h = by_tests c.marked c.other refl refl h
   where
     by_tests : (t : Bool) (o : Option Addr) → c.marked ≡ t → c.other ≡ o → (t && is_none o) ≡ true → (c.marked ≡ true) × (c.other ≡ None)
     by_tests true None marked bare e = (marked, bare)
-    by_tests true (Some b) marked bare e = absurd cc
-    by_tests false o marked bare e = absurd cc
+    by_tests _ _ marked bare e = absurd cc
 
 needs_none : (c : Cell) → needs_copy c ≡ false → c.marked ≡ true → c.other ≢ None
 needs_none c h marked bare = let wrong : true ≡ false = sym (rw (marked, bare) refl) ∙ h in absurd cc
@@ -262,12 +261,6 @@ pub looked_cases : (p : Progress) (o : Objects) → ((looked_on p o).1 ≡ o)
 looked_cases p o = looked_by_cell p o (cell_in o.spaces.old (address_after_cell o.spaces.old p.cursor)) refl
 
 module _ (tree : Tree) (has_round : Bool) (words : ℕ) (p : Progress) (o : Objects) (sound : IsSoundHeap tree Allocate has_round words p o.spaces) where
-  -- a copy always fits
-  pub copy_fits : (a : Addr) (c : Cell) → cell_in o.spaces.old a ≡ Some c → needs_copy c ≡ true → 3 + length (slots_in o.spaces.old a) ≤ free_words o.spaces.new
-  copy_fits a c lies needs =
-      let fits = shell_fits o.spaces sound.blocks.spaces (sound.copies.room (inr refl)) a c lies (needs_parts c needs).1 in
-      rw lies (omega (arith, fits, size-shell a c))
-
   step_by_need : (c : Cell) → cell_in o.spaces.old (address_after_cell o.spaces.old p.cursor) ≡ Some c → (t : Bool) → needs_copy c ≡ t
       → IsSoundHeap tree Allocate has_round words (record p { cursor = p.cursor + size c }) (if t then record o { spaces = with_shell o.spaces (address_after_cell o.spaces.old p.cursor) c } else o).spaces
   step_by_need c lies true needs =

@@ -1,5 +1,5 @@
 -- Which words of an object are in its other copy after one more was copied.
-use Rattle.std.proofs.Common.{◌≡◌, ◌≢◌, ◌⊎◌, ℕ, zero, suc, ◌<◌, ◌≤◌, Bool, true, false, List, [], ◌∷◌, length, refl, sym, ap, subst, ◌∙◌, arith}
+use Rattle.std.proofs.Common.{◌≡◌, ◌≢◌, ◌⊎◌, ℕ, zero, suc, ◌<◌, ◌≤◌, Bool, true, false, List, ◌∷◌, length, refl, sym, ap, subst, ◌∙◌, arith}
 use Rattle.std.specs.Prelude.{◌==◌, Some, None, slice_get, slice_set, unwrap_or}
 use Rattle.std.proofs.Math.ListN.{length-set}
 use Rattle.std.proofs.lemmas.Bool.{and_parts, eqb-true, eq-eqb}
@@ -30,11 +30,9 @@ use Rattle.collector.specs.declared.progress.Stage.TheVariants.{Loaded}
 
 -- what is at another index stays
 set_elsewhere : {X : Type 0} (xs : List X) (n k : ℕ) (y : X) → n ≢ k → slice_get (slice_set xs n y) k ≡ slice_get xs k
-set_elsewhere [] n k y ne = refl
 set_elsewhere (x ∷ xs) zero zero y ne = absurd (ne refl)
-set_elsewhere (x ∷ xs) zero (suc k) y ne = refl
-set_elsewhere (x ∷ xs) (suc n) zero y ne = refl
 set_elsewhere (x ∷ xs) (suc n) (suc k) y ne = set_elsewhere xs n k y (λ e. ne (ap (λ (i : ℕ). suc i) e))
+set_elsewhere _ _ _ y ne = refl
 
 -- ---- a word is stored
 
@@ -64,11 +62,10 @@ loaded_checks c (suc slot) t = refl
 
 pub is_same_monitor-same : (x y : Monitor) → is_same_monitor x y ≡ true → x ≡ y
 is_same_monitor-same Free Free e = refl
-is_same_monitor-same Free (Held owner count) e = absurd cc
-is_same_monitor-same (Held owner count) Free e = absurd cc
 is_same_monitor-same (Held owner count) (Held owner' count') e =
     let both = and_parts (owner == owner') (count == count') e in
     ap (λ n. Held n count) (eqb-true owner owner' both.0) ∙ ap (Held owner') (eqb-true count count' both.1)
+is_same_monitor-same _ _ e = absurd cc
 
 is_same_monitor-self : (x : Monitor) → is_same_monitor x x ≡ true
 is_same_monitor-self Free = refl
@@ -87,10 +84,6 @@ module _ (tree : Tree) (m : Spaces) (from : Cell) (t : Attempt) where
   pub filled_kind : (word : ℕ) (to : Cell) → (filled tree m from t word to).kind ≡ to.kind
   filled_kind zero to = refl
   filled_kind (suc slot) to = refl
-
-  pub filled_marked : (word : ℕ) (to : Cell) → (filled tree m from t word to).marked ≡ to.marked
-  filled_marked zero to = refl
-  filled_marked (suc slot) to = refl
 
   pub filled_other : (word : ℕ) (to : Cell) → (filled tree m from t word to).other ≡ to.other
   filled_other zero to = refl
@@ -115,9 +108,8 @@ module _ (tree : Tree) (m : Spaces) (from : Cell) (t : Attempt) where
     -- and each other one that was
     pub filled_keeps : (word other : ℕ) → word ≢ other → IsCopiedWord tree m from to other → IsCopiedWord tree m from (filled tree m from t word to) other
     filled_keeps zero zero ne h = absurd (ne refl)
-    filled_keeps zero (suc slot) ne h = h
-    filled_keeps (suc slot) zero ne h = h
     filled_keeps (suc slot) (suc other) ne h = λ word there. set_elsewhere to.slots slot other (copied_word tree m from slot t.word) (λ e. ne (ap (λ (i : ℕ). suc i) e)) ∙ h word there
+    filled_keeps _ _ ne h = h
 
     -- references that pass a test pass it still, where the stored one does
     module _ (test : Test) (kind : to.kind ≡ from.kind) (passes : SlotsPass tree test to) where

@@ -12,7 +12,7 @@ use Rattle.object_memory.proofs.Offsets.{found_here}
 use Rattle.object_memory.proofs.Rooms.{shell_fits, size-shell}
 use Rattle.collector.specs.Conditions.{found_at}
 use Rattle.collector.specs.Marking.{word_of}
-use Rattle.collector.specs.Attempts.{has_loaded, attempt_cost, with_loaded}
+use Rattle.collector.specs.Attempts.{attempt_cost, with_loaded}
 use Rattle.collector.specs.Copying.{before_word, after_word, copied_at, copied_on, needs_copy, word_begun, word_step, word_stored}
 use Rattle.collector.specs.Soundness.{copied_word}
 use Rattle.collector.specs.declared.progress.Attempt.{Attempt}
@@ -26,8 +26,7 @@ use Rattle.collector.proofs.Copying.CopiedWords.{loaded_checks}
 
 bare_by : (marked : Bool) (other : Option Addr) → (marked && is_none other) ≡ true → other ≡ None
 bare_by true None e = refl
-bare_by true (Some a) e = absurd cc
-bare_by false other e = absurd cc
+bare_by _ _ e = absurd cc
 
 -- an object that needs a copy has none
 pub bare : (c : Cell) → needs_copy c ≡ true → c.other ≡ None
@@ -58,12 +57,6 @@ slot_loaded c (suc slot) t some =
 -- the word that is loaded of a slot
 pub loaded_word : (c : Cell) (word : ℕ) (t loaded : Attempt) → loaded ≡ with_loaded c word t → 0 < word → loaded.word ≡ word_of c (word - 1)
 loaded_word c word t loaded is some = ap (λ (x : Attempt). x.word) (is ∙ slot_loaded c word t (λ none. absurd (omega (arith, none, some))))
-
-pub slot_has_loaded : (t : Attempt) (c : Cell) (word : ℕ) → word ≢ 0 → has_loaded t c word ≡ (word_of c (word - 1) == t.word)
-slot_has_loaded t c zero some = absurd (some refl)
-slot_has_loaded t c (suc slot) some =
-    let one : suc slot - 1 ≡ slot = omega arith in
-    rw one refl
 
 pub other_some : (c : Cell) (b : Addr) → c.other ≡ Some b → c.other ≢ None
 other_some c b e none = absurd cc

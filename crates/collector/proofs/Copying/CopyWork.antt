@@ -34,19 +34,6 @@ use Rattle.collector.proofs.BlockWalks.CollectorOffsets.{HasCursor-begun}
 has_some : (c : Cell) → c.other ≢ None → has_other c ≡ true
 has_some c ne = let o = other_there c.other ne in ap is_some o.1
 
--- What the next object with another copy is: it has a copy with the same number of slots in the new block, and no more words of it are copied than it has
--- slots, since the monitor comes first.
-pub record IsNext (p : Progress) (m : Spaces) (at : ℕ) : Type 0 where
-  pub cell : Cell
-  pub other : Addr
-  pub copy : Cell
-  pub lies : cell_in m.old (record { number = at }) ≡ Some cell
-  pub refers : cell.other ≡ Some other
-  pub there : cell_in m.new other ≡ Some copy
-  pub count : length copy.slots ≡ length cell.slots
-  pub few : p.copied_words ≤ length cell.slots
-  pub following : m.old.start + p.cursor ≤ at
-
 module _ (tree : Tree) (has_round : Bool) (words : ℕ) (p : Progress) (m : Spaces) (sound : IsSoundHeap tree Copy has_round words p m) where
   abbrev k : ℕ
   k = p.copied_words
@@ -86,20 +73,6 @@ module _ (tree : Tree) (has_round : Bool) (words : ℕ) (p : Progress) (m : Spac
         by_test : (t : Bool) → (k == 0) ≡ t → k ≤ length c.slots
         by_test true test = let none : k ≡ 0 = grind (arith, nat_tests) in omega (arith, none)
         by_test false test = (let some : k ≢ 0 = (λ e. absurd (grind (arith, nat_tests))) in begun (λ e. some (omega (arith, e)))).1
-
-    -- the cell and its copy, for those who write the word
-    next_object : IsNext p m at
-    next_object = record {
-      cell = c;
-      other = b;
-      copy = to.0;
-      lies = lies;
-      refers = other;
-      there = to.1;
-      count = to.2.count;
-      few = few;
-      following = is.following;
-    }
 
     some_other : c.other ≢ None
     some_other = some_is_other c.other b other
@@ -569,9 +542,6 @@ module _ (tree : Tree) (has_round : Bool) (words : ℕ) (p : Progress) (m : Spac
   lies_still : cell_in n.old here ≡ Some c
   lies_still = ap (λ (s : Cells). cell_in s here) old_stays ∙ lies
 
-  start_stays : n.old.start ≡ m.old.start
-  start_stays = refl
-
   sound3 : IsSoundHeap tree Copy has_round words (after_word p2 n.old here c word) n
   sound3 = passed_sound tree has_round words p2 n sound2 at (found_again n.old lies_still) c lies_still b other refl (just_loaded c word p0.attempt Stored)
 
@@ -659,12 +629,6 @@ module _ (tree : Tree) (has_round : Bool) (words : ℕ) (p : Progress) (o : Obje
       subst (λ (z : Progress × Objects × Bool). IsSoundHeap tree Copy has_round words z.0 z.1.spaces)
       (sym (copied_is tree p o at x.0 x.1 x.2 x.3))
       (stage_sound at found x.0 x.1 x.2 x.3 p.attempt.stage refl)
-
-  -- what is found has its copy
-  pub found_next : (at : ℕ) → found_in has_other o.spaces.old (o.spaces.old.start + p.cursor) ≡ Some at → IsNext p o.spaces at
-  found_next at found =
-      let x = found_other o.spaces.old (o.spaces.old.start + p.cursor) at (found_is has_other o.spaces.old (o.spaces.old.start + p.cursor) at found) in
-      next_object tree has_round words p o.spaces sound at found x.0 x.2 x.1 x.3
 
   -- a step of Copy keeps the heap sound
   pub copied_sound : IsSoundHeap tree Copy has_round words (copied_on tree p o).0 (copied_on tree p o).1.spaces

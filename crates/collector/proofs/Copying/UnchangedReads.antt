@@ -1,5 +1,5 @@
 -- What the steps of Allocate and Copy leave as it is: all that is read through old addresses, and through new ones all but the word that is copied.
-use Rattle.std.proofs.Common.{◌≡◌, ◌⊎◌, inl, inr, ℕ, Bool, true, length, refl, sym, ap, subst, ◌∙◌}
+use Rattle.std.proofs.Common.{◌≡◌, ◌⊎◌, inl, inr, ℕ, Bool, true, refl, sym, ap, subst, ◌∙◌}
 use Rattle.std.specs.Prelude.{◌||◌, Some, None, unwrap_or}
 use Rattle.std.proofs.lemmas.Option.{same_Some}
 use Rattle.cil_model.specs.declared.phases.Phase.TheVariants.{Allocate, Copy}
@@ -18,7 +18,7 @@ use Rattle.collector.specs.Copying.{address_after_cell, copied_on, looked_on}
 use Rattle.collector.specs.declared.progress.Attempt.{Attempt}
 use Rattle.collector.specs.declared.progress.Progress.{Progress}
 use Rattle.collector.proofs.Copying.CopyTests.{marks_same, same_address}
-use Rattle.collector.proofs.Copying.CopiedWords.{filled, filled_count, filled_kind, filled_marked, filled_other, filled_size}
+use Rattle.collector.proofs.Copying.CopiedWords.{filled, filled_size}
 use Rattle.collector.proofs.Copying.AllocateWork.{looked_cases}
 use Rattle.collector.proofs.Copying.CopyWork.{IsStep, copied_cases, none_stored, one_stored}
 
@@ -180,16 +180,6 @@ module _ (tree : Tree) (p : Progress) (o : Objects) where
 
   pub copied_was_new : (y : Addr) (e : Cell) → cell_in (copied_on tree p o).1.spaces.new y ≡ Some e → (d : Cell) × (cell_in o.spaces.new y ≡ Some d) × IsFilling y d e
   copied_was_new y e there = new_was (copied_on tree p o).1 (copied_cases tree p o) y e there
-
-  -- its kind, its count of slots and what the collector notes at it stay
-  pub filling_keeps : (y : Addr) (d e : Cell) → IsFilling y d e → (e.kind ≡ d.kind) × (e.marked ≡ d.marked) × (e.other ≡ d.other) × (length e.slots ≡ length d.slots)
-  filling_keeps y d e (same is) = (ap (λ (z : Cell). z.kind) is, ap (λ (z : Cell). z.marked) is, ap (λ (z : Cell). z.other) is, ap (λ (z : Cell). length z.slots) is)
-  filling_keeps y d e (word a c t lies other is) = (
-    ap (λ (z : Cell). z.kind) is ∙ filled_kind tree o.spaces c t p.copied_words d,
-    ap (λ (z : Cell). z.marked) is ∙ filled_marked tree o.spaces c t p.copied_words d,
-    ap (λ (z : Cell). z.other) is ∙ filled_other tree o.spaces c t p.copied_words d,
-    ap (λ (z : Cell). length z.slots) is ∙ filled_count tree o.spaces c t p.copied_words d,
-  )
 
   else_still : (o' : Objects) → IsStep tree p o o' → IsElseStill o o'
   else_still o' (none_stored equal) = same_else_still o o' equal

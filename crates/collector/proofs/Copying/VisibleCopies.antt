@@ -12,9 +12,9 @@ use Rattle.object_memory.specs.declared.addresses.Addr.{Addr}
 use Rattle.object_memory.specs.declared.addresses.TheConstants.{ADDRESSES}
 use Rattle.object_memory.specs.Cells.{Cell, cell_in}
 use Rattle.object_memory.specs.Spaces.{Spaces, AreSpaces, forward, forward_word}
-use Rattle.object_memory.proofs.TwoBlocks.{forward_bare, forward_copy, forward_else, forward_new, new_is_cell, not_new, are_distinct}
+use Rattle.object_memory.proofs.TwoBlocks.{forward_bare, forward_copy, forward_else, forward_new, new_is_cell, are_distinct}
 use Rattle.collector.specs.References.{is_permanent, reference_in}
-use Rattle.collector.specs.Phases.{HasCopied, HasLooked, is_live, is_live_object, is_marked_cell, is_marked_old, is_new, is_new_address}
+use Rattle.collector.specs.Phases.{HasCopied, HasLooked, is_live, is_live_object, is_marked_old, is_new, is_new_address}
 use Rattle.collector.specs.Soundness.{AreCopies, AreCopied, IsCopiedSlot, copied_word}
 use Rattle.collector.specs.declared.progress.Progress.{Progress}
 use Rattle.collector.proofs.Copying.CopyTests.{marked_there, other_there, permanent_no_cell, some_there}
@@ -54,35 +54,25 @@ looked_by : (posted_phase : Phase) (p : Progress) (m : Spaces) (a : Addr) → ha
 looked_by Idle p m a e = absurd cc
 looked_by Mark p m a e = absurd cc
 looked_by Allocate p m a e = absurd cc
-looked_by Copy p m a e = tt
-looked_by PreFlip p m a e = tt
-looked_by HeapFlip p m a e = tt
-looked_by ThreadFlip p m a e = tt
-looked_by Reclaim p m a e = tt
+looked_by _ p m a e = tt
 
 copied_by : (posted_phase : Phase) (p : Progress) (m : Spaces) (a : Addr) (word : ℕ) → has_words posted_phase ≡ true → HasCopied posted_phase p m a word
-copied_by Idle p m a word e = absurd cc
-copied_by Mark p m a word e = absurd cc
-copied_by Allocate p m a word e = absurd cc
-copied_by Copy p m a word e = absurd cc
 copied_by PreFlip p m a word e = tt
 copied_by HeapFlip p m a word e = tt
 copied_by ThreadFlip p m a word e = tt
-copied_by Reclaim p m a word e = absurd cc
+copied_by _ p m a word e = absurd cc
 
 not_reclaim : (posted_phase : Phase) → has_words posted_phase ≡ true → posted_phase ≢ Reclaim
 not_reclaim posted_phase e is = let wrong : has_words Reclaim ≡ true = sym (ap has_words is) ∙ e in absurd cc
 
 -- what is live from Copy on is marked or new
 live_by : (posted_phase : Phase) (m : Spaces) (a : Addr) → has_copies posted_phase ≡ true → is_live_object posted_phase m a ≡ true → (is_marked_old m a ≡ true) ⊎ (is_new m a ≡ true)
-live_by Idle m a e h = absurd cc
-live_by Mark m a e h = absurd cc
-live_by Allocate m a e h = absurd cc
 live_by Copy m a e h = inl h
 live_by PreFlip m a e h = or_cases (is_marked_old m a) (is_new m a) h
 live_by HeapFlip m a e h = or_cases (is_marked_old m a) (is_new m a) h
 live_by ThreadFlip m a e h = or_cases (is_marked_old m a) (is_new m a) h
 live_by Reclaim m a e h = inr h
+live_by _ m a e h = absurd cc
 
 module _ (tree : Tree) (posted_phase : Phase) (p : Progress) (m : Spaces) (spaces : AreSpaces m) (copies : AreCopied tree posted_phase p m) where
   -- ---- forwards
@@ -94,21 +84,6 @@ module _ (tree : Tree) (posted_phase : Phase) (p : Progress) (m : Spaces) (space
       let b = other_there c.other (copies.shells a c lies marked (looked_by posted_phase p m a late)) in
       let r = copies.out a b.0 c lies b.1 in
       (b.0, r.0, b.1, r.1, r.2)
-
-  -- and so has an old object that is live
-  pub live_copy_of : has_copies posted_phase ≡ true → (a : Addr) (c : Cell) → cell_in m.old a ≡ Some c → is_live posted_phase m a ≡ true
-      → (b : Addr) × (d : Cell) × (c.other ≡ Some b) × (cell_in m.new b ≡ Some d) × AreCopies tree posted_phase p m a c d
-  live_copy_of late a c lies live = copy_of late a c lies (by_kind (or_cases (is_permanent a) (is_live_object posted_phase m a) live))
-    where
-      by_object : (is_marked_old m a ≡ true) ⊎ (is_new m a ≡ true) → c.marked ≡ true
-      by_object (inl marked) = sym (ap is_marked_cell lies) ∙ marked
-      by_object (inr new) =
-          let none : is_some {T = Cell} None ≡ true = sym (ap is_some (not_new m spaces a c lies)) ∙ new in
-          absurd cc
-
-      by_kind : (is_permanent a ≡ true) ⊎ (is_live_object posted_phase m a ≡ true) → c.marked ≡ true
-      by_kind (inl permanent) = let wrong : Some c ≡ None = sym lies ∙ permanent_no_cell m spaces a permanent in absurd cc
-      by_kind (inr object) = by_object (live_by posted_phase m a late object)
 
   -- two old objects have no new copy in common, as long as old ones are read
   pub one_old : posted_phase ≢ Reclaim → (x y b : Addr) (c d : Cell) → cell_in m.old x ≡ Some c → cell_in m.old y ≡ Some d → c.other ≡ Some b → d.other ≡ Some b → x ≡ y
@@ -177,13 +152,6 @@ module _ (tree : Tree) (posted_phase : Phase) (p : Progress) (m : Spaces) (space
     old_shows a b c lies other =
         let r = copies.out a b c lies other in
         (r.0, r.1, r.2.back (inl (not_reclaim posted_phase late)), show a c r.0 r.2)
-
-    pub new_shows : (a b : Addr) (d : Cell) → cell_in m.new b ≡ Some d → d.other ≡ Some a → (c : Cell) × (cell_in m.old a ≡ Some c) × (c.other ≡ Some b) × ShowSame tree m c d
-    new_shows a b d lies other =
-        let r = copies.back a b d lies other in
-        let s = old_shows a b r.0 r.1 r.2 in
-        let same : s.0 ≡ d = same_Some s.0 d (sym s.1 ∙ lies) in
-        (r.0, r.1, r.2, subst (ShowSame tree m r.0) same s.3)
 
 -- each word of a new copy is copied from that of the old one
 pub word_shown : (tree : Tree) (m : Spaces) (c d : Cell) → ShowSame tree m c d → (slot word : ℕ) → slice_get d.slots slot ≡ Some word

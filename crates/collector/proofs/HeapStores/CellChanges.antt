@@ -3,7 +3,7 @@ use Rattle.std.proofs.Common.{◌≡◌, ◌⊎◌, inl, inr, ℕ, zero, suc, �
 use Rattle.std.specs.Prelude.{◌==◌, if◌then◌else◌, is_some, option_map, Option, Some, None, slice_get, slice_index_or, All}
 use Rattle.std.proofs.lemmas.Option.{same_Some}
 use Rattle.cil_model.specs.declared.phases.Phase.{Phase}
-use Rattle.cil_model.specs.declared.phases.Phase.TheVariants.{Idle, Mark, Allocate, Copy, PreFlip, HeapFlip, ThreadFlip, Reclaim}
+use Rattle.cil_model.specs.declared.phases.Phase.TheVariants.{Idle, Mark, Copy, Reclaim}
 use Rattle.cil_model.specs.declared.trees.Tree.{Tree}
 use Rattle.cil_model.proofs.Lists.{none_is_some}
 use Rattle.object_memory.specs.declared.addresses.Addr.{Addr}
@@ -83,23 +83,11 @@ module _ (tree : Tree) (posted_phase : Phase) (has_round : Bool) (words : ℕ) (
 
   looked_back : (q : Phase) (x : Addr) → HasLooked q p n x → HasLooked q p m x
   looked_back Idle x h = h
-  looked_back Mark x h = h
-  looked_back Allocate x h = h
-  looked_back Copy x h = h
-  looked_back PreFlip x h = h
-  looked_back HeapFlip x h = h
-  looked_back ThreadFlip x h = h
-  looked_back Reclaim x h = h
+  looked_back _ x h = h
 
   copied_back : (q : Phase) (x : Addr) (word : ℕ) → HasCopied q p n x word → HasCopied q p m x word
   copied_back Idle x word h = h
-  copied_back Mark x word h = h
-  copied_back Allocate x word h = h
-  copied_back Copy x word h = h
-  copied_back PreFlip x word h = h
-  copied_back HeapFlip x word h = h
-  copied_back ThreadFlip x word h = h
-  copied_back Reclaim x word h = h
+  copied_back _ x word h = h
 
   in_copy_back : (x : Addr) (from : Cell) (word : ℕ) → IsInCopy posted_phase p n x from word → IsInCopy posted_phase p m x from word
   in_copy_back x from word (inl done) = inl (copied_back posted_phase x word done)
@@ -108,12 +96,8 @@ module _ (tree : Tree) (posted_phase : Phase) (has_round : Bool) (words : ℕ) (
   read_was : (q : Phase) (c d : Cell) → d.marked ≡ c.marked → is_read q d ≡ is_read q c
   read_was Idle c d e = refl
   read_was Mark c d e = refl
-  read_was Allocate c d e = e
-  read_was Copy c d e = e
-  read_was PreFlip c d e = e
-  read_was HeapFlip c d e = e
-  read_was ThreadFlip c d e = e
   read_was Reclaim c d e = refl
+  read_was _ c d e = e
 
   -- ---- what is stored
 

@@ -62,43 +62,31 @@ way_now : (own : Phase) (p : Progress) → Way own own p
 way_now Idle p = in_old refl refl (λ e. false_is_true e)
 way_now Mark p = in_old refl refl (λ e. false_is_true e)
 way_now Allocate p = in_old refl refl (λ e. false_is_true e)
-way_now Copy p = in_both refl refl
-way_now PreFlip p = in_both refl refl
-way_now HeapFlip p = in_both refl refl
-way_now ThreadFlip p = in_both refl refl
 way_now Reclaim p = in_new refl refl
+way_now _ p = in_both refl refl
 
 way_late : (own : Phase) (p : Progress) → p ≡ no_progress → Way own (phase_after own) p
 way_late Idle p nothing = in_old refl refl (λ e. false_is_true e)
 way_late Mark p nothing = in_old refl refl (λ e. false_is_true e)
 way_late Allocate p nothing = in_old refl refl (λ e. nothing)
-way_late Copy p nothing = in_both refl refl
-way_late PreFlip p nothing = in_both refl refl
-way_late HeapFlip p nothing = in_both refl refl
-way_late ThreadFlip p nothing = in_both refl refl
 way_late Reclaim p nothing = in_old refl refl (λ e. false_is_true e)
+way_late _ p nothing = in_both refl refl
 
 -- phases alternate between even and odd
 abbrev phase_parity : Phase → Bool
-phase_parity Idle = true
 phase_parity Mark = false
-phase_parity Allocate = true
 phase_parity Copy = false
-phase_parity PreFlip = true
 phase_parity HeapFlip = false
-phase_parity ThreadFlip = true
 phase_parity Reclaim = false
+phase_parity _ = true
 
 -- no phase is the one before it
 pub not_after : (own : Phase) → own ≢ phase_after own
-not_after Idle e = false_is_true (sym (ap phase_parity e))
 not_after Mark e = false_is_true (ap phase_parity e)
-not_after Allocate e = false_is_true (sym (ap phase_parity e))
 not_after Copy e = false_is_true (ap phase_parity e)
-not_after PreFlip e = false_is_true (sym (ap phase_parity e))
 not_after HeapFlip e = false_is_true (ap phase_parity e)
-not_after ThreadFlip e = false_is_true (sym (ap phase_parity e))
 not_after Reclaim e = false_is_true (ap phase_parity e)
+not_after _ e = false_is_true (sym (ap phase_parity e))
 
 -- each thread beside the collector has its way
 pub way_of : (own posted_phase : Phase) (has_round : Bool) (p : Progress) (m : Spaces) → IsBeside own posted_phase → IsOnTime own posted_phase has_round p m → Way own posted_phase p
@@ -125,10 +113,7 @@ none_done Copy p m alone nothing x c lies word done =
       | inl before ↦ absurd (omega (arith, offset, before, (range_in m.old x c lies).0))
       | inr here ↦ absurd (omega (arith, copied, here.1))
     ]
-none_done PreFlip p m alone nothing x c lies word done = false_is_true alone
-none_done HeapFlip p m alone nothing x c lies word done = false_is_true alone
-none_done ThreadFlip p m alone nothing x c lies word done = false_is_true alone
-none_done Reclaim p m alone nothing x c lies word done = false_is_true alone
+none_done _ p m alone nothing x c lies word done = false_is_true alone
 
 -- nor is one stored
 none_stored : (posted_phase : Phase) (p : Progress) (m : Spaces) → (is_copy posted_phase ≡ true → p ≡ no_progress) → (x : Addr) (from : Cell) (word : ℕ) → HasStored posted_phase p m x from word → ⊥

@@ -1,6 +1,6 @@
 -- Stores to static fields keep the heap sound, and a field gets a value that it may hold.
 use Rattle.std.proofs.Common.{◌≡◌, inl, inr, ℕ, Bool, true, false, List, refl, sym, ap, subst}
-use Rattle.std.specs.Prelude.{if◌then◌else◌, nat_lt, slice_set}
+use Rattle.std.specs.Prelude.{if◌then◌else◌, nat_lt}
 use Rattle.cil_model.specs.declared.phases.Phase.{Phase}
 use Rattle.cil_model.specs.declared.phases.Phase.TheVariants.{Idle, Mark, Allocate, Copy, PreFlip, HeapFlip, ThreadFlip, Reclaim}
 use Rattle.cil_model.specs.declared.trees.Tree.{Tree}
@@ -11,12 +11,11 @@ use Rattle.object_memory.specs.Objects.{Objects}
 use Rattle.barriers.specs.Barriers.{forward_value, stored_static, with_marked}
 use Rattle.collector.specs.References.{ValuePasses}
 use Rattle.collector.specs.Phases.{is_live, is_new_address}
-use Rattle.collector.specs.Soundness.{IsSoundHeap}
 use Rattle.collector.specs.Holding.{AnyLive, MarkedOnly, NewOnly, passes, static_may_hold}
 use Rattle.collector.specs.declared.progress.Progress.{Progress}
 use Rattle.collector.proofs.Addresses.LiveForwards.{has_copies, is_old_alone, new_is_live}
 use Rattle.collector.proofs.HeapStores.ReachedCopies.{IsBeside, not_after}
-use Rattle.collector.proofs.Marking.MarksOfStores.{live_grows, value_mark_grows, value_mark_same, value_mark_sound, value_then_marked, value_weakens}
+use Rattle.collector.proofs.Marking.MarksOfStores.{live_grows, value_mark_grows, value_then_marked, value_weakens}
 use Rattle.collector.proofs.ThreadReferences.LiveValues.{held_by}
 use Rattle.collector.proofs.HeapStores.StoreSoundness.{IsBesideHeap, forwarded_passes}
 
@@ -31,47 +30,9 @@ value_for_static HeapFlip o v = forward_value o v
 value_for_static ThreadFlip o v = v
 value_for_static Reclaim o v = v
 
--- the fields after a store
-pub static_gets : (own : Phase) (o : Objects) (statics : List Value) (number : ℕ) (v : Value) → (stored_static own o statics number v).1 ≡ slice_set statics number (value_for_static own o v)
-static_gets Idle o statics number v = refl
-static_gets Mark o statics number v = refl
-static_gets Allocate o statics number v = refl
-static_gets Copy o statics number v = refl
-static_gets PreFlip o statics number v = refl
-static_gets HeapFlip o statics number v = refl
-static_gets ThreadFlip o statics number v = refl
-static_gets Reclaim o statics number v = refl
-
 module _ (tree : Tree) (has_round : Bool) (words : ℕ) (p : Progress) (o : Objects) (statics : List Value) (number : ℕ) (v : Value) where
   abbrev IsHeld : (own posted_phase : Phase) → Type 0
   IsHeld own posted_phase = ValuePasses (passes (held_by own posted_phase) posted_phase o.spaces) v
-
-  -- ---- the heap
-
-  abbrev IsKept : (own posted_phase : Phase) → Type 0
-  IsKept own posted_phase = IsBesideHeap tree own posted_phase has_round words p o → IsHeld own posted_phase → IsSoundHeap tree posted_phase has_round words p (stored_static own o statics number v).0.spaces
-
-  mark_keeps : IsKept Mark Mark
-  mark_keeps thread held = value_mark_sound tree has_round words p o v thread.sound
-
-  marked_keeps : IsKept Mark Allocate
-  marked_keeps thread held = subst (λ (q : Objects). IsSoundHeap tree Allocate has_round words p q.spaces) (sym (value_mark_same o v thread.sound.blocks.spaces held)) thread.sound
-
-  marks_keep : (posted_phase : Phase) → IsBeside Mark posted_phase → IsKept Mark posted_phase
-  marks_keep posted_phase (inl now) = subst (λ q. IsKept Mark q) now mark_keeps
-  marks_keep posted_phase (inr late) = subst (λ q. IsKept Mark q) late marked_keeps
-
-  -- the heap is sound after a store to a static field
-  pub static_keeps : (own posted_phase : Phase) → IsBesideHeap tree own posted_phase has_round words p o → ValuePasses (passes (held_by own posted_phase) posted_phase o.spaces) v
-      → IsSoundHeap tree posted_phase has_round words p (stored_static own o statics number v).0.spaces
-  static_keeps Idle posted_phase thread held = thread.sound
-  static_keeps Mark posted_phase thread held = marks_keep posted_phase thread.beside thread held
-  static_keeps Allocate posted_phase thread held = thread.sound
-  static_keeps Copy posted_phase thread held = thread.sound
-  static_keeps PreFlip posted_phase thread held = thread.sound
-  static_keeps HeapFlip posted_phase thread held = thread.sound
-  static_keeps ThreadFlip posted_phase thread held = thread.sound
-  static_keeps Reclaim posted_phase thread held = thread.sound
 
   -- ---- the field
 
@@ -117,24 +78,17 @@ module _ (tree : Tree) (has_round : Bool) (words : ℕ) (p : Progress) (o : Obje
   heap_flip_late thread held = forward_fits HeapFlip ThreadFlip refl thread held
 
   now_fits : (own : Phase) → IsFit own own
-  now_fits Idle thread held = held
   now_fits Mark thread held = mark_now thread held
-  now_fits Allocate thread held = held
-  now_fits Copy thread held = held
   now_fits PreFlip thread held = pre_flip_now thread held
   now_fits HeapFlip thread held = heap_flip_now thread held
-  now_fits ThreadFlip thread held = held
-  now_fits Reclaim thread held = held
+  now_fits _ thread held = held
 
   late_fits : (own : Phase) → IsFit own (phase_after own)
   late_fits Idle thread held = idle_late thread held
   late_fits Mark thread held = mark_late thread held
-  late_fits Allocate thread held = held
-  late_fits Copy thread held = held
   late_fits PreFlip thread held = pre_flip_late thread held
   late_fits HeapFlip thread held = heap_flip_late thread held
-  late_fits ThreadFlip thread held = held
-  late_fits Reclaim thread held = held
+  late_fits _ thread held = held
 
   -- a static field may hold what it gets
   fits_beside : (own posted_phase : Phase) → IsBeside own posted_phase → IsFit own posted_phase

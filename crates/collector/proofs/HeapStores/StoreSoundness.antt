@@ -16,12 +16,10 @@ use Rattle.object_memory.specs.Objects.{Objects, object_cell, with_literal_monit
 use Rattle.object_memory.specs.Values.{value_word}
 use Rattle.object_memory.proofs.TwoBlocks.{no_literal}
 use Rattle.barriers.specs.Barriers.{forward_value, reaches_both, stored_int, stored_monitor, stored_value, with_marked}
-use Rattle.phase_handshake.specs.Handshakes.{Handshakes}
-use Rattle.phase_handshake.specs.declared.posts.Seat.{Seat}
 use Rattle.collector.specs.References.{ValuePasses, holds_reference, reference_in}
 use Rattle.collector.specs.Phases.{is_live, is_marked_address, is_new_address}
 use Rattle.collector.specs.Soundness.{IsSoundHeap, copied_word}
-use Rattle.collector.specs.Holding.{HasNotBegun, IsOnTime, is_flipping, is_marking, may_hold, passes}
+use Rattle.collector.specs.Holding.{HasNotBegun, IsOnTime, is_flipping, is_marking, passes}
 use Rattle.collector.specs.declared.progress.Progress.{Progress}
 use Rattle.collector.proofs.Addresses.Disjunctions.{false_is_true}
 use Rattle.collector.proofs.Addresses.TagChanges.{monitor_keeps_tags, slot_keeps_tags}
@@ -30,7 +28,7 @@ use Rattle.collector.proofs.Copying.AgreeingCopies.{monitor_stored, monitors_ali
 use Rattle.collector.proofs.Addresses.LiveForwards.{forward_short, has_copies, live_forward, new_forward}
 use Rattle.collector.proofs.HeapStores.ReachedCopies.{IsBeside, IsRight, Way, in_both, in_new, in_old, change_stays, changed_by, way_of}
 use Rattle.collector.proofs.Marking.MarksOfStores.{live_grows, marked_kind, value_mark_grows, value_mark_leaves, value_mark_same, value_mark_sound, value_then_marked, value_weakens}
-use Rattle.collector.proofs.ThreadReferences.LiveValues.{IsShort, held_by, held_is_live, held_is_new, is_reference, may_hold_is_held, passes_in_slot, reference_again, seat_passes}
+use Rattle.collector.proofs.ThreadReferences.LiveValues.{IsShort, held_by, held_is_live, held_is_new, is_reference, passes_in_slot, reference_again}
 
 -- ---- threads and what they store
 
@@ -51,26 +49,14 @@ pub record IsHeldValue (tree : Tree) (own posted_phase : Phase) (o : Objects) (k
   pub reference : is_reference v ≡ holds_reference tree kind slot
   pub held : ValuePasses (passes (held_by own posted_phase) posted_phase o.spaces) v
 
--- a seat may hold them
-pub seat_holds_object : (h : Handshakes) (seat : Seat) (o : Objects) (a : Addr) (c : Cell) → object_cell o a ≡ Some c → may_hold h o.spaces seat a ≡ true → IsHeldObject seat.phase h.posted_phase o a c
-seat_holds_object h seat o a c lies held = record { lies = lies; held = may_hold_is_held h o.spaces seat a held }
-
-pub seat_holds_value : (tree : Tree) (h : Handshakes) (seat : Seat) (o : Objects) (kind : Kind) (slot : ℕ) (v : Value) → IsShort v → is_reference v ≡ holds_reference tree kind slot → ValuePasses (may_hold h o.spaces seat) v
-    → IsHeldValue tree seat.phase h.posted_phase o kind slot v
-seat_holds_value tree h seat o kind slot v short reference held = record { short = short; reference = reference; held = seat_passes h o.spaces seat v held }
-
 -- ---- values in both copies
 
 -- whether the new copy gets the forward of a value
 abbrev is_forwarding : Phase → Bool
-is_forwarding Idle = false
-is_forwarding Mark = false
-is_forwarding Allocate = false
 is_forwarding Copy = true
 is_forwarding PreFlip = true
 is_forwarding HeapFlip = true
-is_forwarding ThreadFlip = false
-is_forwarding Reclaim = false
+is_forwarding _ = false
 
 -- what the new copy gets
 abbrev pub value_for_new : Phase → Objects → Value → Value
@@ -97,29 +83,21 @@ module _ (tree : Tree) (own posted_phase : Phase) (has_round : Bool) (words : �
   -- what is new is its own forward
   pub forwarded_new : (v : Value) → ValuePasses (is_new_address m) v → forward_value o v ≡ v
   forwarded_new (Ref a) new = ap (λ (x : Addr). Ref x) (new_forward m spaces a new)
-  forwarded_new (Int32 n) new = refl
-  forwarded_new (Int64 n) new = refl
-  forwarded_new (Native n) new = refl
+  forwarded_new _ new = refl
 
   -- the forward of what is live is new
   pub forwarded_passes : has_copies posted_phase ≡ true → (v : Value) → ValuePasses (is_live posted_phase m) v → ValuePasses (is_new_address m) (forward_value o v)
   forwarded_passes copied (Ref a) live = live_forward tree posted_phase has_round words p m sound copied a live
-  forwarded_passes copied (Int32 n) live = tt
-  forwarded_passes copied (Int64 n) live = tt
-  forwarded_passes copied (Native n) live = tt
+  forwarded_passes copied _ live = tt
 
   -- a forward is as short as any address
   pub forwarded_short : (v : Value) → IsShort v → IsShort (forward_value o v)
   forwarded_short (Ref a) short = forward_short tree posted_phase has_round words p m sound a short
-  forwarded_short (Int32 n) short = tt
-  forwarded_short (Int64 n) short = tt
-  forwarded_short (Native n) short = tt
+  forwarded_short _ short = tt
 
   forwarded_reference : (v : Value) → is_reference (forward_value o v) ≡ is_reference v
   forwarded_reference (Ref a) = refl
-  forwarded_reference (Int32 n) = refl
-  forwarded_reference (Int64 n) = refl
-  forwarded_reference (Native n) = refl
+  forwarded_reference _ = refl
 
   -- the forward is what the collector copies
   forwarded_word : (c : Cell) (slot : ℕ) (v : Value) → IsShort v → is_reference v ≡ holds_reference tree c.kind slot → value_word (forward_value o v) ≡ copied_word tree m c slot (value_word v)
@@ -136,9 +114,6 @@ module _ (tree : Tree) (own posted_phase : Phase) (has_round : Bool) (words : �
 
     -- what the new copy gets is the forward of the value in each phase
     is_forward : (q : Phase) → q ≡ own → IsBeside own posted_phase → reaches_both q ≡ true → value_for_new q o v ≡ forward_value o v
-    is_forward Idle is beside both = false_is_true both
-    is_forward Mark is beside both = false_is_true both
-    is_forward Allocate is beside both = false_is_true both
     is_forward Copy is beside both = refl
     is_forward PreFlip is beside both = refl
     is_forward HeapFlip is beside both = refl
@@ -146,7 +121,7 @@ module _ (tree : Tree) (own posted_phase : Phase) (has_round : Bool) (words : �
         let flipping : is_flipping own ≡ true = ap is_flipping (sym is) in
         let flipping' : is_flipping posted_phase ≡ true = flipping_beside posted_phase (subst (λ r. IsBeside r posted_phase) (sym is) beside) in
         sym (forwarded_new v (value_weakens (passes (held_by own posted_phase) posted_phase m) (is_new_address m) (λ a. held_is_new own posted_phase m a flipping flipping') v value.held))
-    is_forward Reclaim is beside both = false_is_true both
+    is_forward _ is beside both = false_is_true both
 
     module _ (beside : IsBeside own posted_phase) (way : Way own posted_phase p) (marks : posted_phase ≡ Mark → HasNotBegun posted_phase has_round p m ⊎ ValuePasses (is_marked_address m) v) where
       other_is : reaches_both own ≡ true → value_for_new own o v ≡ forward_value o v
@@ -307,8 +282,3 @@ module _ (tree : Tree) (own posted_phase : Phase) (has_round : Bool) (words : �
     monitor_keeps =
         subst (λ (q : Objects). IsSoundHeap tree posted_phase has_round words p q.spaces) (sym (object_monitor_is own o a monitor (no_literal o.spaces thread.sound.blocks.spaces a c object.lies)))
         (change_stays tree posted_phase has_round words p o thread.sound (store_monitor monitor) (store_monitor monitor) own a c object.lies (held_is_live own posted_phase o.spaces a object.held) monitor_right way)
-
--- the monitor of a literal
-pub literal_monitor_keeps : (tree : Tree) (own posted_phase : Phase) (has_round : Bool) (words : ℕ) (p : Progress) (o : Objects) (a : Addr) (n : ℕ) (monitor : Monitor) → literal_number a ≡ Some n → IsSoundHeap tree posted_phase has_round words p o.spaces
-    → IsSoundHeap tree posted_phase has_round words p (stored_monitor own o a monitor).spaces
-literal_monitor_keeps tree own posted_phase has_round words p o a n monitor is sound = subst (λ (q : Objects). IsSoundHeap tree posted_phase has_round words p q.spaces) (sym (literal_monitor_is own o a monitor n is)) sound

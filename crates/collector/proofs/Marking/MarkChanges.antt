@@ -4,7 +4,7 @@ use Rattle.std.specs.Prelude.{◌||◌, is_some, Some, None, slice_get}
 use Rattle.std.proofs.lemmas.Bool.{or_cases, or_left, or_right}
 use Rattle.std.proofs.lemmas.Option.{none-some}
 use Rattle.cil_model.specs.declared.phases.Phase.{Phase}
-use Rattle.cil_model.specs.declared.phases.Phase.TheVariants.{Idle, Mark, Allocate, Copy, PreFlip, HeapFlip, ThreadFlip, Reclaim}
+use Rattle.cil_model.specs.declared.phases.Phase.TheVariants.{Idle, Mark, Allocate, Copy, Reclaim}
 use Rattle.cil_model.specs.declared.trees.Tree.{Tree}
 use Rattle.object_memory.specs.declared.addresses.Addr.{Addr}
 use Rattle.object_memory.specs.Cells.{Cell, Cells, cell_in}
@@ -101,10 +101,8 @@ module _ (m n : Spaces) (darker : AreDarker m n) where
   stays_live_object Mark a h = stays_old a h
   stays_live_object Allocate a h = stays_marked a h
   stays_live_object Copy a h = stays_marked a h
-  stays_live_object PreFlip a h = stays_either a h
-  stays_live_object HeapFlip a h = stays_either a h
-  stays_live_object ThreadFlip a h = stays_either a h
   stays_live_object Reclaim a h = stays_new a h
+  stays_live_object _ a h = stays_either a h
 
   pub stays_live : (posted_phase : Phase) (a : Addr) → is_live posted_phase m a ≡ true → is_live posted_phase n a ≡ true
   stays_live posted_phase a h = elim (or_cases (is_permanent a) (is_live_object posted_phase m a) h) [

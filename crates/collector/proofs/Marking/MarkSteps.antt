@@ -6,7 +6,7 @@ use Rattle.std.proofs.lemmas.List.Elements.{All-head, All-weaker}
 use Rattle.cil_model.specs.declared.trees.Tree.{Tree}
 use Rattle.object_memory.specs.declared.addresses.Addr.{Addr}
 use Rattle.object_memory.specs.declared.values.Value.{Value}
-use Rattle.object_memory.specs.declared.values.Value.TheVariants.{Int32, Int64, Native, Ref}
+use Rattle.object_memory.specs.declared.values.Value.TheVariants.{Ref}
 use Rattle.object_memory.specs.Cells.{Cell, cell_in, literal_number}
 use Rattle.object_memory.specs.Spaces.{Spaces, cell_at, is_white, marked_if, set_mark}
 use Rattle.object_memory.specs.Objects.{Objects, object_cell}
@@ -26,9 +26,7 @@ open_by m a true e = e
 -- the cycle
 pub open_kept : (o : Objects) (v : Value) → o.spaces.is_open ≡ true → (with_marked o v).spaces.is_open ≡ true
 open_kept o (Ref a) e = open_by o.spaces a (is_white (cell_in o.spaces.old a)) e
-open_kept o (Int32 n) e = e
-open_kept o (Int64 n) e = e
-open_kept o (Native n) e = e
+open_kept o _ e = e
 
 cell_by : (m : Spaces) (a b : Addr) (t : Bool) → is_some (cell_at m b) ≡ true → is_some (cell_at (marked_if t m a) b) ≡ true
 cell_by m a b false e = e
@@ -36,20 +34,15 @@ cell_by m a b true e = change-there set_mark (λ c. refl) m a b e
 
 cell_kept : (o : Objects) (v : Value) (b : Addr) → is_some (object_cell o b) ≡ true → is_some (object_cell (with_marked o v) b) ≡ true
 cell_kept o (Ref a) b e = cell_by o.spaces a b (is_white (cell_in o.spaces.old a)) e
-cell_kept o (Int32 n) b e = e
-cell_kept o (Int64 n) b e = e
-cell_kept o (Native n) b e = e
+cell_kept o _ b e = e
 
 or_kept : (x y s t : Bool) → (s ≡ true → t ≡ true) → (x || (y || s)) ≡ true → (x || (y || t)) ≡ true
-or_kept true y s t h e = refl
-or_kept false true s t h e = refl
 or_kept false false s t h e = h e
+or_kept _ _ s t h e = refl
 
 there_kept : (o : Objects) (v w : Value) → is_value_there o w ≡ true → is_value_there (with_marked o v) w ≡ true
 there_kept o v (Ref b) e = or_kept (b.number == 0) (is_some (literal_number b)) (is_some (object_cell o b)) (is_some (object_cell (with_marked o v) b)) (cell_kept o v b) e
-there_kept o v (Int32 n) e = e
-there_kept o v (Int64 n) e = e
-there_kept o v (Native n) e = e
+there_kept o v _ e = e
 
 -- what is there
 pub all_kept : (o : Objects) (v : Value) (vs : List Value) → AreThere o vs → AreThere (with_marked o v) vs

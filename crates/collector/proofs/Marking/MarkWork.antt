@@ -227,15 +227,13 @@ module _ (tree : Tree) (has_round : Bool) (words : ℕ) (p : Progress) (o : Obje
 
   marked_darker : (grey : List Addr) → o.spaces.grey ≡ grey → (cell : Option Cell) → oldest_cell o grey ≡ cell
       → AreDarker o.spaces (mark_step tree p o grey cell).1.spaces
-  marked_darker [] e cell is = AreDarker-same o.spaces o.spaces refl refl refl
-  marked_darker (g ∷ rest) e None is = AreDarker-same o.spaces o.spaces refl refl refl
   marked_darker (g ∷ rest) e (Some c) is = step_darker g rest c e is (nat_lt p.scanned_slots (length c.slots))
+  marked_darker _ e _ is = AreDarker-same o.spaces o.spaces refl refl refl
 
   marked_marks : (grey : List Addr) → o.spaces.grey ≡ grey → (cell : Option Cell) → oldest_cell o grey ≡ cell
       → AreMarked tree has_round (mark_step tree p o grey cell).0 (mark_step tree p o grey cell).1.spaces
-  marked_marks [] e cell is = marks
-  marked_marks (g ∷ rest) e None is = marks
   marked_marks (g ∷ rest) e (Some c) is = step_marks g rest c e is (nat_lt p.scanned_slots (length c.slots)) refl
+  marked_marks _ e _ is = marks
 
   -- a step of marking changes marks alone
   pub AreDarker-marked_on : AreDarker o.spaces (marked_on tree p o).1.spaces
@@ -275,9 +273,8 @@ module _ (tree : Tree) (p : Progress) (o : Objects) where
 
       by_step : (grey : List Addr) (cell : Option Cell)
           → (mark_step tree p o grey cell).0 ≡ record p { scanned_slots = (mark_step tree p o grey cell).0.scanned_slots }
-      by_step [] cell = refl
-      by_step (g ∷ rest) None = refl
       by_step (g ∷ rest) (Some c) = by_slots rest c (nat_lt p.scanned_slots (length c.slots))
+      by_step _ _ = refl
 
   -- a mark of before is not forgotten
   pub marked_on-noted : o.spaces.has_marked ≡ true → (marked_on tree p o).1.spaces.has_marked ≡ true
@@ -292,9 +289,8 @@ module _ (tree : Tree) (p : Progress) (o : Objects) where
       by_slots rest c false = h
 
       by_step : (grey : List Addr) (cell : Option Cell) → (mark_step tree p o grey cell).1.spaces.has_marked ≡ true
-      by_step [] cell = h
-      by_step (g ∷ rest) None = h
       by_step (g ∷ rest) (Some c) = by_slots rest c (nat_lt p.scanned_slots (length c.slots))
+      by_step _ _ = h
 
   -- no monitor of a literal changes
   pub marked_on-literals : (marked_on tree p o).1.literals ≡ o.literals
@@ -309,6 +305,5 @@ module _ (tree : Tree) (p : Progress) (o : Objects) where
       by_slots rest c false = refl
 
       by_step : (grey : List Addr) (cell : Option Cell) → (mark_step tree p o grey cell).1.literals ≡ o.literals
-      by_step [] cell = refl
-      by_step (g ∷ rest) None = refl
       by_step (g ∷ rest) (Some c) = by_slots rest c (nat_lt p.scanned_slots (length c.slots))
+      by_step _ _ = refl

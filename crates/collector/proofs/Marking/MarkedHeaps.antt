@@ -3,26 +3,26 @@ use Rattle.std.proofs.Common.{◌≡◌, ◌≢◌, ◌⊎◌, inl, inr, ℕ, �
 use Rattle.std.specs.Prelude.{if◌then◌else◌, Option, Some, None, slice_get, All}
 use Rattle.std.proofs.lemmas.Bool.{or_cases, or_left, or_right}
 use Rattle.std.proofs.lemmas.List.Elements.{All-cons, All-head, All-nil, All-push, All-tail, All-weaker}
-use Rattle.cil_model.specs.declared.phases.Phase.TheVariants.{Mark, Allocate}
+use Rattle.cil_model.specs.declared.phases.Phase.TheVariants.{Mark}
 use Rattle.cil_model.specs.declared.trees.Tree.{Tree}
 use Rattle.object_memory.specs.declared.addresses.Addr.{Addr}
 use Rattle.object_memory.specs.declared.values.Value.{Value}
-use Rattle.object_memory.specs.declared.values.Value.TheVariants.{Int32, Int64, Native, Ref}
+use Rattle.object_memory.specs.declared.values.Value.TheVariants.{Ref}
 use Rattle.object_memory.specs.Cells.{Cell, cell_in}
 use Rattle.object_memory.specs.Spaces.{AreSpaces, Spaces, is_old, is_white, mark, marked_if, set_mark}
 use Rattle.object_memory.specs.Objects.{Objects}
 use Rattle.object_memory.proofs.Blocks.{own_in, unchanged_in}
-use Rattle.object_memory.proofs.TwoBlocks.{AreSpaces-change, IsAfter, after_in, before_in, not_new, old_is_cell, own, still}
+use Rattle.object_memory.proofs.TwoBlocks.{AreSpaces-change, IsAfter, after_in, before_in, not_new, own, still}
 use Rattle.object_memory.proofs.TwoCopies.{mark_marks}
 use Rattle.object_memory.proofs.Rooms.{HasShellRoom-change}
 use Rattle.barriers.specs.Barriers.{with_marked}
 use Rattle.collector.specs.References.{SlotsPass, ValuePasses, holds_reference, is_permanent, reference_in}
-use Rattle.collector.specs.Phases.{is_live, is_marked_address, is_marked_old, is_new_address}
+use Rattle.collector.specs.Phases.{is_live, is_marked_address, is_marked_old}
 use Rattle.collector.specs.Soundness.{AreMarked, IsListed, IsSoundHeap}
 use Rattle.collector.specs.Marking.{with_all_marked}
 use Rattle.collector.specs.Holding.{HasNotBegun}
 use Rattle.collector.specs.declared.progress.Progress.{Progress}
-use Rattle.collector.proofs.Addresses.Tests.{mark_is, marked_cell, marked_has_cell, never, new_has_cell, new_is, old_cell, old_not_new, slots_weaken, value_weakens}
+use Rattle.collector.proofs.Addresses.Tests.{mark_is, marked_cell, never, old_cell, slots_weaken, value_weakens}
 use Rattle.collector.proofs.Marking.MarkChanges.{AreDarker, AreDarker-same, AreDarker-trans, IsDarker, IsDarker-refl, IsSoundHeap-darker, stays_live, stays_marked, stays_marked_address}
 
 same_address : (a b : Addr) → b.number ≡ a.number → a ≡ b
@@ -38,11 +38,6 @@ white_by (Some c) e = (c, refl, unmarked c.marked e)
     unmarked : (b : Bool) → (if b then false else true) ≡ true → b ≡ false
     unmarked true e = never e
     unmarked false e = refl
-
--- a marked old cell, and where no old cell is, isn't an unmarked one
-not_white_by : (o : Option Cell) → ((c : Cell) → o ≡ Some c → c.marked ≡ true) → is_white o ≡ false
-not_white_by None h = refl
-not_white_by (Some c) h = rw (h c refl) refl
 
 listed-before : (list : List Addr) (q a : Addr) → IsListed list a → IsListed (list ++ q ∷ []) a
 listed-before [] q a h = absurd h
@@ -189,25 +184,6 @@ module _ (m : Spaces) (spaces : AreSpaces m) (q : Addr) where
     all_grey = λ posted_phase. all_grey_by (is_white (cell_in m.old q)) refl (late.all_grey posted_phase);
   }
 
-  -- ---- marks that change nothing
-
-  not_white : is_white (cell_in m.old q) ≡ false → (mark m q).0 ≡ m
-  not_white e = ap (λ b. marked_if b m q) e
-
-  -- a mark of what is marked, null's or a literal's changes nothing
-  pub mark-marked_address : is_marked_address m q ≡ true → (mark m q).0 ≡ m
-  mark-marked_address h = not_white (not_white_by (cell_in m.old q) marked)
-    where
-      marked : (c : Cell) → cell_in m.old q ≡ Some c → c.marked ≡ true
-      marked c e = (marked_has_cell m spaces q c (old_is_cell m q c e) h).1
-
-  -- nor does one of what is new
-  pub mark-new_address : is_new_address m q ≡ true → (mark m q).0 ≡ m
-  mark-new_address h = not_white (not_white_by (cell_in m.old q) never_old)
-    where
-      never_old : (c : Cell) → cell_in m.old q ≡ Some c → c.marked ≡ true
-      never_old c e = never (sym (old_not_new m spaces q c e) ∙ new_is m q c (new_has_cell m spaces q c (old_is_cell m q c e) h))
-
 -- a mark is not forgotten before the next round
 pub mark-noted : (m : Spaces) (q : Addr) → m.has_marked ≡ true → (mark m q).0.has_marked ≡ true
 mark-noted m q h = by_white (is_white (cell_in m.old q))
@@ -229,46 +205,21 @@ IsSoundHeap-mark tree has_round words p m sound q =
 module _ (o : Objects) (spaces : AreSpaces o.spaces) where
   pub AreDarker-with_marked : (v : Value) → AreDarker o.spaces (with_marked o v).spaces
   AreDarker-with_marked (Ref a) = AreDarker-mark o.spaces spaces a
-  AreDarker-with_marked (Int32 n) = AreDarker-same o.spaces o.spaces refl refl refl
-  AreDarker-with_marked (Int64 n) = AreDarker-same o.spaces o.spaces refl refl refl
-  AreDarker-with_marked (Native n) = AreDarker-same o.spaces o.spaces refl refl refl
+  AreDarker-with_marked _ = AreDarker-same o.spaces o.spaces refl refl refl
 
   -- a live value passes once it is marked
   pub with_marked-passes : (v : Value) → ValuePasses (is_live Mark o.spaces) v → ValuePasses (is_marked_address (with_marked o v).spaces) v
   with_marked-passes (Ref a) h = mark-passes o.spaces spaces a h
-  with_marked-passes (Int32 n) h = tt
-  with_marked-passes (Int64 n) h = tt
-  with_marked-passes (Native n) h = tt
-
-  -- a mark of what is marked or new changes nothing
-  pub with_marked-marked : (v : Value) → ValuePasses (is_marked_address o.spaces) v → with_marked o v ≡ o
-  with_marked-marked (Ref a) h = ap (λ m. record o { spaces = m }) (mark-marked_address o.spaces spaces a h)
-  with_marked-marked (Int32 n) h = refl
-  with_marked-marked (Int64 n) h = refl
-  with_marked-marked (Native n) h = refl
-
-  pub with_marked-new : (v : Value) → ValuePasses (is_new_address o.spaces) v → with_marked o v ≡ o
-  with_marked-new (Ref a) h = ap (λ m. record o { spaces = m }) (mark-new_address o.spaces spaces a h)
-  with_marked-new (Int32 n) h = refl
-  with_marked-new (Int64 n) h = refl
-  with_marked-new (Native n) h = refl
-
-  -- so in Allocate, where live means marked, a mark changes nothing
-  pub with_marked-in_allocate : (v : Value) → ValuePasses (is_live Allocate o.spaces) v → with_marked o v ≡ o
-  with_marked-in_allocate v h = with_marked-marked v h
+  with_marked-passes _ h = tt
 
   pub HasNotBegun-with_marked : (has_round : Bool) (p : Progress) → HasNotBegun Mark has_round p o.spaces → (v : Value)
       → HasNotBegun Mark has_round p (with_marked o v).spaces
   HasNotBegun-with_marked has_round p late (Ref a) = HasNotBegun-mark o.spaces spaces a has_round p late
-  HasNotBegun-with_marked has_round p late (Int32 n) = late
-  HasNotBegun-with_marked has_round p late (Int64 n) = late
-  HasNotBegun-with_marked has_round p late (Native n) = late
+  HasNotBegun-with_marked has_round p late _ = late
 
 pub with_marked-noted : (o : Objects) (v : Value) → o.spaces.has_marked ≡ true → (with_marked o v).spaces.has_marked ≡ true
 with_marked-noted o (Ref a) h = mark-noted o.spaces a h
-with_marked-noted o (Int32 n) h = h
-with_marked-noted o (Int64 n) h = h
-with_marked-noted o (Native n) h = h
+with_marked-noted o _ h = h
 
 pub with_all_marked-noted : (vs : List Value) (o : Objects) → o.spaces.has_marked ≡ true → (with_all_marked o vs).spaces.has_marked ≡ true
 with_all_marked-noted [] o h = h
@@ -277,9 +228,7 @@ with_all_marked-noted (v ∷ vs) o h = with_all_marked-noted vs (with_marked o v
 -- no monitor of a literal changes
 pub with_marked-literals : (o : Objects) (v : Value) → (with_marked o v).literals ≡ o.literals
 with_marked-literals o (Ref a) = refl
-with_marked-literals o (Int32 n) = refl
-with_marked-literals o (Int64 n) = refl
-with_marked-literals o (Native n) = refl
+with_marked-literals o _ = refl
 
 pub with_all_marked-literals : (vs : List Value) (o : Objects) → (with_all_marked o vs).literals ≡ o.literals
 with_all_marked-literals [] o = refl
@@ -309,14 +258,6 @@ with_all_marked-pass (v ∷ vs) o spaces h =
     (keep (with_marked-passes o spaces v (All-head was_live v vs h)))
     (with_all_marked-pass vs n (first.spaces spaces) (All-weaker was_live still_live weaken vs (All-tail was_live v vs h)))
 
--- what is marked already changes nothing
-pub with_all_marked-marked : (vs : List Value) (o : Objects) → AreSpaces o.spaces → All (ValuePasses (is_marked_address o.spaces)) vs
-    → with_all_marked o vs ≡ o
-with_all_marked-marked [] o spaces h = refl
-with_all_marked-marked (v ∷ vs) o spaces h =
-    let passes = ValuePasses (is_marked_address o.spaces) in
-    ap (λ x. with_all_marked x vs) (with_marked-marked o spaces v (All-head passes v vs h)) ∙ with_all_marked-marked vs o spaces (All-tail passes v vs h)
-
 pub HasNotBegun-with_all_marked : (vs : List Value) (o : Objects) → AreSpaces o.spaces → (has_round : Bool) (p : Progress)
     → HasNotBegun Mark has_round p o.spaces → HasNotBegun Mark has_round p (with_all_marked o vs).spaces
 HasNotBegun-with_all_marked [] o spaces has_round p late = late
@@ -329,9 +270,7 @@ module _ (tree : Tree) (has_round : Bool) (words : ℕ) (p : Progress) where
   pub IsSoundHeap-with_marked : (o : Objects) → IsSoundHeap tree Mark has_round words p o.spaces → (v : Value)
       → IsSoundHeap tree Mark has_round words p (with_marked o v).spaces
   IsSoundHeap-with_marked o sound (Ref a) = IsSoundHeap-mark tree has_round words p o.spaces sound a
-  IsSoundHeap-with_marked o sound (Int32 n) = sound
-  IsSoundHeap-with_marked o sound (Int64 n) = sound
-  IsSoundHeap-with_marked o sound (Native n) = sound
+  IsSoundHeap-with_marked o sound _ = sound
 
   pub IsSoundHeap-with_all_marked : (vs : List Value) (o : Objects) → IsSoundHeap tree Mark has_round words p o.spaces
       → IsSoundHeap tree Mark has_round words p (with_all_marked o vs).spaces

@@ -4,12 +4,12 @@ use Rattle.std.specs.Prelude.{◌==◌, if◌then◌else◌, is_some, Option, So
 use Rattle.std.proofs.lemmas.Bool.Decides.{nat_tests}
 use Rattle.std.proofs.lemmas.List.Elements.{All-append}
 use Rattle.cil_model.specs.declared.phases.Phase.{Phase}
-use Rattle.cil_model.specs.declared.phases.Phase.TheVariants.{Idle, Mark, Allocate, Copy, PreFlip, HeapFlip, ThreadFlip, Reclaim}
+use Rattle.cil_model.specs.declared.phases.Phase.TheVariants.{Idle, Mark, Allocate, Copy, Reclaim}
 use Rattle.cil_model.specs.declared.trees.Tree.{Tree}
 use Rattle.cil_model.proofs.Lists.{no_item, none_is_some}
 use Rattle.object_memory.specs.declared.addresses.Addr.{Addr}
 use Rattle.object_memory.specs.declared.values.Value.{Value}
-use Rattle.object_memory.specs.declared.values.Value.TheVariants.{Int32, Int64, Native, Ref}
+use Rattle.object_memory.specs.declared.values.Value.TheVariants.{Ref}
 use Rattle.object_memory.specs.Cells.{Cell, cell_from, cell_in, change_from}
 use Rattle.object_memory.specs.Spaces.{Spaces, AreSpaces, cell_at, change_at, is_old, is_white, mark, marked_if, set_mark}
 use Rattle.object_memory.specs.Objects.{Objects, object_cell}
@@ -60,10 +60,8 @@ module _ (m n : Spaces) (grows : Grows m n) where
   object_grows Mark x h = grows.old x h
   object_grows Allocate x h = grows.marked x h
   object_grows Copy x h = grows.marked x h
-  object_grows PreFlip x h = or_both (is_marked_old m x) (is_new m x) (is_marked_old n x) (is_new n x) (grows.marked x) (grows.new x) h
-  object_grows HeapFlip x h = or_both (is_marked_old m x) (is_new m x) (is_marked_old n x) (is_new n x) (grows.marked x) (grows.new x) h
-  object_grows ThreadFlip x h = or_both (is_marked_old m x) (is_new m x) (is_marked_old n x) (is_new n x) (grows.marked x) (grows.new x) h
   object_grows Reclaim x h = grows.new x h
+  object_grows _ x h = or_both (is_marked_old m x) (is_new m x) (is_marked_old n x) (is_new n x) (grows.marked x) (grows.new x) h
 
   pub live_grows : (posted_phase : Phase) (x : Addr) → is_live posted_phase m x ≡ true → is_live posted_phase n x ≡ true
   live_grows posted_phase x h = or_more (is_permanent x) (is_live_object posted_phase m x) (is_live_object posted_phase n x) (object_grows posted_phase x) h
@@ -352,43 +350,29 @@ module _ (m : Spaces) (q : Addr) where
 
 pub value_weakens : (P Q : Test) → ((a : Addr) → P a ≡ true → Q a ≡ true) → (v : Value) → ValuePasses P v → ValuePasses Q v
 value_weakens P Q more (Ref a) h = more a h
-value_weakens P Q more (Int32 x) h = tt
-value_weakens P Q more (Int64 x) h = tt
-value_weakens P Q more (Native x) h = tt
+value_weakens P Q more _ h = tt
 
 pub value_mark_grows : (o : Objects) (v : Value) → Grows o.spaces (with_marked o v).spaces
 value_mark_grows o (Ref a) = mark_grows o.spaces a
-value_mark_grows o (Int32 x) = grows_itself o.spaces
-value_mark_grows o (Int64 x) = grows_itself o.spaces
-value_mark_grows o (Native x) = grows_itself o.spaces
+value_mark_grows o _ = grows_itself o.spaces
 
 pub value_mark_sound : (tree : Tree) (has_round : Bool) (words : ℕ) (p : Progress) (o : Objects) (v : Value) → IsSoundHeap tree Mark has_round words p o.spaces → IsSoundHeap tree Mark has_round words p (with_marked o v).spaces
 value_mark_sound tree has_round words p o (Ref a) sound = mark_sound o.spaces a tree has_round words p sound
-value_mark_sound tree has_round words p o (Int32 x) sound = sound
-value_mark_sound tree has_round words p o (Int64 x) sound = sound
-value_mark_sound tree has_round words p o (Native x) sound = sound
+value_mark_sound tree has_round words p o _ sound = sound
 
 pub value_mark_not_begun : (posted_phase : Phase) (has_round : Bool) (p : Progress) (o : Objects) (v : Value) → HasNotBegun posted_phase has_round p o.spaces → HasNotBegun posted_phase has_round p (with_marked o v).spaces
 value_mark_not_begun posted_phase has_round p o (Ref a) late = mark_not_begun o.spaces a posted_phase has_round p late
-value_mark_not_begun posted_phase has_round p o (Int32 x) late = late
-value_mark_not_begun posted_phase has_round p o (Int64 x) late = late
-value_mark_not_begun posted_phase has_round p o (Native x) late = late
+value_mark_not_begun posted_phase has_round p o _ late = late
 
 pub value_then_marked : (o : Objects) (v : Value) → ValuePasses (is_live Mark o.spaces) v → ValuePasses (is_marked_address (with_marked o v).spaces) v
 value_then_marked o (Ref a) live = mark_then_marked o.spaces a live
-value_then_marked o (Int32 x) live = tt
-value_then_marked o (Int64 x) live = tt
-value_then_marked o (Native x) live = tt
+value_then_marked o _ live = tt
 
 pub value_mark_leaves : (o : Objects) (v : Value) (x : Addr) (c : Cell) → object_cell o x ≡ Some c → (d : Cell) × (object_cell (with_marked o v) x ≡ Some d) × IsButMarked c d
 value_mark_leaves o (Ref a) x c lies = mark_leaves o.spaces a x c lies
-value_mark_leaves o (Int32 y) x c lies = (c, lies, inl refl)
-value_mark_leaves o (Int64 y) x c lies = (c, lies, inl refl)
-value_mark_leaves o (Native y) x c lies = (c, lies, inl refl)
+value_mark_leaves o _ x c lies = (c, lies, inl refl)
 
 -- a mark of what is marked changes nothing
 pub value_mark_same : (o : Objects) (v : Value) → AreSpaces o.spaces → ValuePasses (is_marked_address o.spaces) v → with_marked o v ≡ o
 value_mark_same o (Ref a) spaces marked = ap (λ (s : Spaces). record o { spaces = s }) (mark_same o.spaces a spaces marked)
-value_mark_same o (Int32 x) spaces marked = refl
-value_mark_same o (Int64 x) spaces marked = refl
-value_mark_same o (Native x) spaces marked = refl
+value_mark_same o _ spaces marked = refl

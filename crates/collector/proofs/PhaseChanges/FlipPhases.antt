@@ -1,15 +1,14 @@
 -- From PreFlip to Reclaim: a heap stays sound as each phase is posted, and forwards of what is live are new.
-use Rattle.std.proofs.Common.{◌≡◌, ◌≢◌, inl, inr, ℕ, ◌≤◌, ◌+◌, Bool, true, false, ◌||◌, List, map, refl, sym, ap, subst, ◌∙◌, arith}
-use Rattle.std.specs.Prelude.{if◌then◌else◌, is_some, Option, Some, None, All, get_or}
+use Rattle.std.proofs.Common.{◌≡◌, ◌≢◌, inl, inr, ℕ, ◌≤◌, ◌+◌, Bool, true, false, ◌||◌, refl, sym, ap, subst, ◌∙◌, arith}
+use Rattle.std.specs.Prelude.{if◌then◌else◌, is_some, Option, Some, None}
 use Rattle.std.proofs.lemmas.Bool.{or_left, or_right}
-use Rattle.std.proofs.lemmas.List.Elements.{All-map}
 use Rattle.cil_model.specs.declared.phases.Phase.{Phase}
 use Rattle.cil_model.specs.declared.phases.Phase.TheVariants.{Idle, Mark, Allocate, Copy, PreFlip, HeapFlip, ThreadFlip, Reclaim}
 use Rattle.cil_model.specs.declared.trees.Tree.{Tree}
 use Rattle.reference_machine.specs.Cycles.{phase_after}
 use Rattle.object_memory.specs.declared.addresses.Addr.{Addr}
 use Rattle.object_memory.specs.declared.values.Value.{Value}
-use Rattle.object_memory.specs.declared.values.Value.TheVariants.{Int32, Int64, Native, Ref}
+use Rattle.object_memory.specs.declared.values.Value.TheVariants.{Ref}
 use Rattle.object_memory.specs.Cells.{Cell, cell_in}
 use Rattle.object_memory.specs.Spaces.{IsOffset, Spaces, forward}
 use Rattle.object_memory.specs.Objects.{Objects}
@@ -19,7 +18,6 @@ use Rattle.barriers.specs.Barriers.{forward_value}
 use Rattle.collector.specs.References.{SlotsPass, ValuePasses, is_permanent}
 use Rattle.collector.specs.Phases.{HasCopied, HasLooked, is_before_copies, is_live, is_marked_old, is_new, is_new_address, is_of_cycle, is_read, no_progress}
 use Rattle.collector.specs.Soundness.{AreBlocks, IsCleared, AreCopied, AreCopies, IsSoundHeap}
-use Rattle.collector.specs.Holding.{HasNotBegun}
 use Rattle.collector.specs.declared.progress.Progress.{Progress}
 use Rattle.object_memory.proofs.Offsets.{IsOffset-start}
 use Rattle.collector.proofs.BlockWalks.CollectorOffsets.{HasCursor-else}
@@ -115,24 +113,16 @@ module _ (tree : Tree) (has_round : Bool) (words : ℕ) (p : Progress) (m : Spac
 
   -- each of the three
   pub flip_posted : (posted_phase : Phase) → is_flip posted_phase ≡ true → IsSoundHeap tree posted_phase has_round words p m → IsSoundHeap tree (phase_after posted_phase) has_round words no_progress m
-  flip_posted Idle e sound = absurd cc
-  flip_posted Mark e sound = absurd cc
-  flip_posted Allocate e sound = absurd cc
-  flip_posted Copy e sound = absurd cc
   flip_posted PreFlip e sound = to_heap_flip sound
   flip_posted HeapFlip e sound = to_thread_flip sound
   flip_posted ThreadFlip e sound = to_reclaim sound
-  flip_posted Reclaim e sound = absurd cc
+  flip_posted _ e sound = absurd cc
 
   -- how far the static fields are flipped matters to no object
   pub in_heap_flip : (p' : Progress) → IsSoundHeap tree HeapFlip has_round words p m → IsSoundHeap tree HeapFlip has_round words p' m
   in_heap_flip p' sound =
       sound_on tree HeapFlip HeapFlip has_round words p p' m sound refl refl (λ a word e. e) (λ a e. e) (λ c e. e) (λ c e pass. pass)
       (λ is. absurd cc) (λ is. absurd cc) (λ is. absurd cc) (λ is. absurd cc) (λ is. absurd cc)
-
--- where a phase but Mark is posted, the collector has not begun with it
-pub just_posted : (posted_phase : Phase) (has_round : Bool) (m : Spaces) → posted_phase ≢ Mark → HasNotBegun posted_phase has_round no_progress m
-just_posted posted_phase has_round m ne = record { nothing = refl; no_round = λ is. elim (ne is) [ ]; all_grey = λ is. elim (ne is) [ ] }
 
 -- ---- forwards
 
@@ -149,14 +139,11 @@ are_all_copied Reclaim = false
 
 -- the collector has looked for the copy of each old object
 all_looked : (posted_phase : Phase) (p : Progress) (m : Spaces) (a : Addr) → are_all_copied posted_phase ≡ true → HasLooked posted_phase p m a
-all_looked Idle p m a e = absurd cc
-all_looked Mark p m a e = absurd cc
-all_looked Allocate p m a e = absurd cc
 all_looked Copy p m a e = tt
 all_looked PreFlip p m a e = tt
 all_looked HeapFlip p m a e = tt
 all_looked ThreadFlip p m a e = tt
-all_looked Reclaim p m a e = absurd cc
+all_looked _ p m a e = absurd cc
 
 -- what is live then
 data IsLiveThen (m : Spaces) (a : Addr) : Type 0 where
@@ -177,14 +164,11 @@ module _ (m : Spaces) (a : Addr) where
 
   -- by the phase
   live_then : (posted_phase : Phase) → are_all_copied posted_phase ≡ true → is_live posted_phase m a ≡ true → IsLiveThen m a
-  live_then Idle e live = absurd cc
-  live_then Mark e live = absurd cc
-  live_then Allocate e live = absurd cc
   live_then Copy e live = one_of_two (is_permanent a) (is_marked_old m a) refl refl live
   live_then PreFlip e live = one_of_three (is_permanent a) (is_marked_old m a) (is_new m a) refl refl refl live
   live_then HeapFlip e live = one_of_three (is_permanent a) (is_marked_old m a) (is_new m a) refl refl refl live
   live_then ThreadFlip e live = one_of_three (is_permanent a) (is_marked_old m a) (is_new m a) refl refl refl live
-  live_then Reclaim e live = absurd cc
+  live_then _ e live = absurd cc
 
 module _ (tree : Tree) (posted_phase : Phase) (has_round : Bool) (words : ℕ) (p : Progress) (m : Spaces) (sound : IsSoundHeap tree posted_phase has_round words p m) (all : are_all_copied posted_phase ≡ true) where
   -- the forward of an object with a copy is new
@@ -215,10 +199,4 @@ module _ (tree : Tree) (posted_phase : Phase) (has_round : Bool) (words : ℕ) (
   -- a value that is live is new once it is forwarded
   pub forwarded_is_new : (v : Value) → ValuePasses (is_live posted_phase o.spaces) v → ValuePasses (is_new_address o.spaces) (forward_value o v)
   forwarded_is_new (Ref a) live = forward_is_new tree posted_phase has_round words p o.spaces sound all a live
-  forwarded_is_new (Int32 x) live = tt
-  forwarded_is_new (Int64 x) live = tt
-  forwarded_is_new (Native x) live = tt
-
-  -- after the flip of a thread's frames all that they hold is new
-  pub all_forwarded_are_new : (vs : List Value) → All (ValuePasses (is_live posted_phase o.spaces)) vs → All (ValuePasses (is_new_address o.spaces)) (map (forward_value o) vs)
-  all_forwarded_are_new vs live = All-map (ValuePasses (is_new_address o.spaces)) (forward_value o) vs (λ i d inside. forwarded_is_new (get_or vs i d) (live i d inside))
+  forwarded_is_new _ live = tt

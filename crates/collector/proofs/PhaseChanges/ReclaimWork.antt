@@ -8,15 +8,15 @@ use Rattle.cil_model.specs.declared.phases.Phase.TheVariants.{Idle, Reclaim}
 use Rattle.cil_model.specs.declared.trees.Tree.{Tree}
 use Rattle.object_memory.specs.declared.addresses.Addr.{Addr}
 use Rattle.object_memory.specs.Cells.{Cell, cell_in, change_in, size, store_copies}
-use Rattle.object_memory.specs.Spaces.{AreSpaces, Spaces, IsOffset, cell_at, clear, close_cycle, forward, found_in, is_noted}
+use Rattle.object_memory.specs.Spaces.{AreSpaces, Spaces, IsOffset, cell_at, clear, close_cycle, found_in, is_noted}
 use Rattle.object_memory.specs.Objects.{Objects, object_cell}
 use Rattle.object_memory.proofs.Blocks.{range_in}
 use Rattle.object_memory.proofs.Offsets.{at_offset, below_next, cell, end}
-use Rattle.object_memory.proofs.TwoBlocks.{AreSpaces-change, AreSpaces-closed, IsAfter, after_in, before_in, change-new_alone, closed-new, closed-was, either, new_is_cell, old_is_cell, own, still}
+use Rattle.object_memory.proofs.TwoBlocks.{AreSpaces-change, AreSpaces-closed, IsAfter, after_in, before_in, change-new_alone, closed-new, either, new_is_cell, old_is_cell, own, still}
 use Rattle.collector.specs.References.{SlotsPass}
 use Rattle.collector.proofs.BlockWalks.ChangedBlocks.{IsOffset-cell, IsOffset-change}
 use Rattle.collector.proofs.BlockWalks.CollectorOffsets.{HasCursor-begun, HasCursor-else}
-use Rattle.collector.specs.Phases.{is_live, is_new_address, no_progress}
+use Rattle.collector.specs.Phases.{is_new_address, no_progress}
 use Rattle.collector.specs.Soundness.{AreBlocks, IsCleared, AreCopied, AreCopies, IsSoundHeap}
 use Rattle.collector.specs.Flips.{cleared_at, cleared_on, retire_old}
 use Rattle.collector.specs.Holding.{Hold, passes}
@@ -203,10 +203,6 @@ module _ (tree : Tree) (has_round : Bool) (words : ℕ) (p : Progress) (m : Spac
       by_block (inl old) = (c, old_is_cell m' b c old, record { kind = refl; slots = refl; monitor = refl })
       by_block (inr new) = let now = before b c new in (now.0, new_is_cell m' clear_blocks.spaces b now.0 now.1, shows now.0 now.2)
 
-  -- forwards stay
-  one_forward : (a : Addr) → forward (clear m there) a ≡ forward m a
-  one_forward a = ap (λ x. forward x a) clear_is
-
 -- ---- a step
 
 module _ (tree : Tree) (has_round : Bool) (words : ℕ) (p : Progress) (o : Objects) (sound : IsSoundHeap tree Reclaim has_round words p o.spaces) where
@@ -250,16 +246,6 @@ module _ (tree : Tree) (has_round : Bool) (words : ℕ) (p : Progress) (o : Obje
   pub cleared_stays : (hold : Hold) (a : Addr) → passes hold Reclaim m a ≡ true → passes hold Reclaim (cleared_on p o).1.spaces a ≡ true
   cleared_stays hold a pass = passes_stays m (cleared_on p o).1.spaces cleared_tests a hold Reclaim pass
 
-  forward_by : (x : Option ℕ) → found_in is_noted m.new (m.new.start + p.cursor) ≡ x → (a : Addr) → forward (cleared_at p o x).1.spaces a ≡ forward m a
-  forward_by None is a = refl
-  forward_by (Some at) is a =
-      let found = found_is is_noted m.new (m.new.start + p.cursor) at is in
-      subst (λ (x : Progress × Objects × Bool). forward x.1.spaces a ≡ forward m a) (sym (step_is at found.cell found.lies)) (one_forward tree has_round words p m sound at found a)
-
-  -- forwards stay
-  pub cleared_forward : (a : Addr) → forward (cleared_on p o).1.spaces a ≡ forward m a
-  cleared_forward a = forward_by (found_in is_noted m.new (m.new.start + p.cursor)) refl a
-
   shows_by : (x : Option ℕ) → found_in is_noted m.new (m.new.start + p.cursor) ≡ x → (b : Addr) (c : Cell) → cell_at m b ≡ Some c → (d : Cell) × (object_cell (cleared_at p o x).1 b ≡ Some d) × ShowsSame c d
   shows_by None is b c lies = (c, lies, record { kind = refl; slots = refl; monitor = refl })
   shows_by (Some at) is b c lies =
@@ -295,9 +281,8 @@ module _ (tree : Tree) (has_round : Bool) (words : ℕ) (p : Progress) (o : Obje
 
     -- what a cell has that is not noted
     noted_parts : (marked : Bool) (other : Option Addr) → (if marked then true else is_some other) ≡ false → (marked ≡ false) × (other ≡ None)
-    noted_parts true other e = absurd cc
     noted_parts false None e = (refl, refl)
-    noted_parts false (Some a) e = absurd cc
+    noted_parts _ _ e = absurd cc
 
     parts : (b : Addr) (d : Cell) → cell_in m.new b ≡ Some d → (d.marked ≡ false) × (d.other ≡ None)
     parts b d lies = noted_parts d.marked d.other (all_cleared b d lies)
@@ -335,14 +320,6 @@ module _ (tree : Tree) (has_round : Bool) (words : ℕ) (p : Progress) (o : Obje
 
 -- ---- what may be held between cycles
 
--- each new address is then one of the only block
-pub retired_live : (o : Objects) (a : Addr) → is_new_address o.spaces a ≡ true → is_live Idle (retire_old o).spaces a ≡ true
-retired_live o a e = e
-
 -- with the same cell
 pub retired_cell : (o : Objects) → AreSpaces o.spaces → (a : Addr) (c : Cell) → cell_in o.spaces.new a ≡ Some c → object_cell (retire_old o) a ≡ Some c
 retired_cell o h a c lies = closed-new o.spaces h a c lies
-
--- and no others
-pub retired_was : (o : Objects) → AreSpaces o.spaces → (a : Addr) (c : Cell) → object_cell (retire_old o) a ≡ Some c → cell_in o.spaces.new a ≡ Some c
-retired_was o h a c lies = closed-was o.spaces h a c lies

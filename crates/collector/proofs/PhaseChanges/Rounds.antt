@@ -1,17 +1,16 @@
 -- Where marking begins and ends: a cycle opens, a round of it is posted, and where nothing is left to mark, Allocate can be posted.
 use Rattle.std.proofs.Common.{◌≡◌, ◌≢◌, inl, inr, ℕ, ◌+◌, ◌<◌, ◌≤◌, Bool, true, false, List, [], ◌∷◌, refl, sym, subst, ◌∙◌, arith}
-use Rattle.std.specs.Prelude.{◌&&◌, not, Some, None}
+use Rattle.std.specs.Prelude.{◌&&◌, not, Some}
 use Rattle.std.proofs.lemmas.Bool.{and_parts, not-true}
 use Rattle.std.proofs.lemmas.List.Elements.{All-nil}
 use Rattle.std.proofs.lemmas.Option.{none-some}
-use Rattle.cil_model.specs.declared.limits.TheConstants.{MOST_WORDS}
 use Rattle.cil_model.specs.declared.phases.Phase.{Phase}
 use Rattle.cil_model.specs.declared.phases.Phase.TheVariants.{Idle, Mark, Allocate}
 use Rattle.cil_model.specs.declared.trees.Tree.{Tree}
 use Rattle.object_memory.specs.declared.addresses.Addr.{Addr}
 use Rattle.object_memory.specs.Cells.{Cell, cell_in}
-use Rattle.object_memory.specs.Spaces.{AreSpaces, Spaces, open_cycle}
-use Rattle.object_memory.specs.Objects.{Objects, no_objects}
+use Rattle.object_memory.specs.Spaces.{Spaces, open_cycle}
+use Rattle.object_memory.specs.Objects.{Objects}
 use Rattle.object_memory.proofs.Blocks.{range_in}
 use Rattle.object_memory.proofs.TwoBlocks.{AreSpaces-opened}
 use Rattle.object_memory.proofs.Rooms.{HasShellRoom-opened}
@@ -23,55 +22,12 @@ use Rattle.collector.specs.Marking.{is_closed, is_none_grey}
 use Rattle.collector.specs.Holding.{HasNotBegun}
 use Rattle.collector.specs.declared.progress.Progress.{Progress}
 use Rattle.collector.proofs.Addresses.Tests.{marked_cell, never, none_is_new}
-use Rattle.collector.proofs.BlockWalks.CollectorOffsets.{HasCursor-begun, HasCursor-else}
+use Rattle.collector.proofs.BlockWalks.CollectorOffsets.{HasCursor-begun}
 use Rattle.collector.proofs.Marking.MarkChanges.{AreCopied-in_mark, AreDarker-same, IsSoundHeap-darker}
 
 -- each marked old object refers to marked ones alone
 abbrev pub IsClosedMarking : Tree → Spaces → Type 0
 IsClosedMarking tree m = (a : Addr) (c : Cell) → cell_in m.old a ≡ Some c → c.marked ≡ true → SlotsPass tree (is_marked_address m) c
-
--- ---- a heap without objects
-
-module _ (words literals : ℕ) (few : words ≤ MOST_WORDS) where
-  abbrev empty : Spaces
-  empty = (no_objects words literals).spaces
-
-  AreSpaces-empty : AreSpaces empty
-  AreSpaces-empty = record {
-    old = record { start = inl refl; fits = omega arith; few = few };
-    new = record { start = inr (omega arith); fits = omega arith; few = omega arith };
-    apart = omega arith;
-  }
-
-  no_cell : {A : Type 0} (c : Cell) → None ≡ Some c → A
-  no_cell {A} c e = absurd (none-some c e)
-
-  -- all is true of it between cycles
-  pub IsSoundHeap-empty : (tree : Tree) (has_round : Bool) (p : Progress) → IsSoundHeap tree Idle has_round words p empty
-  IsSoundHeap-empty tree has_round p = record {
-    blocks = record { few = few; spaces = AreSpaces-empty; held = refl; old_words = omega arith; new_words = omega arith; grows = λ e. absurd cc; none_new = λ early. refl; none_grey = λ between. refl };
-    copies = record {
-      bare = λ a c e early. no_cell c e;
-      unmarked = λ a c e between. no_cell c e;
-      out = λ a b c e other. no_cell c e;
-      back = λ a b d e other. no_cell d e;
-      shells = λ a c e marked looked. no_cell c e;
-      marked_only = λ a c e other. no_cell c e;
-      old_references = λ a c e read. no_cell c e;
-      new_references = λ b d e. no_cell d e;
-      room = λ posted_phase. elim posted_phase [ inl e ↦ absurd (apart_mark e) | inr e ↦ absurd (apart_allocate e) ];
-    };
-    cursor = HasCursor-else Idle p empty (λ e. absurd cc) (λ e. absurd cc);
-    loaded = λ e. absurd cc;
-    marks = λ posted_phase. absurd (apart_mark posted_phase);
-    cleared = λ posted_phase. absurd cc;
-  }
-    where
-      apart_mark : Idle ≡ Mark → ⊥
-      apart_mark e = cc
-
-      apart_allocate : Idle ≡ Allocate → ⊥
-      apart_allocate e = cc
 
 -- ---- a cycle opens
 

@@ -35,12 +35,11 @@ statics_stay posted_phase m m' p statics stay pass number v there =
 pub set_here_or_there : {X : Type 0} (xs : List X) (n i : ℕ) (y x : X) → slice_get (slice_set xs n y) i ≡ Some x → ((i ≡ n) × (x ≡ y)) ⊎ ((i ≢ n) × (slice_get xs i ≡ Some x))
 set_here_or_there [] n i y x e = elim (none-some x e) [ ]
 set_here_or_there (z ∷ zs) zero zero y x e = inl (refl, sym (same_Some y x e))
-set_here_or_there (z ∷ zs) zero (suc i) y x e = inr ((λ same. absurd (omega (arith, same))), e)
-set_here_or_there (z ∷ zs) (suc n) zero y x e = inr ((λ same. absurd (omega (arith, same))), e)
 set_here_or_there (z ∷ zs) (suc n) (suc i) y x e = elim (set_here_or_there zs n i y x e) [
   | inl here ↦ inl (ap suc here.0, here.1)
   | inr there ↦ inr ((λ same. there.0 (let less : i ≡ n = omega (arith, same) in less)), there.1)
 ]
+set_here_or_there _ _ _ y x e = inr ((λ same. absurd (omega (arith, same))), e)
 
 -- ---- one more is flipped
 

@@ -1,10 +1,9 @@
 -- What a thread may hold before a store it may hold after it, and the store begins nothing of the collector's work.
 use Rattle.std.proofs.Common.{◌≡◌, ℕ, Bool, true, false, List, refl, sym, ◌∙◌, subst}
-use Rattle.std.specs.Prelude.{if◌then◌else◌, Option, Some, None}
+use Rattle.std.specs.Prelude.{if◌then◌else◌, Option, None}
 use Rattle.std.specs.Option.{option_map_or}
 use Rattle.cil_model.specs.declared.phases.Phase.{Phase}
 use Rattle.cil_model.specs.declared.phases.Phase.TheVariants.{Idle, Mark, Allocate, Copy, PreFlip, HeapFlip, ThreadFlip, Reclaim}
-use Rattle.cil_model.specs.declared.trees.Tree.{Tree}
 use Rattle.object_memory.specs.declared.addresses.Addr.{Addr}
 use Rattle.object_memory.specs.declared.monitors.Monitor.{Monitor}
 use Rattle.object_memory.specs.declared.values.Value.{Value}
@@ -13,13 +12,11 @@ use Rattle.object_memory.specs.Spaces.{Spaces, change_copies, is_old}
 use Rattle.object_memory.specs.Objects.{Objects, with_literal_monitor}
 use Rattle.object_memory.specs.Values.{value_word}
 use Rattle.barriers.specs.Barriers.{forward_value, reaches_both, stored_int, stored_monitor, stored_static, stored_value, with_both_monitors, with_marked}
-use Rattle.collector.specs.Soundness.{IsListed, IsSoundHeap}
-use Rattle.collector.specs.Holding.{HasNotBegun, Hold, passes}
+use Rattle.collector.specs.Soundness.{IsListed}
+use Rattle.collector.specs.Holding.{HasNotBegun}
 use Rattle.collector.specs.declared.progress.Progress.{Progress}
 use Rattle.collector.proofs.Addresses.TagChanges.{AreAlike, KeepsTags, alike_itself, change_alike, copies_alike, monitor_keeps_tags, slot_keeps_tags}
 use Rattle.collector.proofs.HeapStores.ReachedCopies.{changed_by}
-use Rattle.collector.proofs.Marking.MarksOfStores.{Grows, alike_grows, grows_itself, grows_then, passes_then, value_mark_grows, value_mark_not_begun}
-use Rattle.collector.proofs.HeapStores.StoreSoundness.{IsBesideHeap}
 
 -- ---- what is alike
 
@@ -30,11 +27,6 @@ alike_not_begun m n alike posted_phase has_round p late = record {
   no_round = late.no_round;
   all_grey = λ mark a h. subst (λ grey. IsListed grey a) (sym alike.grey) (late.all_grey mark a (sym (alike.marked a) ∙ h));
 }
-
--- each thread is beside the heap still
-pub still_beside : (tree : Tree) (own posted_phase : Phase) (has_round : Bool) (words : ℕ) (p : Progress) (o q : Objects) → (HasNotBegun posted_phase has_round p o.spaces → HasNotBegun posted_phase has_round p q.spaces) → IsSoundHeap tree posted_phase has_round words p q.spaces
-    → IsBesideHeap tree own posted_phase has_round words p o → IsBesideHeap tree own posted_phase has_round words p q
-still_beside tree own posted_phase has_round words p o q begun sound thread = record { beside = thread.beside; on_time = λ ne. begun (thread.on_time ne); sound = sound }
 
 -- the same addresses are live, marked and new after a change of one copy or both
 pub changed_alike : (both : Bool) (f g : Cell → Cell) → KeepsTags f → KeepsTags g → (o : Objects) (a : Addr) → AreAlike o.spaces (changed_by both f g o a).spaces
@@ -58,56 +50,18 @@ marked_first HeapFlip o v = o
 marked_first ThreadFlip o v = o
 marked_first Reclaim o v = o
 
-module _ (o : Objects) (v : Value) where
-  -- a mark only adds to what is marked
-  pub first_grows : (own : Phase) → Grows o.spaces (marked_first own o v).spaces
-  first_grows Idle = grows_itself o.spaces
-  first_grows Mark = value_mark_grows o v
-  first_grows Allocate = grows_itself o.spaces
-  first_grows Copy = grows_itself o.spaces
-  first_grows PreFlip = grows_itself o.spaces
-  first_grows HeapFlip = grows_itself o.spaces
-  first_grows ThreadFlip = grows_itself o.spaces
-  first_grows Reclaim = grows_itself o.spaces
-
-  -- and lists what it marks
-  pub first_not_begun : (own posted_phase : Phase) (has_round : Bool) (p : Progress) → HasNotBegun posted_phase has_round p o.spaces → HasNotBegun posted_phase has_round p (marked_first own o v).spaces
-  first_not_begun Idle posted_phase has_round p late = late
-  first_not_begun Mark posted_phase has_round p late = value_mark_not_begun posted_phase has_round p o v late
-  first_not_begun Allocate posted_phase has_round p late = late
-  first_not_begun Copy posted_phase has_round p late = late
-  first_not_begun PreFlip posted_phase has_round p late = late
-  first_not_begun HeapFlip posted_phase has_round p late = late
-  first_not_begun ThreadFlip posted_phase has_round p late = late
-  first_not_begun Reclaim posted_phase has_round p late = late
-
 slots_changed : (both : Bool) (o : Objects) (a : Addr) (slot w w' : ℕ) → AreAlike o.spaces (changed_by both (store_slot slot w) (store_slot slot w') o a).spaces
 slots_changed both o a slot w w' = changed_alike both (store_slot slot w) (store_slot slot w') (slot_keeps_tags slot w) (slot_keeps_tags slot w') o a
 
 module _ (o : Objects) (a : Addr) (slot : ℕ) (v : Value) where
   -- the same addresses are live, marked and new after a store as after its mark
   pub value_alike : (own : Phase) → AreAlike (marked_first own o v).spaces (stored_value own o a slot v).spaces
-  value_alike Idle = slots_changed false o a slot (value_word v) (value_word v)
   value_alike Mark = slots_changed false (with_marked o v) a slot (value_word v) (value_word v)
-  value_alike Allocate = slots_changed false o a slot (value_word v) (value_word v)
   value_alike Copy = slots_changed true o a slot (value_word v) (value_word (forward_value o v))
   value_alike PreFlip = slots_changed true o a slot (value_word v) (value_word (forward_value o v))
   value_alike HeapFlip = slots_changed true o a slot (value_word v) (value_word (forward_value o v))
   value_alike ThreadFlip = slots_changed true o a slot (value_word v) (value_word v)
-  value_alike Reclaim = slots_changed false o a slot (value_word v) (value_word v)
-
-  -- what was old, marked or new is so after a store
-  pub value_grows : (own : Phase) → Grows o.spaces (stored_value own o a slot v).spaces
-  value_grows own = grows_then o.spaces (marked_first own o v).spaces (stored_value own o a slot v).spaces (first_grows o v own) (alike_grows (marked_first own o v).spaces (stored_value own o a slot v).spaces (value_alike own))
-
-  -- each marked object is grey still, where each was
-  pub value_not_begun : (own posted_phase : Phase) (has_round : Bool) (p : Progress) → HasNotBegun posted_phase has_round p o.spaces → HasNotBegun posted_phase has_round p (stored_value own o a slot v).spaces
-  value_not_begun own posted_phase has_round p late =
-      alike_not_begun (marked_first own o v).spaces (stored_value own o a slot v).spaces (value_alike own) posted_phase has_round p (first_not_begun o v own posted_phase has_round p late)
-
-  -- what may be held may be held still
-  pub value_holds : (own : Phase) (hold : Hold) (posted_phase : Phase) (b : Addr) → passes hold posted_phase o.spaces b ≡ true → passes hold posted_phase (stored_value own o a slot v).spaces b ≡ true
-  value_holds own hold posted_phase b h = passes_then o.spaces (stored_value own o a slot v).spaces (value_grows own) hold posted_phase b h
+  value_alike _ = slots_changed false o a slot (value_word v) (value_word v)
 
 -- ---- words and monitors
 
@@ -122,26 +76,8 @@ module _ (own : Phase) (o : Objects) (a : Addr) where
     where
       by_both : (t : Bool) (r : Option ℕ) → AreAlike o.spaces (if t then option_map_or (with_literal_monitor o m) r (with_both_monitors o a m) else option_map_or (with_literal_monitor o m) r (changed_by false (store_monitor m) (store_monitor m) o a)).spaces
       by_both true None = changed_alike true (store_monitor m) (store_monitor m) (monitor_keeps_tags m) (monitor_keeps_tags m) o a
-      by_both true (Some n) = alike_itself o.spaces
       by_both false None = changed_alike false (store_monitor m) (store_monitor m) (monitor_keeps_tags m) (monitor_keeps_tags m) o a
-      by_both false (Some n) = alike_itself o.spaces
-
-  -- what may be held may be held still, after a word
-  pub word_holds : (slot word : ℕ) (hold : Hold) (posted_phase : Phase) (b : Addr) → passes hold posted_phase o.spaces b ≡ true → passes hold posted_phase (stored_int own o a slot word).spaces b ≡ true
-  word_holds slot word hold posted_phase b h = passes_then o.spaces (stored_int own o a slot word).spaces (alike_grows o.spaces (stored_int own o a slot word).spaces (word_alike slot word)) hold posted_phase b h
-
-  -- and after a monitor
-  pub monitor_holds : (m : Monitor) (hold : Hold) (posted_phase : Phase) (b : Addr) → passes hold posted_phase o.spaces b ≡ true → passes hold posted_phase (stored_monitor own o a m).spaces b ≡ true
-  monitor_holds m hold posted_phase b h = passes_then o.spaces (stored_monitor own o a m).spaces (alike_grows o.spaces (stored_monitor own o a m).spaces (monitor_alike m)) hold posted_phase b h
-
-  module _ (posted_phase : Phase) (has_round : Bool) (p : Progress) (late : HasNotBegun posted_phase has_round p o.spaces) where
-    -- a collector that has not begun has not begun still, after a word
-    pub word_not_begun : (slot word : ℕ) → HasNotBegun posted_phase has_round p (stored_int own o a slot word).spaces
-    word_not_begun slot word = alike_not_begun o.spaces (stored_int own o a slot word).spaces (word_alike slot word) posted_phase has_round p late
-
-    -- and after a monitor
-    pub monitor_not_begun : (m : Monitor) → HasNotBegun posted_phase has_round p (stored_monitor own o a m).spaces
-    monitor_not_begun m = alike_not_begun o.spaces (stored_monitor own o a m).spaces (monitor_alike m) posted_phase has_round p late
+      by_both _ _ = alike_itself o.spaces
 
 -- ---- static fields
 
@@ -149,22 +85,4 @@ module _ (o : Objects) (statics : List Value) (number : ℕ) (v : Value) where
   -- a thread in Mark alone changes the heap, by a mark
   pub static_marks : (own : Phase) → (stored_static own o statics number v).0 ≡ marked_first own o v
   static_marks Idle = refl
-  static_marks Mark = refl
-  static_marks Allocate = refl
-  static_marks Copy = refl
-  static_marks PreFlip = refl
-  static_marks HeapFlip = refl
-  static_marks ThreadFlip = refl
-  static_marks Reclaim = refl
-
-  -- what was old, marked or new is so after a store to a static field
-  pub static_grows : (own : Phase) → Grows o.spaces (stored_static own o statics number v).0.spaces
-  static_grows own = subst (λ (q : Objects). Grows o.spaces q.spaces) (sym (static_marks own)) (first_grows o v own)
-
-  -- what may be held may be held still
-  pub static_holds : (own : Phase) (hold : Hold) (posted_phase : Phase) (b : Addr) → passes hold posted_phase o.spaces b ≡ true → passes hold posted_phase (stored_static own o statics number v).0.spaces b ≡ true
-  static_holds own hold posted_phase b h = passes_then o.spaces (stored_static own o statics number v).0.spaces (static_grows own) hold posted_phase b h
-
-  -- each marked object is grey still, where each was
-  pub static_not_begun : (own posted_phase : Phase) (has_round : Bool) (p : Progress) → HasNotBegun posted_phase has_round p o.spaces → HasNotBegun posted_phase has_round p (stored_static own o statics number v).0.spaces
-  static_not_begun own posted_phase has_round p late = subst (λ (q : Objects). HasNotBegun posted_phase has_round p q.spaces) (sym (static_marks own)) (first_not_begun o v own posted_phase has_round p late)
+  static_marks _ = refl

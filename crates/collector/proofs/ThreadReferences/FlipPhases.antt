@@ -2,7 +2,7 @@
 use Rattle.std.proofs.Common.{◌≡◌, Bool, true, List, sym, subst}
 use Rattle.std.specs.Prelude.{Option}
 use Rattle.cil_model.specs.declared.phases.Phase.{Phase}
-use Rattle.cil_model.specs.declared.phases.Phase.TheVariants.{Allocate, Copy, HeapFlip, Idle, Mark, PreFlip, Reclaim, ThreadFlip}
+use Rattle.cil_model.specs.declared.phases.Phase.TheVariants.{HeapFlip, PreFlip, Reclaim, ThreadFlip}
 use Rattle.object_memory.specs.declared.addresses.Addr.{Addr}
 use Rattle.object_memory.specs.Spaces.{Spaces, close_cycle}
 use Rattle.phase_handshake.specs.Handshakes.{Handshakes, posted_next}
@@ -20,25 +20,15 @@ module _ (has_round : Bool) (seats : List (Option Seat)) (answered : Bool) (m : 
 
   -- with each phase by its name
   flip_by : (posted_phase : Phase) → is_flip posted_phase ≡ true → may_hold (posts posted_phase) m (seat_in posted_phase) a ≡ true → may_hold (posted_next (posts posted_phase)) m (seat_in posted_phase) a ≡ true
-  flip_by Idle e held = absurd cc
-  flip_by Mark e held = absurd cc
-  flip_by Allocate e held = absurd cc
-  flip_by Copy e held = absurd cc
   flip_by PreFlip e held = held
   flip_by HeapFlip e held = held
   flip_by ThreadFlip e held = held
-  flip_by Reclaim e held = absurd cc
+  flip_by _ e held = absurd cc
 
   -- after the last phase the new block is the only one
   end_by : (posted_phase : Phase) → posted_phase ≡ Reclaim → may_hold (posts posted_phase) m (seat_in posted_phase) a ≡ true → may_hold (posted_next (posts posted_phase)) (close_cycle m) (seat_in posted_phase) a ≡ true
-  end_by Idle e held = absurd cc
-  end_by Mark e held = absurd cc
-  end_by Allocate e held = absurd cc
-  end_by Copy e held = absurd cc
-  end_by PreFlip e held = absurd cc
-  end_by HeapFlip e held = absurd cc
-  end_by ThreadFlip e held = absurd cc
   end_by Reclaim e held = held
+  end_by _ e held = absurd cc
 
 module _ (h : Handshakes) (seat : Seat) (seen : seat.phase ≡ h.posted_phase) (m : Spaces) (a : Addr) where
   abbrev seat_at : Phase → Seat

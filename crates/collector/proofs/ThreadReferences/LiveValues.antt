@@ -1,8 +1,8 @@
 -- What a thread may hold is live, and lies in the heap; and which values may be stored in which slots.
 use Rattle.std.proofs.Common.{◌≡◌, inl, inr, ℕ, ◌<◌, Bool, true, false, refl, sym, ap, ◌∙◌, subst, arith}
-use Rattle.std.specs.Prelude.{◌%◌, ◌==◌, ◌||◌, ◌&&◌, not, if◌then◌else◌, is_some, Option, Some, None}
+use Rattle.std.specs.Prelude.{◌==◌, ◌||◌, ◌&&◌, not, if◌then◌else◌, is_some, Option, Some, None}
 use Rattle.cil_model.specs.declared.phases.Phase.{Phase}
-use Rattle.cil_model.specs.declared.phases.Phase.TheVariants.{Idle, Mark, Allocate, Copy, PreFlip, HeapFlip, ThreadFlip, Reclaim}
+use Rattle.cil_model.specs.declared.phases.Phase.TheVariants.{Idle, Mark, Allocate, Copy, Reclaim}
 use Rattle.cil_model.specs.declared.trees.Tree.{Tree}
 use Rattle.object_memory.specs.declared.addresses.Addr.{Addr}
 use Rattle.object_memory.specs.declared.addresses.TheConstants.{ADDRESSES}
@@ -12,9 +12,7 @@ use Rattle.object_memory.specs.declared.values.Value.TheVariants.{Int32, Int64, 
 use Rattle.object_memory.specs.Cells.{Cell, cell_in, literal_number}
 use Rattle.object_memory.specs.Spaces.{Spaces, cell_at, first_of, is_old, is_there}
 use Rattle.object_memory.specs.Objects.{Objects, object_cell}
-use Rattle.object_memory.specs.declared.values.ValueKind.{ValueKind}
-use Rattle.object_memory.specs.declared.values.ValueKind.TheVariants.{Int32 as Int32Kind, Int64 as Int64Kind, Native as NativeKind, Ref as RefKind}
-use Rattle.object_memory.specs.Values.{value_in, value_word}
+use Rattle.object_memory.specs.Values.{value_word}
 use Rattle.barriers.specs.Barriers.{is_value_there}
 use Rattle.phase_handshake.specs.Handshakes.{Handshakes}
 use Rattle.phase_handshake.specs.declared.posts.Seat.{Seat}
@@ -23,7 +21,7 @@ use Rattle.collector.specs.Phases.{is_live, is_live_object, is_marked_address, i
 use Rattle.collector.specs.Holding.{AnyLive, Hold, MarkedOnly, NewOnly, hold_of, is_flipping, is_marking, may_hold, passes}
 use Rattle.collector.proofs.Addresses.Disjunctions.{false_is_true, either_true, or_second, or_more, or_of_three}
 use Rattle.collector.proofs.Addresses.LiveForwards.{marked_is_some, flipping_has_new, new_is_live}
-use Rattle.collector.proofs.Marking.MarksOfStores.{Grows, passes_then, value_weakens}
+use Rattle.collector.proofs.Marking.MarksOfStores.{Grows, passes_then}
 
 -- ---- threads
 
@@ -37,8 +35,7 @@ held_is_live own posted_phase m a held = by_tests (is_flipping own) (is_flipping
   where
     by_tests : (s t : Bool) → is_flipping posted_phase ≡ t → passes (if s && t then NewOnly else AnyLive) posted_phase m a ≡ true → is_live posted_phase m a ≡ true
     by_tests true true flipping h = new_is_live posted_phase m a (flipping_has_new posted_phase flipping) h
-    by_tests true false flipping h = h
-    by_tests false t flipping h = h
+    by_tests _ _ flipping h = h
 
 -- from its own flip on a thread holds what is new
 pub held_is_new : (own posted_phase : Phase) (m : Spaces) (a : Addr) → is_flipping own ≡ true → is_flipping posted_phase ≡ true → passes (held_by own posted_phase) posted_phase m a ≡ true → is_new_address m a ≡ true
@@ -47,24 +44,16 @@ held_is_new own posted_phase m a flipping flipping' held =
     subst (λ t. passes (if t then NewOnly else AnyLive) posted_phase m a ≡ true) both held
 
 marked_is_live : (posted_phase : Phase) (m : Spaces) (a : Addr) → is_marking posted_phase ≡ true → is_marked_address m a ≡ true → is_live posted_phase m a ≡ true
-marked_is_live Idle m a marking marked = false_is_true marking
 marked_is_live Mark m a marking marked = or_more (is_permanent a) (is_marked_old m a) (is_old m a) (marked_is_some (cell_in m.old a)) marked
-marked_is_live Allocate m a marking marked = false_is_true marking
-marked_is_live Copy m a marking marked = false_is_true marking
-marked_is_live PreFlip m a marking marked = false_is_true marking
-marked_is_live HeapFlip m a marking marked = false_is_true marking
-marked_is_live ThreadFlip m a marking marked = false_is_true marking
-marked_is_live Reclaim m a marking marked = false_is_true marking
+marked_is_live _ m a marking marked = false_is_true marking
 
 -- a thread that answered a round holds less
 pub may_hold_is_held : (h : Handshakes) (m : Spaces) (seat : Seat) (a : Addr) → may_hold h m seat a ≡ true → passes (held_by seat.phase h.posted_phase) h.posted_phase m a ≡ true
 may_hold_is_held h m seat a held = by_tests (is_flipping seat.phase && is_flipping h.posted_phase) (is_marking h.posted_phase) refl (h.has_round && (seat.answered && not m.has_marked)) held
   where
     by_tests : (s t : Bool) → is_marking h.posted_phase ≡ t → (u : Bool) → passes (if s then NewOnly else if t && u then MarkedOnly else AnyLive) h.posted_phase m a ≡ true → passes (if s then NewOnly else AnyLive) h.posted_phase m a ≡ true
-    by_tests true t marking u e = e
     by_tests false true marking true e = marked_is_live h.posted_phase m a marking e
-    by_tests false true marking false e = e
-    by_tests false false marking u e = e
+    by_tests _ _ marking _ e = e
 
 -- what a thread may hold it may hold still
 pub may_hold_then : (h : Handshakes) (m n : Spaces) (seat : Seat) (a : Addr) → Grows m n → may_hold h m seat a ≡ true → may_hold h n seat a ≡ true
@@ -109,23 +98,7 @@ reference_again a short = below_itself a.number short
 -- a value that passes, in a slot of references exactly where it is one
 pub passes_in_slot : (tree : Tree) (test : Test) (kind : Kind) (slot : ℕ) (v : Value) → IsShort v → is_reference v ≡ holds_reference tree kind slot → ValuePasses test v → holds_reference tree kind slot ≡ true → test (reference_in (value_word v)) ≡ true
 passes_in_slot tree test kind slot (Ref a) short same passing link = subst (λ x. test x ≡ true) (sym (reference_again a short)) passing
-passes_in_slot tree test kind slot (Int32 n) short same passing link = false_is_true (same ∙ link)
-passes_in_slot tree test kind slot (Int64 n) short same passing link = false_is_true (same ∙ link)
-passes_in_slot tree test kind slot (Native n) short same passing link = false_is_true (same ∙ link)
-
--- a value that is read from a word is short
-pub read_is_short : (kind : ValueKind) (word : ℕ) → IsShort (value_in kind word)
-read_is_short Int32Kind word = tt
-read_is_short Int64Kind word = tt
-read_is_short NativeKind word = tt
-read_is_short RefKind word = below_all word
-  where
-    below_all : (n : ℕ) → n % ADDRESSES < ADDRESSES
-    below_all n = omega arith
-
--- what a seat may hold is held by its phase
-pub seat_passes : (h : Handshakes) (m : Spaces) (seat : Seat) (v : Value) → ValuePasses (may_hold h m seat) v → ValuePasses (passes (held_by seat.phase h.posted_phase) h.posted_phase m) v
-seat_passes h m seat v held = value_weakens (may_hold h m seat) (passes (held_by seat.phase h.posted_phase) h.posted_phase m) (may_hold_is_held h m seat) v held
+passes_in_slot tree test kind slot _ short same passing link = false_is_true (same ∙ link)
 
 -- ---- what is live is there
 
@@ -154,10 +127,8 @@ object_there Idle m a e = old_there m a e
 object_there Mark m a e = old_there m a e
 object_there Allocate m a e = marked_there m a e
 object_there Copy m a e = marked_there m a e
-object_there PreFlip m a e = marked_or_new_there m a e
-object_there HeapFlip m a e = marked_or_new_there m a e
-object_there ThreadFlip m a e = marked_or_new_there m a e
 object_there Reclaim m a e = new_there m a e
+object_there _ m a e = marked_or_new_there m a e
 
 -- what is live is null, a literal, or an object of the heap
 pub live_is_there : (posted_phase : Phase) (o : Objects) (a : Addr) → is_live posted_phase o.spaces a ≡ true → is_there o.spaces a ≡ true
@@ -171,6 +142,4 @@ live_is_there posted_phase o a live = elim (either_true (is_permanent a) (is_liv
 -- and so is a value that is live, or an integer
 pub live_value_is_there : (posted_phase : Phase) (o : Objects) (v : Value) → ValuePasses (is_live posted_phase o.spaces) v → is_value_there o v ≡ true
 live_value_is_there posted_phase o (Ref a) live = live_is_there posted_phase o a live
-live_value_is_there posted_phase o (Int32 n) live = refl
-live_value_is_there posted_phase o (Int64 n) live = refl
-live_value_is_there posted_phase o (Native n) live = refl
+live_value_is_there posted_phase o _ live = refl

@@ -3,14 +3,14 @@ use Rattle.std.proofs.Common.{◌≡◌, ℕ, Bool, true, false, refl, sym, subs
 use Rattle.std.specs.Prelude.{◌&&◌, not, if◌then◌else◌, Some}
 use Rattle.std.proofs.lemmas.Bool.{and_parts}
 use Rattle.cil_model.specs.declared.phases.Phase.{Phase}
-use Rattle.cil_model.specs.declared.phases.Phase.TheVariants.{Idle, Mark, Allocate, Copy, PreFlip, HeapFlip, ThreadFlip, Reclaim}
+use Rattle.cil_model.specs.declared.phases.Phase.TheVariants.{Idle, Mark, Allocate, ThreadFlip, Reclaim}
 use Rattle.object_memory.specs.declared.addresses.Addr.{Addr}
 use Rattle.object_memory.specs.Spaces.{Spaces, open_cycle}
 use Rattle.object_memory.specs.Objects.{Objects}
 use Rattle.phase_handshake.specs.Handshakes.{Handshakes, has_answered, posted_round, seat_of}
 use Rattle.phase_handshake.specs.declared.posts.Seat.{Seat}
 use Rattle.phase_handshake.proofs.Closeness.{passes_at, seat_there}
-use Rattle.collector.specs.Phases.{is_live, is_marked_address, is_new_address, no_progress}
+use Rattle.collector.specs.Phases.{is_live, is_marked_address, is_new_address}
 use Rattle.collector.specs.Marking.{is_closed}
 use Rattle.collector.specs.Holding.{AnyLive, Hold, MarkedOnly, NewOnly, hold_of, is_flipping, is_marking, may_hold, passes, static_hold_of, static_may_hold}
 use Rattle.collector.specs.declared.progress.Progress.{Progress}
@@ -68,14 +68,9 @@ static_loads h m p seat number scanned a held = by_flip (is_flipping seat.phase 
     live = static_may_hold_live h.posted_phase m p number a held
 
     flipped : (posted_phase : Phase) → is_flipping posted_phase ≡ true → static_may_hold posted_phase m p number a ≡ true → is_new_address m a ≡ true
-    flipped Idle e s = never e
-    flipped Mark e s = never e
-    flipped Allocate e s = never e
-    flipped Copy e s = never e
-    flipped PreFlip e s = never e
-    flipped HeapFlip e s = never e
     flipped ThreadFlip e s = s
     flipped Reclaim e s = s
+    flipped _ e s = never e
 
     marked : h.posted_phase ≡ Mark → h.has_round ≡ true → is_marked_address m a ≡ true
     marked e round =
@@ -105,8 +100,7 @@ noted_any h m seat e = subst (λ b. (is_marking h.posted_phase && (h.has_round &
   where
     never_all : (x y z : Bool) → (x && (y && (z && false))) ≡ false
     never_all true true z = no_end z
-    never_all true false z = refl
-    never_all false y z = refl
+    never_all _ _ z = refl
 
 -- marks leave what threads may hold
 pub stays_held : (h : Handshakes) (m n : Spaces) (seat : Seat) → AreDarker m n → (m.has_marked ≡ true → n.has_marked ≡ true) → (a : Addr)
@@ -136,10 +130,6 @@ opened_held h k m words seat next was now round a held =
     (rw now (no_end (is_flipping next.phase)))
     (rw (now, round) refl)
     (rw now live)
-
-pub opened_held-static : (m : Spaces) (words : ℕ) (p : Progress) (number : ℕ) (a : Addr) → static_may_hold Idle m p number a ≡ true
-    → static_may_hold Mark (open_cycle m words) no_progress number a ≡ true
-opened_held-static m words p number a held = held
 
 -- ---- a round is posted
 

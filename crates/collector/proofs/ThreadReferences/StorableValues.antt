@@ -5,7 +5,7 @@ use Rattle.std.specs.Option.{option_map_or}
 use Rattle.std.proofs.lemmas.Bool.Decides.{nat_tests}
 use Rattle.std.proofs.lemmas.Option.{same_Some}
 use Rattle.cil_model.specs.declared.phases.Phase.{Phase}
-use Rattle.cil_model.specs.declared.phases.Phase.TheVariants.{Idle, Mark, Allocate, Copy, PreFlip, HeapFlip, ThreadFlip, Reclaim}
+use Rattle.cil_model.specs.declared.phases.Phase.TheVariants.{Mark, PreFlip, HeapFlip}
 use Rattle.cil_model.specs.declared.trees.Tree.{Tree}
 use Rattle.object_memory.specs.declared.addresses.Addr.{Addr}
 use Rattle.object_memory.specs.declared.values.Value.{Value}
@@ -13,7 +13,7 @@ use Rattle.object_memory.specs.Cells.{Cell, cell_in}
 use Rattle.object_memory.specs.Spaces.{AreSpaces, Spaces, is_old, other_of}
 use Rattle.object_memory.specs.Objects.{Objects, object_cell, object_slots}
 use Rattle.object_memory.proofs.TwoBlocks.{apart, either, new_is_cell, not_old, old_is_cell}
-use Rattle.barriers.specs.Barriers.{is_monitor_storable, is_other_alike, is_other_there, is_static_storable, is_storable, is_value_there, is_word_storable, reaches_both}
+use Rattle.barriers.specs.Barriers.{is_monitor_storable, is_other_alike, is_other_there, is_static_storable, is_value_there, is_word_storable, reaches_both}
 use Rattle.collector.specs.References.{ValuePasses}
 use Rattle.collector.specs.Phases.{is_live, is_of_cycle}
 use Rattle.collector.specs.Soundness.{IsSoundHeap}
@@ -22,7 +22,7 @@ use Rattle.collector.specs.declared.progress.Progress.{Progress}
 use Rattle.collector.proofs.HeapStores.ReachedCopies.{IsBeside}
 use Rattle.collector.proofs.Marking.MarksOfStores.{value_weakens}
 use Rattle.collector.proofs.ThreadReferences.LiveValues.{held_by, held_is_live, live_value_is_there}
-use Rattle.collector.proofs.HeapStores.StoreSoundness.{IsBesideHeap, IsHeldObject, IsHeldValue}
+use Rattle.collector.proofs.HeapStores.StoreSoundness.{IsBesideHeap, IsHeldObject}
 
 -- ---- the other copy
 
@@ -111,17 +111,6 @@ module _ (tree : Tree) (posted_phase : Phase) (has_round : Bool) (words : ℕ) (
   held_is_there own v held = live_value_is_there posted_phase o v (value_weakens (passes (held_by own posted_phase) posted_phase o.spaces) (is_live posted_phase o.spaces) (held_is_live own posted_phase o.spaces) v held)
 
   module _ (a : Addr) (c : Cell) (slot : ℕ) (inside : slot < length c.slots) where
-    -- a value in a slot
-    pub value_is_storable : (own : Phase) (v : Value) → IsBesideHeap tree own posted_phase has_round words p o → IsHeldObject own posted_phase o a c → IsHeldValue tree own posted_phase o c.kind slot v → is_storable own o a slot v ≡ true
-    value_is_storable Idle v thread object value = refl
-    value_is_storable Mark v thread object value = both_true o.spaces.is_open (is_value_there o v) (thread.sound.blocks.held ∙ open_beside posted_phase thread.beside) (held_is_there Mark v value.held)
-    value_is_storable Allocate v thread object value = refl
-    value_is_storable Copy v thread object value = both_true (is_value_there o v) (is_other_alike o a slot) (held_is_there Copy v value.held) (other_is_alike tree posted_phase has_round words p o thread.sound a c slot object.lies inside)
-    value_is_storable PreFlip v thread object value = both_true (is_value_there o v) (is_other_alike o a slot) (held_is_there PreFlip v value.held) (other_is_alike tree posted_phase has_round words p o thread.sound a c slot object.lies inside)
-    value_is_storable HeapFlip v thread object value = both_true (is_value_there o v) (is_other_alike o a slot) (held_is_there HeapFlip v value.held) (other_is_alike tree posted_phase has_round words p o thread.sound a c slot object.lies inside)
-    value_is_storable ThreadFlip v thread object value = other_is_alike tree posted_phase has_round words p o thread.sound a c slot object.lies inside
-    value_is_storable Reclaim v thread object value = refl
-
     -- a word in a slot
     pub word_is_storable : (own : Phase) → IsBesideHeap tree own posted_phase has_round words p o → IsHeldObject own posted_phase o a c → is_word_storable own o a slot ≡ true
     word_is_storable own thread object = by_both (reaches_both own)
@@ -140,11 +129,7 @@ module _ (tree : Tree) (posted_phase : Phase) (has_round : Bool) (words : ℕ) (
 
   -- a value in a static field
   pub static_is_storable : (own : Phase) (v : Value) → IsBesideHeap tree own posted_phase has_round words p o → ValuePasses (passes (held_by own posted_phase) posted_phase o.spaces) v → is_static_storable own o v ≡ true
-  static_is_storable Idle v thread held = refl
   static_is_storable Mark v thread held = both_true o.spaces.is_open (is_value_there o v) (thread.sound.blocks.held ∙ open_beside posted_phase thread.beside) (held_is_there Mark v held)
-  static_is_storable Allocate v thread held = refl
-  static_is_storable Copy v thread held = refl
   static_is_storable PreFlip v thread held = held_is_there PreFlip v held
   static_is_storable HeapFlip v thread held = held_is_there HeapFlip v held
-  static_is_storable ThreadFlip v thread held = refl
-  static_is_storable Reclaim v thread held = refl
+  static_is_storable _ v thread held = refl

@@ -1,11 +1,10 @@
 -- A set of threads that wait for one another keeps waiting, up to the step that uses up the budget of one.
-use Rattle.std.proofs.Common.{◌≡◌, ◌⊎◌, ◌==◌, ◌-◌, is_none, ℕ, zero, suc, Bool, true, false, if◌then◌else◌, List, [], ◌∷◌, Option, Some, None, option_map, option_and_then, unwrap_or, slice_get, slice_set, refl, inl, inr, sym, ap, ◌∙◌, subst}
+use Rattle.std.proofs.Common.{◌≡◌, ◌⊎◌, ◌==◌, ◌-◌, ℕ, zero, suc, Bool, true, false, if◌then◌else◌, List, [], ◌∷◌, Option, Some, None, option_map, option_and_then, unwrap_or, slice_get, slice_set, refl, inl, inr, sym, ap, ◌∙◌, subst}
 use Rattle.std.specs.Option.{option_map_or}
 use Rattle.std.proofs.lemmas.Bool.{eqb-true}
-use Rattle.std.proofs.lemmas.Option.{option_and_then_some, same_Some}
+use Rattle.std.proofs.lemmas.Option.{same_Some}
 use Rattle.cil_model.specs.declared.instructions.Instruction.{Instruction}
 use Rattle.cil_model.specs.declared.limits.Limits.{Limits}
-use Rattle.cil_model.specs.declared.reports.End.{End}
 use Rattle.cil_model.specs.declared.reports.End.TheVariants.{Done, Budget, Fault as ByFault}
 use Rattle.cil_model.specs.declared.reports.Report.{Report}
 use Rattle.cil_model.specs.declared.reports.Report.TheVariants.{Ran, Blocked, Ended, Absent}
@@ -13,20 +12,20 @@ use Rattle.cil_model.specs.declared.trees.Tree.{Tree}
 use Rattle.cil_model.specs.Typings.{IsAccepted}
 use Rattle.cil_model.proofs.Lists.{none_is_some, set_is_there}
 use Rattle.cil_model.proofs.SameLaws.{not_both}
-use Rattle.reference_machine.specs.BuiltIn.{Action, Construct, Write, Enter, Exit, Start, Join}
+use Rattle.reference_machine.specs.BuiltIn.{Action, Enter, Join}
 use Rattle.reference_machine.specs.Effects.{Setting, Effect, Goes, Blocks, Raises, Sticks}
 use Rattle.reference_machine.specs.Runs.{StepRequest, RunsTo, followed_by, run}
-use Rattle.reference_machine.specs.States.{Monitor, Free, Held, HeapObject, Frame, Thread, State, is_live, is_live_thread, monitor_of, object_at}
-use Rattle.reference_machine.specs.Steps.{StepOutcome, Answers, Stuck, effect_of, ended_as, continues, instruction_at, charge, step, step_of, with_thread_at}
+use Rattle.reference_machine.specs.States.{Monitor, Held, HeapObject, Frame, Thread, State, is_live, is_live_thread, monitor_of, object_at}
+use Rattle.reference_machine.specs.Steps.{Answers, Stuck, effect_of, continues, instruction_at, charge, step, step_of, with_thread_at}
 use Rattle.reference_machine.specs.Values.{ObjectName, Born, Literal, Value}
 use Rattle.reference_machine.proofs.Runs.JoinedRuns.{after_run}
-use Rattle.reference_machine.proofs.Runs.InstructionEffects.{same_after}
-use Rattle.reference_machine.specs.TypedStates.{AreTypedFrames, IsTyped}
+use Rattle.reference_machine.proofs.Runs.InstructionEffects.{goes, same_after}
+use Rattle.reference_machine.specs.TypedStates.{IsTyped}
 use Rattle.reference_machine.proofs.TypedSteps.AllInstructions.{instruction_typed}
 use Rattle.reference_machine.proofs.TypedSteps.StepsAndRuns.{step_typed}
 use Rattle.reference_machine.specs.Waits.{Wait, ForMonitor, ForEnd, called_action, end_awaited, held_by_another, top_object, wait_by, wait_in, wait_of, wait_of_thread}
 use Rattle.reference_machine.specs.Blocking.{HasEnded, IsBlockedSet, IsHeldUp, IsIn, StaysBlocked}
-use Rattle.reference_machine.proofs.Deadlocks.BlockingInstructions.{IsWaiting, LeavesOthers, goes, blocks, raises, sticks, effect_keeps}
+use Rattle.reference_machine.proofs.Deadlocks.BlockingInstructions.{LeavesOthers, effect_keeps}
 use Rattle.reference_machine.proofs.Deadlocks.OtherThreads.{KeepsOthers, itself_keeps, moved_keeps, set_elsewhere}
 use Rattle.reference_machine.proofs.Deadlocks.WaitingThreads.{waiting_thread_blocks}
 
@@ -53,9 +52,8 @@ module _ (these : ℕ → Type 0) (s after : State) (holds : Holds these s after
       by_owner n owner count false e = subst (IsForThese these) (sym (same_Some (ForMonitor n owner) w e)) others
 
       by_monitor : (n : ObjectName) (m : Option Monitor) → monitor_of s n ≡ m → option_and_then (held_by_another n u) m ≡ Some w → option_and_then (held_by_another n u) (monitor_of after n) ≡ Some w
-      by_monitor n None is e = none_is_some w e
-      by_monitor n (Some Free) is e = none_is_some w e
       by_monitor n (Some (Held owner count)) is e = ap (option_and_then (held_by_another n u)) (holds.monitors n owner count (by_owner n owner count (owner == u) e) is) ∙ e
+      by_monitor n _ is e = none_is_some w e
 
       by_object : (o : Option ObjectName) → option_and_then (λ n. option_and_then (held_by_another n u) (monitor_of s n)) o ≡ Some w → option_and_then (λ n. option_and_then (held_by_another n u) (monitor_of after n)) o ≡ Some w
       by_object None e = none_is_some w e
@@ -90,10 +88,7 @@ module _ (these : ℕ → Type 0) (s after : State) (holds : Holds these s after
   acts_still : (a : Action) (stack : List Value) → wait_by s u a stack ≡ Some w → wait_by after u a stack ≡ Some w
   acts_still Enter stack h = enters_still stack h
   acts_still Join stack h = joins_still stack h
-  acts_still Construct stack h = none_is_some w h
-  acts_still Write stack h = none_is_some w h
-  acts_still Exit stack h = none_is_some w h
-  acts_still Start stack h = none_is_some w h
+  acts_still _ stack h = none_is_some w h
 
   module _ (tree : Tree) where
     frame_waits : (f : Frame) → wait_in tree s u f ≡ Some w → wait_in tree after u f ≡ Some w
@@ -329,7 +324,7 @@ module _ (tree : Tree) (limits : Limits) (accepted : IsAccepted tree) (set : Lis
 
       outside_lasts : (IsIn set t → ⊥) → (left : ℕ) (frames : List Frame) → charge s t left frames (effect_of here s frames) ≡ Answers r next → Lasts
       outside_lasts outside left [] h = no_answer r next h
-      outside_lasts outside left (f ∷ below) h = step_charged_lasts outside f left (f ∷ below) (effect_of here s (f ∷ below)) (effect_keeps here accepted.legal s f below) h
+      outside_lasts outside left (f ∷ below) h = step_charged_lasts outside f left (f ∷ below) (effect_of here s (f ∷ below)) (effect_keeps here s f below) h
 
       live_lasts : charge s t (x.steps_left - 1) x.frames (effect_of here s x.frames) ≡ Answers r next → Lasts
       live_lasts h = by_membership (slice_get set t) refl

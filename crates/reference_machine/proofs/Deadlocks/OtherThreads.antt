@@ -9,18 +9,17 @@ use Rattle.cil_model.specs.Fields.{FieldKey}
 use Rattle.cil_model.proofs.Lists.{none_is_some, get_before, set_is_there}
 use Rattle.cil_model.proofs.SameLaws.{not_both, same_text_equal}
 use Rattle.reference_machine.specs.Values.{ObjectName, Born, Literal, Value}
-use Rattle.reference_machine.specs.States.{Monitor, Free, Held, Contents, Array, HeapObject, Thread, State, entry_at, with_entry, replaced_entry, replaced_at, fields_of_contents, elements_of_contents, with_fields, with_field, with_element, object_at, with_object, monitor_of, with_monitor, with_birth}
+use Rattle.reference_machine.specs.States.{Monitor, Held, Contents, Array, HeapObject, Thread, State, entry_at, with_entry, replaced_entry, replaced_at, fields_of_contents, elements_of_contents, with_fields, with_field, with_element, object_at, with_object, monitor_of, with_monitor, with_birth}
 use Rattle.reference_machine.proofs.Runs.StateChanges.{entry_kept, text_equivalence}
 
 -- an item stays where another index changes
 pub set_elsewhere : {X : Type 0} (xs : List X) (n m : ℕ) (y x : X) → (m == n) ≡ false → slice_get xs m ≡ Some x → slice_get (slice_set xs n y) m ≡ Some x
 set_elsewhere [] n m y x apart e = none_is_some x e
 set_elsewhere (z ∷ zs) zero zero y x apart e = not_both true apart refl
-set_elsewhere (z ∷ zs) zero (suc m) y x apart e = e
-set_elsewhere (z ∷ zs) (suc n) zero y x apart e = e
 set_elsewhere (z ∷ zs) (suc n) (suc m) y x apart e =
     let below : (m == n) ≡ false = grind (arith, nat_tests, apart) in
     set_elsewhere zs n m y x below e
+set_elsewhere _ _ _ y x apart e = e
 
 -- a monitor that another thread than t holds stays so
 abbrev pub KeepsMonitor : ℕ → Option Monitor → Option Monitor → Type 0

@@ -1,23 +1,16 @@
 -- Where not all live threads are deadlocked, one of them can make progress; and what a thread's step reports says whether it waits.
-use Rattle.std.proofs.Common.{◌≡◌, ◌≢◌, ◌⊎◌, ◌==◌, ◌-◌, ◌<◌, ◌≤◌, is_none, ℕ, zero, suc, Bool, true, false, if◌then◌else◌, List, [], ◌∷◌, length, map, Option, Some, None, option_map, option_and_then, unwrap_or, slice_get, refl, inl, inr, sym, ap, ◌∙◌, subst, arith}
-use Rattle.std.specs.Option.{option_map_or}
+use Rattle.std.proofs.Common.{◌≡◌, ◌⊎◌, ◌==◌, ◌-◌, ◌<◌, ℕ, zero, suc, Bool, true, false, if◌then◌else◌, List, length, map, Option, Some, None, option_map, option_and_then, unwrap_or, slice_get, refl, inl, inr, sym, ap, ◌∙◌, subst, arith}
 use Rattle.std.proofs.lemmas.Bool.{eqb-true}
 use Rattle.std.proofs.lemmas.Bool.Decides.{nat_tests}
 use Rattle.std.proofs.lemmas.Option.{option_and_then_some, same_Some, slice_get-map, slice_get_within}
-use Rattle.cil_model.specs.declared.instructions.Instruction.{Instruction}
-use Rattle.cil_model.specs.declared.limits.Limits.{Limits}
-use Rattle.cil_model.specs.declared.reports.End.TheVariants.{Done, Budget, Fault as ByFault}
-use Rattle.cil_model.specs.declared.reports.Report.{Report}
-use Rattle.cil_model.specs.declared.reports.Report.TheVariants.{Ran, Blocked, Ended, Absent}
 use Rattle.cil_model.specs.declared.trees.Tree.{Tree}
-use Rattle.cil_model.specs.Typings.{IsAccepted}
 use Rattle.cil_model.proofs.Lists.{none_is_some}
 use Rattle.cil_model.proofs.SameLaws.{not_both}
-use Rattle.reference_machine.specs.BuiltIn.{Action, Construct, Write, Enter, Exit, Start, Join}
-use Rattle.reference_machine.specs.States.{Monitor, Free, Held, HeapObject, Frame, Thread, State, is_live, is_live_thread, monitor_of, object_at}
+use Rattle.reference_machine.specs.BuiltIn.{Action, Enter, Join}
+use Rattle.reference_machine.specs.States.{Monitor, Held, HeapObject, Thread, State, is_live, is_live_thread, monitor_of, object_at}
 use Rattle.reference_machine.specs.Steps.{instruction_at}
 use Rattle.reference_machine.specs.Values.{ObjectName, Value}
-use Rattle.reference_machine.specs.Waits.{Wait, ForMonitor, ForEnd, called_action, end_awaited, held_by_another, top_object, wait_by, wait_in, wait_of, wait_of_thread}
+use Rattle.reference_machine.specs.Waits.{Wait, ForMonitor, ForEnd, called_action, end_awaited, held_by_another, top_object, wait_by, wait_in, wait_of}
 use Rattle.reference_machine.specs.Blocking.{AreDeadlocked, ContinuesUnlessAll, HasEnded, HoldersWereStarted, IsBlockedSet, IsHeldUp, IsIn}
 
 -- ---- waits that are true of a state
@@ -36,9 +29,8 @@ module _ (s : State) (u : ℕ) (w : Wait) where
       by_owner n owner count is false e = subst (IsTrueWait s) (same_Some (ForMonitor n owner) w e) (count, is)
 
       by_monitor : (n : ObjectName) (m : Option Monitor) → monitor_of s n ≡ m → option_and_then (held_by_another n u) m ≡ Some w → IsTrueWait s w
-      by_monitor n None is e = none_is_some w e
-      by_monitor n (Some Free) is e = none_is_some w e
       by_monitor n (Some (Held owner count)) is e = by_owner n owner count is (owner == u) e
+      by_monitor n _ is e = none_is_some w e
 
       by_object : (o : Option ObjectName) → option_and_then (λ n. option_and_then (held_by_another n u) (monitor_of s n)) o ≡ Some w → IsTrueWait s w
       by_object None e = none_is_some w e
@@ -66,10 +58,7 @@ module _ (s : State) (u : ℕ) (w : Wait) where
   acts_truly : (a : Action) (stack : List Value) → wait_by s u a stack ≡ Some w → IsTrueWait s w
   acts_truly Enter stack h = enters_truly stack h
   acts_truly Join stack h = joins_truly stack h
-  acts_truly Construct stack h = none_is_some w h
-  acts_truly Write stack h = none_is_some w h
-  acts_truly Exit stack h = none_is_some w h
-  acts_truly Start stack h = none_is_some w h
+  acts_truly _ stack h = none_is_some w h
 
   pub waits_truly : (tree : Tree) → wait_of tree s u ≡ Some w → IsTrueWait s w
   waits_truly tree h = option_and_then_some _ (slice_get s.threads u) w h (λ x there e. by_life x (is_live_thread x) e)

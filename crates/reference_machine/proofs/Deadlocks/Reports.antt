@@ -8,10 +8,9 @@ use Rattle.cil_model.specs.declared.reports.Report.TheVariants.{Ran, Blocked, En
 use Rattle.cil_model.specs.declared.trees.Tree.{Tree}
 use Rattle.cil_model.specs.Typings.{IsAccepted}
 use Rattle.cil_model.proofs.Lists.{none_is_some}
-use Rattle.cil_model.proofs.SameLaws.{not_both}
 use Rattle.reference_machine.specs.Effects.{Setting, Effect, Goes, Blocks, Raises, Sticks}
 use Rattle.reference_machine.specs.States.{Frame, Thread, State, is_live_thread}
-use Rattle.reference_machine.specs.Steps.{Answers, effect_of, ended_as, continues, charge, step, step_of, with_thread_at}
+use Rattle.reference_machine.specs.Steps.{Answers, effect_of, continues, charge, step, step_of}
 use Rattle.reference_machine.specs.TypedStates.{IsTyped}
 use Rattle.reference_machine.specs.Waits.{Wait, wait_of}
 use Rattle.reference_machine.proofs.Deadlocks.LastingDeadlocks.{no_answer, same_report, waiting_lives}

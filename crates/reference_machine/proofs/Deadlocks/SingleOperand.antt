@@ -1,10 +1,9 @@
 -- A member that acts at once on one object finds it as its only operand.
-use Rattle.std.proofs.Common.{◌≡◌, ℕ, zero, suc, Bool, true, false, if◌then◌else◌, List, [], ◌∷◌, length, take, drop, reverse, Some, sym, ap, ◌∙◌, subst, arith}
+use Rattle.std.proofs.Common.{◌≡◌, suc, Bool, true, false, if◌then◌else◌, [], ◌∷◌, length, Some, sym, ap, ◌∙◌, subst}
 use Rattle.cil_model.specs.declared.instructions.MethodReference.{MethodReference}
 use Rattle.cil_model.specs.declared.trees.Method.{Method}
 use Rattle.cil_model.specs.declared.trees.Tree.{Tree}
 use Rattle.cil_model.specs.declared.types.ClassName.{ClassName}
-use Rattle.cil_model.specs.declared.types.DeclaredType.{DeclaredType}
 use Rattle.cil_model.specs.declared.types.Signature.{Signature}
 use Rattle.cil_model.specs.Assignable.{type_of_class}
 use Rattle.cil_model.specs.Bodies.{reference_operands}
@@ -13,15 +12,6 @@ use Rattle.cil_model.specs.Legality.{IsLegal}
 use Rattle.reference_machine.specs.BuiltIn.{Action, action_of}
 use Rattle.reference_machine.proofs.Programs.BuiltInMembers.{IsMember, acts_as_member}
 use Rattle.reference_machine.proofs.Programs.FoundMethods.{IsFound, found}
-
--- where one value is taken, it is the topmost
-pub top_taken : {X : Type 0} (n : ℕ) (xs : List X) → n ≡ 1 → (x : X) → reverse (take n xs) ≡ x ∷ [] → xs ≡ x ∷ drop n xs
-top_taken zero xs one x is = absurd (omega (arith, one))
-top_taken (suc (suc n)) xs one x is = absurd (omega (arith, one))
-top_taken (suc zero) [] one x is = absurd cc
-top_taken (suc zero) (y ∷ ys) one x is =
-    let same : y ≡ x = cc in
-    ap (λ z. z ∷ ys) same
 
 module _ (tree : Tree) (legal : IsLegal tree) where
   counted : (is_instance : Bool) (r : MethodReference) (c : ClassName) (m : Method) (a : Action) → IsFound tree is_instance r c m → IsMember a c m → length (reference_operands is_instance r) ≡ 1

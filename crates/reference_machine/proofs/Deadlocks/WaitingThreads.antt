@@ -3,10 +3,10 @@ use Rattle.std.proofs.Common.{◌≡◌, ◌+◌, ◌==◌, is_none, ℕ, nat_le
 use Rattle.std.specs.Option.{option_map_or}
 use Rattle.std.proofs.lemmas.Option.{option_and_then_some, same_Some}
 use Rattle.cil_model.specs.declared.instructions.Instruction.{Instruction}
-use Rattle.cil_model.specs.declared.instructions.Instruction.TheVariants.{NoOperation, LoadInt32, LoadInt64, LoadNull, LoadString, LoadArgument, StoreArgument, LoadLocal, StoreLocal, Duplicate, Pop, Binary, Unary, Shift, Compare, ConvertInt32, ConvertInt64, Branch, BranchTrue, BranchFalse, BranchCompare, Switch, LoadField, StoreField, LoadStaticField, StoreStaticField, NewArray, LoadLength, LoadElementInt32, LoadElementInt64, LoadElementReference, StoreElementInt32, StoreElementInt64, StoreElementReference, CastClass, IsInstance, Call, CallVirtual, NewObject, Return}
+use Rattle.cil_model.specs.declared.instructions.Instruction.TheVariants.{Call, CallVirtual}
 use Rattle.cil_model.specs.declared.instructions.MethodReference.{MethodReference}
 use Rattle.cil_model.specs.declared.reports.End.{End}
-use Rattle.cil_model.specs.declared.reports.Fault.TheVariants.{NullReference, StackOverflow, ThreadState}
+use Rattle.cil_model.specs.declared.reports.Fault.TheVariants.{StackOverflow, ThreadState}
 use Rattle.cil_model.specs.declared.trees.Method.{Method}
 use Rattle.cil_model.specs.declared.types.ClassName.{ClassName}
 use Rattle.cil_model.specs.declared.types.DeclaredType.{DeclaredType}
@@ -17,11 +17,11 @@ use Rattle.cil_model.specs.Slots.{target}
 use Rattle.cil_model.specs.Typings.{IsAccepted}
 use Rattle.cil_model.proofs.Lists.{none_is_some}
 use Rattle.cil_model.proofs.SameLaws.{not_both}
-use Rattle.reference_machine.specs.BuiltIn.{Action, Construct, Write, Enter, Exit, Start, Join, action_of, act, enter, join, thread_object}
-use Rattle.reference_machine.specs.Effects.{Setting, Effect, Goes, Blocks, Raises, Sticks, when_some, pop_many, not_null, are_of_kinds, onward}
+use Rattle.reference_machine.specs.BuiltIn.{Action, Enter, Join, action_of, act, enter, join}
+use Rattle.reference_machine.specs.Effects.{Setting, Effect, Goes, Blocks, Raises, Sticks, when_some, pop_many, are_of_kinds, onward}
 use Rattle.reference_machine.specs.States.{Monitor, Free, Held, HeapObject, Frame, Thread, State, class_of, is_live, is_live_thread, monitor_of, object_at, with_monitor}
-use Rattle.reference_machine.specs.Steps.{instruction_at, effect_of, execute, frame_for, is_too_deep, method_for, operands, run_method, run_virtual}
-use Rattle.reference_machine.specs.Values.{ObjectName, Value, Int32, Int64, Native, Null, Reference}
+use Rattle.reference_machine.specs.Steps.{instruction_at, effect_of, execute, frame_for, is_too_deep, operands, run_method, run_virtual}
+use Rattle.reference_machine.specs.Values.{ObjectName, Value, Reference}
 use Rattle.reference_machine.specs.TypedStates.{AreTypedFrames, IsTyped}
 use Rattle.reference_machine.proofs.TypedSteps.AllInstructions.{instruction_typed}
 use Rattle.reference_machine.proofs.Programs.MethodTypings.{found_is_declared}
@@ -29,7 +29,8 @@ use Rattle.reference_machine.proofs.TypedStates.RunningFrames.{IsTypedEffect, ru
 use Rattle.reference_machine.specs.Waits.{Wait, ForMonitor, ForEnd, action_found, called_action, end_awaited, held_by_another, top_object, wait_by, wait_in, wait_of, wait_of_thread}
 use Rattle.reference_machine.proofs.Programs.ActingMembers.{acting_is_not_virtual}
 use Rattle.reference_machine.proofs.Deadlocks.SingleOperand.{one_operand}
-use Rattle.reference_machine.proofs.Deadlocks.BlockingInstructions.{IsWaiting, LeavesOthers, goes, blocks, raises, sticks, effect_keeps, waits_by_top}
+use Rattle.reference_machine.proofs.Deadlocks.BlockingInstructions.{IsWaiting, LeavesOthers, effect_keeps, waits_by_top}
+use Rattle.reference_machine.proofs.Runs.InstructionEffects.{goes, blocks, raises, sticks}
 
 -- ---- what blocks waits
 
@@ -42,12 +43,12 @@ unblocked {A} e k h = absurd (subst DoesNotBlock h k)
 
 -- where a frame's instruction blocks, its thread waits
 pub blocked_waits : (here : Setting) → IsLegal here.tree → (s : State) (f : Frame) (below : List Frame) → effect_of here s (f ∷ below) ≡ Blocks → IsWaiting here s f
-blocked_waits here legal s f below h = by_effect (effect_of here s (f ∷ below)) (effect_keeps here legal s f below) h
+blocked_waits here legal s f below h = by_effect (effect_of here s (f ∷ below)) (effect_keeps here s f below) h
   where
     by_effect : (e : Effect) → LeavesOthers here s f e → e ≡ Blocks → IsWaiting here s f
     by_effect (Goes fs after) (goes _ _ k) e = unblocked (Goes fs after) tt e
     by_effect Blocks (blocks w) e = w
-    by_effect (Raises x) (raises _) e = unblocked (Raises x) tt e
+    by_effect (Raises x) (raises _ _) e = unblocked (Raises x) tt e
     by_effect Sticks sticks e = unblocked Sticks tt e
 
 -- ---- what waits blocks
@@ -58,8 +59,6 @@ module _ (here : Setting) (s : State) (f : Frame) (below : List Frame) where
   TakesOne stack e go = (v : Value) × (rest : List Value) × (stack ≡ v ∷ rest) × (e ≡ go (v ∷ []) rest)
 
   takes_one : (types : List DeclaredType) (go : List Value → List Value → Effect) → length types ≡ 1 → IsTypedEffect here.tree (operands here s f below types go) → TakesOne f.stack (operands here s f below types go) go
-  takes_one [] go one typed = absurd (omega (arith, one))
-  takes_one (t ∷ u ∷ types) go one typed = absurd (omega (arith, one))
   takes_one (t ∷ []) go one typed = by_stack f.stack typed
     where
       taken : List Value → Effect
@@ -77,6 +76,7 @@ module _ (here : Setting) (s : State) (f : Frame) (below : List Frame) where
       by_stack : (stack : List Value) → IsTypedEffect here.tree (taken stack) → TakesOne stack (taken stack) go
       by_stack [] typed' = elim typed' [ ]
       by_stack (v ∷ rest) typed' = (v, rest, refl, by_height v rest (nat_le 1 (length (v ∷ rest))) typed')
+  takes_one _ go one typed = absurd (omega (arith, one))
 
   -- ---- an action on its one operand
 
@@ -85,10 +85,6 @@ module _ (here : Setting) (s : State) (f : Frame) (below : List Frame) where
     Blocking a v = wait_by s here.thread a (v ∷ []) ≡ Some w → IsTypedEffect here.tree (act here s f below a (v ∷ []) rest) → act here s f below a (v ∷ []) rest ≡ Blocks
 
     enter_blocks : (v : Value) → Blocking Enter v
-    enter_blocks (Int32 z) h typed = none_is_some w h
-    enter_blocks (Int64 z) h typed = none_is_some w h
-    enter_blocks (Native z) h typed = none_is_some w h
-    enter_blocks Null h typed = none_is_some w h
     enter_blocks (Reference n) h typed = by_monitor (monitor_of s n) h
       where
         by_owner : (owner count : ℕ) (b : Bool) → (if b then None else Some (ForMonitor n owner)) ≡ Some w → (if b then onward f below (with_monitor s n (Held here.thread (count + 1))) rest else Blocks) ≡ Blocks
@@ -99,12 +95,9 @@ module _ (here : Setting) (s : State) (f : Frame) (below : List Frame) where
         by_monitor None e = none_is_some w e
         by_monitor (Some Free) e = none_is_some w e
         by_monitor (Some (Held owner count)) e = by_owner owner count (owner == here.thread) e
+    enter_blocks _ h typed = none_is_some w h
 
     join_blocks : (v : Value) → Blocking Join v
-    join_blocks (Int32 z) h typed = none_is_some w h
-    join_blocks (Int64 z) h typed = none_is_some w h
-    join_blocks (Native z) h typed = none_is_some w h
-    join_blocks Null h typed = none_is_some w h
     join_blocks (Reference n) h typed = by_class (class_of s n) typed
       where
         by_life : (k : ℕ) (b : Bool) → (if b then Some (ForEnd k) else None) ≡ Some w → (if b then Blocks else onward f below s rest) ≡ Blocks
@@ -127,23 +120,18 @@ module _ (here : Setting) (s : State) (f : Frame) (below : List Frame) where
             when_some c (λ k. if is_thread_class here.tree k then when_some (object_at s n) (join here s f below rest) else Sticks) ≡ Blocks
         by_class None typed' = elim typed' [ ]
         by_class (Some c) typed' = by_test (is_thread_class here.tree c) typed'
+    join_blocks _ h typed = none_is_some w h
 
     act_blocks : (a : Action) (v : Value) → Blocking a v
     act_blocks Enter v h typed = enter_blocks v h typed
     act_blocks Join v h typed = join_blocks v h typed
-    act_blocks Construct v h typed = none_is_some w h
-    act_blocks Write v h typed = none_is_some w h
-    act_blocks Exit v h typed = none_is_some w h
-    act_blocks Start v h typed = none_is_some w h
+    act_blocks _ v h typed = none_is_some w h
 
     -- what is waited for is an object
     pub waits_for_object : (a : Action) (stack : List Value) → wait_by s here.thread a stack ≡ Some w → (n : ObjectName) × (top_object stack ≡ Some n)
     waits_for_object Enter stack h = option_and_then_some (λ n. option_and_then (held_by_another n here.thread) (monitor_of s n)) (top_object stack) w h (λ n top e. (n, top))
     waits_for_object Join stack h = option_and_then_some (λ n. option_and_then (λ (o : HeapObject). option_and_then (end_awaited s) o.thread) (object_at s n)) (top_object stack) w h (λ n top e. (n, top))
-    waits_for_object Construct stack h = none_is_some w h
-    waits_for_object Write stack h = none_is_some w h
-    waits_for_object Exit stack h = none_is_some w h
-    waits_for_object Start stack h = none_is_some w h
+    waits_for_object _ stack h = none_is_some w h
 
   -- ---- a call of a member that acts on an object
 
@@ -153,11 +141,8 @@ module _ (here : Setting) (s : State) (f : Frame) (below : List Frame) where
     Acts e = (rest : List Value) × (f.stack ≡ Reference n ∷ rest) × (e ≡ act here s f below a (Reference n ∷ []) rest)
 
     top_is : (v : Value) (rest : List Value) → top_object (v ∷ rest) ≡ Some n → v ≡ Reference n
-    top_is (Int32 z) rest e = none_is_some n e
-    top_is (Int64 z) rest e = none_is_some n e
-    top_is (Native z) rest e = none_is_some n e
-    top_is Null rest e = none_is_some n e
     top_is (Reference k) rest e = ap Reference (same_Some k n e)
+    top_is _ rest e = none_is_some n e
 
     -- a method that acts
     run_acts : (method : ClassName × Method) → action_of method.0 method.1 ≡ Some a → (rest : List Value) → run_method here s f below method (Reference n ∷ []) rest ≡ act here s f below a (Reference n ∷ []) rest
@@ -193,44 +178,7 @@ module _ (here : Setting) (s : State) (f : Frame) (below : List Frame) where
     acts_at : (i : Instruction) → called_action here.tree i ≡ Some a → IsTypedEffect here.tree (execute here s f below i) → Acts (execute here s f below i)
     acts_at (Call is_instance r) acts typed = call_acts is_instance r (find_method here.tree is_instance r) refl acts typed
     acts_at (CallVirtual owner name signature) acts typed = call_virtual_acts (virtual_reference owner name signature) (find_method here.tree true (virtual_reference owner name signature)) refl acts typed
-    acts_at NoOperation acts typed = none_is_some a acts
-    acts_at (LoadInt32 z) acts typed = none_is_some a acts
-    acts_at (LoadInt64 z) acts typed = none_is_some a acts
-    acts_at LoadNull acts typed = none_is_some a acts
-    acts_at (LoadString characters) acts typed = none_is_some a acts
-    acts_at (LoadArgument k) acts typed = none_is_some a acts
-    acts_at (StoreArgument k) acts typed = none_is_some a acts
-    acts_at (LoadLocal k) acts typed = none_is_some a acts
-    acts_at (StoreLocal k) acts typed = none_is_some a acts
-    acts_at Duplicate acts typed = none_is_some a acts
-    acts_at Pop acts typed = none_is_some a acts
-    acts_at (Binary op) acts typed = none_is_some a acts
-    acts_at (Unary op) acts typed = none_is_some a acts
-    acts_at (Shift op) acts typed = none_is_some a acts
-    acts_at (Compare op) acts typed = none_is_some a acts
-    acts_at ConvertInt32 acts typed = none_is_some a acts
-    acts_at ConvertInt64 acts typed = none_is_some a acts
-    acts_at (Branch label) acts typed = none_is_some a acts
-    acts_at (BranchTrue label) acts typed = none_is_some a acts
-    acts_at (BranchFalse label) acts typed = none_is_some a acts
-    acts_at (BranchCompare op label) acts typed = none_is_some a acts
-    acts_at (Switch labels) acts typed = none_is_some a acts
-    acts_at (LoadField r) acts typed = none_is_some a acts
-    acts_at (StoreField r) acts typed = none_is_some a acts
-    acts_at (LoadStaticField r) acts typed = none_is_some a acts
-    acts_at (StoreStaticField r) acts typed = none_is_some a acts
-    acts_at (NewArray t) acts typed = none_is_some a acts
-    acts_at LoadLength acts typed = none_is_some a acts
-    acts_at LoadElementInt32 acts typed = none_is_some a acts
-    acts_at LoadElementInt64 acts typed = none_is_some a acts
-    acts_at LoadElementReference acts typed = none_is_some a acts
-    acts_at StoreElementInt32 acts typed = none_is_some a acts
-    acts_at StoreElementInt64 acts typed = none_is_some a acts
-    acts_at StoreElementReference acts typed = none_is_some a acts
-    acts_at (CastClass t) acts typed = none_is_some a acts
-    acts_at (IsInstance t) acts typed = none_is_some a acts
-    acts_at (NewObject c parameters) acts typed = none_is_some a acts
-    acts_at Return acts typed = none_is_some a acts
+    acts_at _ acts typed = none_is_some a acts
 
 -- In a typed state, where a frame's instruction calls a member that acts, and the topmost value is an object, its effect is that of the
 -- action on the object.

@@ -29,23 +29,19 @@ module _ (tree : Tree) (m : Method) (a : Action) where
   plain_of_object (suc n) e = none_is_some m e
 
   plain_of_console : (n : ℕ) → slice_get (methods_declared tree console_name) n ≡ Some m → is_virtual m.kind ≡ false
-  plain_of_console zero e = plain_as _ refl (same_Some _ m e)
-  plain_of_console (suc zero) e = plain_as _ refl (same_Some _ m e)
-  plain_of_console (suc (suc zero)) e = plain_as _ refl (same_Some _ m e)
   plain_of_console (suc (suc (suc n))) e = none_is_some m e
+  plain_of_console _ e = plain_as _ refl (same_Some _ m e)
 
   plain_of_monitor : (n : ℕ) → slice_get (methods_declared tree monitor_name) n ≡ Some m → is_virtual m.kind ≡ false
-  plain_of_monitor zero e = plain_as _ refl (same_Some _ m e)
-  plain_of_monitor (suc zero) e = plain_as _ refl (same_Some _ m e)
   plain_of_monitor (suc (suc n)) e = none_is_some m e
+  plain_of_monitor _ e = plain_as _ refl (same_Some _ m e)
 
   -- Run is virtual, and does not act
   plain_of_thread : (n : ℕ) → slice_get (methods_declared tree thread_name) n ≡ Some m → action_of thread_name m ≡ Some a → is_virtual m.kind ≡ false
   plain_of_thread zero e h = plain_as object_constructor refl (same_Some object_constructor m e)
   plain_of_thread (suc zero) e h = none_is_some a (subst (λ x. action_of thread_name x ≡ Some a) (sym (same_Some run_method m e)) h)
-  plain_of_thread (suc (suc zero)) e h = plain_as _ refl (same_Some _ m e)
-  plain_of_thread (suc (suc (suc zero))) e h = plain_as _ refl (same_Some _ m e)
   plain_of_thread (suc (suc (suc (suc n)))) e h = none_is_some m e
+  plain_of_thread _ e h = plain_as _ refl (same_Some _ m e)
 
   -- no class but a built-in one has a member that acts
   by_thread_status : {c : ClassName} → ThreadStatus tree c → IsDeclared tree c m → action_of c m ≡ Some a → is_virtual m.kind ≡ false
@@ -78,11 +74,10 @@ module _ (tree : Tree) (name : MethodName) (signature : Signature) where
       by_class : (o : Option Method) (b : Bool) → same_options same_class (option_map_or (slot_filled d (slot_along tree name signature ds)) o (slot_along tree name signature ds)) (Some slot) ≡ b →
           option_map_or (λ x. if b then Some (d, x) else implementation_along tree name signature slot ds) o (implementation_along tree name signature slot ds) ≡ Some (k, m) →
           (implementation_along tree name signature slot ds ≡ Some (k, m) → is_virtual m.kind ≡ true) → is_virtual m.kind ≡ true
-      by_class None b t h' later = later h'
-      by_class (Some x) false t h' later = later h'
       by_class (Some x) true t h' later =
           let same : x ≡ m = ap (λ (p : ClassName × Method). p.1) (same_Some (d, x) (k, m) h') in
           subst (λ (y : Method). is_virtual y.kind ≡ true) same (fills x (is_virtual x.kind) refl t)
+      by_class _ _ t h' later = later h'
 
   class_target_is_virtual : (d c k : ClassName) (m : Method) → class_target tree name signature d c ≡ Some (k, m) → is_virtual m.kind ≡ true
   class_target_is_virtual d c k m h = option_and_then_some _ (slot_along tree name signature (chain_of tree c)) (k, m) h (λ slot e f. implementation_is_virtual slot (chain_of tree d) k m f)

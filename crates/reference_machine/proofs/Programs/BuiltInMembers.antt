@@ -43,10 +43,9 @@ module _ (tree : Tree) (m : Method) (a : Action) where
   member_of_object (suc n) e h = none_is_some m e
 
   member_of_console : (n : ℕ) → slice_get (methods_declared tree console_name) n ≡ Some m → action_of console_name m ≡ Some a → IsMember a console_name m
-  member_of_console zero e h = same_member console_name _ m Write a refl (record { operand = _; takes = refl; fits = inl refl; nothing_returned = refl }) (same_Some _ m e) h
-  member_of_console (suc zero) e h = same_member console_name _ m Write a refl (record { operand = _; takes = refl; fits = inl refl; nothing_returned = refl }) (same_Some _ m e) h
   member_of_console (suc (suc zero)) e h = same_member console_name _ m Write a refl (record { operand = _; takes = refl; fits = inr refl; nothing_returned = refl }) (same_Some _ m e) h
   member_of_console (suc (suc (suc n))) e h = none_is_some m e
+  member_of_console _ e h = same_member console_name _ m Write a refl (record { operand = _; takes = refl; fits = inl refl; nothing_returned = refl }) (same_Some _ m e) h
 
   member_of_monitor : (n : ℕ) → slice_get (methods_declared tree monitor_name) n ≡ Some m → action_of monitor_name m ≡ Some a → IsMember a monitor_name m
   member_of_monitor zero e h = same_member monitor_name _ m Enter a refl (record { operand = _; takes = refl; fits = refl; nothing_returned = refl }) (same_Some _ m e) h

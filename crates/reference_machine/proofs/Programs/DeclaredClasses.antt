@@ -49,10 +49,6 @@ module _ (tree : Tree) where
 
   -- ---- what a name refers to
 
-  -- a class of the source
-  abbrev pub IsOfSource : ClassName → Type 0
-  IsOfSource c = (x : Class) × (source_class tree c ≡ Some x)
-
   pub source_is_named : (c : ClassName) (x : Class) → source_class tree c ≡ Some x → source_name x ≡ c
   source_is_named c x found = same_class_equal (source_name x) c (find_passes (λ k. same_class (source_name k) c) tree.classes x found)
 

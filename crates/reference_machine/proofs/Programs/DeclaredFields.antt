@@ -9,7 +9,7 @@ use Rattle.std.proofs.lemmas.Option.{same_Some}
 use Rattle.cil_model.specs.declared.types.ClassName.{ClassName}
 use Rattle.cil_model.specs.declared.types.DeclaredType.{DeclaredType}
 use Rattle.cil_model.specs.declared.types.Element.{Element}
-use Rattle.cil_model.specs.declared.types.Element.TheVariants.{Int32 as Int32Element, Int64 as Int64Element, Object, String, Class as ClassElement}
+use Rattle.cil_model.specs.declared.types.Element.TheVariants.{String, Class as ClassElement}
 use Rattle.cil_model.specs.declared.instructions.FieldReference.{FieldReference}
 use Rattle.cil_model.specs.declared.trees.Tree.{Tree}
 use Rattle.cil_model.specs.declared.trees.Class.{Class}
@@ -125,12 +125,8 @@ module _ (tree : Tree) where
     where
       by_thread_status : {c : ClassName} → ThreadStatus tree c → find p (fields_declared tree c) ≡ Some g → (x : Class) × (source_class tree c ≡ Some x)
       by_thread_status (of_source x found) e = (x, found)
-      by_thread_status of_object e = none_is_some g e
-      by_thread_status of_string e = none_is_some g e
-      by_thread_status of_console e = none_is_some g e
-      by_thread_status of_monitor e = none_is_some g e
-      by_thread_status of_thread e = none_is_some g e
       by_thread_status (of_none none) e = none_is_some g (sym (ap (λ o. find p (listed_by (λ (d : Declaration). d.fields) o)) none) ∙ e)
+      by_thread_status _ e = none_is_some g e
 
   -- and none where it is an interface
   kind_without_fields : (k : ClassKind) (fs : List Field) → IsTrue (is_interface_kind k) → fields_unless_interface k fs ≡ []
@@ -176,11 +172,8 @@ module _ (tree : Tree) where
   -- the type is a class's, whose chain has the class
   abbrev HasInChain_at : Element → ℕ → ClassName → Type 0
   HasInChain_at e (suc n) d = ⊥
-  HasInChain_at Int32Element zero d = ⊥
-  HasInChain_at Int64Element zero d = ⊥
-  HasInChain_at Object zero d = ⊥
-  HasInChain_at String zero d = ⊥
   HasInChain_at (ClassElement c) zero d = IsTrue (list_any (same_class d) (chain_of tree c))
+  HasInChain_at _ zero d = ⊥
 
   abbrev HasInChain : DeclaredType → ClassName → Type 0
   HasInChain t d = HasInChain_at t.element t.brackets d
@@ -279,9 +272,8 @@ module _ (tree : Tree) where
     chain_of_instance c d h = by_name (same_class c object_name) (same_class c string_name) h
       where
         by_name : (v w : Bool) → HasInChain (plain (element_named v w c)) d → IsTrue (list_any (same_class d) (chain_of tree c))
-        by_name true w k = elim k [ ]
-        by_name false true k = elim k [ ]
         by_name false false k = k
+        by_name _ _ k = elim k [ ]
 
     -- an instance field that is found is one of an object of the owner's type
     pub field_there : (s : State) (r : FieldReference) (d : ClassName) (g : Field) → find_field tree false r ≡ Some (d, g) → (n : ObjectName) → IsObjectOf tree s n (type_of_class r.owner) → HasField s n (key_of (d, g)) r.field_type

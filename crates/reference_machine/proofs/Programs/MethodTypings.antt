@@ -89,11 +89,10 @@ module _ (tree : Tree) where
         by_class : (o : Option Method) → method_declared tree name signature d ≡ o → (b : Bool) →
             option_map_or (λ x. if b then Some (d, x) else implementation_along tree name signature slot ds) o (implementation_along tree name signature slot ds) ≡ Some (c, m) →
             (implementation_along tree name signature slot ds ≡ Some (c, m) → method_declared tree name signature c ≡ Some m) → method_declared tree name signature c ≡ Some m
-        by_class None e b k later = later k
-        by_class (Some x) e false k later = later k
         by_class (Some x) e true k later =
             let same : (d, x) ≡ (c, m) = same_Some (d, x) (c, m) k in
             sym (ap (λ (p : ClassName × Method). method_declared tree name signature p.0) same) ∙ e ∙ ap (λ (p : ClassName × Method). Some p.1) same
+        by_class _ e _ k later = later k
 
     class_target_is_declared : (d c k : ClassName) (m : Method) → class_target tree name signature d c ≡ Some (k, m) → IsDeclared k m
     class_target_is_declared d c k m h = option_and_then_some _ (slot_along tree name signature (chain_of tree c)) (k, m) h (λ slot e f.
@@ -161,10 +160,8 @@ module _ (tree : Tree) where
   member_of_object (suc n) m e h = none_is_some m e
 
   member_of_console : (n : ℕ) (m : Method) → slice_get (methods_declared tree console_name) n ≡ Some m → action_of console_name m ≡ None → HasTyping console_name m
-  member_of_console zero m e h = acts_at_once console_name Write _ m refl (same_Some _ m e) h
-  member_of_console (suc zero) m e h = acts_at_once console_name Write _ m refl (same_Some _ m e) h
-  member_of_console (suc (suc zero)) m e h = acts_at_once console_name Write _ m refl (same_Some _ m e) h
   member_of_console (suc (suc (suc n))) m e h = none_is_some m e
+  member_of_console _ m e h = acts_at_once console_name Write _ m refl (same_Some _ m e) h
 
   member_of_monitor : (n : ℕ) (m : Method) → slice_get (methods_declared tree monitor_name) n ≡ Some m → action_of monitor_name m ≡ None → HasTyping monitor_name m
   member_of_monitor zero m e h = acts_at_once monitor_name Enter _ m refl (same_Some _ m e) h
@@ -215,11 +212,10 @@ module _ (tree : Tree) where
           slice_get (listed_by (λ (d : Declaration). d.methods) (option_map (λ (entry : ClassName × Declaration). entry.1) (
           cond t₁ (slice_get built_ins 0) (cond t₂ (slice_get built_ins 1) (cond t₃ (slice_get built_ins 2) (cond t₄ (slice_get built_ins 3) (cond t₅ (slice_get built_ins 4) None))))))) n ≡ Some m → HasTyping c m
       by_name true t₂ t₃ t₄ t₅ e₁ e₂ e₃ e₄ e₅ k = renamed object_name e₁ member_of_object
-      by_name false true t₃ t₄ t₅ e₁ e₂ e₃ e₄ e₅ k = none_is_some m k
       by_name false false true t₄ t₅ e₁ e₂ e₃ e₄ e₅ k = renamed console_name e₃ member_of_console
       by_name false false false true t₅ e₁ e₂ e₃ e₄ e₅ k = renamed monitor_name e₄ member_of_monitor
       by_name false false false false true e₁ e₂ e₃ e₄ e₅ k = renamed thread_name e₅ member_of_thread
-      by_name false false false false false e₁ e₂ e₃ e₄ e₅ k = none_is_some m k
+      by_name false _ _ _ _ e₁ e₂ e₃ e₄ e₅ k = none_is_some m k
 
   pub framed_has_typing : IsAccepted tree → (c : ClassName) (n : ℕ) (m : Method) → slice_get (methods_declared tree c) n ≡ Some m → action_of c m ≡ None → HasTyping c m
   framed_has_typing accepted c n m e h = framed_at accepted c.assembly c.name n m e h

@@ -26,12 +26,11 @@ module _ (tree : Tree) (name : MethodName) (signature : Signature) where
       by_class : (o : Option Method) → method_declared tree name signature d ≡ o → (b : Bool) →
           option_map_or (λ x. if b then Some (d, x) else implementation_along tree name signature slot ds) o (implementation_along tree name signature slot ds) ≡ Some (k, m) →
           (implementation_along tree name signature slot ds ≡ Some (k, m) → m.name ≡ name) → m.name ≡ name
-      by_class None e b h' later = later h'
-      by_class (Some x) e false h' later = later h'
       by_class (Some x) e true h' later =
           let same : x ≡ m = ap (λ (p : ClassName × Method). p.1) (same_Some (d, x) (k, m) h') in
           let passes : IsTrue (same_method_name x.name name && same_signature x.signature signature) = find_passes (λ (y : Method). same_method_name y.name name && same_signature y.signature signature) (methods_declared tree d) x e in
           subst (λ (y : Method). y.name ≡ name) same (same_method_name_equal x.name name (both_first _ _ passes))
+      by_class _ e _ h' later = later h'
 
   class_target_named : (d c k : ClassName) (m : Method) → class_target tree name signature d c ≡ Some (k, m) → m.name ≡ name
   class_target_named d c k m h = option_and_then_some _ (slot_along tree name signature (chain_of tree c)) (k, m) h (λ slot e f. implementation_named slot (chain_of tree d) k m f)

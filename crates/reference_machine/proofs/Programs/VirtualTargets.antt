@@ -15,7 +15,7 @@ use Rattle.cil_model.specs.declared.trees.Tree.{Tree}
 use Rattle.cil_model.specs.declared.trees.Code.{Code}
 use Rattle.cil_model.specs.declared.trees.Method.{Method}
 use Rattle.cil_model.specs.declared.trees.MethodKind.{MethodKind}
-use Rattle.cil_model.specs.declared.trees.MethodKind.TheVariants.{Static, Instance, Virtual, Abstract}
+use Rattle.cil_model.specs.declared.trees.MethodKind.TheVariants.{Virtual, Abstract}
 use Rattle.cil_model.specs.Same.{same_flag, same_class, same_options, same_signature, same_method_name}
 use Rattle.cil_model.specs.Declarations.{object_name, string_name, plain}
 use Rattle.cil_model.specs.Chains.{base_of, chain_within, chain_of, longest_chain, methods_declared, interfaces_declared, is_interface, method_declared, nearest, find_method, is_static, is_virtual, is_abstract_method, is_new_slot_method}
@@ -133,9 +133,8 @@ module _ (tree : Tree) where
 
         by_class : (o : Option Method) (b : Bool) → (found : ClassName × Method) × (implementation_along tree name signature slot rest ≡ Some found) →
             (found : ClassName × Method) × (option_map_or (λ x. if b then Some (d, x) else implementation_along tree name signature slot rest) o (implementation_along tree name signature slot rest) ≡ Some found)
-        by_class None b later = later
-        by_class (Some x) false later = later
         by_class (Some x) true later = ((d, x), refl)
+        by_class _ _ later = later
 
     slot_is_virtual : (c : ClassName) (inherited : Option ClassName) (m : Method) (slot : ClassName) → slot_filled c inherited m ≡ Some slot → IsTrue (is_virtual m.kind)
     slot_is_virtual c inherited m slot h = by_test (is_virtual m.kind) h
@@ -158,12 +157,11 @@ module _ (tree : Tree) where
         by_class : (o : Option Method) → method_declared tree name signature d ≡ o → (b : Bool) → same_options same_class (slot_along tree name signature (d ∷ ds)) (Some slot) ≡ b →
             option_map_or (λ x. if b then Some (d, x) else implementation_along tree name signature slot ds) o (implementation_along tree name signature slot ds) ≡ Some found →
             (implementation_along tree name signature slot ds ≡ Some found → IsImplementation ds found) → IsImplementation (d ∷ ds) found
-        by_class None e b same k later = following (later k)
-        by_class (Some x) e false same k later = following (later k)
         by_class (Some x) e true same k later =
             let inherited : Option ClassName = slot_along tree name signature ds in
             let fills : slot_filled d inherited x ≡ Some slot = sym (ap (λ o. option_map_or (slot_filled d inherited) o inherited) e) ∙ same_options_equal same_class same_class_equal _ _ same in
             subst (IsImplementation (d ∷ ds)) (same_Some (d, x) found k) (e, slot_is_virtual d inherited x slot fills, or_left _ _ (same_class_itself d))
+        by_class _ e _ same k later = following (later k)
 
   -- ---- chains
 
@@ -226,9 +224,8 @@ module _ (tree : Tree) where
   below_class d owner h = by_name (same_class d object_name) (same_class d string_name) h
     where
       by_name : (v w : Bool) → IsTrue (is_element_assignable tree (element_named v w d) (Class owner)) → (element_named v w d ≡ Class d) × IsTrue (is_class_assignable tree d owner)
-      by_name true w k = never k
-      by_name false true k = never k
       by_name false false k = (refl, k)
+      by_name _ _ k = never k
 
   -- no class but System.Object takes strings or arrays
   pub no_virtuals : NoVirtuals tree
@@ -282,10 +279,9 @@ module _ (tree : Tree) where
         (k : ClassName) × (m' : Method) × (code : Code) × (found ≡ Some (k, m')) × (code_of m'.kind ≡ Some code) × (m'.signature ≡ signature) × (is_static m'.kind ≡ false) × IsTrue (is_assignable tree (type_of_class d) (type_of_class k))
 
     has_code : (kind : MethodKind) → IsTrue (is_virtual kind) → is_abstract_method kind ≡ false → (code : Code) × (code_of kind ≡ Some code) × (is_static kind ≡ false)
-    has_code (Static code) v a = never v
-    has_code (Instance code) v a = never v
     has_code (Virtual is_new_slot code) v a = (code, refl, refl)
     has_code (Abstract is_new_slot) v a = never (sym a)
+    has_code _ v a = never v
 
     second_fails : (a b : Bool) → IsTrue a → (a && b) ≡ false → b ≡ false
     second_fails true b h e = e

@@ -5,7 +5,7 @@ use Rattle.std.proofs.lemmas.Option.{same_Some, slice_get_past}
 use Rattle.std.proofs.lemmas.List.Elements.{recursion_from_All, All-weaker, All-contains_itself}
 use Rattle.cil_model.specs.declared.reports.End.{End}
 use Rattle.cil_model.proofs.Lists.{none_is_some}
-use Rattle.reference_machine.specs.Values.{ObjectName, Born, Literal, Value, Int32, Int64, Native, Null, Reference}
+use Rattle.reference_machine.specs.Values.{ObjectName, Born, Literal, Value, Reference}
 use Rattle.reference_machine.specs.States.{HeapObject, Frame, Thread, State, is_live_thread, object_at}
 use Rattle.reference_machine.specs.Reachable.{values_of_frame, constructed_value, roots, members_of, values_of_contents, IsReachable, from_root, from_member}
 use Rattle.reference_machine.proofs.ReachableObjects.Values.{values_of, IsWithin, AreWithin, contained_within, append_within}
@@ -95,12 +95,8 @@ IsReachedOrUnborn s n = IsReachable s (Born n) ⊎ (length s.objects ≤ n)
 module _ (s : State) where
   -- a value is within them where each object that it refers to is reachable
   value_reached : (v : Value) → ((n : ℕ) → v ≡ Reference (Born n) → IsReachable s (Born n)) → IsWithin (IsReachedOrUnborn s) v
-  value_reached (Int32 z) each = tt
-  value_reached (Int64 z) each = tt
-  value_reached (Native z) each = tt
-  value_reached Null each = tt
   value_reached (Reference (Born n)) each = inl (each n refl)
-  value_reached (Reference (Literal characters)) each = tt
+  value_reached _ each = tt
 
   roots_reached : AreWithin (IsReachedOrUnborn s) (roots s)
   roots_reached = within_by_contained (IsReachedOrUnborn s) (roots s) (λ v is. value_reached v (λ n e. from_root (Born n) (subst (Contains (roots s)) e is)))

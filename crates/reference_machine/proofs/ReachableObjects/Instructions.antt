@@ -6,7 +6,7 @@ use Rattle.cil_model.specs.declared.types.ClassName.{ClassName}
 use Rattle.cil_model.specs.declared.types.DeclaredType.{DeclaredType}
 use Rattle.cil_model.specs.declared.instructions.FieldReference.{FieldReference}
 use Rattle.cil_model.specs.declared.instructions.Instruction.{Instruction}
-use Rattle.cil_model.specs.declared.instructions.Instruction.TheVariants.{NoOperation, LoadInt32, LoadInt64, LoadNull, LoadString, LoadArgument, StoreArgument, LoadLocal, StoreLocal, Duplicate, Pop, Binary, Unary, Shift, Compare, ConvertInt32, ConvertInt64, Branch, BranchTrue, BranchFalse, BranchCompare, Switch, LoadField, StoreField, LoadStaticField, StoreStaticField, NewArray, LoadLength, LoadElementInt32, LoadElementInt64, LoadElementReference, StoreElementInt32, StoreElementInt64, StoreElementReference, CastClass, IsInstance, Call, CallVirtual, NewObject, Return}
+use Rattle.cil_model.specs.declared.instructions.Instruction.TheVariants.{NoOperation, LoadArgument, StoreArgument, LoadLocal, StoreLocal, Duplicate, Pop, Binary, Unary, Shift, Compare, ConvertInt32, ConvertInt64, Branch, BranchTrue, BranchFalse, BranchCompare, Switch, LoadField, StoreField, LoadStaticField, StoreStaticField, NewArray, LoadLength, LoadElementInt32, LoadElementInt64, LoadElementReference, StoreElementInt32, StoreElementInt64, StoreElementReference, CastClass, IsInstance, Call, CallVirtual, NewObject, Return}
 use Rattle.cil_model.specs.declared.trees.Method.{Method}
 use Rattle.cil_model.specs.declared.limits.TheConstants.{MOST_THREADS}
 use Rattle.cil_model.specs.declared.reports.Fault.{Fault}
@@ -19,7 +19,7 @@ use Rattle.cil_model.specs.Assignable.{is_reference}
 use Rattle.cil_model.specs.Bodies.{at_index, constructor_reference, virtual_reference, reference_operands, code_of, lines_of, pc_of}
 use Rattle.cil_model.specs.Stacks.{take_one, take_two, take_three}
 use Rattle.cil_model.proofs.Lists.{none_is_some}
-use Rattle.reference_machine.specs.Values.{ObjectName, Value, Int32, Int64, Native, Null, Reference, zero_of, is_of_kind}
+use Rattle.reference_machine.specs.Values.{ObjectName, Value, Int32, Null, Reference, zero_of, is_of_kind}
 use Rattle.reference_machine.specs.Arithmetic.{binary_value, unary_value, shift_value, compare_values, branch_values, is_set, convert_32, convert_64, as_index, not_option}
 use Rattle.reference_machine.specs.States.{Monitor, Free, Held, Contents, Array, HeapObject, Frame, State, entry_at, replaced_entry, field_value, with_field, object_at, with_object, class_of, monitor_of, is_live, array_at, with_element, next_name, with_birth, new_instance}
 use Rattle.reference_machine.specs.Effects.{Setting, Effect, Goes, Blocks, Raises, Sticks, when_some, unless_fault, pop_many, not_null, are_of_kinds, new_frame, after, onward, return_value}
@@ -57,16 +57,13 @@ module _ (Inside : ℕ → Type 0) where
 
   two_within : {go : Value → Value → List Value → Effect} (vs : List Value) → AreWithin Inside vs →
       ((v w : Value) (rest : List Value) → IsWithin Inside v → IsWithin Inside w → AreWithin Inside rest → KeepsWithin Inside (go v w rest)) → KeepsWithin Inside (take_two Sticks vs go)
-  two_within [] h each = sticks
-  two_within (w ∷ []) h each = sticks
   two_within (w ∷ v ∷ rest) h each = each v w rest h.1.0 h.0 h.1.1
+  two_within _ h each = sticks
 
   three_within : {go : Value → Value → Value → List Value → Effect} (vs : List Value) → AreWithin Inside vs →
       ((u v w : Value) (rest : List Value) → IsWithin Inside u → IsWithin Inside v → IsWithin Inside w → AreWithin Inside rest → KeepsWithin Inside (go u v w rest)) → KeepsWithin Inside (take_three Sticks vs go)
-  three_within [] h each = sticks
-  three_within (w ∷ []) h each = sticks
-  three_within (w ∷ v ∷ []) h each = sticks
   three_within (w ∷ v ∷ u ∷ rest) h each = each u v w rest h.1.1.0 h.1.0 h.0 h.1.1.1
+  three_within _ h each = sticks
 
   many_within : {go : List Value → List Value → Effect} (n : ℕ) (vs : List Value) → AreWithin Inside vs → ((arguments rest : List Value) → AreWithin Inside arguments → AreWithin Inside rest → KeepsWithin Inside (go arguments rest)) →
       KeepsWithin Inside (pop_many n vs go)
@@ -75,9 +72,7 @@ module _ (Inside : ℕ → Type 0) where
   null_within : {go : ObjectName → Effect} (v : Value) (x : Fault) → IsWithin Inside v → ((n : ObjectName) → IsWithin Inside (Reference n) → KeepsWithin Inside (go n)) → KeepsWithin Inside (not_null v x go)
   null_within Null x h each = raises x
   null_within (Reference n) x h each = each n h
-  null_within (Int32 z) x h each = sticks
-  null_within (Int64 z) x h each = sticks
-  null_within (Native z) x h each = sticks
+  null_within _ x h each = sticks
 
   fault_within : {X : Type 0} {go : X → Effect} (r : Result X Fault) → ((x : X) → r ≡ Ok x → KeepsWithin Inside (go x)) → KeepsWithin Inside (unless_fault r go)
   fault_within (Ok x) each = each x refl
@@ -143,18 +138,7 @@ module _ (Inside : ℕ → Type 0) (here : Setting) (s : State) (f : Frame) (bel
   act_within Exit (v ∷ []) rest h k = null_within Inside v ArgumentNull h.0 (λ n is. given_within Inside (monitor_of s n) (λ m e. exit_within n rest m is k))
   act_within Start (v ∷ []) rest h k = null_within Inside v NullReference h.0 (λ n is. thread_within n (λ o e. start_within n rest o is k e))
   act_within Join (v ∷ []) rest h k = null_within Inside v NullReference h.0 (λ n is. thread_within n (λ o e. join_within rest o k))
-  act_within Construct [] rest h k = sticks
-  act_within Write [] rest h k = sticks
-  act_within Enter [] rest h k = sticks
-  act_within Exit [] rest h k = sticks
-  act_within Start [] rest h k = sticks
-  act_within Join [] rest h k = sticks
-  act_within Construct (v ∷ w ∷ vs) rest h k = sticks
-  act_within Write (v ∷ w ∷ vs) rest h k = sticks
-  act_within Enter (v ∷ w ∷ vs) rest h k = sticks
-  act_within Exit (v ∷ w ∷ vs) rest h k = sticks
-  act_within Start (v ∷ w ∷ vs) rest h k = sticks
-  act_within Join (v ∷ w ∷ vs) rest h k = sticks
+  act_within _ _ rest h k = sticks
 
   -- ---- branches
 
@@ -172,10 +156,7 @@ module _ (Inside : ℕ → Type 0) (here : Setting) (s : State) (f : Frame) (bel
 
   switch_within : (labels : List (List ℕ)) (v : Value) (rest : List Value) → AreWithin Inside rest → KeepsWithin Inside (switch_on here s f below labels v rest)
   switch_within labels (Int32 z) rest k = label_within (slice_get labels (cast_unsigned w32 z)) rest k
-  switch_within labels (Int64 z) rest k = sticks
-  switch_within labels (Native z) rest k = sticks
-  switch_within labels Null rest k = sticks
-  switch_within labels (Reference n) rest k = sticks
+  switch_within labels _ rest k = sticks
 
   -- ---- births
 
@@ -289,10 +270,6 @@ module _ (Inside : ℕ → Type 0) (here : Setting) (s : State) (f : Frame) (bel
 
   pub instruction_within : (i : Instruction) → KeepsWithin Inside (execute here s f below i)
   instruction_within NoOperation = next_within f.stack running.frame.stack
-  instruction_within (LoadInt32 z) = next_within _ (tt, running.frame.stack)
-  instruction_within (LoadInt64 z) = next_within _ (tt, running.frame.stack)
-  instruction_within LoadNull = next_within _ (tt, running.frame.stack)
-  instruction_within (LoadString characters) = next_within _ (tt, running.frame.stack)
   instruction_within (LoadArgument n) = given_within Inside (at_index f.arguments n) (λ v e. next_within (v ∷ f.stack) (index_within Inside f.arguments n v running.frame.arguments e, running.frame.stack))
   instruction_within (LoadLocal n) = given_within Inside (at_index f.locals n) (λ v e. next_within (v ∷ f.stack) (index_within Inside f.locals n v running.frame.locals e, running.frame.stack))
   instruction_within (StoreArgument n) = store_argument_within n
@@ -331,3 +308,4 @@ module _ (Inside : ℕ → Type 0) (here : Setting) (s : State) (f : Frame) (bel
   instruction_within (NewObject c parameters) = given_within Inside (find_method here.tree true (constructor_reference c parameters)) (λ found e.
       operands_within parameters (λ arguments rest h k. construct_within c found arguments rest h k))
   instruction_within Return = return_within
+  instruction_within _ = next_within _ (tt, running.frame.stack)

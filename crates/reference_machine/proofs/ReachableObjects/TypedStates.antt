@@ -7,7 +7,7 @@ use Rattle.cil_model.specs.Bodies.{argument_types}
 use Rattle.cil_model.specs.Fields.{FieldKey, instance_fields, static_fields}
 use Rattle.cil_model.specs.TypeTree.{StackType, Declared, NativeInt, Null as NullType}
 use Rattle.cil_model.proofs.Lists.{none_is_some}
-use Rattle.reference_machine.specs.Values.{ObjectName, Born, Literal, Value, Int32, Int64, Native, Null, Reference}
+use Rattle.reference_machine.specs.Values.{ObjectName, Born, Literal, Value, Reference}
 use Rattle.reference_machine.specs.States.{Contents, Instance, Array, HeapObject, Frame, State, type_of_contents, type_of}
 use Rattle.reference_machine.specs.Reachable.{constructed_value, values_of_contents, IsReachable}
 use Rattle.reference_machine.specs.TypedStates.{HasType, HasStackType, HaveTypes, HaveStackTypes, AllHaveType, HaveFieldTypes, IsTypedContents, IsConstructing, IsTypedFrame, gives, AreWaiting, AreTypedFrames, IsTyped}
@@ -32,24 +32,14 @@ module _ (tree : Tree) (s : State) where
   -- ---- values
 
   value_is_there : (v : Value) (t : DeclaredType) → HasType tree s v t → IsWithin IsThere v
-  value_is_there (Int32 z) t h = tt
-  value_is_there (Int64 z) t h = tt
-  value_is_there (Native z) t h = tt
-  value_is_there Null t h = tt
   value_is_there (Reference n) t h = name_is_there n h.own h.is
+  value_is_there _ t h = tt
 
   stack_value_is_there : (v : Value) (t : StackType) → HasStackType tree s v t → IsWithin IsThere v
   stack_value_is_there v (Declared t) h = value_is_there v t h
-  stack_value_is_there (Int32 z) NativeInt h = tt
-  stack_value_is_there (Int64 z) NativeInt h = tt
-  stack_value_is_there (Native z) NativeInt h = tt
-  stack_value_is_there Null NativeInt h = tt
   stack_value_is_there (Reference n) NativeInt h = elim h [ ]
-  stack_value_is_there (Int32 z) NullType h = tt
-  stack_value_is_there (Int64 z) NullType h = tt
-  stack_value_is_there (Native z) NullType h = tt
-  stack_value_is_there Null NullType h = tt
   stack_value_is_there (Reference n) NullType h = elim h [ ]
+  stack_value_is_there _ _ h = tt
 
   values_are_there : (vs : List Value) (ts : List DeclaredType) → HaveTypes tree s vs ts → AreWithin IsThere vs
   values_are_there [] ts h = tt

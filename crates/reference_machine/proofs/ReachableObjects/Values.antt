@@ -11,7 +11,7 @@ use Rattle.cil_model.specs.declared.instructions.UnaryOperation.{UnaryOperation}
 use Rattle.cil_model.specs.declared.reports.Fault.{Fault}
 use Rattle.cil_model.specs.declared.types.DeclaredType.{DeclaredType}
 use Rattle.cil_model.specs.declared.types.Element.{Element}
-use Rattle.cil_model.specs.declared.types.Element.TheVariants.{Int32 as Int32Element, Int64 as Int64Element, Object, String, Class}
+use Rattle.cil_model.specs.declared.types.Element.TheVariants.{Int32 as Int32Element}
 use Rattle.cil_model.specs.Assignable.{is_reference}
 use Rattle.cil_model.specs.Bodies.{at_index}
 use Rattle.cil_model.specs.Fields.{FieldKey, same_key}
@@ -112,10 +112,7 @@ module _ (Inside : ℕ → Type 0) where
 
   integer_within : (e : Element) → IsWithin (integer_zero e)
   integer_within Int32Element = tt
-  integer_within Int64Element = tt
-  integer_within Object = tt
-  integer_within String = tt
-  integer_within (Class c) = tt
+  integer_within _ = tt
 
   pub zero_within : (t : DeclaredType) → IsWithin (zero_of t)
   zero_within t = by_kind (is_reference t)
@@ -149,23 +146,15 @@ module _ (Inside : ℕ → Type 0) where
   by_operands : (op : BinaryOperation) (a b : Operand) (o : Result Value Fault) (u : Value) → binary_of Int32 Int64 op a b ≡ Some o → o ≡ Ok u → IsWithin u
   by_operands op (I4 x) (I4 y) o u e h = result_within Int32 (λ z. tt) (binary w32 op x y) o u e h
   by_operands op (I8 x) (I8 y) o u e h = result_within Int64 (λ z. tt) (binary w64 op x y) o u e h
-  by_operands op (I4 x) (I8 y) o u e h = none_is_some o e
-  by_operands op (I4 x) (NativeInt y) o u e h = none_is_some o e
-  by_operands op (I4 x) (ObjectOperand y) o u e h = none_is_some o e
-  by_operands op (I8 x) (I4 y) o u e h = none_is_some o e
-  by_operands op (I8 x) (NativeInt y) o u e h = none_is_some o e
-  by_operands op (I8 x) (ObjectOperand y) o u e h = none_is_some o e
-  by_operands op (NativeInt x) b o u e h = none_is_some o e
-  by_operands op (ObjectOperand x) b o u e h = none_is_some o e
+  by_operands op _ _ o u e h = none_is_some o e
 
   pub binary_within : (op : BinaryOperation) (v w : Value) (o : Result Value Fault) (u : Value) → binary_value op v w ≡ Some o → o ≡ Ok u → IsWithin u
   binary_within op v w o u e h = by_operands op (operand v) (operand w) o u e h
 
   unary_by : (op : UnaryOperation) (a : Operand) (u : Value) → unary_of Int32 Int64 op a ≡ Some u → IsWithin u
-  unary_by op (I4 x) u e = subst IsWithin (same_Some _ u e) tt
-  unary_by op (I8 x) u e = subst IsWithin (same_Some _ u e) tt
   unary_by op (NativeInt x) u e = none_is_some u e
   unary_by op (ObjectOperand x) u e = none_is_some u e
+  unary_by op _ u e = subst IsWithin (same_Some _ u e) tt
 
   pub unary_within : (op : UnaryOperation) (v u : Value) → unary_value op v ≡ Some u → IsWithin u
   unary_within op v u e = unary_by op (operand v) u e
@@ -173,32 +162,21 @@ module _ (Inside : ℕ → Type 0) where
   shift_by : (op : ShiftOperation) (a b : Operand) (u : Value) → shift_of Int32 Int64 op a b ≡ Some u → IsWithin u
   shift_by op (I4 x) (I4 y) u e = subst IsWithin (same_Some _ u e) tt
   shift_by op (I8 x) (I4 y) u e = subst IsWithin (same_Some _ u e) tt
-  shift_by op (I4 x) (I8 y) u e = none_is_some u e
-  shift_by op (I4 x) (NativeInt y) u e = none_is_some u e
-  shift_by op (I4 x) (ObjectOperand y) u e = none_is_some u e
-  shift_by op (I8 x) (I8 y) u e = none_is_some u e
-  shift_by op (I8 x) (NativeInt y) u e = none_is_some u e
-  shift_by op (I8 x) (ObjectOperand y) u e = none_is_some u e
-  shift_by op (NativeInt x) b u e = none_is_some u e
-  shift_by op (ObjectOperand x) b u e = none_is_some u e
+  shift_by op _ _ u e = none_is_some u e
 
   pub shift_within : (op : ShiftOperation) (v amount u : Value) → shift_value op v amount ≡ Some u → IsWithin u
   shift_within op v amount u e = shift_by op (operand v) (operand amount) u e
 
   convert_32_by : (a : Operand) (u : Value) → convert_32_of Int32 a ≡ Some u → IsWithin u
-  convert_32_by (I4 x) u e = subst IsWithin (same_Some _ u e) tt
-  convert_32_by (I8 x) u e = subst IsWithin (same_Some _ u e) tt
-  convert_32_by (NativeInt x) u e = subst IsWithin (same_Some _ u e) tt
   convert_32_by (ObjectOperand x) u e = none_is_some u e
+  convert_32_by _ u e = subst IsWithin (same_Some _ u e) tt
 
   pub convert_32_within : (v u : Value) → convert_32 v ≡ Some u → IsWithin u
   convert_32_within v u e = convert_32_by (operand v) u e
 
   convert_64_by : (a : Operand) (u : Value) → convert_64_of Int64 a ≡ Some u → IsWithin u
-  convert_64_by (I4 x) u e = subst IsWithin (same_Some _ u e) tt
-  convert_64_by (I8 x) u e = subst IsWithin (same_Some _ u e) tt
-  convert_64_by (NativeInt x) u e = subst IsWithin (same_Some _ u e) tt
   convert_64_by (ObjectOperand x) u e = none_is_some u e
+  convert_64_by _ u e = subst IsWithin (same_Some _ u e) tt
 
   pub convert_64_within : (v u : Value) → convert_64 v ≡ Some u → IsWithin u
   convert_64_within v u e = convert_64_by (operand v) u e

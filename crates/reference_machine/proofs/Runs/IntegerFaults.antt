@@ -3,10 +3,10 @@ use Rattle.std.proofs.Common.{◌≡◌, ℤ, pos, negsuc, ◌&&◌, Bool, true,
 use Rattle.std.specs.Int.{Width, w32, w64}
 use Rattle.std.specs.Ordering.{int_eq}
 use Rattle.cil_model.specs.declared.instructions.BinaryOperation.{BinaryOperation}
-use Rattle.cil_model.specs.declared.instructions.BinaryOperation.TheVariants.{Add, Subtract, Multiply, AddOverflow, SubtractOverflow, MultiplyOverflow, Divide, Remainder, And, Or, ExclusiveOr}
+use Rattle.cil_model.specs.declared.instructions.BinaryOperation.TheVariants.{AddOverflow, SubtractOverflow, MultiplyOverflow, Divide, Remainder}
 use Rattle.cil_model.specs.declared.reports.Fault.{Fault}
 use Rattle.cil_model.specs.declared.reports.Fault.TheVariants.{DivideByZero, Arithmetic, Overflow}
-use Rattle.reference_machine.specs.Values.{Value, Int32, Int64, Native, Null, Reference}
+use Rattle.reference_machine.specs.Values.{Value, Int32, Int64}
 use Rattle.reference_machine.specs.Arithmetic.{is_in_range, exact, least, quotient, binary, result_as, binary_value}
 use Rattle.reference_machine.specs.Faults.{faults_of_operation}
 use Rattle.cil_model.proofs.Lists.{none_is_some}
@@ -36,17 +36,12 @@ division_alone w x y z f e = by_tests (int_eq y (pos 0)) (int_eq x (least w) && 
     by_tests false false h = no_fault z f h
 
 integer_faults : (w : Width) (op : BinaryOperation) (x y : ℤ) (f : Fault) → binary w op x y ≡ Err f → Contains (faults_of_operation op) f
-integer_faults w Add x y f e = no_fault _ f e
-integer_faults w Subtract x y f e = no_fault _ f e
-integer_faults w Multiply x y f e = no_fault _ f e
 integer_faults w AddOverflow x y f e = overflow_alone w (x +ℤ y) f e
 integer_faults w SubtractOverflow x y f e = overflow_alone w (x -ℤ y) f e
 integer_faults w MultiplyOverflow x y f e = overflow_alone w (x *ℤ y) f e
 integer_faults w Divide x y f e = division_alone w x y (int_div x y) f e
 integer_faults w Remainder x y f e = division_alone w x y (int_rem x y) f e
-integer_faults w And x y f e = no_fault _ f e
-integer_faults w Or x y f e = no_fault _ f e
-integer_faults w ExclusiveOr x y f e = no_fault _ f e
+integer_faults w _ x y f e = no_fault _ f e
 
 result_fault : (kind : ℤ → Value) (r : Result ℤ Fault) (result : Result Value Fault) (f : Fault) → Some (result_as kind r) ≡ Some result → result ≡ Err f → r ≡ Err f
 result_fault kind (Ok z) result f e h = cc
@@ -56,14 +51,4 @@ result_fault kind (Err g) result f e h = cc
 pub operation_faults : (op : BinaryOperation) (v w : Value) (result : Result Value Fault) (f : Fault) → binary_value op v w ≡ Some result → result ≡ Err f → Contains (faults_of_operation op) f
 operation_faults op (Int32 x) (Int32 y) result f e h = integer_faults w32 op x y f (result_fault Int32 (binary w32 op x y) result f e h)
 operation_faults op (Int64 x) (Int64 y) result f e h = integer_faults w64 op x y f (result_fault Int64 (binary w64 op x y) result f e h)
-operation_faults op (Int32 x) (Int64 y) result f e h = none_is_some result e
-operation_faults op (Int32 x) (Native y) result f e h = none_is_some result e
-operation_faults op (Int32 x) Null result f e h = none_is_some result e
-operation_faults op (Int32 x) (Reference n) result f e h = none_is_some result e
-operation_faults op (Int64 x) (Int32 y) result f e h = none_is_some result e
-operation_faults op (Int64 x) (Native y) result f e h = none_is_some result e
-operation_faults op (Int64 x) Null result f e h = none_is_some result e
-operation_faults op (Int64 x) (Reference n) result f e h = none_is_some result e
-operation_faults op (Native x) w result f e h = none_is_some result e
-operation_faults op Null w result f e h = none_is_some result e
-operation_faults op (Reference n) w result f e h = none_is_some result e
+operation_faults op _ _ result f e h = none_is_some result e

@@ -1,7 +1,7 @@
 -- A run ends out of memory only where an allocation is refused.
 use Rattle.std.proofs.Common.{◌≡◌, zero, suc, Bool, true, false, List, [], ◌∷◌, Contains, refl, sym, ap, ◌∙◌, arith}
 use Rattle.cil_model.specs.declared.instructions.BinaryOperation.{BinaryOperation}
-use Rattle.cil_model.specs.declared.instructions.BinaryOperation.TheVariants.{Add, Subtract, Multiply, AddOverflow, SubtractOverflow, MultiplyOverflow, Divide, Remainder, And, Or, ExclusiveOr}
+use Rattle.cil_model.specs.declared.instructions.BinaryOperation.TheVariants.{AddOverflow, SubtractOverflow, MultiplyOverflow, Divide, Remainder}
 use Rattle.cil_model.specs.declared.instructions.Instruction.{Instruction}
 use Rattle.cil_model.specs.declared.instructions.Instruction.TheVariants.{NoOperation, LoadInt32, LoadInt64, LoadNull, LoadString, LoadArgument, StoreArgument, LoadLocal, StoreLocal, Duplicate, Pop, Unary, Shift, Compare, ConvertInt32, ConvertInt64, Branch, BranchTrue, BranchFalse, BranchCompare, Switch, LoadField, StoreField, LoadStaticField, StoreStaticField, LoadLength, LoadElementInt32, LoadElementInt64, LoadElementReference, StoreElementInt32, StoreElementInt64, StoreElementReference, CastClass, IsInstance, Call, CallVirtual, Return, Binary, NewArray, NewObject}
 use Rattle.cil_model.specs.declared.reports.Fault.{Fault}
@@ -9,12 +9,13 @@ use Rattle.cil_model.specs.declared.reports.Fault.TheVariants.{Overflow, OutOfMe
 use Rattle.cil_model.specs.Bodies.{constructor_reference}
 use Rattle.cil_model.specs.Chains.{find_method}
 use Rattle.reference_machine.specs.Arithmetic.{as_index}
-use Rattle.reference_machine.specs.BuiltIn.{Action, Construct, Write, Enter, Exit, Start, Join}
+use Rattle.reference_machine.specs.BuiltIn.{Action, Enter, Exit, Start, Join}
 use Rattle.reference_machine.specs.Effects.{Setting, Effect, Goes, Blocks, Raises, Sticks}
+use Rattle.reference_machine.specs.Growth.{Follows}
 use Rattle.reference_machine.specs.Faults.{faults_of_operation, faults_of, faults_of_action, MayRaise, itself, member}
 use Rattle.reference_machine.specs.States.{Frame, State}
 use Rattle.reference_machine.specs.Steps.{execute}
-use Rattle.reference_machine.proofs.Runs.InstructionEffects.{Allowed, raises, given_ok, one_ok, array_ok, operands_ok, construct_ok, raised_is_listed, same_raised, no_raise}
+use Rattle.reference_machine.proofs.Runs.InstructionEffects.{Allowed, raises, given_ok, one_ok, array_ok, operands_ok, construct_ok, follows_steps, raised_is_listed, same_raised, no_raise}
 
 -- whether a fault is out of memory
 abbrev is_memory : Fault → Bool
@@ -38,32 +39,26 @@ lacks (x ∷ xs) h (zero, inside, is) = other x h.0 is
 lacks (x ∷ xs) h (suc k, inside, is) = lacks xs h.1 (k, omega (arith, inside), is)
 
 without_operation : (op : BinaryOperation) → Without (faults_of_operation op)
-without_operation Add = tt
-without_operation Subtract = tt
-without_operation Multiply = tt
 without_operation AddOverflow = (refl, tt)
 without_operation SubtractOverflow = (refl, tt)
 without_operation MultiplyOverflow = (refl, tt)
 without_operation Divide = (refl, (refl, tt))
 without_operation Remainder = (refl, (refl, tt))
-without_operation And = tt
-without_operation Or = tt
-without_operation ExclusiveOr = tt
+without_operation _ = tt
 
 without_action : (a : Action) → Without (faults_of_action a)
-without_action Construct = tt
-without_action Write = tt
 without_action Enter = (refl, tt)
 without_action Exit = (refl, (refl, tt))
 without_action Start = (refl, (refl, (refl, tt)))
 without_action Join = (refl, (refl, tt))
+without_action _ = tt
 
 -- a fault that is out of memory results from a refusal alone
 abbrev OfRefusal : Setting → Fault → Type 0
 OfRefusal here x = x ≡ OutOfMemory → here.is_refused ≡ true
 
 module _ (here : Setting) (s : State) (f : Frame) (below : List Frame) where
-  of_effect : (e : Effect) → Allowed s (OfRefusal here) e → e ≡ Raises OutOfMemory → here.is_refused ≡ true
+  of_effect : (e : Effect) → Allowed (Follows s) (Unit {0}) (OfRefusal here) e → e ≡ Raises OutOfMemory → here.is_refused ≡ true
   of_effect (Raises x) (raises _ h) k = h (same_raised x OutOfMemory k)
   of_effect (Goes fs s') a k = no_raise (Goes fs s') OutOfMemory k tt
   of_effect Blocks a k = no_raise Blocks OutOfMemory k tt
@@ -72,12 +67,12 @@ module _ (here : Setting) (s : State) (f : Frame) (below : List Frame) where
   -- by what is listed
   listed : (i : Instruction) → Contains (faults_of i) OutOfMemory → execute here s f below i ≡ Raises OutOfMemory → here.is_refused ≡ true
   listed (NewArray t) h =
-      of_effect (execute here s f below (NewArray t)) (one_ok s (OfRefusal here) f.stack (λ v rest. given_ok s (OfRefusal here) (as_index v) (λ z e.
-      array_ok here s f below (OfRefusal here) t z rest (other Overflow refl) (λ r k. r))))
+      of_effect (execute here s f below (NewArray t)) (one_ok f.stack (λ v rest. given_ok (as_index v) (λ z e.
+      array_ok here s f below (follows_steps here s) t z rest (other Overflow refl) (λ r k. r))))
   listed (NewObject c parameters) h =
-      of_effect (execute here s f below (NewObject c parameters)) (given_ok s (OfRefusal here) (find_method here.tree true (constructor_reference c parameters)) (λ found e.
-      operands_ok here s f below (OfRefusal here) parameters (λ arguments rest.
-      construct_ok here s f below (OfRefusal here) c found arguments rest (other StackOverflow refl) (λ r k. r))))
+      of_effect (execute here s f below (NewObject c parameters)) (given_ok (find_method here.tree true (constructor_reference c parameters)) (λ found e.
+      operands_ok here s f below (follows_steps here s) parameters (λ arguments rest taken.
+      construct_ok here s f below (follows_steps here s) c found arguments rest (other StackOverflow refl) (λ r k. r))))
   listed (Binary op) h = lacks (faults_of_operation op) (without_operation op) h
   listed NoOperation h = lacks (faults_of NoOperation) tt h
   listed (LoadInt32 z) h = lacks (faults_of (LoadInt32 z)) tt h

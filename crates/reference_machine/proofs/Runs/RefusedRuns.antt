@@ -1,5 +1,5 @@
 -- Refused allocations along runs: where two lists of steps are joined; and the same events have one run.
-use Rattle.std.proofs.Common.{◌≡◌, ◌↔◌, ℕ, Bool, true, false, IsTrue, List, [], ◌∷◌, ◌++◌, length, refl, sym, ap, ◌∙◌, subst, arith}
+use Rattle.std.proofs.Common.{◌≡◌, ◌↔◌, ℕ, Bool, true, false, IsTrue, List, [], ◌∷◌, length, refl, sym, ap, ◌∙◌, subst, arith}
 use Rattle.std.specs.List.{zip}
 use Rattle.std.proofs.lemmas.Option.{same_Some}
 use Rattle.cil_model.specs.declared.events.Event.{Event}
@@ -8,34 +8,22 @@ use Rattle.cil_model.specs.declared.limits.Limits.{Limits}
 use Rattle.cil_model.specs.declared.reports.Report.{Report}
 use Rattle.cil_model.specs.declared.trees.Tree.{Tree}
 use Rattle.reference_machine.specs.Rooms.{RefusesBeyondRoom}
-use Rattle.reference_machine.specs.Runs.{IsStateAfter, StepRequest, RunsTo, followed_by, is_refusal, run, step_reports, thread_part}
+use Rattle.reference_machine.specs.Runs.{IsStateAfter, RunsTo, is_refusal, run, step_reports, thread_part}
 use Rattle.reference_machine.specs.States.{State}
-use Rattle.reference_machine.specs.Steps.{StepOutcome, Answers, step}
+use Rattle.reference_machine.specs.Steps.{Answers, step}
 use Rattle.reference_machine.proofs.Runs.InstructionEffects.{same_after}
-use Rattle.reference_machine.proofs.Runs.JoinedRuns.{after_run, first_of, same_state}
+use Rattle.reference_machine.proofs.Runs.JoinedRuns.{first_of, same_state}
 
 -- two tests of one thing are equal
 same_test : {P : Type 0} (b c : Bool) → IsTrue b ↔ P → IsTrue c ↔ P → b ≡ c
-same_test true true h k = refl
-same_test false false h k = refl
 same_test true false h k = sym (k.1 (h.0 refl))
 same_test false true h k = h.1 (k.0 refl)
+same_test _ _ h k = refl
 
 same_report : (q r : Report) (s t : State) → Answers q s ≡ Answers r t → q ≡ r
 same_report q r s t e = cc
 
 module _ (tree : Tree) (limits : Limits) where
-  -- refusals of one list, and then of another
-  pub refuses_after : (first more : List StepRequest) (s t : State) (reports : List Report) → run tree limits s first ≡ RunsTo reports t → RefusesBeyondRoom tree limits s first → RefusesBeyondRoom tree limits t more →
-      RefusesBeyondRoom tree limits s (first ++ more)
-  refuses_after [] more s t reports e h k = let P : State → Type 0 = λ x. RefusesBeyondRoom tree limits x more in subst P (sym (same_state [] reports s t e)) k
-  refuses_after (q ∷ qs) more s t reports e h k = (h.0, λ r u is. next r u is (λ rs k'. refuses_after qs more u t rs k' (h.1 r u is) k))
-    where
-      next : (r : Report) (u : State) → step tree limits s q.0 q.1 ≡ Answers r u → ((rs : List Report) → run tree limits u qs ≡ RunsTo rs t → RefusesBeyondRoom tree limits u (qs ++ more)) → RefusesBeyondRoom tree limits u (qs ++ more)
-      next r u is later =
-          let P : StepOutcome → Type 0 = λ o. followed_by o (λ x. run tree limits x qs) ≡ RunsTo reports t in
-          after_run r reports t (run tree limits u qs) (subst P is e) (λ rs k' e'. later rs k')
-
   -- the outcome of a run from a state
   abbrev RunsUpTo : State → List (Event × Report) → State → Type 0
   RunsUpTo s events t = (run tree limits s (thread_part events) ≡ RunsTo (step_reports events) t) × RefusesBeyondRoom tree limits s (thread_part events)

@@ -1,6 +1,5 @@
 -- Each change of a state keeps what no step takes back.
-use Rattle.std.proofs.Common.{◌≡◌, ℕ, Bool, true, false, IsTrue, if◌then◌else◌, List, [], ◌∷◌, ◌++◌, map, length, Option, Some, None, option_map, slice_get, slice_set, unwrap_or, refl, sym, ap, ◌∙◌, subst}
-use Rattle.std.proofs.lemmas.Bool.{and_from}
+use Rattle.std.proofs.Common.{◌≡◌, ℕ, Bool, true, false, if◌then◌else◌, List, [], ◌∷◌, ◌++◌, map, length, Option, Some, None, option_map, slice_get, slice_set, unwrap_or, refl, sym, ap, ◌∙◌, subst}
 use Rattle.std.proofs.lemmas.List.{append-nil, append_assoc, map-append, length-set}
 use Rattle.std.proofs.lemmas.Option.{get_or_from_slice_get, option_and_then_some, same_Some}
 use Rattle.std.proofs.Math.Seq.{map-set_same}
@@ -12,7 +11,7 @@ use Rattle.reference_machine.specs.Values.{ObjectName, Born, Literal, Value, sam
 use Rattle.reference_machine.specs.States.{Monitor, Contents, Instance, Array, HeapObject, State, entry_at, with_entry, same_kind_or_none, replaced_entry, replaced_at, object_at, with_object, fields_of_contents, elements_of_contents, with_fields, with_field, with_element, with_birth, with_monitor}
 use Rattle.reference_machine.specs.Growth.{OfInstance, OfArray, shape_of, shapes, Continues, Follows}
 use Rattle.cil_model.proofs.Lists.{none_is_some}
-use Rattle.cil_model.proofs.SameLaws.{both_first, both_second, if_true, if_false, same_text_equal, same_text_itself, same_class_equal, same_class_itself, equivalence}
+use Rattle.cil_model.proofs.SameLaws.{if_false, same_text_equal, same_text_itself, equivalence}
 
 -- ---- lists
 
@@ -134,16 +133,6 @@ follows_statics s k v statics h = record { objects = continues_itself (shapes s)
 -- ---- a value that was stored is loaded again
 
 module _ {K V : Type 0} (same : K → K → Bool) (laws : IsEquivalence same) where
-  -- under its own key, where there was one
-  pub entry_stored : (k : K) (v w : V) (es : List (K × V)) → entry_at same k es ≡ Some w → entry_at same k (with_entry same k v es) ≡ Some v
-  entry_stored k v w [] h = none_is_some w h
-  entry_stored k v w (e ∷ es) h = by_test (same e.0 k) refl h (entry_stored k v w es)
-    where
-      by_test : (b : Bool) → same e.0 k ≡ b → (if b then Some e.1 else entry_at same k es) ≡ Some w → (entry_at same k es ≡ Some w → entry_at same k (with_entry same k v es) ≡ Some v) →
-          entry_at same k (if b then (e.0, v) ∷ es else e ∷ with_entry same k v es) ≡ Some v
-      by_test true e' h' later = if_true (same e.0 k) (Some v) (entry_at same k es) e'
-      by_test false e' h' later = if_false (same e.0 k) (Some e.1) (entry_at same k (with_entry same k v es)) e' ∙ later h'
-
   -- and nothing else under another key
   pub entry_kept : (j k : K) (v : V) (es : List (K × V)) → same k j ≡ false → entry_at same j (with_entry same k v es) ≡ entry_at same j es
   entry_kept j k v [] other = refl
@@ -157,19 +146,6 @@ module _ {K V : Type 0} (same : K → K → Bool) (laws : IsEquivalence same) wh
           entry_at same j (if b then (e.0, v) ∷ es else e ∷ with_entry same k v es) ≡ (if same e.0 j then Some e.1 else entry_at same j es)
       by_test true h later = if_false (same e.0 j) (Some v) (entry_at same j es) (apart h) ∙ sym (if_false (same e.0 j) (Some e.1) (entry_at same j es) (apart h))
       by_test false h later = ap (λ rest. if same e.0 j then Some e.1 else rest) later
-
--- the keys of fields are compared as they have to be for that
-same_key_equal : (a b : FieldKey) → IsTrue (same_key a b) → a ≡ b
-same_key_equal a b h = λ i. record {
-  declared_in = same_class_equal a.declared_in b.declared_in (both_first _ _ h) i;
-  name = same_text_equal a.name b.name (both_second _ _ h) i;
-}
-
-same_key_itself : (k : FieldKey) → IsTrue (same_key k k)
-same_key_itself k = and_from _ _ (same_class_itself k.declared_in) (same_text_itself k.name)
-
-pub key_equivalence : IsEquivalence same_key
-key_equivalence = equivalence same_key same_key_itself same_key_equal
 
 pub text_equivalence : IsEquivalence same_text
 text_equivalence = equivalence same_text same_text_itself same_text_equal

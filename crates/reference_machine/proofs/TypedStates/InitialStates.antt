@@ -7,7 +7,7 @@ use Rattle.std.proofs.lemmas.Option.{same_Some}
 use Rattle.cil_model.specs.declared.types.ClassName.{ClassName}
 use Rattle.cil_model.specs.declared.types.DeclaredType.{DeclaredType}
 use Rattle.cil_model.specs.declared.types.Element.{Element}
-use Rattle.cil_model.specs.declared.types.Element.TheVariants.{Int32 as Int32Element, Int64 as Int64Element, Object, String, Class}
+use Rattle.cil_model.specs.declared.types.Element.TheVariants.{Int32 as Int32Element}
 use Rattle.cil_model.specs.declared.trees.Tree.{Tree}
 use Rattle.cil_model.specs.declared.trees.Method.{Method}
 use Rattle.cil_model.specs.declared.trees.Code.{Code}
@@ -41,10 +41,7 @@ module _ (tree : Tree) (s : State) where
       by_element : (e : Element) (n : ℕ) → HasType tree s (zero_of (typed_as e n)) (typed_as e n)
       by_element e (suc n) = refl
       by_element Int32Element zero = refl
-      by_element Int64Element zero = refl
-      by_element Object zero = refl
-      by_element String zero = refl
-      by_element (Class c) zero = refl
+      by_element _ zero = refl
 
   pub zeros_typed : (ts : List DeclaredType) → HaveTypes tree s (map zero_of ts) ts
   zeros_typed [] = tt

@@ -74,9 +74,8 @@ module _ (tree : Tree) (s : State) (typed : IsTyped tree s) where
       of_class c has fits = by_name (same_class c object_name) (same_class c string_name) (both_second (is_concrete tree c) (not (same_class c string_name)) has) fits
         where
           by_name : (v w : Bool) → IsTrue (not w) → IsTrue (is_assignable tree (plain (element_named v w c)) (plain String)) → ⊥
-          by_name true w k e = never e
           by_name false true k e = never k
-          by_name false false k e = never e
+          by_name _ _ k e = never e
 
       by_contents : (c : Contents) → type_of_contents c ≡ h.own → IsTypedContents tree s c → ⊥
       by_contents (Array t elements) e contents = never (subst (λ x. IsTrue (is_assignable tree x (plain String))) (sym e) h.fits)
@@ -108,6 +107,5 @@ module _ (tree : Tree) where
     assignable_is_thread c h = by_name (same_class c object_name) (same_class c string_name) h
       where
         by_name : (v w : Bool) → IsTrue (is_assignable tree (plain (element_named v w c)) (plain (Class thread_name))) → IsTrue (is_thread_class tree c)
-        by_name true w k = never k
-        by_name false true k = never k
         by_name false false k = weaker (λ x. same_class x thread_name || list_any (same_class thread_name) (interfaces_declared tree x)) (same_class thread_name) link_is_thread (chain_of tree c) k
+        by_name _ _ k = never k

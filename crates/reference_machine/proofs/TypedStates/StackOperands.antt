@@ -3,7 +3,7 @@ use Rattle.std.proofs.Common.{◌≡◌, ◌⊎◌, ℕ, zero, suc, ℤ, Bool, t
 use Rattle.std.proofs.lemmas.Option.{same_Some}
 use Rattle.cil_model.specs.declared.types.DeclaredType.{DeclaredType}
 use Rattle.cil_model.specs.declared.types.Element.{Element}
-use Rattle.cil_model.specs.declared.types.Element.TheVariants.{Int32 as Int32Element, Int64 as Int64Element, Object, String, Class}
+use Rattle.cil_model.specs.declared.types.Element.TheVariants.{Int32 as Int32Element, Int64 as Int64Element, String}
 use Rattle.cil_model.specs.declared.trees.Tree.{Tree}
 use Rattle.cil_model.specs.Same.{same_type}
 use Rattle.cil_model.specs.Declarations.{plain}
@@ -42,22 +42,16 @@ int32_fits tree t h = by_element t.element t.brackets h
   where
     by_element : (e : Element) (n : ℕ) → IsTrue (is_assignable_at tree Int32Element 0 e n) → typed_as e n ≡ plain Int32Element
     by_element Int32Element zero k = refl
-    by_element Int64Element zero k = never k
-    by_element Object zero k = never k
-    by_element String zero k = never k
-    by_element (Class c) zero k = never k
     by_element e (suc n) k = never k
+    by_element _ zero k = never k
 
 int64_fits : (tree : Tree) (t : DeclaredType) → IsTrue (is_assignable tree (plain Int64Element) t) → t ≡ plain Int64Element
 int64_fits tree t h = by_element t.element t.brackets h
   where
     by_element : (e : Element) (n : ℕ) → IsTrue (is_assignable_at tree Int64Element 0 e n) → typed_as e n ≡ plain Int64Element
     by_element Int64Element zero k = refl
-    by_element Int32Element zero k = never k
-    by_element Object zero k = never k
-    by_element String zero k = never k
-    by_element (Class c) zero k = never k
     by_element e (suc n) k = never k
+    by_element _ zero k = never k
 
 -- an object's own type is a reference
 pub own_is_reference : (tree : Tree) (s : State) (n : ObjectName) (own : DeclaredType) → type_of s n ≡ Some own → IsTrue (is_reference own)
@@ -86,19 +80,10 @@ module _ (tree : Tree) (legal : IsLegal tree) (s : State) where
   value_fits (Reference n) (Declared d) t f h = record { own = h.own; is = h.is; fits = assignable_on tree legal s h.own d t h.fits f; monitor = h.monitor }
   value_fits v NativeInt t f h = never f
   value_fits Null NullType t f h = f
-  value_fits (Int32 z) NullType t f h = elim h [ ]
-  value_fits (Int64 z) NullType t f h = elim h [ ]
-  value_fits (Native z) NullType t f h = elim h [ ]
-  value_fits (Reference n) NullType t f h = elim h [ ]
+  value_fits _ _ t f h = elim h [ ]
 
   -- two values of one type are of one kind
   pub kinds_agree : (v w : Value) (t : DeclaredType) → HasType tree s v t → HasType tree s w t → IsTrue (same_kind v w)
-  kinds_agree (Int32 x) (Int32 y) t h k = refl
-  kinds_agree (Int64 x) (Int64 y) t h k = refl
-  kinds_agree Null Null t h k = refl
-  kinds_agree Null (Reference n) t h k = refl
-  kinds_agree (Reference m) Null t h k = refl
-  kinds_agree (Reference m) (Reference n) t h k = refl
   kinds_agree (Int32 x) (Int64 y) t h k = not_both_integers t h k
   kinds_agree (Int64 x) (Int32 y) t h k = not_both_integers t k h
   kinds_agree (Int32 x) Null t h k = not_int32 t h k
@@ -114,6 +99,7 @@ module _ (tree : Tree) (legal : IsLegal tree) (s : State) where
   kinds_agree (Int64 x) (Native y) t h k = elim k [ ]
   kinds_agree Null (Native y) t h k = elim k [ ]
   kinds_agree (Reference m) (Native y) t h k = elim k [ ]
+  kinds_agree _ _ t h k = refl
 
   -- ---- values by type
 
@@ -130,8 +116,7 @@ module _ (tree : Tree) (legal : IsLegal tree) (s : State) where
       by_value (Native z) k = elim k [ ]
       by_value Null k = not_int32 t same k
       by_value (Reference n) k = not_int32 t same (object_is_reference n t k)
-  from_int32 P v NativeInt i h each = never i
-  from_int32 P v NullType i h each = never i
+  from_int32 P v _ i h each = never i
 
   pub from_int64 : (P : Value → Type 0) (v : Value) (a : StackType) → IsTrue (is_int64 a) → HasStackType tree s v a → ((z : ℤ) → P (Int64 z)) → P v
   from_int64 P v (Declared t) i h each = by_value v h
@@ -145,8 +130,7 @@ module _ (tree : Tree) (legal : IsLegal tree) (s : State) where
       by_value (Native z) k = elim k [ ]
       by_value Null k = not_int64 t same k
       by_value (Reference n) k = not_int64 t same (object_is_reference n t k)
-  from_int64 P v NativeInt i h each = never i
-  from_int64 P v NullType i h each = never i
+  from_int64 P v _ i h each = never i
 
   pub from_integer : (P : Value → Type 0) (v : Value) (a : StackType) → IsTrue (is_integer a) → HasStackType tree s v a → (IsTrue (is_int32 a) → (z : ℤ) → P (Int32 z)) → (IsTrue (is_int64 a) → (z : ℤ) → P (Int64 z)) → P v
   from_integer P v a i h each32 each64 = by_size (either (is_int32 a) (is_int64 a) i)
@@ -168,34 +152,26 @@ module _ (tree : Tree) (legal : IsLegal tree) (s : State) where
   from_reference P (Reference n) a i h null each = each n
   from_reference P (Int32 z) (Declared t) i h null each = not_int32 t h i
   from_reference P (Int64 z) (Declared t) i h null each = not_int64 t h i
-  from_reference P (Native z) (Declared t) i h null each = elim h [ ]
-  from_reference P (Int32 z) NullType i h null each = elim h [ ]
-  from_reference P (Int64 z) NullType i h null each = elim h [ ]
-  from_reference P (Native z) NullType i h null each = elim h [ ]
   from_reference P (Int32 z) NativeInt i h null each = never i
   from_reference P (Int64 z) NativeInt i h null each = never i
   from_reference P (Native z) NativeInt i h null each = never i
+  from_reference P _ _ i h null each = elim h [ ]
 
   -- an int32 or a native integer
   pub from_index : (P : Value → Type 0) (v : Value) (a : StackType) → IsTrue (is_index a) → HasStackType tree s v a → ((z : ℤ) → P (Int32 z)) → ((z : ℤ) → P (Native z)) → P v
   from_index P v (Declared t) i h each32 native = from_int32 P v (Declared t) i h each32
   from_index P (Native z) NativeInt i h each32 native = native z
-  from_index P (Int32 z) NativeInt i h each32 native = elim h [ ]
-  from_index P (Int64 z) NativeInt i h each32 native = elim h [ ]
-  from_index P Null NativeInt i h each32 native = elim h [ ]
-  from_index P (Reference n) NativeInt i h each32 native = elim h [ ]
   from_index P v NullType i h each32 native = never i
+  from_index P _ _ i h each32 native = elim h [ ]
 
   -- a number is of each type of its size
   pub int32_typed : (z : ℤ) (a : StackType) → IsTrue (is_int32 a) → HasStackType tree s (Int32 z) a
   int32_typed z (Declared t) i = same_type_equal t (plain Int32Element) i
-  int32_typed z NativeInt i = never i
-  int32_typed z NullType i = never i
+  int32_typed z _ i = never i
 
   pub int64_typed : (z : ℤ) (a : StackType) → IsTrue (is_int64 a) → HasStackType tree s (Int64 z) a
   int64_typed z (Declared t) i = same_type_equal t (plain Int64Element) i
-  int64_typed z NativeInt i = never i
-  int64_typed z NullType i = never i
+  int64_typed z _ i = never i
 
 -- ---- lists of values
 
@@ -205,16 +181,14 @@ module _ (tree : Tree) (s : State) where
   value_at [] [] h n t e = none_is_some t e
   value_at (v ∷ vs) (u ∷ us) h zero t e = (v, refl, subst (λ x. HasType tree s v x) (same_Some u t e) h.0)
   value_at (v ∷ vs) (u ∷ us) h (suc n) t e = value_at vs us h.1 n t e
-  value_at [] (u ∷ us) h n t e = elim h [ ]
-  value_at (v ∷ vs) [] h n t e = elim h [ ]
+  value_at _ _ h n t e = elim h [ ]
 
   -- with another value of the type there
   pub values_with : (vs : List Value) (ts : List DeclaredType) → HaveTypes tree s vs ts → (n : ℕ) (t : DeclaredType) → slice_get ts n ≡ Some t → (w : Value) → HasType tree s w t → HaveTypes tree s (slice_set vs n w) ts
   values_with [] [] h n t e w k = none_is_some t e
   values_with (v ∷ vs) (u ∷ us) h zero t e w k = (subst (λ x. HasType tree s w x) (sym (same_Some u t e)) k, h.1)
   values_with (v ∷ vs) (u ∷ us) h (suc n) t e w k = (h.0, values_with vs us h.1 n t e w k)
-  values_with [] (u ∷ us) h n t e w k = elim h [ ]
-  values_with (v ∷ vs) [] h n t e w k = elim h [ ]
+  values_with _ _ h n t e w k = elim h [ ]
 
   -- ---- taking operands
 
@@ -232,22 +206,19 @@ module _ (tree : Tree) (s : State) where
       ((v w : Value) (a b : StackType) (rest : List Value) (types : List StackType) → HasStackType tree s v a → HasStackType tree s w b → HaveStackTypes tree s rest types → flow_go a b types ≡ Some result → IsTypedEffect tree (go v w rest)) →
       IsTypedEffect tree (take_two Sticks vs go)
   two_typed go flow_go (w ∷ v ∷ vs) (b ∷ a ∷ st) result h e each = each v w a b vs st h.1.0 h.0 h.1.1 e
-  two_typed go flow_go vs [] result h e each = none_is_some result e
-  two_typed go flow_go vs (b ∷ []) result h e each = none_is_some result e
   two_typed go flow_go [] (b ∷ a ∷ st) result h e each = elim h [ ]
   two_typed go flow_go (w ∷ []) (b ∷ a ∷ st) result h e each = elim h.1 [ ]
+  two_typed go flow_go vs _ result h e each = none_is_some result e
 
   pub three_typed : (go : Value → Value → Value → List Value → Effect) (flow_go : StackType → StackType → StackType → List StackType → StackAfter) (vs : List Value) (st result : List StackType) →
       HaveStackTypes tree s vs st → take_three None st flow_go ≡ Some result →
       ((u v w : Value) (a b c : StackType) (rest : List Value) (types : List StackType) → HasStackType tree s u a → HasStackType tree s v b → HasStackType tree s w c → HaveStackTypes tree s rest types → flow_go a b c types ≡ Some result → IsTypedEffect tree (go u v w rest)) →
       IsTypedEffect tree (take_three Sticks vs go)
   three_typed go flow_go (w ∷ v ∷ u ∷ vs) (c ∷ b ∷ a ∷ st) result h e each = each u v w a b c vs st h.1.1.0 h.1.0 h.0 h.1.1.1 e
-  three_typed go flow_go vs [] result h e each = none_is_some result e
-  three_typed go flow_go vs (c ∷ []) result h e each = none_is_some result e
-  three_typed go flow_go vs (c ∷ b ∷ []) result h e each = none_is_some result e
   three_typed go flow_go [] (c ∷ b ∷ a ∷ st) result h e each = elim h [ ]
   three_typed go flow_go (w ∷ []) (c ∷ b ∷ a ∷ st) result h e each = elim h.1 [ ]
   three_typed go flow_go (w ∷ v ∷ []) (c ∷ b ∷ a ∷ st) result h e each = elim h.1.1 [ ]
+  three_typed go flow_go vs _ result h e each = none_is_some result e
 
 -- a test that lets a stack through passed, and the stack is the result
 pub was_allowed : (b : Bool) (st result : List StackType) → if_allowed b st ≡ Some result → IsTrue b × (st ≡ result)

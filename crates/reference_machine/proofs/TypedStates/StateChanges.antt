@@ -205,21 +205,18 @@ module _ (tree : Tree) (legal : IsLegal tree) (s : State) where
   pub entry_typed : (k : FieldKey) (t : DeclaredType) (es : List (FieldKey × Value)) (fs : List (FieldKey × DeclaredType)) → HaveFieldTypes tree s es fs → entry_at same_key k fs ≡ Some t →
       (w : Value) × (entry_at same_key k es ≡ Some w) × HasType tree s w t
   entry_typed k t [] [] h found = none_is_some t found
-  entry_typed k t [] (f ∷ fs) h found = elim h [ ]
-  entry_typed k t (e ∷ es) [] h found = elim h [ ]
   entry_typed k t (e ∷ es) (f ∷ fs) h found = by_test (same_key f.0 k) (ap (λ x. same_key x k) h.0) found (entry_typed k t es fs h.2)
     where
       by_test : (b : Bool) → same_key e.0 k ≡ b → (if b then Some f.1 else entry_at same_key k fs) ≡ Some t → (entry_at same_key k fs ≡ Some t → (w : Value) × (entry_at same_key k es ≡ Some w) × HasType tree s w t) →
           (w : Value) × (entry_at same_key k (e ∷ es) ≡ Some w) × HasType tree s w t
       by_test true is here later = (e.1, if_true (same_key e.0 k) (Some e.1) (entry_at same_key k es) is, subst (λ x. HasType tree s e.1 x) (same_Some f.1 t here) h.1)
       by_test false is there later = let rest = later there in (rest.0, if_false (same_key e.0 k) (Some e.1) (entry_at same_key k es) is ∙ rest.1, rest.2)
+  entry_typed k t _ _ h found = elim h [ ]
 
   -- fields with another value of a field's type are typed
   with_entry_typed : (k : FieldKey) (v : Value) (t : DeclaredType) (es : List (FieldKey × Value)) (fs : List (FieldKey × DeclaredType)) → HaveFieldTypes tree s es fs → entry_at same_key k fs ≡ Some t → HasType tree s v t →
       HaveFieldTypes tree s (with_entry same_key k v es) fs
   with_entry_typed k v t [] [] h found value = tt
-  with_entry_typed k v t [] (f ∷ fs) h found value = elim h [ ]
-  with_entry_typed k v t (e ∷ es) [] h found value = elim h [ ]
   with_entry_typed k v t (e ∷ es) (f ∷ fs) h found value = by_test (same_key f.0 k) (ap (λ x. same_key x k) h.0) found (λ there. with_entry_typed k v t es fs h.2 there value)
     where
       by_test : (b : Bool) → same_key e.0 k ≡ b → (if b then Some f.1 else entry_at same_key k fs) ≡ Some t → (entry_at same_key k fs ≡ Some t → HaveFieldTypes tree s (with_entry same_key k v es) fs) →
@@ -228,6 +225,7 @@ module _ (tree : Tree) (legal : IsLegal tree) (s : State) where
           subst (λ x. HaveFieldTypes tree s x (f ∷ fs)) (sym (if_true (same_key e.0 k) ((e.0, v) ∷ es) (e ∷ with_entry same_key k v es) is)) (h.0, subst (λ x. HasType tree s v x) (sym (same_Some f.1 t here)) value, h.2)
       by_test false is there later =
           subst (λ x. HaveFieldTypes tree s x (f ∷ fs)) (sym (if_false (same_key e.0 k) ((e.0, v) ∷ es) (e ∷ with_entry same_key k v es) is)) (h.0, h.1, later there)
+  with_entry_typed k v t _ _ h found value = elim h [ ]
 
   replaced_field : (k : FieldKey) (v : Value) (t : DeclaredType) (es : List (FieldKey × Value)) (fs : List (FieldKey × DeclaredType)) → HaveFieldTypes tree s es fs → entry_at same_key k fs ≡ Some t → HasType tree s v t →
       replaced_entry k v es ≡ Some (with_entry same_key k v es)

@@ -53,46 +53,28 @@ module _ (tree : Tree) (s t : State) (follows : Follows s t) where
   monitor_keeps (Literal characters) own is there = entry_by_keys same_text characters s.literal_monitors t.literal_monitors (sym follows.literals_stay) there
 
   pub value_keeps : (v : Value) (d : DeclaredType) → HasType tree s v d → HasType tree t v d
-  value_keeps (Int32 z) d h = h
-  value_keeps (Int64 z) d h = h
-  value_keeps (Native z) d h = h
-  value_keeps Null d h = h
   value_keeps (Reference n) d h = record { own = h.own; is = type_stays s t follows n h.own h.is; fits = h.fits; monitor = monitor_keeps n h.own h.is h.monitor }
+  value_keeps _ d h = h
 
   pub stack_value_keeps : (v : Value) (d : StackType) → HasStackType tree s v d → HasStackType tree t v d
   stack_value_keeps v (Declared d) h = value_keeps v d h
-  stack_value_keeps (Int32 z) NativeInt h = h
-  stack_value_keeps (Int64 z) NativeInt h = h
-  stack_value_keeps (Native z) NativeInt h = h
-  stack_value_keeps Null NativeInt h = h
-  stack_value_keeps (Reference n) NativeInt h = h
-  stack_value_keeps (Int32 z) NullType h = h
-  stack_value_keeps (Int64 z) NullType h = h
-  stack_value_keeps (Native z) NullType h = h
-  stack_value_keeps Null NullType h = h
-  stack_value_keeps (Reference n) NullType h = h
+  stack_value_keeps _ _ h = h
 
   pub values_keep : (vs : List Value) (ts : List DeclaredType) → HaveTypes tree s vs ts → HaveTypes tree t vs ts
-  values_keep [] [] h = h
   values_keep (v ∷ vs) (d ∷ ds) h = (value_keeps v d h.0, values_keep vs ds h.1)
-  values_keep [] (d ∷ ds) h = h
-  values_keep (v ∷ vs) [] h = h
+  values_keep _ _ h = h
 
   pub stack_keeps : (vs : List Value) (ts : List StackType) → HaveStackTypes tree s vs ts → HaveStackTypes tree t vs ts
-  stack_keeps [] [] h = h
   stack_keeps (v ∷ vs) (d ∷ ds) h = (stack_value_keeps v d h.0, stack_keeps vs ds h.1)
-  stack_keeps [] (d ∷ ds) h = h
-  stack_keeps (v ∷ vs) [] h = h
+  stack_keeps _ _ h = h
 
   pub elements_keep : (d : DeclaredType) (vs : List Value) → AllHaveType tree s d vs → AllHaveType tree t d vs
   elements_keep d [] h = h
   elements_keep d (v ∷ vs) h = (value_keeps v d h.0, elements_keep d vs h.1)
 
   pub fields_keep : (es : List (FieldKey × Value)) (fs : List (FieldKey × DeclaredType)) → HaveFieldTypes tree s es fs → HaveFieldTypes tree t es fs
-  fields_keep [] [] h = h
   fields_keep (e ∷ es) (f ∷ fs) h = (h.0, value_keeps e.1 f.1 h.1, fields_keep es fs h.2)
-  fields_keep [] (f ∷ fs) h = h
-  fields_keep (e ∷ es) [] h = h
+  fields_keep _ _ h = h
 
   pub contents_keep : (c : Contents) → IsTypedContents tree s c → IsTypedContents tree t c
   contents_keep (Instance c fields) h = (h.0, h.1, fields_keep fields _ h.2)
@@ -149,20 +131,15 @@ module _ (tree : Tree) (legal : IsLegal tree) (s : State) where
   value_above Null NullType (Declared b) below h = below
   value_above v NullType NullType below h = h
   value_above v NativeInt NativeInt below h = h
-  value_above v (Declared a) NativeInt below h = absurd cc
-  value_above v (Declared a) NullType below h = absurd cc
-  value_above v NativeInt (Declared b) below h = absurd cc
-  value_above v NativeInt NullType below h = absurd cc
-  value_above v NullType NativeInt below h = absurd cc
   value_above (Int32 z) NullType (Declared b) below h = elim h [ ]
   value_above (Int64 z) NullType (Declared b) below h = elim h [ ]
   value_above (Native z) NullType (Declared b) below h = elim h [ ]
   value_above (Reference n) NullType (Declared b) below h = elim h [ ]
+  value_above v _ _ below h = absurd cc
 
   pub stack_above : (vs : List Value) (ts us : List StackType) → AreBelow tree ts us → HaveStackTypes tree s vs ts → HaveStackTypes tree s vs us
   stack_above [] [] [] below h = h
   stack_above (v ∷ vs) (a ∷ ts) (b ∷ us) below h = (value_above v a b below.0 h.0, stack_above vs ts us below.1 h.1)
-  stack_above [] (a ∷ ts) us below h = elim h [ ]
-  stack_above (v ∷ vs) [] us below h = elim h [ ]
   stack_above [] [] (b ∷ us) below h = below
   stack_above (v ∷ vs) (a ∷ ts) [] below h = elim below [ ]
+  stack_above _ _ us below h = elim h [ ]

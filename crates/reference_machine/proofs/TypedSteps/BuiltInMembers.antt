@@ -16,7 +16,7 @@ use Rattle.cil_model.specs.Assignable.{is_reference, type_of_class}
 use Rattle.cil_model.specs.Bodies.{argument_types, falls_through}
 use Rattle.cil_model.proofs.Lists.{none_is_some}
 use Rattle.cil_model.proofs.SameLaws.{never, both_first}
-use Rattle.reference_machine.specs.Values.{ObjectName, Born, Literal, Value, Int32, Int64, Native, Null, Reference}
+use Rattle.reference_machine.specs.Values.{ObjectName, Born, Literal, Value, Native, Reference}
 use Rattle.reference_machine.specs.States.{Monitor, Free, Held, HeapObject, Frame, Thread, State, object_at, with_object, class_of, monitor_of, with_monitor, is_live}
 use Rattle.reference_machine.specs.Effects.{Setting, Effect, Blocks, Raises, Sticks, when_some, new_frame, onward}
 use Rattle.reference_machine.specs.BuiltIn.{Action, Construct, Write, Enter, Exit, Start, Join, action_of, line_of, enter, exit, with_thread, begin, start, join, thread_object, act}
@@ -45,13 +45,10 @@ module _ (here : Setting) (s : State) (f : Frame) (below : List Frame) (i : Inst
 
   -- what it takes can be printed: no object is a string but a literal
   line_is_there : (t : DeclaredType) → IsOperandOf Write t → (v : Value) → HasType here.tree s v t → (line : List ℕ) × (line_of v ≡ Some line)
-  line_is_there t operand (Int32 z) h = (_, refl)
-  line_is_there t operand (Int64 z) h = (_, refl)
   line_is_there t operand (Native z) h = elim h [ ]
-  line_is_there t operand Null h = (_, refl)
-  line_is_there t operand (Reference (Literal characters)) h = (_, refl)
   line_is_there t (inl integer) (Reference (Born n)) h = never (sym integer ∙ object_is_reference here.tree running.accepted.legal s (Born n) t h)
   line_is_there t (inr string) (Reference (Born n)) h = absurd (string_is_literal here.tree s running.typed n (subst (λ x. IsObjectOf here.tree s (Born n) x) string h))
+  line_is_there t operand _ h = (_, refl)
 
   -- one line more is printed
   write_typed : (t : DeclaredType) → IsOperandOf Write t → (v : Value) → HasType here.tree s v t → IsTypedEffect here.tree (act here s f below Write (v ∷ []) rest)
@@ -156,9 +153,8 @@ module _ (here : Setting) (s : State) (f : Frame) (below : List Frame) (i : Inst
       begun = subst (λ x. IsTypedEffect here.tree (when_some x (λ c. begin here s f below n rest o (target here.tree c thread_name run_method)))) (sym thread.is) (begin_typed n o there thread)
 
       by_tests : (a b : Bool) → IsTypedEffect here.tree (if a then Raises ThreadState else if b then Raises TooManyThreads else when_some (class_of s n) (λ c. begin here s f below n rest o (target here.tree c thread_name run_method)))
-      by_tests true b = tt
-      by_tests false true = tt
       by_tests false false = begun
+      by_tests _ _ = tt
 
   -- ---- all
 

@@ -40,8 +40,7 @@ module _ (tree : Tree) (legal : IsLegal tree) (s : State) where
   pub typed_are_of_kinds : (vs : List Value) (ts : List DeclaredType) → HaveTypes tree s vs ts → IsTrue (are_of_kinds ts vs)
   typed_are_of_kinds [] [] h = refl
   typed_are_of_kinds (v ∷ vs) (t ∷ ts) h = and_from _ _ (typed_is_of_kind v t h.0) (typed_are_of_kinds vs ts h.1)
-  typed_are_of_kinds [] (t ∷ ts) h = elim h [ ]
-  typed_are_of_kinds (v ∷ vs) [] h = elim h [ ]
+  typed_are_of_kinds _ _ h = elim h [ ]
 
 -- ---- the operands on a stack
 
@@ -50,8 +49,7 @@ module _ (tree : Tree) (s : State) where
   types_after : (xs ys : List Value) (ts us : List DeclaredType) → HaveTypes tree s xs ts → HaveTypes tree s ys us → HaveTypes tree s (xs ++ ys) (ts ++ us)
   types_after [] ys [] us h k = k
   types_after (x ∷ xs) ys (t ∷ ts) us h k = (h.0, types_after xs ys ts us h.1 k)
-  types_after [] ys (t ∷ ts) us h k = elim h [ ]
-  types_after (x ∷ xs) ys [] us h k = elim h [ ]
+  types_after _ ys _ us h k = elim h [ ]
 
   -- in the other order too
   pub types_reversed : (vs : List Value) (ts : List DeclaredType) → HaveTypes tree s vs ts → HaveTypes tree s (reverse vs) (reverse ts)
@@ -60,8 +58,7 @@ module _ (tree : Tree) (s : State) where
       subst (λ x. HaveTypes tree s x (reverse (t ∷ ts))) (sym (reverse_onto vs v [])) (
       subst (λ x. HaveTypes tree s (reverse vs ++ v ∷ []) x) (sym (reverse_onto ts t [])) (
       types_after (reverse vs) (v ∷ []) (reverse ts) (t ∷ []) (types_reversed vs ts h.1) (h.0, tt)))
-  types_reversed [] (t ∷ ts) h = elim h [ ]
-  types_reversed (v ∷ vs) [] h = elim h [ ]
+  types_reversed _ _ h = elim h [ ]
 
   module _ (legal : IsLegal tree) where
     -- what a list of operands takes off a stack, from the top
@@ -109,8 +106,7 @@ module _ (here : Setting) (s : State) (f : Frame) (below : List Frame) (legal : 
 module _ (tree : Tree) (s : State) where
   -- the object of a value of a reference's type
   pub not_null_typed : (t : DeclaredType) (v : Value) (fault : Fault) (go : ObjectName → Effect) → IsTrue (is_reference t) → HasType tree s v t → ((n : ObjectName) → IsObjectOf tree s n t → IsTypedEffect tree (go n)) → IsTypedEffect tree (not_null v fault go)
-  not_null_typed t (Int32 z) fault go is h each = never (subst (λ x. IsTrue (is_reference x)) h is)
-  not_null_typed t (Int64 z) fault go is h each = never (subst (λ x. IsTrue (is_reference x)) h is)
   not_null_typed t (Native z) fault go is h each = elim h [ ]
   not_null_typed t Null fault go is h each = tt
   not_null_typed t (Reference n) fault go is h each = each n h
+  not_null_typed t _ fault go is h each = never (subst (λ x. IsTrue (is_reference x)) h is)

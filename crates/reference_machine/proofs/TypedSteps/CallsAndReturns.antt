@@ -27,7 +27,7 @@ use Rattle.cil_model.proofs.Lists.{none_is_some}
 use Rattle.cil_model.proofs.SameLaws.{never, both_first}
 use Rattle.cil_model.proofs.CompleteLaws.{test_is_complete}
 use Rattle.cil_model.proofs.BelowLaws.{element_is_reference}
-use Rattle.reference_machine.specs.Values.{ObjectName, Value, Int32, Int64, Native, Null, Reference, is_of_kind}
+use Rattle.reference_machine.specs.Values.{ObjectName, Value, Native, Null, Reference, is_of_kind}
 use Rattle.reference_machine.specs.States.{Frame, State, type_of, class_of}
 use Rattle.reference_machine.specs.Effects.{Setting, Goes, Raises, Sticks, when_some, new_frame, after, return_value}
 use Rattle.reference_machine.specs.BuiltIn.{Action, action_of, act}
@@ -81,8 +81,7 @@ module _ (tree : Tree) (s : State) (typed : IsTyped tree s) where
           waiting.1,
         ),
       )
-  returned_typed None (Some t) (g ∷ gs) value waiting = elim value [ ]
-  returned_typed (Some v) None (g ∷ gs) value waiting = elim value [ ]
+  returned_typed _ _ _ value waiting = elim value [ ]
 
 module _ (here : Setting) (s : State) (f : Frame) (below : List Frame) where
   -- an object is of its own type
@@ -101,8 +100,6 @@ module _ (here : Setting) (s : State) (f : Frame) (below : List Frame) where
         nothing_below (take_operands here.tree (t ∷ []) stack) ≡ Some running.result →
         IsTypedEffect here.tree (take_one Sticks vs (λ v rest. if is_of_kind t v then push_and_advance here s f below (Some v) else Sticks))
     push_and_advance_value_typed t when_some [] [] values flows = none_is_some running.result flows
-    push_and_advance_value_typed t when_some [] (a ∷ stack) values flows = elim values [ ]
-    push_and_advance_value_typed t when_some (v ∷ vs) [] values flows = elim values [ ]
     push_and_advance_value_typed t when_some (v ∷ vs) (a ∷ stack) values flows = by_fit (fits here.tree a t) refl flows
       where
         with_value : HasType here.tree s v t → IsTypedEffect here.tree (if is_of_kind t v then push_and_advance here s f below (Some v) else Sticks)
@@ -113,6 +110,7 @@ module _ (here : Setting) (s : State) (f : Frame) (below : List Frame) where
         by_fit : (b : Bool) → fits here.tree a t ≡ b → nothing_below (if b then Some stack else None) ≡ Some running.result → IsTypedEffect here.tree (if is_of_kind t v then push_and_advance here s f below (Some v) else Sticks)
         by_fit false fit e = none_is_some running.result e
         by_fit true fit e = with_value (value_fits here.tree running.accepted.legal s v a t fit values.0)
+    push_and_advance_value_typed t when_some _ _ values flows = elim values [ ]
 
     -- a return, by what it gives: the object that was constructed, a value, or nothing
     pub return_typed : IsTypedEffect here.tree (execute here s f below Return)
@@ -203,10 +201,8 @@ has_code (Abstract is_new_slot) h = absurd cc
 
 -- nor is one that isn't virtual
 plain_is_not_abstract : (k : MethodKind) → is_virtual k ≡ false → is_abstract_method k ≡ false
-plain_is_not_abstract (Static code) h = refl
-plain_is_not_abstract (Instance code) h = refl
-plain_is_not_abstract (Virtual is_new_slot code) h = refl
 plain_is_not_abstract (Abstract is_new_slot) h = h
+plain_is_not_abstract _ h = refl
 
 -- a result that gives a type to a stack
 pub given_to : {A : Type 0} (d : Option DeclaredType) (o : Option (List StackType)) (result : List StackType) → option_map (give d) o ≡ Some result → ((types : List StackType) → o ≡ Some types → result ≡ give d types → A) → A
@@ -285,8 +281,7 @@ module _ (here : Setting) (s : State) (f : Frame) (below : List Frame) where
       virtual_typed (Reference n ∷ arguments) h = chosen_typed n arguments h.0 h.1 (is_virtual m.kind) refl
       virtual_typed (Null ∷ arguments) h = tt
       virtual_typed (Native z ∷ arguments) h = elim h.0 [ ]
-      virtual_typed (Int32 z ∷ arguments) h = never (subst (λ x. IsTrue (is_reference x)) h.0 (element_is_reference here.tree (Some owner) 0))
-      virtual_typed (Int64 z ∷ arguments) h = never (subst (λ x. IsTrue (is_reference x)) h.0 (element_is_reference here.tree (Some owner) 0))
+      virtual_typed _ h = never (subst (λ x. IsTrue (is_reference x)) h.0 (element_is_reference here.tree (Some owner) 0))
 
     -- a virtual call
     pub call_virtual_typed : IsTypedEffect here.tree (execute here s f below (CallVirtual owner name signature))

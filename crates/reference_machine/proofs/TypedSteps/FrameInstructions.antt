@@ -11,9 +11,9 @@ use Rattle.cil_model.specs.declared.instructions.BinaryOperation.{BinaryOperatio
 use Rattle.cil_model.specs.declared.instructions.UnaryOperation.{UnaryOperation}
 use Rattle.cil_model.specs.declared.instructions.ShiftOperation.{ShiftOperation}
 use Rattle.cil_model.specs.declared.instructions.Comparison.{Comparison}
-use Rattle.cil_model.specs.declared.instructions.Comparison.TheVariants.{Equal, Greater, Less}
+use Rattle.cil_model.specs.declared.instructions.Comparison.TheVariants.{Equal}
 use Rattle.cil_model.specs.declared.instructions.BranchComparison.{BranchComparison}
-use Rattle.cil_model.specs.declared.instructions.BranchComparison.TheVariants.{Equal as BranchEqual, NotEqual, GreaterOrEqual, Greater as BranchGreater, LessOrEqual, Less as BranchLess}
+use Rattle.cil_model.specs.declared.instructions.BranchComparison.TheVariants.{Equal as BranchEqual, NotEqual}
 use Rattle.cil_model.specs.declared.reports.Fault.{Fault}
 use Rattle.cil_model.specs.declared.trees.Code.{Code}
 use Rattle.cil_model.specs.Declarations.{plain}
@@ -90,14 +90,13 @@ module _ (here : Setting) (s : State) (f : Frame) (below : List Frame) where
     store_typed : (go : Value → List Value → Effect) (o : Option DeclaredType) (vs : List Value) (st : List StackType) → HaveStackTypes here.tree s vs st → store here.tree o st ≡ Some running.result →
         ((v : Value) (rest : List Value) (types : List StackType) (t : DeclaredType) → o ≡ Some t → HasType here.tree s v t → HaveStackTypes here.tree s rest types → types ≡ running.result → Fine (go v rest)) →
         Fine (take_one Sticks vs go)
-    store_typed go None vs st h e each = none_is_some running.result e
-    store_typed go (Some t) vs [] h e each = none_is_some running.result e
     store_typed go (Some t) [] (a ∷ st) h e each = elim h [ ]
     store_typed go (Some t) (v ∷ rest) (a ∷ st) h e each = by_test (fits here.tree a t) refl e
       where
         by_test : (b : Bool) → fits here.tree a t ≡ b → (if b then Some st else None) ≡ Some running.result → Fine (go v rest)
         by_test true is e' = each v rest st t refl (value_fits here.tree running.accepted.legal s v a t is h.0) h.1 (same_Some st running.result e')
         by_test false is e' = none_is_some running.result e'
+    store_typed go _ vs _ h e each = none_is_some running.result e
 
   -- ---- constants, arguments and locals
 
@@ -230,16 +229,12 @@ module _ (here : Setting) (s : State) (f : Frame) (below : List Frame) where
 
     compare_answers : (op : Comparison) → IsTrue (may_compare op a b) → Fine (when_some (compare_values op v w) go)
     compare_answers Equal is = equal_typed (λ o. o) (λ o. (o, refl)) is
-    compare_answers Greater is = ordered_typed _ is
-    compare_answers Less is = ordered_typed _ is
+    compare_answers _ is = ordered_typed _ is
 
     branch_answers : (op : BranchComparison) → IsTrue (may_branch op a b) → Fine (when_some (branch_values op v w) go)
     branch_answers BranchEqual is = equal_typed (λ o. o) (λ o. (o, refl)) is
     branch_answers NotEqual is = equal_typed not_option (λ o. (not o, refl)) is
-    branch_answers GreaterOrEqual is = ordered_typed _ is
-    branch_answers BranchGreater is = ordered_typed _ is
-    branch_answers LessOrEqual is = ordered_typed _ is
-    branch_answers BranchLess is = ordered_typed _ is
+    branch_answers _ is = ordered_typed _ is
 
   pub compare_typed : (op : Comparison) → At (Compare op) → Fine (execute here s f below (Compare op))
   compare_typed op running = two_typed here.tree s _ _ f.stack running.stack running.result running.values running.flows (λ v w a b rest types h k rest_typed e.

@@ -19,7 +19,7 @@ use Rattle.cil_model.specs.Chains.{find_field}
 use Rattle.cil_model.specs.Fields.{same_key}
 use Rattle.cil_model.specs.Bodies.{falls_through}
 use Rattle.cil_model.specs.Stacks.{take_one, take_two, take_three}
-use Rattle.cil_model.specs.TypeTree.{StackType, Declared, NativeInt, Null as NullType, fits}
+use Rattle.cil_model.specs.TypeTree.{StackType, Declared, NativeInt, fits}
 use Rattle.cil_model.specs.FlowRules.{if_allowed, is_int32, is_int64, is_any_reference, is_index, any_type, passes, is_array_of, held_type_of, element_on_stack, take_operands}
 use Rattle.cil_model.proofs.Lists.{none_is_some}
 use Rattle.cil_model.proofs.SameLaws.{never, both_first, both_second, either, if_true, same_type_equal, same_type_itself}
@@ -59,8 +59,7 @@ module _ (tree : Tree) (legal : IsLegal tree) (s : State) where
     where
       by_type : (n : ObjectName) (b : StackType) → HasStackType tree s (Reference n) b → P (Reference n)
       by_type n (Declared u) k = each n u k
-      by_type n NativeInt k = elim k [ ]
-      by_type n NullType k = elim k [ ]
+      by_type n _ k = elim k [ ]
 
   -- arrays that are assignable hold elements that may be given for one another
   arrays_hold : (t w : DeclaredType) → IsTrue (is_assignable tree (array_of t) (array_of w)) → IsHeldAs tree t w
@@ -99,15 +98,11 @@ module _ (tree : Tree) (legal : IsLegal tree) (s : State) where
           each n found.0 w found.1 found.2 found.3 passes' (same w refl)
   from_array P test (Int32 z) (Declared u) passed h null each = never (subst (λ x. IsTrue (passes test (element_of x))) h passed)
   from_array P test (Int64 z) (Declared u) passed h null each = never (subst (λ x. IsTrue (passes test (element_of x))) h passed)
-  from_array P test (Native z) (Declared u) passed h null each = elim h [ ]
-  from_array P test (Int32 z) NullType passed h null each = elim h [ ]
-  from_array P test (Int64 z) NullType passed h null each = elim h [ ]
-  from_array P test (Native z) NullType passed h null each = elim h [ ]
-  from_array P test (Reference n) NullType passed h null each = elim h [ ]
   from_array P test (Int32 z) NativeInt passed h null each = never passed
   from_array P test (Int64 z) NativeInt passed h null each = never passed
   from_array P test (Native z) NativeInt passed h null each = never passed
   from_array P test (Reference n) NativeInt passed h null each = never passed
+  from_array P test _ _ passed h null each = elim h [ ]
 
   -- ---- what an array holds, where another type is expected
 
@@ -239,8 +234,7 @@ module _ (here : Setting) (s : State) (f : Frame) (below : List Frame) where
     from_instance P c Null h null each = null
     from_instance P c (Reference n) h null each = each n h
     from_instance P c (Native z) h null each = elim h [ ]
-    from_instance P c (Int32 z) h null each = never (subst (λ t. IsTrue (is_reference t)) h (element_is_reference here.tree (Some c) 0))
-    from_instance P c (Int64 z) h null each = never (subst (λ t. IsTrue (is_reference t)) h (element_is_reference here.tree (Some c) 0))
+    from_instance P c _ h null each = never (subst (λ t. IsTrue (is_reference t)) h (element_is_reference here.tree (Some c) 0))
 
     -- the value of the field that is found, of the object on the stack
     load_of_object : (r : FieldReference) (d : ClassName) (g : Field) → find_field here.tree false r ≡ Some (d, g) → (v : Value) (rest : List Value) (types : List StackType) → HasType here.tree s v (type_of_class r.owner) →

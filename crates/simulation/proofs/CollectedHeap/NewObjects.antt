@@ -1,9 +1,9 @@
 -- An object is born in a heap with a collector: its address gets the next name, and so does that of its other copy where both are live.
 use Rattle.std.proofs.Common.{◌≡◌, ◌⊎◌, inl, inr, ℕ, zero, suc, ◌+◌, ◌<◌, ◌==◌, Bool, true, false, if◌then◌else◌, List, [], ◌∷◌, ◌++◌, length, replicate, Option, Some, None, slice_get, refl, sym, ap, subst, ◌∙◌, arith}
-use Rattle.std.specs.Prelude.{◌&&◌, nat_le, unwrap_or}
+use Rattle.std.specs.Prelude.{◌&&◌, nat_le, unwrap_or, ◌||◌}
 use Rattle.std.proofs.lemmas.Bool.{and_parts, eq-eqb, eqb-true}
 use Rattle.std.proofs.lemmas.Bool.Decides.{nat_tests}
-use Rattle.std.proofs.lemmas.Option.{same_Some, slice_get_within}
+use Rattle.std.proofs.lemmas.Option.{same_Some, slice_get_within, none-some}
 use Rattle.interpreter.specs.cil_model.declared.phases.Phase.{Phase}
 use Rattle.interpreter.specs.cil_model.declared.trees.Tree.{Tree}
 use Rattle.interpreter.specs.cil_model.Fields.{FieldKey}
@@ -23,7 +23,7 @@ use Rattle.interpreter.proofs.object_memory.TwoBlocks.{new_is_cell, no_literal, 
 use Rattle.collector.specs.phase_handshake.Handshakes.{Handshakes, IsClose}
 use Rattle.collector.specs.phase_handshake.declared.posts.Seat.{Seat}
 use Rattle.collector.specs.References.{is_permanent}
-use Rattle.collector.specs.Phases.{is_live, is_marked_old, is_new}
+use Rattle.collector.specs.Phases.{is_live, is_marked_old, is_new, is_marked_cell}
 use Rattle.collector.specs.Soundness.{IsSoundHeap}
 use Rattle.collector.specs.Holding.{AnyLive, Hold, IsOnTime, MarkedOnly, NewOnly, hold_of, passes, static_hold_of, static_may_hold}
 use Rattle.collector.specs.declared.progress.Progress.{Progress}
@@ -33,16 +33,41 @@ use Rattle.collector.proofs.Births.BirthSoundness.{IsNear, birth_forwards, birth
 use Rattle.collector.proofs.ThreadReferences.LiveValues.{held_is_live}
 use Rattle.collector.proofs.Marking.MarksOfStores.{Grows, grows_then, live_grows, passes_then, value_weakens}
 use Rattle.collector.proofs.Addresses.Disjunctions.{either_true, or_first, or_second}
-use Rattle.simulation.specs.Refines.{AreTwins, HasOneName, IsBornAt, IsCell, IsHeap, IsLiteralAt, IsMonitor, IsOfContents, IsValue, Names}
+use Rattle.simulation.specs.Refines.{AreTwins, HasOneName, IsBornAt, IsCell, IsHeap, IsMonitor, IsOfContents, IsValue, Names}
 use Rattle.simulation.proofs.ListLaws.AgreeingLists.{agree_weaken}
 use Rattle.simulation.proofs.Representation.MoreNames.{cell_extends, value_extends}
-use Rattle.simulation.proofs.CollectedHeap.LiveCopies.{twin_live}
 use Rattle.simulation.proofs.OwedWords.CycleNames.{marked_before_birth, new_before_birth}
 use Rattle.simulation.proofs.Memory.MemoryModels.{IsBirth}
-use Rattle.simulation.proofs.CollectedHeap.TwoCopies.{AreOldAndNew, copies_apart, copy_stays, forward_either, new_forward_itself, noted, noted_twin, old_forward, same_forward, twins_either, twins_forward, twins_late, twins_stay, twins_turned, words_not_last}
-use Rattle.simulation.proofs.CollectedHeap.ReferenceComparisons.{address_is}
+use Rattle.simulation.proofs.CollectedHeap.TwoCopies.{AreOldAndNew, copies_apart, copy_stays, forward_either, new_forward_itself, noted, noted_twin, old_forward, same_forward, twins_either, twins_forward, twins_late, twins_stay, twins_turned, words_not_last, copy_is_new, words_are_live}
+use Rattle.simulation.proofs.CollectedHeap.VisibleNames.{address_is, FitsCollected, cut_is, cut_names, first_hold, is_cut_name, named_passes, named_whole}
 use Rattle.simulation.proofs.CollectedHeap.ObjectChanges.{born_number}
-use Rattle.simulation.proofs.CollectedHeap.VisibleNames.{FitsCollected, cut_is, cut_names, first_hold, is_cut_name, named_passes, named_whole}
+use Rattle.simulation.proofs.Memory.NamedAddresses.{literal_beside}
+use Rattle.interpreter.specs.cil_model.declared.phases.Phase.TheVariants.{PreFlip, HeapFlip, ThreadFlip}
+use Rattle.interpreter.proofs.cil_model.SameLaws.{never}
+use Rattle.collector.proofs.Addresses.Tests.{new_is_live}
+
+-- ---- Where both copies of an object have all words, both are live.
+
+-- a marked old object is live while both copies have all words
+marked_is_live : (posted_phase : Phase) (m : Spaces) (a : Addr) → has_words posted_phase ≡ true → is_marked_old m a ≡ true → is_live posted_phase m a ≡ true
+marked_is_live PreFlip m a late marked = or_second (is_permanent a) (is_marked_old m a || is_new m a) (or_first (is_marked_old m a) (is_new m a) marked)
+marked_is_live HeapFlip m a late marked = or_second (is_permanent a) (is_marked_old m a || is_new m a) (or_first (is_marked_old m a) (is_new m a) marked)
+marked_is_live ThreadFlip m a late marked = or_second (is_permanent a) (is_marked_old m a || is_new m a) (or_first (is_marked_old m a) (is_new m a) marked)
+marked_is_live _ m a late marked = never late
+
+module _ (tree : Tree) (posted_phase : Phase) (has_round : Bool) (words : ℕ) (p : Progress) (m : Spaces) (sound : IsSoundHeap tree posted_phase has_round words p m) (late : has_words posted_phase ≡ true) where
+  -- and so is each of two copies
+  copy_live : (a b : Addr) → AreOldAndNew m a b → (is_live posted_phase m a ≡ true) × (is_live posted_phase m b ≡ true)
+  copy_live a b copies = (
+    marked_is_live posted_phase m a late (ap is_marked_cell copies.old ∙ sound.copies.marked_only a copies.from copies.old (λ none. none-some b (sym none ∙ copies.out))),
+    new_is_live posted_phase m b (words_are_live posted_phase late) (copy_is_new tree posted_phase has_round words p m sound a b copies),
+  )
+
+  pub twin_live : (a b : ℕ) → AreTwins m a b → is_live posted_phase m (record { number = b }) ≡ true
+  twin_live a b twins = elim (twins_either tree posted_phase has_round words p m sound a b twins) [
+    | inl copies ↦ (copy_live (record { number = a }) (record { number = b }) copies).1
+    | inr copies ↦ (copy_live (record { number = b }) (record { number = a }) copies).0
+  ]
 
 -- ---- lists
 
@@ -75,15 +100,6 @@ module _ (tree : Tree) (words : ℕ) (h : Handshakes) (p : Progress) (seat : Sea
 
   module _ (k : Kind) (count : ℕ) (contents : Contents) (contents_refine : (names : Names) → IsOfContents tree names k (replicate count 0) contents None)
       (o' : Objects) (a : Addr) (e : ◌≡◌ {A = Objects × Option Addr} (object_born seat.phase o k count) (o', Some a)) where
-    abbrev m : Spaces
-    m = o.spaces
-
-    abbrev m' : Spaces
-    m' = o'.spaces
-
-    abbrev hold : Hold
-    hold = first_hold h seat first
-
     abbrev s' : State
     s' = with_state_birth s contents
 
@@ -348,20 +364,6 @@ module _ (tree : Tree) (words : ℕ) (h : Handshakes) (p : Progress) (seat : Sea
       | inr was ↦ born_before x n was
     ]
 
-    literal_before : (x : ℕ) (characters : List ℕ) → fits.whole x ≡ Some (Literal characters) → IsLiteralAt tree o' s' x characters
-    literal_before x characters is =
-        let l = fits.heap.literals x characters is in
-        record {
-          number = l.number;
-          has_id = l.has_id;
-          is = l.is;
-          monitor = l.monitor;
-          held = ap (λ (ms : List Monitor). slice_get ms l.number) birth.literals ∙ l.held;
-          state_monitor = l.state_monitor;
-          state_held = l.state_held;
-          refines = l.refines;
-        }
-
     small_then : (x : ℕ) (n : ObjectName) → whole x ≡ Some n → x < ADDRESSES
     small_then x n is = elim (who x n is) [
       | inl new ↦
@@ -392,7 +394,7 @@ module _ (tree : Tree) (words : ℕ) (h : Handshakes) (p : Progress) (seat : Sea
       born = born_then;
       literals = λ x characters is. elim (who x (Literal characters) is) [
         | inl new ↦ not_literal (length s.objects) characters new.1
-        | inr was ↦ literal_before x characters was
+        | inr was ↦ literal_beside tree o o' s s' birth.literals refl x characters (fits.heap.literals x characters was)
       ];
       each_literal = λ n characters is. kept (literal n).number (Literal characters) (fits.heap.each_literal n characters is);
     }

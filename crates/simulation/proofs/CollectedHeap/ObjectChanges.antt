@@ -71,9 +71,8 @@ module _ (tree : Tree) (words : ℕ) (h : Handshakes) (p : Progress) (seat : Sea
   own_kind = by_tests both (is_old m a)
     where
       by_tests : (t u : Bool) → (if t then (if u then f c else g c) else f c).kind ≡ c.kind
-      by_tests true true = keeps.kind c
       by_tests true false = keeps'.kind c
-      by_tests false u = keeps.kind c
+      by_tests _ _ = keeps.kind c
 
   -- the object changes at its addresses alone
   abbrev BornThen : ℕ → ℕ → Type 0

@@ -28,8 +28,7 @@ integer_refines name names w u sort h = record { value = h.value; refines = by_v
     by_value v u sort (int32 z fits) = int32 z fits
     by_value v u sort (int64 z fits) = int64 z fits
     by_value v u sort (native z fits) = native z fits
-    by_value v u sort null_reference = never (sym sort)
-    by_value v u sort (reference a n is) = never (sym sort)
+    by_value v u sort _ = never (sym sort)
 
 -- ---- other words
 
@@ -37,8 +36,7 @@ integer_refines name names w u sort h = record { value = h.value; refines = by_v
 pub agree_from : {A B : Type 0} (R : A → B → Type 0) (xs : List A) (ys : List B) → length xs ≡ length ys → ((n : ℕ) (x : A) (y : B) → slice_get xs n ≡ Some x → slice_get ys n ≡ Some y → R x y) → Agree R xs ys
 agree_from R [] [] e each = tt
 agree_from R (x ∷ xs) (y ∷ ys) e each = (each 0 x y refl refl, agree_from R xs ys (let shorter : length xs ≡ length ys = omega (arith, e) in shorter) (λ n z w is is'. each (suc n) z w is is'))
-agree_from R [] (y ∷ ys) e each = absurd (omega (arith, e))
-agree_from R (x ∷ xs) [] e each = absurd (omega (arith, e))
+agree_from R _ _ e each = absurd (omega (arith, e))
 
 -- other words in the slots: an integer's is the same, and in place of a reference's stands one of the same object
 pub record AreRewritten (tree : Tree) (name names : Names) (k : Kind) (slots slots' : List ℕ) : Type 0 where
@@ -128,8 +126,7 @@ pub contents_rewritten : (tree : Tree) (name names : Names) (k : Kind) (slots sl
     IsOfContents tree name k slots contents thread → IsOfContents tree names k slots' contents thread
 contents_rewritten tree name names (Instance class) slots slots' rewritten (IsInstance c fields) thread linked h = instance_rewritten tree name names class c fields thread slots slots' rewritten linked h
 contents_rewritten tree name names (Array a) slots slots' rewritten (IsArray t elements) thread linked h = (h.0, elements_rewritten tree name names (Array a) slots slots' rewritten elements linked h.1)
-contents_rewritten tree name names (Instance class) slots slots' rewritten (IsArray t elements) thread linked h = elim h [ ]
-contents_rewritten tree name names (Array a) slots slots' rewritten (IsInstance c fields) thread linked h = elim h [ ]
+contents_rewritten tree name names _ slots slots' rewritten _ thread linked h = elim h [ ]
 
 -- ---- words of references
 
@@ -143,11 +140,9 @@ module _ (tree : Tree) (name : Names) where
   word_is_named w u sort h = by_value h.value u sort h.refines h.is
     where
       by_value : (v : Value) (u : StateValue) → is_reference_state u ≡ true → IsValue name v u → value_word v ≡ w → IsNamedWord name w
-      by_value v u sort (int32 z fits) is = never sort
-      by_value v u sort (int64 z fits) is = never sort
-      by_value v u sort (native z fits) is = never sort
       by_value v u sort null_reference is = inl (sym is)
       by_value v u sort (reference a n named) is = inr (n, subst (λ x. name x ≡ Some n) is named)
+      by_value v u sort _ is = never sort
 
   fields_named : (class : ℕ) (c : ClassName) (fields : List (FieldKey × StateValue)) (thread : Option ℕ) (slots : List ℕ) → IsLinked tree (Instance class) (IsInstance c fields) → IsInstanceCell tree name class slots c fields thread →
       (slot w : ℕ) → slice_get slots slot ≡ Some w → holds_reference tree (Instance class) slot ≡ true → IsNamedWord name w
@@ -173,5 +168,4 @@ module _ (tree : Tree) (name : Names) where
   contents_named (Array a) slots (IsArray t elements) thread linked h slot w is holds =
       let u = agree_at (IsWord name) slots elements h.1 slot w is in
       word_is_named w u.0 (sym (linked slot u.0 u.1) ∙ holds) u.2
-  contents_named (Instance class) slots (IsArray t elements) thread linked h slot w is holds = elim h [ ]
-  contents_named (Array a) slots (IsInstance c fields) thread linked h slot w is holds = elim h [ ]
+  contents_named _ slots _ thread linked h slot w is holds = elim h [ ]

@@ -2,7 +2,7 @@
 use Rattle.std.proofs.Common.{◌≡◌, ◌≢◌, ◌⊎◌, inl, inr, ℕ, ◌<◌, Bool, true, if◌then◌else◌, Option, Some, None, slice_get, refl, sym, ap, subst, ◌∙◌, arith}
 use Rattle.std.proofs.lemmas.Option.{same_Some}
 use Rattle.interpreter.specs.cil_model.declared.phases.Phase.{Phase}
-use Rattle.interpreter.specs.cil_model.declared.phases.Phase.TheVariants.{Idle, Mark, Allocate, Copy, PreFlip, HeapFlip, ThreadFlip, Reclaim}
+use Rattle.interpreter.specs.cil_model.declared.phases.Phase.TheVariants.{PreFlip, HeapFlip, ThreadFlip, Reclaim}
 use Rattle.interpreter.specs.cil_model.declared.trees.Tree.{Tree}
 use Rattle.interpreter.proofs.cil_model.Lists.{none_is_some}
 use Rattle.interpreter.proofs.cil_model.SameLaws.{never}
@@ -24,7 +24,7 @@ use Rattle.collector.proofs.Copying.VisibleCopies.{ShowSame, has_words, old_show
 use Rattle.collector.proofs.ThreadReferences.LiveValues.{reference_again}
 use Rattle.collector.proofs.Addresses.Disjunctions.{or_second}
 use Rattle.collector.proofs.Addresses.Tests.{is_new_live, live_is_late, live_is_read, new_is, new_is_live}
-use Rattle.simulation.specs.Refines.{AreTwins, IsCell, IsMonitor, IsOfContents, IsValue, IsWord, Names, int32, int64, native, null_reference, reference}
+use Rattle.simulation.specs.Refines.{AreTwins, IsCell, IsMonitor, IsOfContents, IsValue, IsWord, Names, null_reference, reference}
 use Rattle.simulation.proofs.Memory.ReferenceSlots.{IsLinked, is_reference_state}
 use Rattle.simulation.proofs.CollectedHeap.RewrittenCells.{AreRewritten, IsNamedWord, contents_rewritten}
 
@@ -32,25 +32,18 @@ use Rattle.simulation.proofs.CollectedHeap.RewrittenCells.{AreRewritten, IsNamed
 
 -- where new objects are live and old ones are read, both copies have all words
 pub late_of : (posted_phase : Phase) (c : Cell) → is_new_live posted_phase ≡ true → is_read posted_phase c ≡ true → has_words posted_phase ≡ true
-late_of Idle c late read = never late
-late_of Mark c late read = never late
-late_of Allocate c late read = never late
-late_of Copy c late read = never late
 late_of PreFlip c late read = refl
 late_of HeapFlip c late read = refl
 late_of ThreadFlip c late read = refl
 late_of Reclaim c late read = never read
+late_of _ c late read = never late
 
 -- new objects are live then
 pub words_are_live : (posted_phase : Phase) → has_words posted_phase ≡ true → is_new_live posted_phase ≡ true
-words_are_live Idle e = never e
-words_are_live Mark e = never e
-words_are_live Allocate e = never e
-words_are_live Copy e = never e
 words_are_live PreFlip e = refl
 words_are_live HeapFlip e = refl
 words_are_live ThreadFlip e = refl
-words_are_live Reclaim e = never e
+words_are_live _ e = never e
 
 -- and Reclaim isn't posted
 pub words_not_last : (posted_phase : Phase) → has_words posted_phase ≡ true → posted_phase ≢ Reclaim
@@ -210,11 +203,9 @@ by_reference name w u P sort h none some = by_value h.value u sort h.refines h.i
   where
     by_value : (v : Value) (u : StateValue) → is_reference_state u ≡ true → IsValue name v u → value_word v ≡ w → (w ≡ 0 → ((names : Names) → IsValue names (Ref null) u) → P u) →
         ((a : Addr) (n : ObjectName) → a.number ≡ w → name a.number ≡ Some n → ((names : Names) (b : Addr) → names b.number ≡ Some n → IsValue names (Ref b) u) → P u) → P u
-    by_value v u sort (int32 z fits) is none some = never sort
-    by_value v u sort (int64 z fits) is none some = never sort
-    by_value v u sort (native z fits) is none some = never sort
     by_value v u sort null_reference is none some = none (sym is) (λ names. null_reference)
     by_value v u sort (reference a n named) is none some = some a n is named (λ names b named'. reference b n named')
+    by_value v u sort _ is none some = never sort
 
 module _ (tree : Tree) (posted_phase : Phase) (has_round : Bool) (words : ℕ) (p : Progress) (m : Spaces) (sound : IsSoundHeap tree posted_phase has_round words p m) (late : has_words posted_phase ≡ true)
     (name : Names) (small : (a : ℕ) (n : ObjectName) → name a ≡ Some n → a < ADDRESSES)

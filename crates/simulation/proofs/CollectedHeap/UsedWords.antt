@@ -2,12 +2,12 @@
 use Rattle.std.proofs.Common.{◌≡◌, ◌+◌, ◌-◌, ◌≤◌, ℕ, min, Bool, true, false, if◌then◌else◌, List, [], ◌∷◌, Option, Some, None, refl, sym, ap, ◌∙◌, subst, arith}
 use Rattle.std.specs.Option.{option_map_or}
 use Rattle.interpreter.specs.cil_model.declared.phases.Phase.{Phase}
-use Rattle.interpreter.specs.cil_model.declared.phases.Phase.TheVariants.{Idle, Mark, Allocate, Copy, PreFlip, HeapFlip, ThreadFlip, Reclaim}
+use Rattle.interpreter.specs.cil_model.declared.phases.Phase.TheVariants.{Mark, Copy, PreFlip, HeapFlip, ThreadFlip}
 use Rattle.interpreter.specs.object_memory.declared.addresses.Addr.{Addr}
 use Rattle.interpreter.specs.object_memory.declared.kinds.Kind.{Kind}
 use Rattle.interpreter.specs.object_memory.declared.monitors.Monitor.{Monitor}
 use Rattle.interpreter.specs.object_memory.declared.values.Value.{Value}
-use Rattle.interpreter.specs.object_memory.declared.values.Value.TheVariants.{Int32, Int64, Native, Ref}
+use Rattle.interpreter.specs.object_memory.declared.values.Value.TheVariants.{Ref}
 use Rattle.interpreter.specs.object_memory.Cells.{Cell, Cells, cell_in, empty_cell, free_words, literal_number, next_address, size, store_monitor, store_slot, used_words, with_last}
 use Rattle.interpreter.specs.object_memory.Objects.{Objects, with_cell, with_literal_monitor, with_slot}
 use Rattle.interpreter.specs.object_memory.Spaces.{Spaces, birth_space_of, give_birth, cell_at, change_at, change_copies, change_if, is_old, is_white, mark, marked_if, other_of, room_at, room_for, set_mark}
@@ -81,9 +81,7 @@ mark_uses m a = by_white (is_white (cell_in m.old a))
 -- of what a value refers to
 pub marked_uses : (o : Objects) (v : Value) → UsesAsMuch o.spaces (with_marked o v).spaces
 marked_uses o (Ref a) = mark_uses o.spaces a
-marked_uses o (Int32 n) = uses_itself o.spaces
-marked_uses o (Int64 n) = uses_itself o.spaces
-marked_uses o (Native n) = uses_itself o.spaces
+marked_uses o _ = uses_itself o.spaces
 
 -- of what values refer to
 pub all_marked_uses : (vs : List Value) (o : Objects) → UsesAsMuch o.spaces (with_all_marked o vs).spaces
@@ -100,14 +98,12 @@ slots_use o a slot v w = both_use (store_slot slot (value_word v)) (store_slot s
 
 -- of a value
 pub value_uses : (own : Phase) (o : Objects) (a : Addr) (slot : ℕ) (v : Value) → UsesAsMuch o.spaces (stored_value own o a slot v).spaces
-value_uses Idle o a slot v = slot_uses o a slot (value_word v)
 value_uses Mark o a slot v = uses_then o.spaces (with_marked o v).spaces (with_slot (with_marked o v) a slot (value_word v)).spaces (marked_uses o v) (slot_uses (with_marked o v) a slot (value_word v))
-value_uses Allocate o a slot v = slot_uses o a slot (value_word v)
 value_uses Copy o a slot v = slots_use o a slot v (forward_value o v)
 value_uses PreFlip o a slot v = slots_use o a slot v (forward_value o v)
 value_uses HeapFlip o a slot v = slots_use o a slot v (forward_value o v)
 value_uses ThreadFlip o a slot v = slots_use o a slot v v
-value_uses Reclaim o a slot v = slot_uses o a slot (value_word v)
+value_uses _ o a slot v = slot_uses o a slot (value_word v)
 
 -- of a word
 pub word_uses : (own : Phase) (o : Objects) (a : Addr) (slot w : ℕ) → UsesAsMuch o.spaces (stored_int own o a slot w).spaces
@@ -124,20 +120,13 @@ monitor_uses own o a m = by_both (reaches_both own) (literal_number a)
     by_both : (t : Bool) (l : Option ℕ) →
         UsesAsMuch o.spaces (if t then option_map_or (with_literal_monitor o m) l (with_both_monitors o a m) else option_map_or (with_literal_monitor o m) l (with_cell (store_monitor m) o a)).spaces
     by_both true None = both_use (store_monitor m) (store_monitor m) (λ c. refl) (λ c. refl) o a
-    by_both true (Some n) = uses_itself o.spaces
     by_both false None = change_uses (store_monitor m) (λ c. refl) o.spaces a
-    by_both false (Some n) = uses_itself o.spaces
+    by_both _ _ = uses_itself o.spaces
 
 -- and of a static field
 pub static_uses : (own : Phase) (o : Objects) (statics : List Value) (number : ℕ) (v : Value) → UsesAsMuch o.spaces (stored_static own o statics number v).0.spaces
-static_uses Idle o statics number v = uses_itself o.spaces
 static_uses Mark o statics number v = marked_uses o v
-static_uses Allocate o statics number v = uses_itself o.spaces
-static_uses Copy o statics number v = uses_itself o.spaces
-static_uses PreFlip o statics number v = uses_itself o.spaces
-static_uses HeapFlip o statics number v = uses_itself o.spaces
-static_uses ThreadFlip o statics number v = uses_itself o.spaces
-static_uses Reclaim o statics number v = uses_itself o.spaces
+static_uses _ o statics number v = uses_itself o.spaces
 
 -- ---- room
 
@@ -149,10 +138,9 @@ new_stays : (m n : Spaces) → UsesAsMuch m n → free_words n.new ≡ free_word
 new_stays m n same = ap (λ w. w - used_words n.new.cells) same.new_words ∙ ap (λ u. m.new.words - u) same.new
 
 space_stays : (space : BirthSpace) (m n : Spaces) → UsesAsMuch m n → room_at space n ≡ room_at space m
-space_stays InOld m n same = old_stays m n same
-space_stays Listed m n same = old_stays m n same
 space_stays InBoth m n same = ap (λ w. min w (free_words n.new)) (old_stays m n same) ∙ ap (λ w. min (free_words m.old) w) (new_stays m n same)
 space_stays InNew m n same = new_stays m n same
+space_stays _ m n same = old_stays m n same
 
 -- so a thread has the same room for a birth, in each phase
 pub room_stays : (own : Phase) (m n : Spaces) → UsesAsMuch m n → room_for own n ≡ room_for own m
@@ -189,16 +177,12 @@ space_takes InNew m k n fits = empty_takes m.new k n false None fits
 -- which leaves the second block held as it was
 born_held : (space : BirthSpace) (m : Spaces) (k : Kind) (n : ℕ) → (give_birth space m k n).is_open ≡ m.is_open
 born_held InOld m k n = refl
-born_held Listed m k n = refl
-born_held InBoth m k n = refl
-born_held InNew m k n = refl
+born_held _ m k n = refl
 
 -- a birth leaves each block as large
 born_large : (space : BirthSpace) (m : Spaces) (k : Kind) (n : ℕ) → AreAsLarge m (give_birth space m k n)
 born_large InOld m k n = record { old = refl; new = refl }
-born_large Listed m k n = record { old = refl; new = refl }
-born_large InBoth m k n = record { old = refl; new = refl }
-born_large InNew m k n = record { old = refl; new = refl }
+born_large _ m k n = record { old = refl; new = refl }
 
 pub birth_large : (own : Phase) (o : Objects) (k : Kind) (count : ℕ) (o' : Objects) (a : Addr) → ◌≡◌ {A = Objects × Option Addr} (object_born own o k count) (o', Some a) → AreAsLarge o.spaces o'.spaces
 birth_large own o k count o' a e = subst (λ (x : Objects). AreAsLarge o.spaces x.spaces) (granted own o k count o' a e).1 (born_large (birth_space_of own o.spaces.is_open) o.spaces k count)

@@ -1,7 +1,7 @@
 -- The words of the block that a cycle opens with: no fewer than the only one has, and no more than the most.
-use Rattle.std.proofs.Common.{◌≡◌, ◌*◌, ◌≤◌, ℕ, min, Bool, true, false, if◌then◌else◌, refl, arith}
+use Rattle.std.proofs.Common.{◌*◌, ◌≤◌, ℕ, min, Bool, true, false, if◌then◌else◌, arith}
 use Rattle.std.specs.Prelude.{nat_lt}
-use Rattle.std.proofs.Math.Nat.{le-min, min-eq_right, min-le_right}
+use Rattle.std.proofs.Math.Nat.{le-min, min-le_right}
 use Rattle.interpreter.specs.reference_machine.Cycles.{next_words}
 
 module _ (words used most : ℕ) (within : words ≤ most) where
@@ -18,11 +18,3 @@ module _ (words used most : ℕ) (within : words ≤ most) where
       by_test : (t : Bool) → (if t then min (2 * words) most else words) ≤ most
       by_test true = min-le_right (2 * words) most
       by_test false = within
-
--- where no space may have more words than it, the next one has the same number
-pub next_stays : (words used : ℕ) → next_words words used words ≡ words
-next_stays words used = by_test (nat_lt words (2 * used))
-  where
-    by_test : (t : Bool) → (if t then min (2 * words) words else words) ≡ words
-    by_test true = min-eq_right {n = words} {m = 2 * words} (omega arith)
-    by_test false = refl

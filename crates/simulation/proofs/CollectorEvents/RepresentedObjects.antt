@@ -42,6 +42,7 @@ use Rattle.collector.proofs.PhaseChanges.ReclaimWork.{ShowsSame, cleared_shows, 
 use Rattle.simulation.proofs.CollectorEvents.Soundness.{posting}
 use Rattle.simulation.proofs.Representation.NormalNames.{IsNormal, normal_value, other_cell}
 use Rattle.simulation.proofs.ListLaws.AgreeingLists.{agree_changed}
+use Rattle.simulation.proofs.Memory.NamedAddresses.{literal_beside}
 
 -- ---- objects that show the same through each name
 
@@ -77,18 +78,7 @@ heap_shown tree name o o' s same heap = record {
       (let r = heap.born a n e in
       let d = same.shows a n e r.cell r.lies in
       record { no_literal = r.no_literal; cell = d.0; lies = d.1; object = r.object; is = r.is; refines = cell_shown tree name r.cell d.0 r.object d.2 r.refines });
-  literals = λ a characters e.
-      (let r = heap.literals a characters e in
-      record {
-        number = r.number;
-        has_id = r.has_id;
-        is = r.is;
-        monitor = r.monitor;
-        held = ap (λ l. slice_get l r.number) same.literals ∙ r.held;
-        state_monitor = r.state_monitor;
-        state_held = r.state_held;
-        refines = r.refines;
-      });
+  literals = λ a characters e. literal_beside tree o o' s s same.literals refl a characters (heap.literals a characters e);
   each_literal = heap.each_literal;
 }
 

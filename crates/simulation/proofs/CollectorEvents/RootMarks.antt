@@ -4,7 +4,7 @@ use Rattle.std.specs.Prelude.{All}
 use Rattle.std.proofs.lemmas.List.Elements.{All-cons, All-head, All-nil, All-tail}
 use Rattle.interpreter.specs.object_memory.declared.addresses.Addr.{Addr}
 use Rattle.interpreter.specs.object_memory.declared.values.Value.{Value}
-use Rattle.interpreter.specs.object_memory.declared.values.Value.TheVariants.{Int32, Int64, Native, Ref}
+use Rattle.interpreter.specs.object_memory.declared.values.Value.TheVariants.{Ref}
 use Rattle.interpreter.specs.object_memory.Objects.{Objects}
 use Rattle.interpreter.specs.instructions.barriers.Barriers.{with_marked}
 use Rattle.interpreter.specs.threads_monitors.Roots.{roots}
@@ -42,9 +42,7 @@ thread_marked o (Some x) = status_marked o x.thread_status
 -- the monitors of literals stay
 one_keeps : (o : Objects) (v : Value) → (with_marked o v).literals ≡ o.literals
 one_keeps o (Ref a) = refl
-one_keeps o (Int32 n) = refl
-one_keeps o (Int64 n) = refl
-one_keeps o (Native n) = refl
+one_keeps o _ = refl
 
 pub marks_keep_literals : (vs : List Value) (o : Objects) → (with_all_marked o vs).literals ≡ o.literals
 marks_keep_literals [] o = refl

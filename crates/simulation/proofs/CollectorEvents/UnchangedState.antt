@@ -3,7 +3,7 @@ use Rattle.std.proofs.Common.{◌≡◌, Bool, true, false, List, refl, sym, sub
 use Rattle.std.specs.Prelude.{◌&&◌, not, if◌then◌else◌, IsTrue}
 use Rattle.interpreter.specs.cil_model.declared.limits.Limits.{Limits}
 use Rattle.interpreter.specs.cil_model.declared.phases.Phase.{Phase}
-use Rattle.interpreter.specs.cil_model.declared.phases.Phase.TheVariants.{Idle, Mark, Allocate, Copy, PreFlip, HeapFlip, ThreadFlip, Reclaim}
+use Rattle.interpreter.specs.cil_model.declared.phases.Phase.TheVariants.{Idle, Mark, Allocate, Copy, HeapFlip, Reclaim}
 use Rattle.interpreter.specs.cil_model.declared.reports.Report.{Report}
 use Rattle.interpreter.specs.cil_model.declared.reports.Report.TheVariants.{Waiting, Worked}
 use Rattle.interpreter.specs.cil_model.declared.trees.Tree.{Tree}
@@ -78,10 +78,9 @@ module _ (c : MachineState) where
       (record { tree = refl; limits = refl; threads = refl; printed = refl })
   work_keeps Allocate = worked_keeps (looked_on c.progress c.objects)
   work_keeps Copy = worked_keeps (copied_on c.tree c.progress c.objects)
-  work_keeps PreFlip = next_keeps
   work_keeps HeapFlip = flipped_keeps (flipped_on c.progress c.objects c.statics)
-  work_keeps ThreadFlip = next_keeps
   work_keeps Reclaim = cleared_keeps (cleared_on c.progress c.objects)
+  work_keeps _ = next_keeps
 
   -- and so in all
   pub collected_keeps : KeepsRest c (collect c).0

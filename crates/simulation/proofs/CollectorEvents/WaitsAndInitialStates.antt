@@ -4,7 +4,7 @@ use Rattle.std.specs.Prelude.{is_some}
 use Rattle.std.specs.Option.{option_map_or}
 use Rattle.std.proofs.lemmas.Bool.{eq-eqb}
 use Rattle.interpreter.specs.cil_model.declared.phases.Phase.{Phase}
-use Rattle.interpreter.specs.cil_model.declared.phases.Phase.TheVariants.{Idle, Mark, Allocate, Copy, PreFlip, HeapFlip, ThreadFlip, Reclaim}
+use Rattle.interpreter.specs.cil_model.declared.phases.Phase.TheVariants.{Idle, Mark, Allocate, Copy, HeapFlip, Reclaim}
 use Rattle.interpreter.specs.cil_model.declared.reports.Report.{Report}
 use Rattle.interpreter.specs.cil_model.declared.reports.Report.TheVariants.{Absent, Acked, NothingPosted, Waiting, Worked}
 use Rattle.interpreter.specs.object_memory.declared.values.Value.{Value}
@@ -19,7 +19,7 @@ use Rattle.collector.specs.phase_handshake.declared.posts.Seat.{Seat}
 use Rattle.collector.proofs.phase_handshake.Closeness.{same_phase}
 use Rattle.simulation.specs.Collecting.{acknowledgement, clear_object, collect, flip_values, mark_object, next_posted, round_posted, rounds, work, do_work}
 use Rattle.simulation.specs.MachineStates.{MachineState}
-use Rattle.simulation.proofs.Threads.ChangedSeats.{own_seat}
+use Rattle.simulation.proofs.Threads.Seats.{own_seat}
 
 -- ---- what the collector waits for
 
@@ -33,8 +33,7 @@ either_waits c false x y f g = g refl
 
 both_hold : (x y : Bool) → (x && not y) ≡ true → (x ≡ true) × (y ≡ false)
 both_hold true false e = (refl, refl)
-both_hold true true e = absurd cc
-both_hold false y e = absurd cc
+both_hold _ _ e = absurd cc
 
 module _ (c : MachineState) where
   -- a transition that works doesn't wait
@@ -72,10 +71,9 @@ module _ (c : MachineState) where
       (λ early. works_on (record c { progress = (statics_scanned c.progress c.objects c.statics).0; objects = (statics_scanned c.progress c.objects c.statics).1 }))
   work_waits Allocate = worked_waits (looked_on c.progress c.objects)
   work_waits Copy = worked_waits (copied_on c.tree c.progress c.objects)
-  work_waits PreFlip = works_on (next_posted c).0
   work_waits HeapFlip = flipped_waits (flipped_on c.progress c.objects c.statics)
-  work_waits ThreadFlip = works_on (next_posted c).0
   work_waits Reclaim = cleared_waits (cleared_on c.progress c.objects)
+  work_waits _ = works_on (next_posted c).0
 
   -- it waits for a thread that hasn't acknowledged the phase or answered the round
   pub waits_rightly : WaitsRightly c (collect c)

@@ -9,7 +9,7 @@ use Rattle.interpreter.specs.cil_model.declared.events.Event.{Event}
 use Rattle.interpreter.specs.cil_model.declared.events.Event.TheVariants.{Step, Ack, Gc}
 use Rattle.interpreter.specs.cil_model.declared.limits.Limits.{Limits}
 use Rattle.interpreter.specs.cil_model.declared.phases.Phase.{Phase}
-use Rattle.interpreter.specs.cil_model.declared.phases.Phase.TheVariants.{Idle, Mark, Allocate, Copy, PreFlip, HeapFlip, ThreadFlip, Reclaim}
+use Rattle.interpreter.specs.cil_model.declared.phases.Phase.TheVariants.{Idle}
 use Rattle.interpreter.specs.cil_model.declared.reports.Report.{Report}
 use Rattle.interpreter.specs.cil_model.declared.trees.Method.{Method}
 use Rattle.interpreter.specs.cil_model.declared.trees.Tree.{Tree}
@@ -70,8 +70,7 @@ step_leaves c s r t after transition s' room =
 fields_length : (tree : Tree) (s : State) (es : List (FieldKey × StateValue)) (fs : List (FieldKey × DeclaredType)) → HaveFieldTypes tree s es fs → length es ≡ length fs
 fields_length tree s [] [] h = refl
 fields_length tree s (e ∷ es) (f ∷ fs) h = ap suc (fields_length tree s es fs h.2)
-fields_length tree s [] (f ∷ fs) h = elim h [ ]
-fields_length tree s (e ∷ es) [] h = elim h [ ]
+fields_length tree s _ _ h = elim h [ ]
 
 statics_length : (c : MachineState) (s : State) → Represents c s → length c.statics ≡ static_count c
 statics_length c s r =
@@ -108,13 +107,7 @@ goes c s r Gc after transition = record {
 -- no cycle is open, or one is
 is_idle_or : (x : Phase) → (x ≡ Idle) ⊎ (x ≢ Idle)
 is_idle_or Idle = inl refl
-is_idle_or Mark = inr (λ e. absurd cc)
-is_idle_or Allocate = inr (λ e. absurd cc)
-is_idle_or Copy = inr (λ e. absurd cc)
-is_idle_or PreFlip = inr (λ e. absurd cc)
-is_idle_or HeapFlip = inr (λ e. absurd cc)
-is_idle_or ThreadFlip = inr (λ e. absurd cc)
-is_idle_or Reclaim = inr (λ e. absurd cc)
+is_idle_or _ = inr (λ e. absurd cc)
 
 module _ (tree : Tree) (limits : Limits) where
   -- all that a cycle may have, with the words of the larger block

@@ -3,12 +3,12 @@ use Rattle.std.proofs.Common.{◌≡◌, ℕ, true, List, [], ◌∷◌, Option,
 use Rattle.std.specs.Option.{option_map_or}
 use Rattle.std.proofs.lemmas.List.{length-set}
 use Rattle.interpreter.specs.cil_model.declared.phases.Phase.{Phase}
-use Rattle.interpreter.specs.cil_model.declared.phases.Phase.TheVariants.{Idle, Mark, Allocate, Copy, PreFlip, HeapFlip, ThreadFlip, Reclaim}
+use Rattle.interpreter.specs.cil_model.declared.phases.Phase.TheVariants.{Idle, Mark}
 use Rattle.interpreter.specs.object_memory.declared.addresses.Addr.{Addr}
 use Rattle.interpreter.specs.object_memory.declared.kinds.Kind.{Kind}
 use Rattle.interpreter.specs.object_memory.declared.monitors.Monitor.{Monitor}
 use Rattle.interpreter.specs.object_memory.declared.values.Value.{Value}
-use Rattle.interpreter.specs.object_memory.declared.values.Value.TheVariants.{Int32, Int64, Native, Ref}
+use Rattle.interpreter.specs.object_memory.declared.values.Value.TheVariants.{Ref}
 use Rattle.interpreter.specs.object_memory.Cells.{literal_number, store_monitor, store_slot}
 use Rattle.interpreter.specs.object_memory.Objects.{Objects, with_cell, with_literal_monitor, with_slot}
 use Rattle.interpreter.specs.object_memory.Values.{value_word}
@@ -23,9 +23,7 @@ use Rattle.simulation.proofs.CycleBounds.MarkingWork.{LeavesNoMore, change_leave
 -- of what a value refers to
 pub value_mark_leaves : (o : Objects) (v : Value) → LeavesNoMore o.spaces (with_marked o v).spaces
 value_mark_leaves o (Ref a) = mark_leaves o.spaces a
-value_mark_leaves o (Int32 n) = leaves_itself o.spaces
-value_mark_leaves o (Int64 n) = leaves_itself o.spaces
-value_mark_leaves o (Native n) = leaves_itself o.spaces
+value_mark_leaves o _ = leaves_itself o.spaces
 
 -- and of all that a list does
 pub all_marks_stay : (vs : List Value) (o : Objects) → LeavesNoMore o.spaces (with_all_marked o vs).spaces
@@ -41,22 +39,12 @@ pub value_leaves : (own : Phase) → is_before_copies own ≡ true → (o : Obje
 value_leaves Idle early o a slot v = slot_leaves o a slot (value_word v)
 value_leaves Mark early o a slot v =
     leaves_then o.spaces (with_marked o v).spaces (with_slot (with_marked o v) a slot (value_word v)).spaces (value_mark_leaves o v) (slot_leaves (with_marked o v) a slot (value_word v))
-value_leaves Allocate early o a slot v = absurd cc
-value_leaves Copy early o a slot v = absurd cc
-value_leaves PreFlip early o a slot v = absurd cc
-value_leaves HeapFlip early o a slot v = absurd cc
-value_leaves ThreadFlip early o a slot v = absurd cc
-value_leaves Reclaim early o a slot v = absurd cc
+value_leaves _ early o a slot v = absurd cc
 
 pub word_leaves : (own : Phase) → is_before_copies own ≡ true → (o : Objects) (a : Addr) (slot w : ℕ) → LeavesNoMore o.spaces (stored_int own o a slot w).spaces
 word_leaves Idle early o a slot w = slot_leaves o a slot w
 word_leaves Mark early o a slot w = slot_leaves o a slot w
-word_leaves Allocate early o a slot w = absurd cc
-word_leaves Copy early o a slot w = absurd cc
-word_leaves PreFlip early o a slot w = absurd cc
-word_leaves HeapFlip early o a slot w = absurd cc
-word_leaves ThreadFlip early o a slot w = absurd cc
-word_leaves Reclaim early o a slot w = absurd cc
+word_leaves _ early o a slot w = absurd cc
 
 -- the monitor of an object; a literal's is no part of the blocks
 one_monitor_leaves : (o : Objects) (a : Addr) (m : Monitor) (l : Option ℕ) → LeavesNoMore o.spaces (option_map_or (with_literal_monitor o m) l (with_cell (store_monitor m) o a)).spaces
@@ -66,31 +54,16 @@ one_monitor_leaves o a m (Some n) = leaves_itself o.spaces
 pub monitor_leaves : (own : Phase) → is_before_copies own ≡ true → (o : Objects) (a : Addr) (m : Monitor) → LeavesNoMore o.spaces (stored_monitor own o a m).spaces
 monitor_leaves Idle early o a m = one_monitor_leaves o a m (literal_number a)
 monitor_leaves Mark early o a m = one_monitor_leaves o a m (literal_number a)
-monitor_leaves Allocate early o a m = absurd cc
-monitor_leaves Copy early o a m = absurd cc
-monitor_leaves PreFlip early o a m = absurd cc
-monitor_leaves HeapFlip early o a m = absurd cc
-monitor_leaves ThreadFlip early o a m = absurd cc
-monitor_leaves Reclaim early o a m = absurd cc
+monitor_leaves _ early o a m = absurd cc
 
 pub static_leaves : (own : Phase) → is_before_copies own ≡ true → (o : Objects) (statics : List Value) (number : ℕ) (v : Value) → LeavesNoMore o.spaces (stored_static own o statics number v).0.spaces
 static_leaves Idle early o statics number v = leaves_itself o.spaces
 static_leaves Mark early o statics number v = value_mark_leaves o v
-static_leaves Allocate early o statics number v = absurd cc
-static_leaves Copy early o statics number v = absurd cc
-static_leaves PreFlip early o statics number v = absurd cc
-static_leaves HeapFlip early o statics number v = absurd cc
-static_leaves ThreadFlip early o statics number v = absurd cc
-static_leaves Reclaim early o statics number v = absurd cc
+static_leaves _ early o statics number v = absurd cc
 
 -- ---- births
 
 pub birth_leaves : (own : Phase) → is_before_copies own ≡ true → (o : Objects) (k : Kind) (n : ℕ) (o' : Objects) (a : Addr) → ◌≡◌ {A = Objects × Option Addr} (object_born own o k n) (o', Some a) → LeavesNoMore o.spaces o'.spaces
 birth_leaves Idle early o k n o' a e = (let birth = granted Idle o k n o' a e in subst (λ (x : Objects). LeavesNoMore o.spaces x.spaces) birth.1 (old_birth_leaves o.spaces k n birth.0))
 birth_leaves Mark early o k n o' a e = (let birth = granted Mark o k n o' a e in subst (λ (x : Objects). LeavesNoMore o.spaces x.spaces) birth.1 (listed_birth_leaves o.spaces k n birth.0))
-birth_leaves Allocate early o k n o' a e = absurd cc
-birth_leaves Copy early o k n o' a e = absurd cc
-birth_leaves PreFlip early o k n o' a e = absurd cc
-birth_leaves HeapFlip early o k n o' a e = absurd cc
-birth_leaves ThreadFlip early o k n o' a e = absurd cc
-birth_leaves Reclaim early o k n o' a e = absurd cc
+birth_leaves _ early o k n o' a e = absurd cc

@@ -8,7 +8,7 @@ use Rattle.interpreter.specs.cil_model.declared.events.Event.{Event}
 use Rattle.interpreter.specs.cil_model.declared.events.Event.TheVariants.{Step, Ack, Gc}
 use Rattle.interpreter.specs.cil_model.declared.limits.Limits.{Limits}
 use Rattle.interpreter.specs.cil_model.declared.phases.Phase.{Phase}
-use Rattle.interpreter.specs.cil_model.declared.phases.Phase.TheVariants.{Idle, Mark, Allocate, Copy, PreFlip, HeapFlip, ThreadFlip, Reclaim}
+use Rattle.interpreter.specs.cil_model.declared.phases.Phase.TheVariants.{Idle}
 use Rattle.interpreter.specs.cil_model.declared.reports.Report.{Report}
 use Rattle.interpreter.specs.cil_model.declared.trees.Method.{Method}
 use Rattle.interpreter.specs.cil_model.declared.trees.Tree.{Tree}
@@ -39,9 +39,8 @@ abbrev pub then_open : Bool → Bool → Bool → Bool
 then_open done worked before = if done then false else (worked || before)
 
 open_by : (done worked : Bool) (n : ℕ) → nat_lt 0 (if done then 0 else (if worked then 1 else 0) + n) ≡ then_open done worked (nat_lt 0 n)
-open_by true worked n = grind (arith, nat_tests)
-open_by false true n = grind (arith, nat_tests)
 open_by false false n = let same : 0 + n ≡ n = omega arith in ap (nat_lt 0) same
+open_by _ _ n = grind (arith, nat_tests)
 
 pub open_then : (xs : List (Event × Report)) (e : Event) (r : Report) → is_cycle_open (xs ++ (e, r) ∷ []) ≡ then_open (ends_cycle e r) (is_working e r) (is_cycle_open xs)
 open_then xs e r = ap (λ l. nat_lt 0 (work_since l)) (reverse-append xs ((e, r) ∷ [])) ∙ open_by (ends_cycle e r) (is_working e r) (work_since (reverse xs))
@@ -102,13 +101,7 @@ opened_is tree limits c e = by_entry (slice_get (entry_points tree) 0) e
 -- a phase that is of no cycle
 pub idle_of : (x : Phase) → is_of_cycle x ≡ false → x ≡ Idle
 idle_of Idle e = refl
-idle_of Mark e = absurd cc
-idle_of Allocate e = absurd cc
-idle_of Copy e = absurd cc
-idle_of PreFlip e = absurd cc
-idle_of HeapFlip e = absurd cc
-idle_of ThreadFlip e = absurd cc
-idle_of Reclaim e = absurd cc
+idle_of _ e = absurd cc
 
 -- ---- lists
 

@@ -98,14 +98,8 @@ takes_nothing c e d r idles stays posts less large = record {
 
 -- the heap matters in Mark alone
 pub heap_matters : (x : Phase) (words statics : ℕ) (has_round : Bool) (p : Progress) (m n : Spaces) → (x ≡ Mark → AreGreyThere m × LeavesNoMore m n) → left_in x words statics has_round p n ≤ left_in x words statics has_round p m
-heap_matters Idle words statics has_round p m n h = omega arith
 heap_matters Mark words statics has_round p m n h = (let k = h refl in let less = k.1.less k.0 has_round p.scanned_slots in omega (arith, less))
-heap_matters Allocate words statics has_round p m n h = omega arith
-heap_matters Copy words statics has_round p m n h = omega arith
-heap_matters PreFlip words statics has_round p m n h = omega arith
-heap_matters HeapFlip words statics has_round p m n h = omega arith
-heap_matters ThreadFlip words statics has_round p m n h = omega arith
-heap_matters Reclaim words statics has_round p m n h = omega arith
+heap_matters _ words statics has_round p m n h = omega arith
 
 -- where the new block is as large
 pub heap_leaves : (c : MachineState) (n : Spaces) → n.new.words ≡ c.objects.spaces.new.words → (c.posts.posted_phase ≡ Mark → AreGreyThere c.objects.spaces × LeavesNoMore c.objects.spaces n) → left_with c n ≤ work_left c
@@ -121,13 +115,7 @@ grey_there c sound marking =
 -- and each thread is in a phase before there are copies
 early_own : (own : Phase) → phase_after own ≡ Mark → is_before_copies own ≡ true
 early_own Idle e = refl
-early_own Mark e = absurd cc
-early_own Allocate e = absurd cc
-early_own Copy e = absurd cc
-early_own PreFlip e = absurd cc
-early_own HeapFlip e = absurd cc
-early_own ThreadFlip e = absurd cc
-early_own Reclaim e = absurd cc
+early_own _ e = absurd cc
 
 pub own_is_early : (h : Handshakes) → AreClose h → h.posted_phase ≡ Mark → (t : ℕ) → is_before_copies (own_phase h t) ≡ true
 own_is_early h close marking t = by_seat (seat_of h t) refl

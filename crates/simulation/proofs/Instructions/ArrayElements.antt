@@ -1,47 +1,50 @@
--- Loads of array elements, and stores of integers to them, do the same on both machines.
-use Rattle.std.proofs.Common.{◌≡◌, ◌≤◌, ℕ, zero, suc, Bool, true, false, IsTrue, if◌then◌else◌, List, ◌∷◌, length, Option, Some, None, option_map, option_and_then, slice_get, slice_set, refl, sym, ap, ◌∙◌, subst, arith}
+-- Loads of array elements and stores to them do the same on both machines.
+use Rattle.std.proofs.Common.{◌≡◌, ◌≤◌, ℕ, zero, Bool, true, false, if◌then◌else◌, List, ◌∷◌, length, Option, Some, None, option_map, option_and_then, slice_get, slice_set, refl, sym, ap, ◌∙◌, subst, arith, IsTrue, suc}
 use Rattle.std.proofs.lemmas.Option.{same_Some}
-use Rattle.interpreter.specs.cil_model.declared.instructions.Instruction.{Instruction}
 use Rattle.interpreter.specs.cil_model.declared.instructions.Instruction.TheVariants as Named
-use Rattle.interpreter.specs.cil_model.declared.types.Element.TheVariants.{Int32 as Int32Element, Int64 as Int64Element, Object, String, Class}
+use Rattle.interpreter.specs.cil_model.declared.reports.Fault.TheVariants.{ArrayTypeMismatch}
 use Rattle.interpreter.specs.cil_model.declared.types.DeclaredType.{DeclaredType}
-use Rattle.interpreter.specs.cil_model.declared.types.Element.{Element}
-use Rattle.interpreter.specs.cil_model.Same.{same_type}
-use Rattle.interpreter.specs.cil_model.Declarations.{plain}
 use Rattle.interpreter.specs.cil_model.Assignable.{is_reference, is_reference_element}
-use Rattle.interpreter.proofs.cil_model.Lists.{none_is_some}
-use Rattle.interpreter.proofs.cil_model.SameLaws.{same_type_equal, never}
 use Rattle.interpreter.specs.reference_machine.Values.{ObjectName, Born, Value as StateValue, same_kind}
-use Rattle.interpreter.specs.reference_machine.States.{Array as IsArray, HeapObject, Frame as StateFrame, State, same_kind_or_none, replaced_at, elements_of_contents, array_at, with_object, with_element}
-use Rattle.interpreter.specs.reference_machine.Effects.{Setting, when_some as state_given, onward as onward_frame}
-use Rattle.interpreter.specs.reference_machine.Steps.{execute, next, element, load_element, store_element}
+use Rattle.interpreter.specs.reference_machine.States.{Array as IsArray, HeapObject, Frame as StateFrame, State, array_at, elements_of_contents, replaced_at, same_kind_or_none, with_element, with_object}
+use Rattle.interpreter.specs.reference_machine.Effects.{Setting, Effect as StateEffect, Raises as StateRaises, onward as onward_frame, when_some as state_given}
+use Rattle.interpreter.specs.reference_machine.Steps.{execute, element, may_hold, next, load_element, store_element, store_reference}
 use Rattle.interpreter.proofs.reference_machine.TypedStates.RunningFrames.{IsTypedEffect}
-use Rattle.interpreter.proofs.reference_machine.TypedStates.StateChanges.{element_typed, array_typed}
-use Rattle.interpreter.specs.resolved_code.declared.operations.Operation.{Operation}
 use Rattle.interpreter.specs.resolved_code.declared.operations.Operation.TheVariants as Resolved
 use Rattle.interpreter.specs.object_memory.declared.addresses.Addr.{Addr}
 use Rattle.interpreter.specs.object_memory.declared.values.Value.{Value}
-use Rattle.interpreter.specs.object_memory.declared.values.ValueKind.{ValueKind}
-use Rattle.interpreter.specs.object_memory.declared.values.ValueKind.TheVariants as Kind
 use Rattle.interpreter.specs.object_memory.Cells.{Cell, store_slot as with_cell_slot}
 use Rattle.interpreter.specs.object_memory.Objects.{Objects}
 use Rattle.interpreter.specs.object_memory.Values.{value_word}
-use Rattle.collector.specs.References.{holds_reference, is_reference_value}
 use Rattle.interpreter.specs.threads_monitors.Frames.{Frames, with_stack}
+use Rattle.interpreter.specs.threads_monitors.declared.effects.Effect.TheVariants.{Raises}
 use Rattle.interpreter.specs.instructions.Frames.{when_some}
-use Rattle.interpreter.specs.loaded_program.Prepared.{kind_at, kind_of_type}
-use Rattle.interpreter.specs.instructions.ObjectTransitions.{object_of, index_of, slots_of, checked_index, in_range, load_slot, store_slot, load_element_transition, store_element_transition}
-use Rattle.interpreter.specs.Instructions.{operation_transition, of_objects}
+use Rattle.interpreter.specs.instructions.ObjectTransitions.{ObjectTransition, object_of, index_of, slots_of, checked_index, in_range, store_slot, load_slot, load_element_transition, store_element_transition}
+use Rattle.interpreter.specs.instructions.TypeTransitions.{held_type, may_be_used_as, element_in, store_admitted, store_reference_transition}
+use Rattle.interpreter.specs.Instructions.{of_objects, operation_transition}
 use Rattle.simulation.specs.Agreement.{Agree}
 use Rattle.simulation.specs.Refines.{Names, IsValue, IsWord, IsOfContents, IsCell}
 use Rattle.simulation.proofs.ListLaws.AgreeingLists.{agree_get, agree_set}
 use Rattle.simulation.proofs.Instructions.Correspondence.{IsSetting, DoesAlike}
-use Rattle.simulation.proofs.Instructions.StackOperands.{fine, two_operands, three_operands}
-use Rattle.simulation.proofs.Memory.TypedWords.{word_value, kind_fits}
-use Rattle.simulation.proofs.Memory.ReferenceSlots.{IsLinked, element_linked, element_says, is_reference_kind, same_kinds, value_says}
-use Rattle.simulation.proofs.Memory.ObjectsAtAddresses.{IsArrayThere, there_is_linked}
-use Rattle.simulation.proofs.Instructions.ObjectInstructionParts.{given_alike, loaded_alike, replaced_alike, element_alike}
+use Rattle.simulation.proofs.Instructions.StackOperands.{fine, three_operands, two_operands}
+use Rattle.simulation.proofs.Memory.TypesAtAddresses.{may_be_used_as_is}
+use Rattle.interpreter.proofs.cil_model.SameLaws.{never, same_type_equal}
+use Rattle.interpreter.proofs.cil_model.Lists.{none_is_some}
 use Rattle.simulation.proofs.Memory.MemoryModels.{MemoryModel, mutator_in}
+use Rattle.interpreter.proofs.reference_machine.TypedStates.StateChanges.{element_typed, array_typed}
+use Rattle.collector.specs.References.{holds_reference, is_reference_value}
+use Rattle.simulation.proofs.Memory.ReferenceSlots.{IsLinked, element_linked, element_says, is_reference_kind, same_kinds, value_says, kind_fits, word_value}
+use Rattle.interpreter.specs.cil_model.declared.instructions.Instruction.{Instruction}
+use Rattle.interpreter.specs.cil_model.declared.types.Element.TheVariants.{Int32 as Int32Element, Int64 as Int64Element, Object, String, Class}
+use Rattle.interpreter.specs.cil_model.declared.types.Element.{Element}
+use Rattle.interpreter.specs.cil_model.Same.{same_type}
+use Rattle.interpreter.specs.cil_model.Declarations.{plain}
+use Rattle.interpreter.specs.resolved_code.declared.operations.Operation.{Operation}
+use Rattle.interpreter.specs.object_memory.declared.values.ValueKind.{ValueKind}
+use Rattle.interpreter.specs.object_memory.declared.values.ValueKind.TheVariants as Kind
+use Rattle.interpreter.specs.loaded_program.Prepared.{kind_at, kind_of_type}
+use Rattle.simulation.proofs.Memory.ObjectsAtAddresses.{IsArrayThere, there_is_linked}
+use Rattle.simulation.proofs.Instructions.ObjectInstructionParts.{alike_transition, given_alike, raised_alike, loaded_alike, replaced_alike, element_alike}
 
 -- ---- the state after a store
 
@@ -167,6 +170,45 @@ module _ (here : Setting) (model : MemoryModel here.tree) (name : Names) (m : Fr
         (λ a n type elements named there array passed slot old found t'.
         slot_stored a n type elements named there array c y stored slot old found rest rest' k t'))
 
+    -- what the reference machine does with a reference, by whether the elements' type admits it
+    abbrev tested : ObjectName → ℕ → StateValue → List StateValue → Option Bool → StateEffect
+    tested n slot u rest' b = state_given b (λ holds. if holds then state_given (with_element s n slot u) (λ s'. onward_frame f below s' rest') else StateRaises ArrayTypeMismatch)
+
+    -- what the machine does
+    abbrev admitted : Value → ℕ → Addr → Frames → Option Bool → ObjectTransition
+    admitted v slot a k b = when_some b (λ holds. if holds then store_slot model.phase v slot a k o else Some (k, o, Raises ArrayTypeMismatch))
+
+    -- an array's element is stored, if its type admits the reference
+    slot_tested : (a : Addr) (n : ObjectName) (t : DeclaredType) (elements : List StateValue) → name a.number ≡ Some n → array_at s n ≡ Some (t, elements) → (array : IsArrayThere here.tree name o s (model.reads name o statics s at.memory.fits at.running.typed) a n t elements) →
+        (v : Value) (u : StateValue) → IsValue name v u → (slot : ℕ) (old : StateValue) → slice_get elements slot ≡ Some old → (rest : List Value) (rest' : List StateValue) → Agree (IsValue name) rest rest' →
+        IsTypedEffect here.tree (tested n slot u rest' (may_hold here s f below t u)) →
+        DoesAlike here model name m o statics printed s f below (of_objects o statics printed (store_admitted model.phase here.tree v slot a (with_stack m rest) o)) (tested n slot u rest' (may_hold here s f below t u))
+    slot_tested a n t elements named there array v u refines slot old found rest rest' k typed =
+        alike_transition here model name m o statics printed s f below i operation at _ (of_objects o statics printed (admitted v slot a (with_stack m rest) (may_hold here s f below t u))) (tested n slot u rest' (may_hold here s f below t u))
+        (ap (of_objects o statics printed)
+        (ap (λ x. when_some (option_and_then (λ (c : Cell). element_in c.kind) x) (λ e. admitted v slot a (with_stack m rest) (may_be_used_as here.tree o v (held_type e)))) array.thing.lies ∙
+        ap (λ x. when_some (element_in x) (λ e. admitted v slot a (with_stack m rest) (may_be_used_as here.tree o v (held_type e)))) array.kind_is ∙
+        ap (admitted v slot a (with_stack m rest)) (may_be_used_as_is here name o s f below (model.reads name o statics s at.memory.fits at.running.typed) v u t (held_type array.kind) array.type_is refines)))
+        (by_class (may_hold here s f below t u) typed)
+      where
+        by_class : (b : Option Bool) → IsTypedEffect here.tree (tested n slot u rest' b) → DoesAlike here model name m o statics printed s f below (of_objects o statics printed (admitted v slot a (with_stack m rest) b)) (tested n slot u rest' b)
+        by_class None t' = elim t' [ ]
+        by_class (Some true) t' = slot_stored a n t elements named there array v u refines slot old found rest rest' k t'
+        by_class (Some false) t' = raised_alike here model name m o statics printed s f below i operation at (with_stack m rest) ArrayTypeMismatch
+
+    -- stelem.ref (III.4.27)
+    reference_alike : IsTypedEffect here.tree (store_reference here s f below) →
+        DoesAlike here model name m o statics printed s f below (of_objects o statics printed (store_reference_transition model.phase here.tree m o)) (store_reference here s f below)
+    reference_alike typed =
+        three_operands here model name m o statics printed s f below i operation at (of_objects o statics printed)
+        (λ array index v k. object_of array k o (λ a. index_of index (λ z. when_some (slots_of o a) (λ slots. in_range (checked_index z (length slots)) k o (λ slot. store_admitted model.phase here.tree v slot a k o)))))
+        (λ array index v rest. element here s f below is_reference array index (λ n t z old. tested n z v rest (may_hold here s f below t v)))
+        typed
+        (λ v w c rest u x y rest' is is' refines refines' stored k shorter t.
+        element_alike here model name m o statics printed s f below i operation at is_reference v w u x refines refines' (with_stack m rest) (λ a slot. store_admitted model.phase here.tree c slot a (with_stack m rest) o) (λ n type z old. tested n z y rest' (may_hold here s f below type y)) t
+        (λ a n type elements named there array passed slot old found t'.
+        slot_tested a n type elements named there array c y stored slot old found rest rest' k t'))
+
   -- ---- each instruction
 
   -- a machine is at the instruction
@@ -191,3 +233,6 @@ module _ (here : Setting) (model : MemoryModel here.tree) (name : Names) (m : Fr
 
   pub store_element_int64_alike : At Named.StoreElementInt64 Resolved.StoreElementInt64 → IsAlike Named.StoreElementInt64 Resolved.StoreElementInt64
   store_element_int64_alike at = store_alike Named.StoreElementInt64 Resolved.StoreElementInt64 at (same_type (plain Int64Element)) (fine here model name m o statics printed s f below Named.StoreElementInt64 Resolved.StoreElementInt64 at)
+
+  pub store_element_reference_alike : At Named.StoreElementReference Resolved.StoreElementReference → IsAlike Named.StoreElementReference Resolved.StoreElementReference
+  store_element_reference_alike at = reference_alike Named.StoreElementReference Resolved.StoreElementReference at (fine here model name m o statics printed s f below Named.StoreElementReference Resolved.StoreElementReference at)

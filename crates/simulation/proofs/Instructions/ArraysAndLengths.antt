@@ -10,7 +10,7 @@ use Rattle.interpreter.specs.cil_model.declared.trees.Tree.{Tree}
 use Rattle.interpreter.specs.cil_model.declared.types.ClassName.{ClassName}
 use Rattle.interpreter.specs.cil_model.declared.types.DeclaredType.{DeclaredType}
 use Rattle.interpreter.specs.cil_model.declared.types.Element.{Element}
-use Rattle.interpreter.specs.cil_model.declared.types.Element.TheVariants.{Int32 as Int32Element, Int64 as Int64Element, Object as ObjectElement, String as StringElement, Class as ClassElement}
+use Rattle.interpreter.specs.cil_model.declared.types.Element.TheVariants.{Int64 as Int64Element, Class as ClassElement}
 use Rattle.interpreter.specs.cil_model.Assignable.{is_reference}
 use Rattle.interpreter.specs.cil_model.Legality.{IsLegal}
 use Rattle.interpreter.specs.reference_machine.Values.{ObjectName, Value as StateValue, Int32 as Int32Value, Native as NativeValue, Null, Reference, integer_zero, zero_of}
@@ -115,10 +115,7 @@ zero_word name t = by_test (is_reference t) t.element
     by_test : (b : Bool) (e : Element) → IsWord name 0 (if b then Null else integer_zero e)
     by_test true e = record { value = Ref null; refines = null_reference; is = refl }
     by_test false Int64Element = record { value = Int64 (pos 0); refines = int64 (pos 0) (record { sfits = omega arith }); is = refl }
-    by_test false Int32Element = first
-    by_test false ObjectElement = first
-    by_test false StringElement = first
-    by_test false (ClassElement c) = first
+    by_test false _ = first
 
 -- so do many
 zero_words : (name : Names) (t : DeclaredType) (n : ℕ) → Agree (IsWord name) (replicate n 0) (replicate n (zero_of t))

@@ -2,7 +2,7 @@
 use Rattle.std.proofs.Common.{◌≡◌, ◌⊎◌, ◌<◌, ◌≤◌, ℕ, Bool, true, false, List, [], ◌∷◌, Some, refl}
 use Rattle.interpreter.specs.cil_model.declared.limits.TheConstants.{MOST_BUDGET}
 use Rattle.interpreter.specs.cil_model.declared.reports.Fault.{Fault}
-use Rattle.interpreter.specs.cil_model.declared.reports.Fault.TheVariants.{NullReference, IndexOutOfRange, ArrayTypeMismatch, InvalidCast, DivideByZero, Arithmetic, Overflow, OutOfMemory, TooManyThreads, StackOverflow, ArgumentNull, SynchronizationLock, ThreadState}
+use Rattle.interpreter.specs.cil_model.declared.reports.Fault.TheVariants.{OutOfMemory}
 use Rattle.interpreter.specs.cil_model.declared.instructions.Instruction.{Instruction}
 use Rattle.interpreter.specs.cil_model.Bodies.{lines_of}
 use Rattle.interpreter.specs.reference_machine.Values.{Value as StateValue}
@@ -62,19 +62,8 @@ is_refused_outcome (Joins a) = false
 
 -- a fault that is
 pub refused_fault : (x : Fault) → is_refused_fault x ≡ true → StateRaises x ≡ StateRaises OutOfMemory
-refused_fault NullReference h = never h
-refused_fault IndexOutOfRange h = never h
-refused_fault ArrayTypeMismatch h = never h
-refused_fault InvalidCast h = never h
-refused_fault DivideByZero h = never h
-refused_fault Arithmetic h = never h
-refused_fault Overflow h = never h
 refused_fault OutOfMemory h = refl
-refused_fault TooManyThreads h = never h
-refused_fault StackOverflow h = never h
-refused_fault ArgumentNull h = never h
-refused_fault SynchronizationLock h = never h
-refused_fault ThreadState h = never h
+refused_fault _ h = never h
 
 module _ (here : Setting) (model : MemoryModel here.tree) (name : Names) (m : Frames) (o : Objects) (statics : List Value) (printed : List ℕ) (s : State) (f : Frame) (below : List Frame) where
   -- the thread continues with the same frames, in the same memory, in which nothing lost its name

@@ -38,20 +38,17 @@ use Rattle.interpreter.specs.Instructions.{answer_of}
 types_length : (tree : Tree) (s : State) (vs : List StateValue) (ts : List DeclaredType) → HaveTypes tree s vs ts → length vs ≡ length ts
 types_length tree s [] [] h = refl
 types_length tree s (v ∷ vs) (t ∷ ts) h = ap suc (types_length tree s vs ts h.1)
-types_length tree s [] (t ∷ ts) h = elim h [ ]
-types_length tree s (v ∷ vs) [] h = elim h [ ]
+types_length tree s _ _ h = elim h [ ]
 
 pub stack_length : (tree : Tree) (s : State) (vs : List StateValue) (ts : List StackType) → HaveStackTypes tree s vs ts → length vs ≡ length ts
 stack_length tree s [] [] h = refl
 stack_length tree s (v ∷ vs) (t ∷ ts) h = ap suc (stack_length tree s vs ts h.1)
-stack_length tree s [] (t ∷ ts) h = elim h [ ]
-stack_length tree s (v ∷ vs) [] h = elim h [ ]
+stack_length tree s _ _ h = elim h [ ]
 
 below_length : (tree : Tree) (as' bs : List StackType) → AreBelow tree as' bs → length as' ≡ length bs
 below_length tree [] [] h = refl
 below_length tree (a ∷ as') (b ∷ bs) h = ap suc (below_length tree as' bs h.1)
-below_length tree [] (b ∷ bs) h = elim h [ ]
-below_length tree (a ∷ as') [] h = elim h [ ]
+below_length tree _ _ h = elim h [ ]
 
 -- ---- what room a typed frame leaves
 

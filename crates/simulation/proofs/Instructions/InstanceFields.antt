@@ -39,8 +39,7 @@ use Rattle.simulation.specs.Refines.{Names, IsValue, IsWord, thread_word, IsInst
 use Rattle.simulation.proofs.ListLaws.AgreeingLists.{agree_get, agree_set}
 use Rattle.simulation.proofs.Instructions.Correspondence.{IsSetting, DoesAlike}
 use Rattle.simulation.proofs.Instructions.StackOperands.{fine, one_operand, two_operands}
-use Rattle.simulation.proofs.Memory.TypedWords.{word_value, kind_fits, kind_of_state}
-use Rattle.simulation.proofs.Memory.ReferenceSlots.{IsLinked, field_linked, is_reference_kind, is_reference_state, same_hidden, same_kinds, slot_says, value_says}
+use Rattle.simulation.proofs.Memory.ReferenceSlots.{IsLinked, field_linked, is_reference_kind, is_reference_state, same_hidden, same_kinds, slot_says, value_says, word_value, kind_fits, kind_of_state}
 use Rattle.simulation.proofs.Memory.ObjectsAtAddresses.{IsInstanceThere, instance_there, there_is_linked}
 use Rattle.simulation.proofs.Instructions.ObjectInstructionParts.{alike_transition, given_alike, known_alike, loaded_alike, replaced_alike, object_alike}
 use Rattle.simulation.proofs.Memory.FieldSlots.{slot_get, slot_set, position, slot, slot_is, held_is, IsFieldAt, field_at_slot}

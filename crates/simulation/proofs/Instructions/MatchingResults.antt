@@ -44,5 +44,4 @@ pub meets_at : {X Y : Type 0} (R : X → Y → Type 0) (xs : List X) (ys : List 
 meets_at R [] [] h n = tt
 meets_at R (x ∷ xs) (y ∷ ys) h zero = h.0
 meets_at R (x ∷ xs) (y ∷ ys) h (suc n) = meets_at R xs ys h.1 n
-meets_at R [] (y ∷ ys) h n = elim h [ ]
-meets_at R (x ∷ xs) [] h n = elim h [ ]
+meets_at R _ _ h n = elim h [ ]

@@ -1,5 +1,5 @@
 -- newobj does the same on a machine as on the reference machine (III.4.21).
-use Rattle.std.proofs.Common.{◌≡◌, ◌+◌, ℕ, Bool, true, false, nat_le, if◌then◌else◌, List, ◌∷◌, length, take, drop, reverse, Option, Some, None, is_some, refl, sym, ap, ◌∙◌, subst, arith, inl, ◌<◌, replicate}
+use Rattle.std.proofs.Common.{◌≡◌, ◌+◌, ℕ, Bool, true, false, nat_le, if◌then◌else◌, List, ◌∷◌, length, take, drop, reverse, Option, Some, None, is_some, refl, sym, ap, ◌∙◌, subst, arith, inl, ◌<◌, replicate, [], ◌++◌, map, ◌≤◌, ◌-◌, suc, ◌&&◌, zero}
 use Rattle.std.specs.Option.{option_map_or}
 use Rattle.interpreter.specs.cil_model.declared.types.ClassName.{ClassName}
 use Rattle.interpreter.specs.cil_model.declared.types.DeclaredType.{DeclaredType}
@@ -7,8 +7,8 @@ use Rattle.interpreter.specs.cil_model.declared.instructions.Instruction.TheVari
 use Rattle.interpreter.specs.cil_model.declared.reports.Fault.TheVariants.{OutOfMemory, StackOverflow}
 use Rattle.interpreter.specs.cil_model.declared.trees.Method.{Method}
 use Rattle.interpreter.specs.cil_model.declared.trees.Code.{Code}
-use Rattle.interpreter.specs.cil_model.Bodies.{code_of, constructor_reference}
-use Rattle.interpreter.specs.cil_model.Fields.{slot_types}
+use Rattle.interpreter.specs.cil_model.Bodies.{code_of, constructor_reference, argument_types}
+use Rattle.interpreter.specs.cil_model.Fields.{slot_types, FieldKey, instance_fields}
 use Rattle.interpreter.specs.cil_model.Legality.{IsLegal}
 use Rattle.interpreter.specs.reference_machine.Values.{ObjectName, Value as StateValue, Reference}
 use Rattle.interpreter.specs.reference_machine.States.{Contents, Frame as StateFrame, State, next_name, with_birth as with_state_birth, new_instance}
@@ -27,28 +27,252 @@ use Rattle.interpreter.specs.object_memory.Objects.{Objects}
 use Rattle.interpreter.specs.object_memory.Spaces.{room_for}
 use Rattle.interpreter.specs.instructions.barriers.Barriers.{object_born}
 use Rattle.interpreter.specs.loaded_program.MethodNumbers.{number_of}
-use Rattle.interpreter.specs.threads_monitors.Frames.{Frames, with_pc, with_stack}
+use Rattle.interpreter.specs.threads_monitors.Frames.{Frames, with_pc, with_stack, size, with_inserted, with_call}
 use Rattle.interpreter.specs.threads_monitors.declared.effects.Effect.TheVariants.{Continues, Raises}
 use Rattle.interpreter.specs.instructions.Frames.{when_some}
 use Rattle.interpreter.specs.instructions.ObjectTransitions.{ObjectTransition, bears, beside, birth_transition as born_transition}
-use Rattle.interpreter.specs.instructions.Calls.{constructs, is_full, new_object_transition, new_plain_object_transition}
+use Rattle.interpreter.specs.instructions.Calls.{constructs, is_full, new_object_transition, new_plain_object_transition, Called, following, enter_callee, construct_transition}
 use Rattle.interpreter.specs.declared.outcomes.InstructionOutcome.TheVariants.{OwnEffect}
 use Rattle.interpreter.specs.Instructions.{MachineTransition, operation_transition, Answer, answer_of, of_objects}
 use Rattle.interpreter.proofs.Linking.{new_does}
 use Rattle.interpreter.specs.Calls.{called_as, make_object}
-use Rattle.simulation.specs.Refines.{Names, reference}
-use Rattle.simulation.proofs.Representation.MoreNames.{values_extend}
+use Rattle.simulation.specs.Refines.{Names, reference, hidden_words, IsOfContents, IsValue, IsFrame, AreFrames}
+use Rattle.simulation.proofs.Representation.MoreNames.{values_extend, frame_list_extends, object_extends}
 use Rattle.simulation.proofs.Instructions.Correspondence.{IsSetting, GoesAlike, DoesAlike}
-use Rattle.simulation.proofs.Instructions.FrameProgress.{own_frame, leaves_is, onward_alike}
+use Rattle.simulation.proofs.Instructions.FrameProgress.{own_frame, leaves_is, onward_alike, index_is_small, room_left}
 use Rattle.simulation.proofs.Instructions.StackOperands.{fine}
-use Rattle.simulation.proofs.Memory.Allocation.{by_birth, birth_goes, memory_after}
-use Rattle.simulation.proofs.Instructions.Constructors.{constructor, finds_own, own_has_id, class_named, class_is_in, slots_are_at, plain_has_none, constructor_has_id}
-use Rattle.simulation.proofs.Instructions.ConstructorFrames.{depth_is, frames_in, constructs_is, frames_refine}
-use Rattle.simulation.proofs.Memory.NewObjectContents.{new_instance_refines}
-use Rattle.std.proofs.lemmas.List.{length-replicate}
+use Rattle.simulation.proofs.Instructions.Constructors.{constructor, finds_own, own_has_id, class_named, class_is_in, slots_are_at, plain_has_none, constructor_has_id, arguments_count, few_arguments, few_locals}
+use Rattle.std.proofs.lemmas.List.{length-replicate, length-map, reverse-append}
 use Rattle.simulation.proofs.Memory.CellSizes.{contents_size}
 use Rattle.interpreter.proofs.cil_model.SameLaws.{never}
-use Rattle.simulation.proofs.Memory.MemoryModels.{MemoryModel, IsBirth, mutator_in}
+use Rattle.simulation.proofs.Memory.MemoryModels.{MemoryModel, IsBirth, mutator_in, IsModelled}
+use Rattle.interpreter.specs.cil_model.declared.trees.Tree.{Tree}
+use Rattle.interpreter.specs.object_memory.declared.kinds.Kind.{Kind}
+use Rattle.interpreter.specs.cil_model.Chains.{is_thread_class}
+use Rattle.interpreter.specs.resolved_code.ById.{class_name}
+use Rattle.simulation.proofs.Memory.InitialValues.{words_refine, locals_refine}
+use Rattle.std.specs.Prelude.{nat_lt, ◌==◌}
+use Rattle.std.proofs.lemmas.Bool.{and_from, leb-true, lt-ltb, le-leb}
+use Rattle.std.proofs.lemmas.Bool.Decides.{nat_tests}
+use Rattle.interpreter.specs.loaded_program.Prepared.{local_kinds}
+use Rattle.simulation.specs.Agreement.{Agree}
+use Rattle.simulation.specs.MachineStates.{frame_room}
+use Rattle.simulation.proofs.ListLaws.AgreeingLists.{agree_length, agree_take, agree_drop, agree_reverse}
+
+-- ---- A list with an item inserted: what is left after a drop, what it is in reverse, and its length.
+
+-- ---- a value beneath the topmost ones
+
+-- of a list with a value after its first n, the first n and one are those, and the value
+take_inserted : {A : Type 0} (n : ℕ) (x : A) (xs : List A) → n ≤ length xs → take (suc n) (take n xs ++ x ∷ drop n xs) ≡ take n xs ++ x ∷ []
+take_inserted zero x xs h = refl
+take_inserted (suc n) x [] h = absurd (omega (arith, h))
+take_inserted (suc n) x (y ∷ ys) h = ap (λ zs. y ∷ zs) (take_inserted n x ys (omega (arith, h)))
+
+-- the others are after them
+pub drop_inserted : {A : Type 0} (n : ℕ) (x : A) (xs : List A) → n ≤ length xs → drop (suc n) (take n xs ++ x ∷ drop n xs) ≡ drop n xs
+drop_inserted zero x xs h = refl
+drop_inserted (suc n) x [] h = absurd (omega (arith, h))
+drop_inserted (suc n) x (y ∷ ys) h = drop_inserted n x ys (omega (arith, h))
+
+-- the other way round the value comes first
+pub reverse_inserted : {A : Type 0} (n : ℕ) (x : A) (xs : List A) → n ≤ length xs → reverse (take (suc n) (take n xs ++ x ∷ drop n xs)) ≡ x ∷ reverse (take n xs)
+reverse_inserted n x xs h = ap reverse (take_inserted n x xs h) ∙ reverse-append (take n xs) (x ∷ [])
+
+-- there is one more
+pub length_inserted : {A : Type 0} (n : ℕ) (x : A) (xs : List A) → n ≤ length xs → length (take n xs ++ x ∷ drop n xs) ≡ suc (length xs)
+length_inserted zero x xs h = refl
+length_inserted (suc n) x [] h = absurd (omega (arith, h))
+length_inserted (suc n) x (y ∷ ys) h = ap suc (length_inserted n x ys (omega (arith, h)))
+
+-- ---- The frame of a constructor, and the one of the method that makes the object.
+
+-- ---- tests on numbers
+
+above_none : (n k : ℕ) → n ≡ suc k → nat_lt 0 n ≡ true
+above_none n k h = grind (arith, nat_tests)
+
+-- at the limit, or below it
+full_is_deep : (n depth : ℕ) → n + 1 ≤ depth → (n + 1 == depth) ≡ nat_le depth (suc n)
+full_is_deep n depth h = grind (arith, nat_tests)
+
+not_full : (n depth : ℕ) → n + 1 ≤ depth → (n + 1 == depth) ≡ false → n + 1 < depth
+not_full n depth h k = grind (arith, nat_tests, h, k)
+
+module _ (here : Setting) (model : MemoryModel here.tree) (name : Names) (m : Frames) (o : Objects) (statics : List Value) (printed : List ℕ) (s : State) (f : StateFrame) (below : List StateFrame)
+    (c : ClassName) (parameters : List DeclaredType) (number : MemberNumber) (is : IsMethod here.tree true (constructor_reference c parameters) number)
+    (at : IsSetting here model name m o statics printed s f below (Named.NewObject c parameters) (Resolved.NewObject number)) where
+  abbrev legal_tree : IsLegal here.tree
+  legal_tree = at.running.accepted.legal
+
+  -- the frame that runs
+  own : IsFrame here.tree name m.running f
+  own = own_frame here model name m o statics printed s f below (Named.NewObject c parameters) (Resolved.NewObject number) at
+
+  abbrev own_constructor : Method
+  own_constructor = constructor here.tree legal_tree c parameters number is
+
+  -- ---- depth
+
+  few_below : length m.below + 1 ≤ m.depth
+  few_below = subst (λ d. length m.below + 1 ≤ d) (sym at.frames.depth) (omega (arith, at.frames.few))
+
+  -- both look at the same number of frames
+  pub depth_is : is_full m ≡ is_too_deep here s f below
+  depth_is =
+      let counted : length m.below ≡ length below = agree_length (IsFrame here.tree name) m.below below at.frames.frames.1 in
+      full_is_deep (length m.below) m.depth few_below ∙ ap (λ d. nat_le d (suc (length m.below))) at.frames.depth ∙ ap (λ n. nat_le here.limits.depth (suc n)) counted
+
+  -- ---- the machine's frames
+
+  module _ (enough : nat_le (length parameters) (length f.stack) ≡ true) (deep : is_full m ≡ false) (a : Addr) where
+    abbrev argument_count : ℕ
+    argument_count = length (argument_types own_constructor c)
+
+    counted : argument_count ≡ suc (length parameters)
+    counted = arguments_count here.tree legal_tree c parameters number is
+
+    -- the operands with the object beneath them
+    abbrev inserted : List Value
+    inserted = take (length parameters) m.running.stack ++ Ref a ∷ drop (length parameters) m.running.stack
+
+    operands_there : length parameters ≤ length m.running.stack
+    operands_there =
+        let same : length m.running.stack ≡ length f.stack = agree_length (IsValue name) m.running.stack f.stack own.stack in
+        omega (arith, same, leb-true (length parameters) (length f.stack) enough)
+
+    -- the caller after the instruction
+    abbrev caller : Frames
+    caller = with_pc (with_inserted m (length parameters) (Ref a)) (m.running.pc + 1)
+
+    -- the frames in the constructor
+    abbrev pub frames_in : Frames
+    frames_in = with_call caller (constructor_has_id here.tree legal_tree c parameters number is).0 argument_count (local_kinds own_constructor) (Some a)
+
+    object_fits : nat_lt 0 argument_count && (nat_lt (size m.running) m.room && nat_le (length parameters) (length m.running.stack)) ≡ true
+    object_fits =
+        let left : size m.running < frame_room = room_left here.tree legal_tree s None f at.running.frame name m.running own in
+        let room : nat_lt (size m.running) m.room ≡ true = lt-ltb (size m.running) m.room (subst (λ r. size m.running < r) (sym at.frames.room) left) in
+        and_from _ _ (above_none argument_count (length parameters) counted) (and_from _ _ room (le-leb (length parameters) (length m.running.stack) operands_there))
+
+    frame_fits : nat_lt (length m.below + 1) m.depth && nat_le argument_count (length inserted) && nat_le (argument_count + length (local_kinds own_constructor)) m.room ≡ true
+    frame_fits =
+        let longer : length inserted ≡ suc (length m.running.stack) = length_inserted (length parameters) (Ref a) m.running.stack operands_there in
+        let shallow : nat_lt (length m.below + 1) m.depth ≡ true = lt-ltb (length m.below + 1) m.depth (not_full (length m.below) m.depth few_below deep) in
+        let there : nat_le argument_count (length inserted) ≡ true = le-leb argument_count (length inserted) (omega (arith, counted, longer, operands_there)) in
+        let low : argument_count + length (local_kinds own_constructor) ≤ m.room =
+        subst (λ r. argument_count + length (local_kinds own_constructor) ≤ r) (sym at.frames.room) (omega (arith, few_arguments here.tree legal_tree c parameters number is, few_locals here.tree legal_tree c parameters number is)) in
+        and_from _ _ (and_from _ _ shallow there) (le-leb (argument_count + length (local_kinds own_constructor)) m.room low)
+
+    -- the constructor's frame is entered
+    pub constructs_is : construct_transition (called_as (c, own_constructor) (constructor_has_id here.tree legal_tree c parameters number is).0) a m ≡ Some (frames_in, Continues)
+    constructs_is =
+        let callee : Called = called_as (c, own_constructor) (constructor_has_id here.tree legal_tree c parameters number is).0 in
+        let fewer : argument_count - 1 ≡ length parameters = omega (arith, counted) in
+        ap (λ n. if nat_lt 0 argument_count && (nat_lt (size m.running) m.room && nat_le n (length m.running.stack)) then following (with_inserted m n (Ref a)) (enter_callee callee (Some a)) else None) fewer ∙
+        ap (λ b. if b then following (with_inserted m (length parameters) (Ref a)) (enter_callee callee (Some a)) else None) object_fits ∙
+        ap (λ b. if b then enter_callee callee (Some a) caller else None) (index_is_small here model name m o statics printed s f below (Named.NewObject c parameters) (Resolved.NewObject number) at) ∙
+        ap (λ b. if b then Some (frames_in, Continues) else None) frame_fits
+
+    -- ---- what they represent
+
+    -- both frames and those below them, under the names after the birth
+    module _ (contents : Contents) (born : Objects) (birth : IsBirth model.Fits name statics s contents born a) where
+      extended : (vs : List Value) (us : List StateValue) → Agree (IsValue name) vs us → Agree (IsValue birth.names) vs us
+      extended = values_extend name birth.names birth.extends
+
+      arguments_refine : Agree (IsValue birth.names) (reverse (take argument_count inserted)) (Reference (next_name s) ∷ reverse (take (length parameters) f.stack))
+      arguments_refine =
+          let turned : reverse (take argument_count inserted) ≡ Ref a ∷ reverse (take (length parameters) m.running.stack) = ap (λ n. reverse (take n inserted)) counted ∙ reverse_inserted (length parameters) (Ref a) m.running.stack operands_there in
+          let operands : Agree (IsValue name) (reverse (take (length parameters) m.running.stack)) (reverse (take (length parameters) f.stack)) =
+          agree_reverse (IsValue name) (take (length parameters) m.running.stack) (take (length parameters) f.stack) (agree_take (IsValue name) (length parameters) m.running.stack f.stack own.stack) in
+          subst (λ vs. Agree (IsValue birth.names) vs (Reference (next_name s) ∷ reverse (take (length parameters) f.stack))) (sym turned)
+          (reference a (next_name s) birth.named, extended (reverse (take (length parameters) m.running.stack)) (reverse (take (length parameters) f.stack)) operands)
+
+      rest_refines : Agree (IsValue birth.names) (drop argument_count inserted) (drop (length parameters) f.stack)
+      rest_refines =
+          let left : drop argument_count inserted ≡ drop (length parameters) m.running.stack = ap (λ n. drop n inserted) counted ∙ drop_inserted (length parameters) (Ref a) m.running.stack operands_there in
+          subst (λ vs. Agree (IsValue birth.names) vs (drop (length parameters) f.stack)) (sym left)
+          (extended (drop (length parameters) m.running.stack) (drop (length parameters) f.stack) (agree_drop (IsValue name) (length parameters) m.running.stack f.stack own.stack))
+
+      caller_refines : IsFrame here.tree birth.names (record caller.running { stack = drop argument_count inserted }) (after f (drop (length parameters) f.stack))
+      caller_refines = record {
+        method = own.method;
+        pc = ap (λ n. n + 1) own.pc;
+        arguments = extended m.running.arguments f.arguments own.arguments;
+        locals = extended m.running.locals f.locals own.locals;
+        stack = rest_refines;
+        constructed = object_extends name birth.names birth.extends m.running.constructed f.constructed own.constructed;
+      }
+
+      pub frames_refine : (code : Code) → code_of own_constructor.kind ≡ Some code →
+          AreFrames here.tree here.limits birth.names frames_in (new_frame c own_constructor code (Reference (next_name s) ∷ reverse (take (length parameters) f.stack)) (Some (next_name s)) ∷ after f (drop (length parameters) f.stack) ∷ below)
+      frames_refine code has = record {
+        frames = (
+          record {
+            method = (constructor_has_id here.tree legal_tree c parameters number is).2;
+            pc = refl;
+            arguments = arguments_refine;
+            locals = locals_refine birth.names own_constructor code has;
+            stack = tt;
+            constructed = birth.named;
+          },
+          (caller_refines, frame_list_extends name birth.names birth.extends here.tree m.below below at.frames.frames.1),
+        );
+        depth = at.frames.depth;
+        few = subst (λ d. length (frames_in.running ∷ frames_in.below) ≤ d) at.frames.depth (omega (arith, not_full (length m.below) m.depth few_below deep));
+        room = at.frames.room;
+      }
+
+-- ---- The zeros in the cell of a new object represent its first contents.
+
+-- ---- objects
+
+-- n words
+abbrev zeros : ℕ → List ℕ
+zeros n = replicate n 0
+
+module _ (tree : Tree) (c : ClassName) where
+  -- the hidden word and one for each field
+  words_are : zeros (length (slot_types tree c)) ≡ hidden_words tree c None ++ zeros (length (instance_fields tree c))
+  words_are = by_flag (is_thread_class tree c)
+    where
+      types : List (Option DeclaredType)
+      types = map (λ (f : FieldKey × DeclaredType). Some f.1) (instance_fields tree c)
+
+      counted : zeros (length types) ≡ zeros (length (instance_fields tree c))
+      counted = ap zeros (length-map (instance_fields tree c) (λ (f : FieldKey × DeclaredType). Some f.1))
+
+      by_flag : (b : Bool) → zeros (length ((if b then None ∷ [] else []) ++ types)) ≡ (if b then 0 ∷ [] else []) ++ zeros (length (instance_fields tree c))
+      by_flag true = ap (λ ws. 0 ∷ ws) counted
+      by_flag false = counted
+
+  -- zeros are an object of the class at first
+  pub new_instance_refines : (class : ℕ) → class_name tree class ≡ Some c → (names : Names) → IsOfContents tree names (Instance class) (replicate (length (slot_types tree c)) 0) (new_instance tree c) None
+  new_instance_refines class named names = record { class_is = named; words = replicate (length (instance_fields tree c)) 0; slots_are = words_are; values = words_refine names (instance_fields tree c) }
+
+-- ---- What the birth of an object gives, and what it leaves on both machines.
+
+-- a birth is refused beyond the room, and nothing is changed, or an object lies at an address
+pub by_birth : (tree : Tree) (model : MemoryModel tree) (name : Names) (o : Objects) (statics : List Value) (s : State) → model.Fits name o statics s → (k : Kind) (n : ℕ) (P : Objects × Option Addr → Type 0) →
+    (room_for model.phase o.spaces < 3 + n → P (o, None)) → ((born : Objects) (a : Addr) → object_born model.phase o k n ≡ (born, Some a) → P (born, Some a)) → P (object_born model.phase o k n)
+by_birth tree model name o statics s fits k n P refused given = by_answer (object_born model.phase o k n) refl
+  where
+    by_answer : (x : Objects × Option Addr) → object_born model.phase o k n ≡ x → P x
+    by_answer (born, Some a) e = given born a e
+    by_answer (born, None) e = let refusal = model.refusals name o statics s fits k n born e in subst (λ p. P (p, None)) (sym refusal.0) (refused refusal.1)
+
+-- where memory isn't refused the reference machine continues with the object
+pub birth_goes : (here : Setting) (s : State) (f : StateFrame) (below : List StateFrame) (contents : Contents) (go : ObjectName → State → StateEffect) → here.is_refused ≡ false →
+    state_birth here s f below contents go ≡ go (next_name s) (with_state_birth s contents)
+birth_goes here s f below contents go r = ap (λ b. if b then StateRaises OutOfMemory else go (next_name s) (with_state_birth s contents)) r
+
+-- the memory is one of the same kind, under the names that there are then
+pub memory_after : (here : Setting) (model : MemoryModel here.tree) (name : Names) (o : Objects) (statics : List Value) (printed : List ℕ) (s : State) → IsModelled here.tree model name o statics printed s →
+    (contents : Contents) (born : Objects) (a : Addr) (birth : IsBirth model.Fits name statics s contents born a) → IsModelled here.tree model birth.names born statics printed (with_state_birth s contents)
+memory_after here model name o statics printed s memory contents born a birth = record { fits = birth.fits; printed_is = memory.printed_is }
+
+-- ---- newobj does the same on a machine as on the reference machine (III.4.21).
 
 -- what doesn't stick passed its test
 not_stuck : (here : Setting) (b : Bool) (e : StateEffect) → IsTypedEffect here.tree (if b then e else Sticks) → b ≡ true

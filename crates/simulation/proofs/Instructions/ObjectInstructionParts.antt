@@ -30,7 +30,7 @@ use Rattle.interpreter.specs.instructions.ObjectTransitions.{ObjectTransition, b
 use Rattle.interpreter.specs.declared.outcomes.InstructionOutcome.TheVariants.{OwnEffect}
 use Rattle.interpreter.specs.Instructions.{MachineTransition, of_objects, answer_of}
 use Rattle.simulation.specs.Agreement.{Agree}
-use Rattle.simulation.specs.Refines.{Names, IsValue, int32, int64, native, null_reference, reference, IsWord, IsCell}
+use Rattle.simulation.specs.Refines.{Names, IsValue, int32, null_reference, reference, IsWord, IsCell}
 use Rattle.simulation.proofs.ListLaws.AgreeingLists.{agree_length}
 use Rattle.simulation.proofs.Instructions.Correspondence.{IsSetting, DoesAlike, refused_fault}
 use Rattle.simulation.proofs.Instructions.FrameProgress.{leaves_is, onward_is, next_alike, onward_alike}
@@ -136,21 +136,16 @@ module _ (here : Setting) (model : MemoryModel here.tree) (name : Names) (m : Fr
   pub object_alike : (v : Value) (u : StateValue) → IsValue name v u → (k : Frames) (go : Addr → ObjectTransition) (go' : ObjectName → StateEffect) → Fine (not_null u NullReference go') →
       ((a : Addr) (n : ObjectName) → name a.number ≡ Some n → Fine (go' n) → Alike (objects_transition (go a)) (go' n)) →
       Alike (objects_transition (object_of v k o go)) (not_null u NullReference go')
-  object_alike v u (int32 z fits) k go go' t each = elim t [ ]
-  object_alike v u (int64 z fits) k go go' t each = elim t [ ]
-  object_alike v u (native z fits) k go go' t each = elim t [ ]
   object_alike v u null_reference k go go' t each = raised_alike k NullReference
   object_alike v u (reference a n is) k go go' t each =
       alike_transition (objects_transition (if a.number == 0 then Some (k, o, Raises NullReference) else go a)) (objects_transition (go a)) (go' n)
       (ap (λ b. objects_transition (if b then Some (k, o, Raises NullReference) else go a)) (named_is_not_null here.tree name o s (model.reads name o statics s at.memory.fits at.running.typed) a.number n is)) (each a n is t)
+  object_alike v u _ k go go' t each = elim t [ ]
 
   -- an index or a length
   pub same_index : (v : Value) (u : StateValue) → IsValue name v u → index_in v ≡ as_index u
   same_index v u (int32 z fits) = refl
-  same_index v u (int64 z fits) = refl
-  same_index v u (native z fits) = refl
-  same_index v u null_reference = refl
-  same_index v u (reference a n is) = refl
+  same_index v u _ = refl
 
   -- ---- elements
 

@@ -46,8 +46,7 @@ module _ (here : Setting) (model : MemoryModel here.tree) (name : Names) (m : Fr
       by_stacks : (vs : List Value) (us : List StateValue) → m.running.stack ≡ vs → f.stack ≡ us → Agree (IsValue name) vs us → Typed (take_one Sticks us go') → Alike (lift (top_of vs m go)) (take_one Sticks us go')
       by_stacks [] [] is is' h t = elim t [ ]
       by_stacks (v ∷ vs) (u ∷ us) is is' h t = each v vs u us is is' h.0 h.1 (subst (λ x. length vs ≤ length x) (sym is) (omega arith)) t
-      by_stacks [] (u ∷ us) is is' h t = elim h [ ]
-      by_stacks (v ∷ vs) [] is is' h t = elim h [ ]
+      by_stacks _ _ is is' h t = elim h [ ]
 
   -- two, the second topmost
   pub two_operands : {R : Type 0} (lift : Option R → MachineTransition) (go : Value → Value → Frames → Option R) (go' : StateValue → StateValue → List StateValue → StateEffect) →
@@ -59,13 +58,12 @@ module _ (here : Setting) (model : MemoryModel here.tree) (name : Names) (m : Fr
     where
       by_stacks : (vs : List Value) (us : List StateValue) → m.running.stack ≡ vs → f.stack ≡ us → Agree (IsValue name) vs us → Typed (take_two Sticks us go') →
           Alike (lift (top_of vs m (λ w n. with_top n (λ v k. go v w k)))) (take_two Sticks us go')
-      by_stacks [] [] is is' h t = elim t [ ]
-      by_stacks (v ∷ []) (u ∷ []) is is' h t = elim t [ ]
       by_stacks (w ∷ v ∷ vs) (x ∷ u ∷ us) is is' h t = each v w vs u x us is is' h.1.0 h.0 h.1.1 (subst (λ l. length vs + 1 ≤ length l) (sym is) (omega arith)) t
       by_stacks [] (u ∷ us) is is' h t = elim h [ ]
       by_stacks (v ∷ vs) [] is is' h t = elim h [ ]
       by_stacks (v ∷ []) (u ∷ x ∷ us) is is' h t = elim h.1 [ ]
       by_stacks (w ∷ v ∷ vs) (u ∷ []) is is' h t = elim h.1 [ ]
+      by_stacks _ _ is is' h t = elim t [ ]
 
   -- three, the third topmost
   pub three_operands : {R : Type 0} (lift : Option R → MachineTransition) (go : Value → Value → Value → Frames → Option R) (go' : StateValue → StateValue → StateValue → List StateValue → StateEffect) →
@@ -78,9 +76,6 @@ module _ (here : Setting) (model : MemoryModel here.tree) (name : Names) (m : Fr
     where
       by_stacks : (vs : List Value) (us : List StateValue) → m.running.stack ≡ vs → f.stack ≡ us → Agree (IsValue name) vs us → Typed (take_three Sticks us go') →
           Alike (lift (top_of vs m (λ c n. with_top n (λ b k. with_top k (λ a j. go a b c j))))) (take_three Sticks us go')
-      by_stacks [] [] is is' h t = elim t [ ]
-      by_stacks (v ∷ []) (u ∷ []) is is' h t = elim t [ ]
-      by_stacks (w ∷ v ∷ []) (x ∷ u ∷ []) is is' h t = elim t [ ]
       by_stacks (c ∷ b ∷ a ∷ vs) (r ∷ q ∷ p ∷ us) is is' h t = each a b c vs p q r us is is' h.1.1.0 h.1.0 h.0 h.1.1.1 (subst (λ l. length vs + 2 ≤ length l) (sym is) (omega arith)) t
       by_stacks [] (u ∷ us) is is' h t = elim h [ ]
       by_stacks (v ∷ vs) [] is is' h t = elim h [ ]
@@ -88,3 +83,4 @@ module _ (here : Setting) (model : MemoryModel here.tree) (name : Names) (m : Fr
       by_stacks (w ∷ v ∷ vs) (u ∷ []) is is' h t = elim h.1 [ ]
       by_stacks (c ∷ b ∷ []) (r ∷ q ∷ p ∷ us) is is' h t = elim h.1.1 [ ]
       by_stacks (c ∷ b ∷ a ∷ vs) (r ∷ q ∷ []) is is' h t = elim h.1.1 [ ]
+      by_stacks _ _ is is' h t = elim t [ ]

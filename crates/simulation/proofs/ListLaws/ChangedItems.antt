@@ -8,13 +8,12 @@ use Rattle.interpreter.proofs.cil_model.Lists.{none_is_some}
 pub set_or_stays : {X : Type 0} (xs : List X) (n m : ℕ) (y x : X) → slice_get xs m ≡ Some x → (m ≡ n) ⊎ (slice_get (slice_set xs n y) m ≡ Some x)
 set_or_stays [] n m y x e = none_is_some x e
 set_or_stays (z ∷ zs) zero zero y x e = inl refl
-set_or_stays (z ∷ zs) zero (suc m) y x e = inr e
-set_or_stays (z ∷ zs) (suc n) zero y x e = inr e
 set_or_stays (z ∷ zs) (suc n) (suc m) y x e = by_index (set_or_stays zs n m y x e)
   where
     by_index : (m ≡ n) ⊎ (slice_get (slice_set zs n y) m ≡ Some x) → (suc m ≡ suc n) ⊎ (slice_get (slice_set zs n y) m ≡ Some x)
     by_index (inl same) = inl (ap suc same)
     by_index (inr stays) = inr stays
+set_or_stays _ _ _ y x e = inr e
 
 -- what is under a key after a change of one entry is the new value, or was there
 pub entry_or_was : {K V : Type 0} (same : K → K → Bool) (j k : K) (v w : V) (es : List (K × V)) → entry_at same j (with_entry same k v es) ≡ Some w → (w ≡ v) ⊎ (entry_at same j es ≡ Some w)

@@ -28,8 +28,7 @@ contents_size tree name (Instance class) slots (IsInstance c fields) thread h =
     let own : length h.words ≡ length fields = agree_length (λ w (f : FieldKey × StateValue). IsWord name w f.1) h.words fields h.values in
     omega (arith, all, own)
 contents_size tree name (Array e) slots (IsArray t elements) thread h = let own : length slots ≡ length elements = agree_length (IsWord name) slots elements h.1 in omega (arith, own)
-contents_size tree name (Instance class) slots (IsArray t elements) thread h = elim h [ ]
-contents_size tree name (Array e) slots (IsInstance c fields) thread h = elim h [ ]
+contents_size tree name _ slots _ thread h = elim h [ ]
 
 -- so a cell has the words of its object
 pub cell_size : (tree : Tree) (name : Names) (cell : Cell) (object : HeapObject) → IsCell tree name cell object → size cell ≡ cell_words tree object.contents

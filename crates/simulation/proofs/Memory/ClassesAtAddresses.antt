@@ -32,8 +32,7 @@ IsClass tree (Some n) None = ⊥
 class_of_kind_is : (tree : Tree) (name : Names) (k : Kind) (slots : List ℕ) (c : Contents) (thread : Option ℕ) → IsOfContents tree name k slots c thread → IsClass tree (class_of_kind k) (class_of_contents c)
 class_of_kind_is tree name (Instance class) slots (IsInstance c fields) thread h = h.class_is
 class_of_kind_is tree name (Array e) slots (IsArray t elements) thread h = tt
-class_of_kind_is tree name (Instance class) slots (IsArray t elements) thread h = elim h [ ]
-class_of_kind_is tree name (Array e) slots (IsInstance c fields) thread h = elim h [ ]
+class_of_kind_is tree name _ slots _ thread h = elim h [ ]
 
 -- a method that isn't virtual is its own target
 own_target : (tree : Tree) (found : ClassName × Method) (d : ClassName) (b : Bool) → is_virtual found.1.kind ≡ b → target tree d found.0 found.1 ≡ (if b then target tree d found.0 found.1 else Some found)
@@ -47,8 +46,7 @@ method_by tree found class = if is_virtual found.1.kind then option_and_then (λ
 chosen_by_is : (tree : Tree) (found : ClassName × Method) (n : Option ℕ) (c : Option ClassName) → IsClass tree n c → chosen_by tree found n ≡ method_by tree found c
 chosen_by_is tree found None None h = refl
 chosen_by_is tree found (Some n) (Some d) h = ap (option_and_then (λ x. target tree x found.0 found.1)) h ∙ own_target tree found d (is_virtual found.1.kind) refl
-chosen_by_is tree found None (Some d) h = elim h [ ]
-chosen_by_is tree found (Some n) None h = elim h [ ]
+chosen_by_is tree found _ _ h = elim h [ ]
 
 module _ (tree : Tree) (name : Names) (o : Objects) (s : State) (heap : IsReadable tree name o s) where
   -- what lies at an object's address is of its class

@@ -39,15 +39,13 @@ module _ (x p : ℕ) (words : List ℕ) where
   pub slot_get : (a b : Bool) → a ≡ b → slice_get ((if a then x ∷ [] else []) ++ words) (length {A = Option DeclaredType} (if b then None ∷ [] else []) + p) ≡ slice_get words p
   slot_get true true e = let further : 1 + p ≡ suc p = omega arith in ap (slice_get (x ∷ words)) further
   slot_get false false e = let same : 0 + p ≡ p = omega arith in ap (slice_get words) same
-  slot_get true false e = absurd cc
-  slot_get false true e = absurd cc
+  slot_get _ _ e = absurd cc
 
   -- a store there
   pub slot_set : (w : ℕ) (a b : Bool) → a ≡ b → slice_set ((if a then x ∷ [] else []) ++ words) (length {A = Option DeclaredType} (if b then None ∷ [] else []) + p) w ≡ (if a then x ∷ [] else []) ++ slice_set words p w
   slot_set w true true e = let further : 1 + p ≡ suc p = omega arith in ap (λ n. slice_set (x ∷ words) n w) further
   slot_set w false false e = let same : 0 + p ≡ p = omega arith in ap (λ n. slice_set words n w) same
-  slot_set w true false e = absurd cc
-  slot_set w false true e = absurd cc
+  slot_set w _ _ e = absurd cc
 
 -- the class of a resolved field has that number
 class_of_field : (tree : Tree) (n p : ℕ) (d : ClassName) (g : Field) → field_at tree (n, p) ≡ Some (d, g) → class_name tree n ≡ Some d

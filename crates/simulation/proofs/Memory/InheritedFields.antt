@@ -30,9 +30,7 @@ any_reversed p (x ∷ xs) = ap (list_any p) (reverse-append (x ∷ []) xs) ∙ l
   where
     turned : (a b : Bool) → (a || (b || false)) ≡ (b || a)
     turned true true = refl
-    turned true false = refl
-    turned false true = refl
-    turned false false = refl
+    turned _ _ = refl
 
 -- an instance field of a class
 abbrev pub keyed : ClassName → Field → FieldKey × DeclaredType
@@ -181,8 +179,7 @@ module _ (tree : Tree) where
       same_thread no_object = by_both (is_thread_class tree c) (is_thread_class tree d) refl refl
         where
           by_both : (a b : Bool) → is_thread_class tree c ≡ a → is_thread_class tree d ≡ b → a ≡ b
-          by_both true true is is' = refl
-          by_both false false is is' = refl
           by_both true false is is' = never (sym is' ∙ thread_below (longest_chain tree) c d inside no_object is)
           by_both false true is is' =
               never (sym is ∙ (ap (list_any (same_class thread_name)) front.1 ∙ list_any-append (same_class thread_name) front.0 (chain_of tree d) ∙ or_right (list_any (same_class thread_name) front.0) (list_any (same_class thread_name) (chain_of tree d)) is'))
+          by_both _ _ is is' = refl

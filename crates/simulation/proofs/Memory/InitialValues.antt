@@ -1,5 +1,5 @@
 -- Locals, fields and words hold zeros of their kinds at first.
-use Rattle.std.proofs.Common.{◌≡◌, ◌≤◌, ℕ, zero, suc, pos, List, [], ◌∷◌, map, flat_map, length, replicate, Option, Some, None, refl, sym, ap, ◌∙◌, subst, arith}
+use Rattle.std.proofs.Common.{◌≡◌, ◌≤◌, ℕ, zero, pos, List, [], ◌∷◌, map, flat_map, length, replicate, Option, Some, None, refl, sym, ap, ◌∙◌, subst, arith, suc}
 use Rattle.std.proofs.Math.Facts.{sfits_lit}
 use Rattle.std.proofs.lemmas.List.{length-map, append-nil}
 use Rattle.std.specs.Prelude.{option_to_list, FitsSigned}

@@ -1,36 +1,109 @@
+-- A word that holds a value gives that value when it is read as of the value's kind.
 -- A slot holds references exactly where the values that are stored there are references.
-use Rattle.std.proofs.Common.{◌≡◌, inl, inr, ℕ, zero, suc, ◌+◌, Bool, true, false, if◌then◌else◌, List, [], ◌∷◌, ◌++◌, map, length, Option, Some, None, option_map, slice_get, slice_set, refl, sym, ap, ◌∙◌, subst, arith}
+use Rattle.std.proofs.Common.{◌≡◌, ◌<◌, ◌%◌, ℕ, zero, ℤ, pos, negsuc, Some, IsTrue, if◌then◌else◌, refl, sym, ap, ◌∙◌, subst, arith, inl, inr, suc, ◌+◌, Bool, true, false, List, [], ◌∷◌, ◌++◌, map, length, Option, None, option_map, slice_get, slice_set}
+use Rattle.std.specs.Prelude.{FitsSigned}
+use Rattle.std.specs.Int.{w32, w64, cast_unsigned, cast_signed}
+use Rattle.std.proofs.lemmas.Int.{to_z-of_z}
+use Rattle.interpreter.specs.cil_model.declared.types.Element.{Element}
+use Rattle.interpreter.specs.cil_model.declared.types.Element.TheVariants.{Int32 as Int32Element, Int64 as Int64Element, Object, String, Class}
+use Rattle.interpreter.specs.cil_model.declared.types.DeclaredType.{DeclaredType}
+use Rattle.interpreter.specs.cil_model.declared.trees.Tree.{Tree}
+use Rattle.interpreter.specs.cil_model.Assignable.{is_reference_element, is_reference}
+use Rattle.interpreter.specs.cil_model.Legality.{IsLegal}
+use Rattle.interpreter.specs.reference_machine.Values.{Value as StateValue, Int32 as Int32Value, Int64 as Int64Value, Native as NativeValue, Null, Reference, ObjectName, integer_zero, zero_of, same_kind}
+use Rattle.interpreter.specs.reference_machine.States.{State, Contents, Instance as IsInstance, Array as IsArray}
+use Rattle.reference_machine.specs.TypedStates.{HasType, AllHaveType, HaveFieldTypes, IsTypedContents}
+use Rattle.reference_machine.proofs.TypedStates.StackOperands.{kinds_agree}
+use Rattle.reference_machine.proofs.TypedStates.InitialStates.{zero_typed}
+use Rattle.interpreter.specs.object_memory.declared.addresses.TheConstants.{ADDRESSES}
+use Rattle.interpreter.specs.object_memory.declared.values.Value.{Value}
+use Rattle.interpreter.specs.object_memory.declared.values.Value.TheVariants.{Int32, Int64, Native, Ref}
+use Rattle.interpreter.specs.object_memory.declared.values.ValueKind.{ValueKind}
+use Rattle.interpreter.specs.object_memory.Values.{value_word, value_in}
+use Rattle.interpreter.specs.loaded_program.Prepared.{kind_at, kind_of_type}
+use Rattle.simulation.specs.Refines.{Names, IsValue, int32, int64, native, null_reference, reference, IsWord, IsOfContents}
+use Rattle.interpreter.proofs.cil_model.SameLaws.{never}
 use Rattle.std.specs.Option.{option_map_or}
 use Rattle.std.proofs.lemmas.Option.{same_Some}
 use Rattle.interpreter.specs.cil_model.declared.types.ClassName.{ClassName}
-use Rattle.interpreter.specs.cil_model.declared.types.DeclaredType.{DeclaredType}
-use Rattle.interpreter.specs.cil_model.declared.types.Element.{Element}
-use Rattle.interpreter.specs.cil_model.declared.types.Element.TheVariants.{Int32 as Int32Element, Int64 as Int64Element, Object, String, Class}
-use Rattle.interpreter.specs.cil_model.declared.trees.Tree.{Tree}
-use Rattle.interpreter.specs.cil_model.Assignable.{is_reference, is_reference_element}
 use Rattle.interpreter.specs.cil_model.Chains.{is_thread_class}
-use Rattle.interpreter.specs.cil_model.Legality.{IsLegal}
 use Rattle.interpreter.specs.cil_model.Fields.{FieldKey, hidden_slots, slot_types, instance_fields, is_reference_slot}
 use Rattle.interpreter.proofs.cil_model.Lists.{none_is_some}
-use Rattle.interpreter.proofs.cil_model.SameLaws.{never}
-use Rattle.interpreter.specs.reference_machine.Values.{Value as StateValue, Int32 as Int32Value, Int64 as Int64Value, Native as NativeValue, Null, Reference, same_kind}
-use Rattle.interpreter.specs.reference_machine.States.{Contents, Instance as IsInstance, Array as IsArray, State}
-use Rattle.reference_machine.specs.TypedStates.{AllHaveType, HasType, HaveFieldTypes, IsTypedContents}
 use Rattle.interpreter.specs.resolved_code.ById.{class_name, element_at, type_at}
 use Rattle.interpreter.specs.object_memory.declared.kinds.ArrayElement.{ArrayElement}
 use Rattle.interpreter.specs.object_memory.declared.kinds.ElementType.{ElementType}
 use Rattle.interpreter.specs.object_memory.declared.kinds.ElementType.TheVariants.{Int32 as Int32Type, Int64 as Int64Type, Object as ObjectType, String as StringType, Class as ClassType}
 use Rattle.interpreter.specs.object_memory.declared.kinds.Kind.{Kind}
 use Rattle.interpreter.specs.object_memory.declared.kinds.Kind.TheVariants.{Array, Instance}
-use Rattle.interpreter.specs.object_memory.declared.values.Value.{Value}
-use Rattle.interpreter.specs.object_memory.declared.values.ValueKind.{ValueKind}
 use Rattle.interpreter.specs.object_memory.declared.values.ValueKind.TheVariants as Kinds
 use Rattle.collector.specs.References.{holds_reference, is_reference_value, is_reference_element as is_reference_type}
 use Rattle.interpreter.specs.instructions.TypeTransitions.{held_type, resolved_element}
-use Rattle.interpreter.specs.loaded_program.Prepared.{kind_at, kind_of_type}
-use Rattle.simulation.specs.Refines.{IsOfContents, Names, IsValue, int32, int64, native, null_reference, reference}
 use Rattle.collector.proofs.PhaseChanges.StaticFlips.{set_here_or_there}
-use Rattle.simulation.proofs.Memory.TypedWords.{kind_of_state, kind_fits}
+
+-- the kind of a value of the reference machine
+abbrev pub kind_of_state : StateValue → ValueKind
+kind_of_state (Int32Value z) = Kinds.Int32
+kind_of_state (Int64Value z) = Kinds.Int64
+kind_of_state (NativeValue z) = Kinds.Native
+kind_of_state Null = Kinds.Ref
+kind_of_state (Reference n) = Kinds.Ref
+
+-- ---- a value's word
+
+-- the word of 32 bits is below the number of addresses
+word_is_small : (z : ℤ) → FitsSigned w32 z → cast_unsigned w32 z < ADDRESSES
+word_is_small (pos n) h = omega (arith, h.sfits)
+word_is_small (negsuc n) h = omega arith
+
+-- such a word is read whole
+below_itself : (n : ℕ) → n < ADDRESSES → n % ADDRESSES ≡ n
+below_itself n h = omega (arith, h)
+
+module _ (name : Names) (small : (a : ℕ) (n : ObjectName) → name a ≡ Some n → a < ADDRESSES) where
+  -- a value is read from its word again
+  value_again : (v : Value) (u : StateValue) → IsValue name v u → value_in (kind_of_state u) (value_word v) ≡ v
+  value_again v u (int32 z fits) = ap (λ n. Int32 (cast_signed w32 n)) (below_itself (cast_unsigned w32 z) (word_is_small z fits)) ∙ ap Int32 (to_z-of_z w32 z fits)
+  value_again v u (int64 z fits) = ap Int64 (to_z-of_z w64 z fits)
+  value_again v u (native z fits) = ap Native (to_z-of_z w64 z fits)
+  value_again v u null_reference = refl
+  value_again v u (reference a n is) = ap (λ x. Ref (record { number = x })) (below_itself a.number (small a.number n is))
+
+  -- a word that holds a value is read as that value
+  pub word_value : (w : ℕ) (u : StateValue) (k : ValueKind) → IsWord name w u → k ≡ kind_of_state u → IsValue name (value_in k w) u
+  word_value w u k h same =
+      subst (λ x. IsValue name (value_in x w) u) (sym same)
+      (subst (λ x. IsValue name (value_in (kind_of_state u) x) u) h.is (subst (λ x. IsValue name x u) (sym (value_again h.value u h.refines)) h.refines))
+
+-- ---- kinds of types
+
+-- values of each kind of type
+of_references : (u : StateValue) → IsTrue (same_kind Null u) → Kinds.Ref ≡ kind_of_state u
+of_references Null h = refl
+of_references (Reference n) h = refl
+of_references _ h = never h
+
+of_int32 : (u : StateValue) → IsTrue (same_kind (Int32Value (pos 0)) u) → Kinds.Int32 ≡ kind_of_state u
+of_int32 (Int32Value z) h = refl
+of_int32 _ h = never h
+
+of_int64 : (u : StateValue) → IsTrue (same_kind (Int64Value (pos 0)) u) → Kinds.Int64 ≡ kind_of_state u
+of_int64 (Int64Value z) h = refl
+of_int64 _ h = never h
+
+-- all types, by their parts
+kind_by : (e : Element) (n : ℕ) (u : StateValue) → IsTrue (same_kind (if is_reference_element e n then Null else integer_zero e) u) → kind_at e n ≡ kind_of_state u
+kind_by e (suc n) u h = of_references u h
+kind_by Int32Element zero u h = of_int32 u h
+kind_by Int64Element zero u h = of_int64 u h
+kind_by Object zero u h = of_references u h
+kind_by String zero u h = of_references u h
+kind_by (Class c) zero u h = of_references u h
+
+-- a value of a type is of the type's kind
+pub kind_fits : (tree : Tree) → IsLegal tree → (s : State) (u : StateValue) (t : DeclaredType) → HasType tree s u t → kind_of_type t ≡ kind_of_state u
+kind_fits tree legal s u t h = kind_by t.element t.brackets u (kinds_agree tree legal s (zero_of t) u t (zero_typed tree s t) h)
+
+-- ---- A slot holds references exactly where the values that are stored there are references.
 
 -- ---- kinds
 
@@ -52,26 +125,10 @@ kind_says (Class c) zero = refl
 -- a value of the machine is a reference where the state's is
 pub value_says : (name : Names) (v : Value) (u : StateValue) → IsValue name v u → is_reference_value v ≡ is_reference_kind (kind_of_state u)
 value_says name v u (int32 z fits) = refl
-value_says name v u (int64 z fits) = refl
-value_says name v u (native z fits) = refl
-value_says name v u null_reference = refl
-value_says name v u (reference a n is) = refl
+value_says name v u _ = refl
 
 -- values of one kind are references both, or neither
 pub same_kinds : (u v : StateValue) → same_kind u v ≡ true → is_reference_kind (kind_of_state u) ≡ is_reference_kind (kind_of_state v)
-same_kinds (Int32Value x) (Int32Value y) e = refl
-same_kinds (Int64Value x) (Int64Value y) e = refl
-same_kinds (NativeValue x) (NativeValue y) e = refl
-same_kinds Null Null e = refl
-same_kinds Null (Reference n) e = refl
-same_kinds (Reference m) Null e = refl
-same_kinds (Reference m) (Reference n) e = refl
-same_kinds (Int32Value x) (Int64Value y) e = refl
-same_kinds (Int32Value x) (NativeValue y) e = refl
-same_kinds (Int64Value x) (Int32Value y) e = refl
-same_kinds (Int64Value x) (NativeValue y) e = refl
-same_kinds (NativeValue x) (Int32Value y) e = refl
-same_kinds (NativeValue x) (Int64Value y) e = refl
 same_kinds (Int32Value x) Null e = never e
 same_kinds (Int32Value x) (Reference n) e = never e
 same_kinds (Int64Value x) Null e = never e
@@ -84,6 +141,7 @@ same_kinds Null (NativeValue y) e = never e
 same_kinds (Reference n) (Int32Value y) e = never e
 same_kinds (Reference n) (Int64Value y) e = never e
 same_kinds (Reference n) (NativeValue y) e = never e
+same_kinds _ _ e = refl
 
 -- ---- fields
 
@@ -93,8 +151,7 @@ type_at_index : (tree : Tree) (s : State) (es : List (FieldKey × StateValue)) (
 type_at_index tree s [] [] h p e is = none_is_some e is
 type_at_index tree s (x ∷ xs) (t ∷ ts) h zero e is = (t, refl, subst (λ (y : FieldKey × StateValue). HasType tree s y.1 t.1) (same_Some x e is) h.1)
 type_at_index tree s (x ∷ xs) (t ∷ ts) h (suc p) e is = type_at_index tree s xs ts h.2 p e is
-type_at_index tree s [] (t ∷ ts) h p e is = elim h [ ]
-type_at_index tree s (x ∷ xs) [] h p e is = elim h [ ]
+type_at_index tree s _ _ h p e is = elim h [ ]
 
 mapped_at : (ts : List (FieldKey × DeclaredType)) (p : ℕ) (t : FieldKey × DeclaredType) → slice_get ts p ≡ Some t → slice_get (map (λ (f : FieldKey × DeclaredType). Some f.1) ts) p ≡ Some (Some t.1)
 mapped_at [] p t is = none_is_some t is
@@ -190,8 +247,7 @@ typed_is_linked tree legal s name (Instance class) slots (IsInstance c fields) t
     λ index e is. ap (holds_reference tree (Instance class)) (sym (after_hidden tree c index)) ∙ slot_says tree legal s c class h.class_is fields typed.2 index e is
 typed_is_linked tree legal s name (Array a) slots (IsArray t elements) thread typed h =
     λ index u is. element_says tree a t h.0 index ∙ ap is_reference_kind (kind_fits tree legal s u t (type_of_element tree s t elements typed index u is))
-typed_is_linked tree legal s name (Instance class) slots (IsArray t elements) thread typed h = elim h [ ]
-typed_is_linked tree legal s name (Array a) slots (IsInstance c fields) thread typed h = elim h [ ]
+typed_is_linked tree legal s name _ slots _ thread typed h = elim h [ ]
 
 -- so it is where a value of the same sort comes in place of an element,
 pub element_linked : (tree : Tree) (k : Kind) (t : DeclaredType) (elements : List StateValue) (index : ℕ) (old u : StateValue) → slice_get elements index ≡ Some old → is_reference_state old ≡ is_reference_state u → IsLinked tree k (IsArray t elements) →

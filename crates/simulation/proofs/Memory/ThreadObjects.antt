@@ -23,16 +23,14 @@ use Rattle.interpreter.specs.object_memory.Objects.{Objects, object_cell}
 use Rattle.interpreter.specs.threads_monitors.Threads.{thread_decoded, thread_on}
 use Rattle.interpreter.specs.Calls.{class_at, class_of_kind}
 use Rattle.simulation.specs.Agreement.{Agree}
-use Rattle.simulation.specs.Refines.{Names, IsValue, int32, int64, native, null_reference, reference, IsWord, IsMonitor, thread_word, IsOfContents, IsBornAt}
+use Rattle.simulation.specs.Refines.{Names, IsValue, null_reference, reference, IsWord, IsMonitor, thread_word, IsOfContents, IsBornAt}
 use Rattle.simulation.proofs.Memory.MemoryModels.{IsReadable}
 
 -- an address represents null, or the object that it names
 pub reference_is : (name : Names) (v : Value) (u : StateValue) → IsValue name v u → (a : Addr) → v ≡ Ref a → ((a ≡ null) × (u ≡ Null)) ⊎ ((n : ObjectName) × (u ≡ Reference n) × (name a.number ≡ Some n))
-reference_is name v u (int32 z fits) a e = absurd cc
-reference_is name v u (int64 z fits) a e = absurd cc
-reference_is name v u (native z fits) a e = absurd cc
 reference_is name v u null_reference a e = let same : a ≡ null = cc in inl (same, refl)
 reference_is name v u (reference b n is) a e = let same : b ≡ a = cc in inr (n, refl, subst (λ (x : Addr). name x.number ≡ Some n) same is)
+reference_is name v u _ a e = absurd cc
 
 -- an object of a class of threads, with its thread in the first slot
 pub record IsThreadObject (tree : Tree) (name : Names) (o : Objects) (s : State) (a : Addr) (number : ℕ) : Type 0 where

@@ -4,7 +4,7 @@ use Rattle.std.specs.Option.{option_map_or}
 use Rattle.interpreter.specs.cil_model.declared.types.ClassName.{ClassName}
 use Rattle.interpreter.specs.cil_model.declared.types.DeclaredType.{DeclaredType}
 use Rattle.interpreter.specs.cil_model.declared.instructions.Instruction.{Instruction}
-use Rattle.interpreter.specs.cil_model.declared.instructions.Instruction.TheVariants.{NoOperation, LoadInt32, LoadInt64, LoadNull, LoadString, LoadArgument, StoreArgument, LoadLocal, StoreLocal, Duplicate, Pop, Binary, Unary, Shift, Compare, ConvertInt32, ConvertInt64, Branch, BranchTrue, BranchFalse, BranchCompare, Switch, LoadField, StoreField, LoadStaticField, StoreStaticField, NewArray, LoadLength, LoadElementInt32, LoadElementInt64, LoadElementReference, StoreElementInt32, StoreElementInt64, StoreElementReference, CastClass, IsInstance, Call, CallVirtual, NewObject, Return}
+use Rattle.interpreter.specs.cil_model.declared.instructions.Instruction.TheVariants.{NoOperation, LoadArgument, StoreArgument, LoadLocal, StoreLocal, Duplicate, Pop, Binary, Unary, Shift, Compare, ConvertInt32, ConvertInt64, Branch, BranchTrue, BranchFalse, BranchCompare, Switch, LoadField, StoreField, LoadStaticField, StoreStaticField, NewArray, LoadLength, LoadElementInt32, LoadElementInt64, LoadElementReference, StoreElementInt32, StoreElementInt64, StoreElementReference, CastClass, IsInstance, Call, CallVirtual, NewObject, Return}
 use Rattle.interpreter.specs.cil_model.declared.trees.Method.{Method}
 use Rattle.interpreter.specs.cil_model.declared.limits.TheConstants.{MOST_THREADS}
 use Rattle.interpreter.specs.cil_model.declared.reports.Fault.{Fault}
@@ -16,7 +16,7 @@ use Rattle.interpreter.specs.cil_model.Fields.{same_key}
 use Rattle.interpreter.specs.cil_model.Slots.{target}
 use Rattle.interpreter.specs.cil_model.Assignable.{is_reference}
 use Rattle.interpreter.specs.cil_model.Bodies.{at_index, constructor_reference, virtual_reference, reference_operands, code_of, lines_of, pc_of}
-use Rattle.interpreter.specs.reference_machine.Values.{ObjectName, Value, Int32, Int64, Native, Null, Reference, zero_of, is_of_kind}
+use Rattle.interpreter.specs.reference_machine.Values.{ObjectName, Value, Int32, Null, Reference, zero_of, is_of_kind}
 use Rattle.interpreter.specs.reference_machine.Arithmetic.{binary_value, unary_value, shift_value, compare_values, branch_values, is_set, convert_32, convert_64, as_index, not_option}
 use Rattle.interpreter.specs.reference_machine.States.{Monitor, Free, Held, Contents, Array, HeapObject, Frame, State, entry_at, replaced_entry, field_value, with_field, object_at, class_of, monitor_of, is_live, array_at, with_element, next_name, with_birth, new_instance}
 use Rattle.interpreter.specs.cil_model.Stacks.{take_one, take_two, take_three}
@@ -62,24 +62,19 @@ module _ (here : Setting) (s : State) (left : ℕ) where
 
   -- with two
   two_keeps : {go : Value → Value → List Value → Effect} (vs : List Value) → ((v w : Value) (rest : List Value) → Keeps (go v w rest)) → Keeps (take_two Sticks vs go)
-  two_keeps [] each = sticks
-  two_keeps (w ∷ []) each = sticks
   two_keeps (w ∷ v ∷ rest) each = each v w rest
+  two_keeps _ each = sticks
 
   -- with three
   three_keeps : {go : Value → Value → Value → List Value → Effect} (vs : List Value) → ((u v w : Value) (rest : List Value) → Keeps (go u v w rest)) → Keeps (take_three Sticks vs go)
-  three_keeps [] each = sticks
-  three_keeps (w ∷ []) each = sticks
-  three_keeps (w ∷ v ∷ []) each = sticks
   three_keeps (w ∷ v ∷ u ∷ rest) each = each u v w rest
+  three_keeps _ each = sticks
 
   -- with an object
   null_keeps : {go : ObjectName → Effect} (v : Value) (x : Fault) → ((n : ObjectName) → Keeps (go n)) → Keeps (not_null v x go)
   null_keeps Null x each = raises x
   null_keeps (Reference n) x each = each n
-  null_keeps (Int32 z) x each = sticks
-  null_keeps (Int64 z) x each = sticks
-  null_keeps (Native z) x each = sticks
+  null_keeps _ x each = sticks
 
   -- with a result, or by its fault
   fault_keeps : {X : Type 0} {go : X → Effect} (r : Result X Fault) → ((x : X) → Keeps (go x)) → Keeps (unless_fault r go)
@@ -144,18 +139,7 @@ module _ (here : Setting) (s : State) (left : ℕ) where
     act_keeps Exit (v ∷ []) rest = null_keeps v ArgumentNull (λ n. given_keeps (monitor_of s n) (λ m e. exit_keeps n rest m e))
     act_keeps Start (v ∷ []) rest = null_keeps v NullReference (λ n. thread_keeps n (λ o e. started_keeps n rest o e))
     act_keeps Join (v ∷ []) rest = null_keeps v NullReference (λ n. thread_keeps n (λ o e. join_keeps rest o))
-    act_keeps Construct [] rest = sticks
-    act_keeps Write [] rest = sticks
-    act_keeps Enter [] rest = sticks
-    act_keeps Exit [] rest = sticks
-    act_keeps Start [] rest = sticks
-    act_keeps Join [] rest = sticks
-    act_keeps Construct (v ∷ w ∷ vs) rest = sticks
-    act_keeps Write (v ∷ w ∷ vs) rest = sticks
-    act_keeps Enter (v ∷ w ∷ vs) rest = sticks
-    act_keeps Exit (v ∷ w ∷ vs) rest = sticks
-    act_keeps Start (v ∷ w ∷ vs) rest = sticks
-    act_keeps Join (v ∷ w ∷ vs) rest = sticks
+    act_keeps _ _ rest = sticks
 
     -- ---- the parts of an instruction
 
@@ -176,10 +160,7 @@ module _ (here : Setting) (s : State) (left : ℕ) where
     -- the number is an operand
     switch_keeps : (labels : List (List ℕ)) (v : Value) (rest : List Value) → Keeps (switch_on here s f below labels v rest)
     switch_keeps labels (Int32 z) rest = label_keeps (slice_get labels (cast_unsigned w32 z)) rest
-    switch_keeps labels (Int64 z) rest = sticks
-    switch_keeps labels (Native z) rest = sticks
-    switch_keeps labels Null rest = sticks
-    switch_keeps labels (Reference n) rest = sticks
+    switch_keeps labels _ rest = sticks
 
     -- a birth may be refused
     birth_or_fault : (go : ObjectName → State → Effect) (contents : Contents) → Keeps (go (next_name s) (with_birth s contents)) → Keeps (birth here s f below contents go)
@@ -262,10 +243,6 @@ module _ (here : Setting) (s : State) (left : ℕ) where
     -- each instruction
     pub instruction_keeps : (i : Instruction) → Keeps (execute here s f below i)
     instruction_keeps NoOperation = onward_keeps f.stack
-    instruction_keeps (LoadInt32 z) = onward_keeps _
-    instruction_keeps (LoadInt64 z) = onward_keeps _
-    instruction_keeps LoadNull = onward_keeps _
-    instruction_keeps (LoadString characters) = onward_keeps _
     instruction_keeps (LoadArgument n) = given_keeps (at_index f.arguments n) (λ v e. onward_keeps _)
     instruction_keeps (LoadLocal n) = given_keeps (at_index f.locals n) (λ v e. onward_keeps _)
     instruction_keeps (StoreArgument n) = one_keeps f.stack (λ v rest. given_keeps (store_at here s f below n v f.arguments) (λ arguments e. on _))
@@ -303,6 +280,7 @@ module _ (here : Setting) (s : State) (left : ℕ) where
         operands_keep (reference_operands true (virtual_reference owner name signature)) (virtual_keeps found))
     instruction_keeps (NewObject c parameters) = given_keeps (find_method here.tree true (constructor_reference c parameters)) (λ found e. operands_keep parameters (construct_keeps c found))
     instruction_keeps Return = return_keeps
+    instruction_keeps _ = onward_keeps _
 
   -- whatever the running frame is at
   pub effect_keeps : IsStepping here s left → (frames : List Frame) → Keeps (effect_of here s frames)

@@ -7,7 +7,7 @@ use Rattle.std.proofs.lemmas.Option.{same_Some}
 use Rattle.interpreter.specs.cil_model.declared.events.Event.TheVariants.{Step, Ack, Gc}
 use Rattle.interpreter.specs.cil_model.declared.limits.Limits.{Limits}
 use Rattle.interpreter.specs.cil_model.declared.phases.Phase.{Phase}
-use Rattle.interpreter.specs.cil_model.declared.phases.Phase.TheVariants.{Idle, Mark, Allocate, Copy, PreFlip, HeapFlip, ThreadFlip, Reclaim}
+use Rattle.interpreter.specs.cil_model.declared.phases.Phase.TheVariants.{Idle, Mark, Allocate, Copy, HeapFlip, ThreadFlip, Reclaim}
 use Rattle.interpreter.specs.cil_model.declared.reports.Report.{Report}
 use Rattle.interpreter.specs.cil_model.declared.reports.Report.TheVariants.{Absent, Acked, NothingPosted, Waiting, Worked}
 use Rattle.interpreter.specs.cil_model.declared.trees.Method.{Method}
@@ -55,12 +55,11 @@ use Rattle.simulation.specs.Rooms.{HasNoRoom, spaces_of}
 use Rattle.simulation.specs.Sound.{IsSound}
 use Rattle.simulation.specs.Refines.{Represents}
 use Rattle.simulation.specs.Transitions.{IsTransition, machine_state_at, initial_machine_state}
-use Rattle.simulation.proofs.CollectorEvents.Reports.{IsCollected, ends, waits, works}
+use Rattle.simulation.proofs.CollectorEvents.Reports.{IsCollected, waits}
 use Rattle.simulation.proofs.Instructions.Correspondence.{InstructionsAreAlike}
 use Rattle.simulation.proofs.CycleBounds.OpenCycles.{gc_is}
-use Rattle.simulation.proofs.Threads.RefusedSteps.{beyond, is_beyond}
-use Rattle.simulation.proofs.CollectedHeap.ReportedRoom.{closed_room, open_room}
-use Rattle.simulation.proofs.Threads.Steps.{step_follows}
+use Rattle.simulation.proofs.Threads.Steps.{beyond, is_beyond, step_follows}
+use Rattle.simulation.proofs.CollectedHeap.MemoryWithRoom.{closed_room, open_room}
 use Rattle.simulation.proofs.CollectedHeap.UsedWords.{UsesAsMuch, all_marked_uses, change_uses, marked_uses, uses_itself, uses_then}
 
 -- The old space has these words at least, and neither has more in use than all that are given.
@@ -108,9 +107,8 @@ object_uses tree p o rest c =
     (slot_uses tree o c p.scanned_slots) (record { old = refl; new = refl; old_words = refl; new_words = refl; held = refl })
 
 mark_uses : (tree : Tree) (p : Progress) (o : Objects) (grey : List Addr) (c : Option Cell) → UsesAsMuch o.spaces (mark_step tree p o grey c).1.spaces
-mark_uses tree p o [] c = uses_itself o.spaces
-mark_uses tree p o (g ∷ rest) None = uses_itself o.spaces
 mark_uses tree p o (g ∷ rest) (Some c) = object_uses tree p o rest c
+mark_uses tree p o _ _ = uses_itself o.spaces
 
 -- copies of words
 stored_uses : (tree : Tree) (o : Objects) (t : Attempt) (from : Cell) (to : Addr) (word : ℕ) → UsesAsMuch o.spaces (word_stored tree o t from to word).spaces
@@ -161,9 +159,7 @@ module _ (least all : ℕ) where
           let more = HasShellRoom-shell o.spaces are room a c lies bare in
           let kept = used_in (set_other (next_address o.spaces.new)) (λ x. refl) o.spaces.old a in
           record { words = h.words; old = omega (arith, kept, h.old); new = omega (arith, kept, more.words, h.old) }
-      by_need true (Some b) other = h
-      by_need false None other = h
-      by_need false (Some b) other = h
+      by_need _ _ other = h
 
   look_within : (p : Progress) (o : Objects) (cell : Option Cell) → AreSpaces o.spaces → HasShellRoom o.spaces → cell_in o.spaces.old (address_after_cell o.spaces.old p.cursor) ≡ cell → AreWithin least all o.spaces → AreWithin least all (shell_step p o cell).1.spaces
   look_within p o None are room lies h = h
@@ -212,12 +208,11 @@ module _ (least all : ℕ) where
     work_within Copy is =
         worked_within (copied_on c.tree c.progress c.objects)
         (uses_within c.objects.spaces _ (copy_uses c.tree c.progress c.objects (found_in has_other c.objects.spaces.old (c.objects.spaces.old.start + c.progress.cursor))) h)
-    work_within PreFlip is = h
     work_within HeapFlip is = flipped_within (flipped_on c.progress c.objects c.statics)
-    work_within ThreadFlip is = h
     work_within Reclaim is =
         cleared_within is (cleared_on c.progress c.objects)
         (uses_within c.objects.spaces _ (clear_uses c.progress c.objects (found_in is_noted c.objects.spaces.new (c.objects.spaces.new.start + c.progress.cursor))) h)
+    work_within _ is = h
 
     collected_within : Within (collect c)
     collected_within = either Within (all_seen c.posts) (work c.posts.posted_phase c) (c, Waiting) (work_within c.posts.posted_phase refl) h
@@ -238,8 +233,7 @@ collection_granted c after transition = by_kind after (gc_is c after transition)
   where
     by_kind : (x : MachineState × Report) → IsCollected c x → is_refusal x.1 ≡ false
     by_kind _ waits = refl
-    by_kind _ (works d now) = refl
-    by_kind _ (ends d at idle spaces) = refl
+    by_kind _ _ = refl
 
 pub acknowledgement_granted : (c : MachineState) (t : ℕ) (after : MachineState × Report) → IsTransition c (Ack t) after → is_refusal after.1 ≡ false
 acknowledgement_granted c t after transition = ap (λ (x : MachineState × Report). is_refusal x.1) transition ∙ by_tests (is_open c.posts t) (is_live_at c.threads t)
@@ -267,12 +261,9 @@ module _ (each : InstructionsAreAlike) (c : MachineState) (s : State) (r : Repre
 least_room : (m : SeenSpaces) (n : ℕ) → n ≤ space_room m.old → n ≤ new_room m → (own : Phase) → n ≤ room m own
 least_room m n old new Idle = old
 least_room m n old new Mark = old
-least_room m n old new Allocate = omega arith
-least_room m n old new Copy = omega arith
-least_room m n old new PreFlip = omega arith
-least_room m n old new HeapFlip = omega arith
 least_room m n old new ThreadFlip = new
 least_room m n old new Reclaim = new
+least_room m n old new _ = omega arith
 
 module _ (c : MachineState) (s : State) (r : Represents c s) (h : IsWithinBirths c s) (t : ℕ) where
   abbrev left : ℕ

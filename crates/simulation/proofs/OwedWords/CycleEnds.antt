@@ -1,6 +1,6 @@
 -- At the end of a cycle no more words are in use than are owed.
-use Rattle.std.proofs.Common.{◌≡◌, ◌⊎◌, ◌≤◌, ◌<◌, ◌+◌, ℕ, Bool, true, false, List, [], ◌∷◌, ◌++◌, length, Contains, refl, inl, inr, sym, ap, ◌∙◌, subst, arith, append_assoc, length-append}
-use Rattle.std.specs.Prelude.{◌||◌, ◌==◌, nat_le, sum_by, slice_get, IsTrue}
+use Rattle.std.proofs.Common.{◌≡◌, ◌⊎◌, ◌≤◌, ◌<◌, ◌+◌, ℕ, Bool, true, false, List, [], ◌∷◌, ◌++◌, length, Contains, refl, inl, inr, sym, ap, ◌∙◌, subst, arith, append_assoc, length-append, slice_get, Option, Some}
+use Rattle.std.specs.Prelude.{◌||◌, ◌==◌, nat_le, sum_by, IsTrue}
 use Rattle.std.specs.Cmp.{nat_eq_equiv}
 use Rattle.std.specs.List.{zip}
 use Rattle.std.proofs.lemmas.Bool.{eqb-true, or_cases, or_left, or_right}
@@ -20,25 +20,24 @@ use Rattle.interpreter.specs.reference_machine.Cycles.{begins_cycle, ends_cycle,
 use Rattle.interpreter.specs.reference_machine.OwedWords.{IsOwed, OwesWords, words_of_object}
 use Rattle.interpreter.specs.reference_machine.Runs.{step_reports}
 use Rattle.interpreter.specs.reference_machine.States.{State}
-use Rattle.interpreter.specs.reference_machine.Values.{Born}
+use Rattle.interpreter.specs.reference_machine.Values.{Born, Literal, ObjectName}
 use Rattle.interpreter.proofs.reference_machine.Runs.JoinedRuns.{same_state}
 use Rattle.interpreter.proofs.cil_model.SameLaws.{never}
 use Rattle.interpreter.proofs.reference_machine.ReachableObjects.ClosedSets.{IsReachedOrUnborn, reached_is_closed}
-use Rattle.interpreter.specs.object_memory.Cells.{used_words}
-use Rattle.interpreter.specs.object_memory.Objects.{used_space}
-use Rattle.interpreter.specs.object_memory.Spaces.{Spaces, close_cycle}
-use Rattle.collector.specs.Phases.{is_of_cycle}
+use Rattle.interpreter.specs.object_memory.Cells.{used_words, Cell, cell_in, size}
+use Rattle.interpreter.specs.object_memory.Objects.{used_space, Objects}
+use Rattle.interpreter.specs.object_memory.Spaces.{Spaces, close_cycle, AreSpaces, other_of}
+use Rattle.collector.specs.Phases.{is_of_cycle, is_new}
 use Rattle.simulation.specs.MachineStates.{MachineState}
 use Rattle.simulation.specs.Collecting.{collect}
 use Rattle.simulation.specs.Owed.{LeavesOnlyOwed, OwesAfter}
 use Rattle.simulation.specs.Runs.{IsNext, IsRunOf, RefusesBeyondRoom, RefinesAfter}
-use Rattle.simulation.specs.Refines.{Represents}
+use Rattle.simulation.specs.Refines.{Represents, IsHeap, Names}
 use Rattle.simulation.specs.Transitions.{IsTransition}
 use Rattle.simulation.proofs.CollectorEvents.Reports.{IsCollected, ends, waits, works}
-use Rattle.simulation.proofs.OwedWords.NewBlockWords.{new_words}
 use Rattle.simulation.proofs.Instructions.Correspondence.{InstructionsAreAlike}
-use Rattle.simulation.proofs.OwedWords.CycleNames.{is_kept}
-use Rattle.simulation.proofs.OwedWords.SumsOverNames.{is_listed}
+use Rattle.simulation.proofs.OwedWords.CycleNames.{is_kept, IsNamed}
+use Rattle.simulation.proofs.OwedWords.SumsOverNames.{is_listed, words_by_id}
 use Rattle.simulation.proofs.OwedWords.NamesInSets.{born_inside}
 use Rattle.simulation.proofs.Threads.LiveThreads.{normally}
 use Rattle.simulation.proofs.CycleBounds.OpenCycles.{IsBefore, IsOpened, before_goes, gc_is, idle_of, open_then, opened_is, split_at_last, then_open}
@@ -47,6 +46,72 @@ use Rattle.simulation.proofs.OwedWords.NewestCycles.{end_owes}
 use Rattle.simulation.proofs.Threads.UnchangedPosts.{step_posted}
 use Rattle.simulation.proofs.OwedWords.OpenCycleStates.{IsOwedBy, acknowledged_owed, acknowledged_posted, begins_owed, collected_owed, stepped_owed_as}
 use Rattle.simulation.proofs.Runs.EventByEvent.{OwnEffect, Continues, IsAt, continues, walk}
+use Rattle.interpreter.proofs.cil_model.Lists.{none_is_some}
+use Rattle.interpreter.specs.object_memory.declared.addresses.Addr.{Addr}
+use Rattle.interpreter.proofs.object_memory.TwoBlocks.{new_is_cell, no_literal, not_old}
+use Rattle.collector.proofs.Addresses.Tests.{new_is}
+use Rattle.simulation.proofs.Memory.CellSizes.{cell_size}
+
+-- ---- Where each object of the new block has a name that is on a list, the block has no more words than the listed objects.
+
+-- the number of a name
+abbrev number_of : Option ObjectName → ℕ
+number_of (Some (Born n)) = n
+number_of _ = 0
+
+module _ (tree : Tree) (name : Names) (o : Objects) (s : State) (spaces : AreSpaces o.spaces) (heap : IsHeap tree name o s) (kept : (a : Addr) → is_new o.spaces a ≡ true → IsNamed name a)
+    (names : List ℕ) (listed : (a n : ℕ) → name a ≡ Some (Born n) → is_listed names n ≡ true) where
+  abbrev words : ℕ → ℕ
+  words n = words_of_object tree (slice_get s.objects n)
+
+  abbrev number : ℕ → ℕ
+  number a = number_of (name a)
+
+  -- a new object was born
+  record IsBorn (a : ℕ) (c : Cell) : Type 0 where
+    born : ℕ
+    named : name a ≡ Some (Born born)
+    words_are : words born ≡ size c
+
+  is_born : (a : ℕ) (c : Cell) → cell_in o.spaces.new (record { number = a }) ≡ Some c → IsBorn a c
+  is_born a c lies = by_name (kept (record { number = a }) (new_is o.spaces (record { number = a }) c lies))
+    where
+      by_kind : (n : ObjectName) → name a ≡ Some n → IsBorn a c
+      by_kind (Born n) is =
+          let b = heap.born a n is in
+          let same : b.cell ≡ c = same_Some b.cell c (sym b.lies ∙ new_is_cell o.spaces spaces (record { number = a }) c lies) in
+          record { born = n; named = is; words_are = ap (words_of_object tree) b.is ∙ (sym (cell_size tree name b.cell b.object b.refines) ∙ ap size same) }
+      by_kind (Literal characters) is =
+          let l = heap.literals a characters is in
+          none_is_some l.number (sym (no_literal o.spaces spaces (record { number = a }) c (new_is_cell o.spaces spaces (record { number = a }) c lies)) ∙ l.has_id)
+
+      by_name : IsNamed name (record { number = a }) → IsBorn a c
+      by_name n = by_kind n.0 n.1
+
+  -- two of one name are one
+  one_born : (a b : ℕ) (c d : Cell) → cell_in o.spaces.new (record { number = a }) ≡ Some c → cell_in o.spaces.new (record { number = b }) ≡ Some d → number a ≡ number b → a ≡ b
+  one_born a b c d lies lies' same =
+      let x = is_born a c lies in
+      let y = is_born b d lies' in
+      let numbers : x.born ≡ y.born = sym (ap number_of x.named) ∙ (same ∙ ap number_of y.named) in
+      elim (heap.names.one a b (Born y.born) (x.named ∙ ap (λ n. Some (Born n)) numbers) y.named) [
+        | inl equal ↦ equal
+        | inr twins ↦ elim twins [
+          | inl other ↦ none_is_some (record { number = b }) (sym (ap other_of (not_old o.spaces spaces (record { number = a }) c lies)) ∙ other)
+          | inr other ↦ none_is_some (record { number = a }) (sym (ap other_of (not_old o.spaces spaces (record { number = b }) d lies')) ∙ other)
+        ]
+      ]
+
+  pub new_words : used_words o.spaces.new.cells ≤ sum_by words names
+  new_words = words_by_id words number names o.spaces.new.start o.spaces.new.cells (record {
+    own = λ a c lies. (let x = is_born a c lies in (
+      ap (λ n. words (number_of n)) x.named ∙ x.words_are,
+      ap (λ n. is_listed names (number_of n)) x.named ∙ listed a x.born x.named,
+    ));
+    one = λ a b c d lies lies' same. one_born a b c d lies lies' same;
+  })
+
+-- ---- At the end of a cycle no more words are in use than are owed.
 
 module _ (each : InstructionsAreAlike) where
   -- ---- the cycle
@@ -98,9 +163,8 @@ module _ (each : InstructionsAreAlike) where
 
     -- the collector was in its last phase, and the new block is the only one then
     ended : (c : MachineState) (x : MachineState × Report) → IsCollected c x → x.1 ≡ CycleDone → (c.posts.posted_phase ≡ Reclaim) × (x.0.objects.spaces ≡ close_cycle c.objects.spaces)
-    ended c _ waits e = absurd cc
-    ended c _ (works d of) e = absurd cc
     ended c _ (ends d last idle spaces) e = (last, spaces)
+    ended c _ _ e = absurd cc
 
     -- each object of the new block has words that are owed
     owed_words : (c : MachineState) (s : State) → c.posts.posted_phase ≡ Reclaim → IsOwedBy Inside is_inside decoded inside c s → (names : List ℕ) → ((n : ℕ) → n < length s.objects → is_inside n ≡ true → is_listed names n ≡ true) →

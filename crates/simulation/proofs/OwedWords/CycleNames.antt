@@ -9,7 +9,7 @@ use Rattle.interpreter.specs.reference_machine.Values.{ObjectName}
 use Rattle.interpreter.specs.object_memory.declared.addresses.Addr.{Addr}
 use Rattle.interpreter.specs.object_memory.declared.kinds.Kind.{Kind}
 use Rattle.interpreter.specs.object_memory.declared.values.Value.{Value}
-use Rattle.interpreter.specs.object_memory.declared.values.Value.TheVariants.{Int32, Int64, Native, Ref}
+use Rattle.interpreter.specs.object_memory.declared.values.Value.TheVariants.{Ref}
 use Rattle.interpreter.specs.object_memory.Cells.{Cell, cell_in, empty_cell, next_address}
 use Rattle.interpreter.specs.object_memory.Objects.{Objects}
 use Rattle.interpreter.specs.object_memory.Spaces.{AreSpaces, Spaces, address_at, birth_space_of, give_birth, forward, is_old, is_white, mark, marked_if, other_of, set_mark}
@@ -51,10 +51,8 @@ kept_is_live Idle m a h = never h
 kept_is_live Mark m a h = or_right (is_permanent a) (is_old m a) (marked_is_old m a h)
 kept_is_live Allocate m a h = or_right (is_permanent a) (is_marked_old m a) h
 kept_is_live Copy m a h = or_right (is_permanent a) (is_marked_old m a) h
-kept_is_live PreFlip m a h = or_right (is_permanent a) (is_marked_old m a || is_new m a) (or_right (is_marked_old m a) (is_new m a) h)
-kept_is_live HeapFlip m a h = or_right (is_permanent a) (is_marked_old m a || is_new m a) (or_right (is_marked_old m a) (is_new m a) h)
-kept_is_live ThreadFlip m a h = or_right (is_permanent a) (is_marked_old m a || is_new m a) (or_right (is_marked_old m a) (is_new m a) h)
 kept_is_live Reclaim m a h = or_right (is_permanent a) (is_new m a) h
+kept_is_live _ m a h = or_right (is_permanent a) (is_marked_old m a || is_new m a) (or_right (is_marked_old m a) (is_new m a) h)
 
 -- and may be held by each thread
 pub kept_is_held : (posted_phase : Phase) (has_round : Bool) (m : Spaces) (hold : Hold) → HoldMeans posted_phase has_round m hold → (a : Addr) → is_kept posted_phase m a ≡ true → passes hold posted_phase m a ≡ true
@@ -67,10 +65,7 @@ kept_is_held posted_phase has_round m NewOnly means a h = or_right (is_permanent
     by_phase Mark late k = never late
     by_phase Allocate late k = never late
     by_phase Copy late k = never late
-    by_phase PreFlip late k = k
-    by_phase HeapFlip late k = k
-    by_phase ThreadFlip late k = k
-    by_phase Reclaim late k = k
+    by_phase _ late k = k
 
 -- it is either marked or new
 pub kept_cases : {A : Type 0} (posted_phase : Phase) (m : Spaces) (a : Addr) → is_kept posted_phase m a ≡ true →
@@ -79,10 +74,7 @@ kept_cases Idle m a h marked new = never h
 kept_cases Mark m a h marked new = marked h (λ n. refl)
 kept_cases Allocate m a h marked new = marked h (λ n. refl)
 kept_cases Copy m a h marked new = marked h (λ n. refl)
-kept_cases PreFlip m a h marked new = new h (λ n. refl)
-kept_cases HeapFlip m a h marked new = new h (λ n. refl)
-kept_cases ThreadFlip m a h marked new = new h (λ n. refl)
-kept_cases Reclaim m a h marked new = new h (λ n. refl)
+kept_cases _ m a h marked new = new h (λ n. refl)
 
 -- while objects get their copies
 abbrev pub is_copying : Phase → Bool
@@ -175,9 +167,7 @@ mark_adds m q a h = by_white (is_white (cell_in m.old q)) h
 -- or where a value refers to it
 pub value_mark_adds : (o : Objects) (v : Value) (a : Addr) → is_marked_old (with_marked o v).spaces a ≡ true → (is_marked_old o.spaces a ≡ true) ⊎ ((v ≡ Ref a) × (is_old o.spaces a ≡ true))
 value_mark_adds o (Ref q) a h = elim (mark_adds o.spaces q a h) [ inl was ↦ inl was | inr here ↦ inr (ap Ref here.0, here.1) ]
-value_mark_adds o (Int32 n) a h = inl h
-value_mark_adds o (Int64 n) a h = inl h
-value_mark_adds o (Native n) a h = inl h
+value_mark_adds o _ a h = inl h
 
 module _ (own posted_phase : Phase) (o : Objects) (spaces : AreSpaces o.spaces) (v : Value) where
   -- what a store marks first, by the phase of the thread
@@ -191,37 +181,23 @@ module _ (own posted_phase : Phase) (o : Objects) (spaces : AreSpaces o.spaces) 
       ]
 
       by_own : (x : Phase) → is_kept posted_phase (marked_first x o v).spaces a ≡ true → (is_kept posted_phase o.spaces a ≡ true) ⊎ ((v ≡ Ref a) × (is_old o.spaces a ≡ true))
-      by_own Idle k = inl k
       by_own Mark k = by_mark k
-      by_own Allocate k = inl k
-      by_own Copy k = inl k
-      by_own PreFlip k = inl k
-      by_own HeapFlip k = inl k
-      by_own ThreadFlip k = inl k
-      by_own Reclaim k = inl k
+      by_own _ k = inl k
 
   -- leaves copies
   pub first_copies : AreCopiesOfMarked posted_phase o.spaces → AreCopiesOfMarked posted_phase (marked_first own o v).spaces
   first_copies are = by_own own
     where
       by_own : (x : Phase) → AreCopiesOfMarked posted_phase (marked_first x o v).spaces
-      by_own Idle = are
       by_own Mark = copies_darker o.spaces (with_marked o v).spaces (AreDarker-with_marked o spaces v) posted_phase are
-      by_own Allocate = are
-      by_own Copy = are
-      by_own PreFlip = are
-      by_own HeapFlip = are
-      by_own ThreadFlip = are
-      by_own Reclaim = are
+      by_own _ = are
 
 -- ---- births
 
 module _ (m : Spaces) (spaces : AreSpaces m) (k : Kind) (n : ℕ) where
   part_address : (space : BirthSpace) (a : Addr) (d : Cell) → a.number ≡ (next_address m.old).number → old_part space m k n ≡ Some d → a ≡ address_at space m
-  part_address InOld a d same part = ap (λ (x : ℕ). record { number = x }) same
-  part_address Listed a d same part = ap (λ (x : ℕ). record { number = x }) same
-  part_address InBoth a d same part = ap (λ (x : ℕ). record { number = x }) same
   part_address InNew a d same part = none_is_some d part
+  part_address _ a d same part = ap (λ (x : ℕ). record { number = x }) same
 
   -- a marked object was marked before or is the one that was born
   pub born_marked : (space : BirthSpace) (a : Addr) → is_marked_old (give_birth space m k n) a ≡ true → (is_marked_old m a ≡ true) ⊎ (a ≡ address_at space m)
@@ -234,11 +210,10 @@ module _ (m : Spaces) (spaces : AreSpaces m) (k : Kind) (n : ℕ) where
 
   new_address : (space : BirthSpace) (a : Addr) (d : Cell) → a.number ≡ (next_address m.new).number → new_part space m k n ≡ Some d →
       (a ≡ address_at space m) ⊎ (other_of (cell_in (give_birth space m k n).old (address_at space m)) ≡ Some a)
-  new_address InOld a d same part = none_is_some d part
-  new_address Listed a d same part = none_is_some d part
   new_address InBoth a d same part =
       inr (ap other_of (born-old_last m spaces k n InBoth (empty_cell k n true (Some (next_address m.new))) refl) ∙ ap (λ (x : ℕ). Some (record { number = x })) (sym same))
   new_address InNew a d same part = inl (ap (λ (x : ℕ). record { number = x }) same)
+  new_address _ a d same part = none_is_some d part
 
   -- and a new one was new before, or is that one or its copy
   pub born_new : (space : BirthSpace) (a : Addr) → is_new (give_birth space m k n) a ≡ true → (is_new m a ≡ true) ⊎ ((a ≡ address_at space m) ⊎ (other_of (cell_in (give_birth space m k n).old (address_at space m)) ≡ Some a))
@@ -280,24 +255,14 @@ not_in_new : (own posted_phase : Phase) (is_open : Bool) → IsNear own posted_p
 not_in_new own posted_phase is_open near copying = by_near near
   where
     at_own : (x : Phase) (t : Bool) → is_copying x ≡ true → birth_space_of x t ≡ InNew → ⊥
-    at_own Idle t e h = never e
-    at_own Mark t e h = never e
     at_own Allocate t e h = absurd cc
     at_own Copy t e h = absurd cc
-    at_own PreFlip t e h = never e
-    at_own HeapFlip t e h = never e
-    at_own ThreadFlip t e h = never e
-    at_own Reclaim t e h = never e
+    at_own _ t e h = never e
 
     at_next : (x : Phase) (t : Bool) → is_copying (phase_after x) ≡ true → birth_space_of x t ≡ InNew → ⊥
-    at_next Idle t e h = never e
     at_next Mark t e h = absurd cc
     at_next Allocate t e h = absurd cc
-    at_next Copy t e h = never e
-    at_next PreFlip t e h = never e
-    at_next HeapFlip t e h = never e
-    at_next ThreadFlip t e h = never e
-    at_next Reclaim t e h = never e
+    at_next _ t e h = never e
 
     by_near : IsNear own posted_phase → birth_space_of own is_open ≡ InNew → ⊥
     by_near (inl is) = at_own own is_open (ap is_copying is ∙ copying)

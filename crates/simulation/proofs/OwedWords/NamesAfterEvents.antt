@@ -48,7 +48,7 @@ use Rattle.simulation.specs.Agreement.{Agree}
 use Rattle.simulation.specs.Collecting.{clear_object, collect, cycle_ended, flip_values, mark_object, next_posted, round_posted, rounds, with_acknowledgement, work, do_work}
 use Rattle.simulation.specs.MachineStates.{MachineState}
 use Rattle.simulation.specs.Sound.{IsSound}
-use Rattle.simulation.specs.Refines.{IsHeap, IsThread, IsValue, Names, StatusRefines, RefinesUnder, int32, int64, native, null_reference, reference}
+use Rattle.simulation.specs.Refines.{IsHeap, IsThread, IsValue, Names, StatusRefines, RefinesUnder, null_reference, reference}
 use Rattle.simulation.proofs.CollectorEvents.AcknowledgementCases.{after_acknowledgement, posts_after}
 use Rattle.simulation.proofs.ListLaws.AgreeingLists.{agree_at}
 use Rattle.simulation.proofs.CollectedHeap.RewrittenCells.{IsNamedWord, contents_named}
@@ -86,17 +86,14 @@ module _ (name : Names) where
   is_named a n is = or_right (a == 0) (is_some (name a)) (ap is_some is)
 
   value_is : (v : Value) (u : StateValue) → IsValue name v u → ValuePasses is_null_or_named v
-  value_is v u (int32 z fits) = tt
-  value_is v u (int64 z fits) = tt
-  value_is v u (native z fits) = tt
   value_is v u null_reference = refl
   value_is v u (reference a n is) = is_named a.number n is
+  value_is v u _ = tt
 
   entries_are : (vs : List Value) (es : List (FieldKey × StateValue)) → Agree (λ v (e : FieldKey × StateValue). IsValue name v e.1) vs es → AllByRecursion (ValuePasses is_null_or_named) vs
   entries_are [] [] h = tt
   entries_are (v ∷ vs) (e ∷ es) h = (value_is v e.1 h.0, entries_are vs es h.1)
-  entries_are [] (e ∷ es) h = elim h [ ]
-  entries_are (v ∷ vs) [] h = elim h [ ]
+  entries_are _ _ h = elim h [ ]
 
   listed_are : (list : List Addr) → ((a : Addr) → IsListed list a → is_null_or_named a ≡ true) → AllByRecursion (ValuePasses is_null_or_named) (map Ref list)
   listed_are [] each = tt
@@ -175,11 +172,10 @@ module _ (tree : Tree) (legal : IsLegal tree) (s : State) (typed : IsTyped tree 
 
   -- so is what is marked after a step of Mark
   step_named : (p : Progress) (grey : List Addr) → All (λ a. is_marked_old o.spaces a ≡ true) grey → (x : Option Cell) → oldest_cell o grey ≡ x → (a : Addr) → is_marked_old (mark_step tree p o grey x).1.spaces a ≡ true → IsNamed name a
-  step_named p [] listed x is a h = kept a h
-  step_named p (g ∷ rest) listed None is a h = kept a h
   step_named p (g ∷ rest) listed (Some c) is a h =
       let n = kept g (All-head (λ (b : Addr). is_marked_old o.spaces b ≡ true) g rest listed) in
       scanned_named p g rest c n.0 is n.1 a h
+  step_named p _ listed _ is a h = kept a h
 
 -- ---- copies
 

@@ -18,20 +18,20 @@ use Rattle.interpreter.specs.object_memory.Cells.{literal}
 use Rattle.interpreter.specs.object_memory.Objects.{Objects}
 use Rattle.interpreter.specs.threads_monitors.Frames.{Frame}
 use Rattle.interpreter.specs.threads_monitors.declared.threads.ThreadStatus.{ThreadStatus}
-use Rattle.interpreter.specs.threads_monitors.declared.threads.ThreadStatus.TheVariants.{Ended, Live}
+use Rattle.interpreter.specs.threads_monitors.declared.threads.ThreadStatus.TheVariants.{Live}
 use Rattle.interpreter.specs.threads_monitors.declared.threads.Thread.{Thread}
 use Rattle.reference_machine.proofs.ReachableObjects.States.{AreFramesWithin, HoldsWithin, IsClosed, IsFrameWithin}
 use Rattle.reference_machine.proofs.ReachableObjects.Values.{AreWithin, IsWithin, values_of}
 use Rattle.simulation.specs.Agreement.{Agree}
 use Rattle.simulation.specs.MachineStates.{MachineState}
 use Rattle.simulation.specs.Refines.{IsBornAt, IsFrame, IsHeap, IsObject, IsOfContents, IsThread, IsValue, IsWord, Names, StatusRefines, RefinesUnder, int32, int64, native, null_reference, reference}
+use Rattle.simulation.proofs.Memory.NamedAddresses.{born_renamed}
 
 -- lists whose elements stand in a relation stand in another one that follows for those of the second list
 agree_within : {A B : Type 0} (P : B → Type 0) (R S : A → B → Type 0) → ((x : A) (y : B) → P y → R x y → S x y) → (xs : List A) (ys : List B) → AllByRecursion P ys → Agree R xs ys → Agree S xs ys
 agree_within P R S f [] [] each h = h
 agree_within P R S f (x ∷ xs) (y ∷ ys) each h = (f x y each.0 h.0, agree_within P R S f xs ys each.1 h.1)
-agree_within P R S f [] (y ∷ ys) each h = elim h [ ]
-agree_within P R S f (x ∷ xs) [] each h = elim h [ ]
+agree_within P R S f _ _ each h = elim h [ ]
 
 module _ (is_inside : ℕ → Bool) where
   -- the name of an object of the set, or of a literal
@@ -95,8 +95,7 @@ module _ (is_inside : ℕ → Bool) where
           Agree (λ x (e : FieldKey × StateValue). R x e.1) xs es → Agree (λ x (e : FieldKey × StateValue). S x e.1) xs es
       entries_cut R S f [] [] within h = h
       entries_cut R S f (x ∷ xs) (e ∷ es) within h = (f x e.1 within.0 h.0, entries_cut R S f xs es within.1 h.1)
-      entries_cut R S f [] (e ∷ es) within h = elim h [ ]
-      entries_cut R S f (x ∷ xs) [] within h = elim h [ ]
+      entries_cut R S f _ _ within h = elim h [ ]
 
       -- ---- objects
 
@@ -108,14 +107,11 @@ module _ (is_inside : ℕ → Bool) where
         values = entries_cut (IsWord name) (IsWord (cut_inside name)) word_cut h.words fields within h.values;
       }
       contents_cut tree (Array e) slots (IsArray t elements) thread within h = (h.0, agree_within (IsWithin Inside) (IsWord name) (IsWord (cut_inside name)) word_cut slots elements within h.1)
-      contents_cut tree (Instance class) slots (IsArray t elements) thread within h = h
-      contents_cut tree (Array e) slots (IsInstance c fields) thread within h = h
+      contents_cut tree _ slots _ thread within h = h
 
       object_cut : (a : Option Addr) (n : Option ObjectName) → AreWithin Inside (constructed_value n) → IsObject name a n → IsObject (cut_inside name) a n
-      object_cut None None within h = h
       object_cut (Some a) (Some n) within h = is_cut_inside name a.number n (reference_inside n within.0) h
-      object_cut None (Some n) within h = h
-      object_cut (Some a) None within h = h
+      object_cut _ _ within h = h
 
       -- ---- frames
 
@@ -136,9 +132,7 @@ module _ (is_inside : ℕ → Bool) where
         few = h.few;
         room = h.room;
       }
-      status_cut tree limits (Ended x) gs (Some e) within h = h
-      status_cut tree limits (Live m) gs (Some e) within h = h
-      status_cut tree limits (Ended x) gs None within h = h
+      status_cut tree limits _ gs _ within h = h
 
       -- threads, index by index
       threads_cut : (tree : Tree) (limits : Limits) (ts : List Thread) (us : List StateThread) → ((t : ℕ) (u : StateThread) → slice_get us t ≡ Some u → u.ended ≡ None → AreFramesWithin Inside u.frames) →
@@ -148,24 +142,15 @@ module _ (is_inside : ℕ → Bool) where
         record { thread_status = status_cut tree limits t.thread_status u.frames u.ended (within 0 u refl) h.0.thread_status; steps_left = h.0.steps_left },
         threads_cut tree limits ts us (λ n x is. within (suc n) x is) h.1,
       )
-      threads_cut tree limits [] (u ∷ us) within h = elim h [ ]
-      threads_cut tree limits (t ∷ ts) [] within h = elim h [ ]
+      threads_cut tree limits _ _ within h = elim h [ ]
 
       -- ---- the whole
 
       module _ (tree : Tree) (o : Objects) (s : State) (closed : HoldsWithin Inside s) (inside : (n : ℕ) → is_inside n ≡ true → Inside n) where
         born_cut : (a n : ℕ) → cut_inside name a ≡ Some (Born n) → IsBornAt tree name o s a n → IsBornAt tree (cut_inside name) o s a n
-        born_cut a n is b = record {
-          no_literal = b.no_literal;
-          cell = b.cell;
-          lies = b.lies;
-          object = b.object;
-          is = b.is;
-          refines = record {
-            contents = contents_cut tree b.cell.kind b.cell.slots b.object.contents b.object.thread (closed.objects n b.object b.is (inside n (born_inside n (inside_is name a (Born n) is)))) b.refines.contents;
-            monitor = b.refines.monitor;
-          };
-        }
+        born_cut a n is b =
+            born_renamed tree name (cut_inside name) o s a n b
+            (contents_cut tree b.cell.kind b.cell.slots b.object.contents b.object.thread (closed.objects n b.object b.is (inside n (born_inside n (inside_is name a (Born n) is)))) b.refines.contents)
 
         heap_cut : IsHeap tree name o s → IsHeap tree (cut_inside name) o s
         heap_cut h = record {

@@ -27,7 +27,7 @@ use Rattle.simulation.specs.Runs.{IsNext, IsRunOf}
 use Rattle.simulation.specs.Refines.{Represents}
 use Rattle.simulation.specs.Transitions.{IsTransition}
 use Rattle.interpreter.specs.reference_machine.TypedStates.{IsTyped}
-use Rattle.simulation.proofs.CollectorEvents.Reports.{IsCollected, ends, waits, works}
+use Rattle.simulation.proofs.CollectorEvents.Reports.{IsCollected, ends}
 use Rattle.simulation.proofs.Instructions.Correspondence.{InstructionsAreAlike}
 use Rattle.simulation.proofs.OwedWords.SumsOverNames.{distinct_sum, is_listed}
 use Rattle.simulation.proofs.OwedWords.ReachableObjects.{words_owed}
@@ -86,9 +86,8 @@ module _ (xs earlier later : Events) (split : BeginsNewestCycle xs earlier later
 
 -- an event after which a cycle is open that wasn't open before begins one
 begins_by : (done worked : Bool) → then_open done worked false ≡ true → (worked && not done) ≡ true
-begins_by true worked e = never e
 begins_by false true e = refl
-begins_by false false e = never e
+begins_by _ _ e = never e
 
 cycle_begins : (xs : Events) (e : Event) (r : Report) → is_cycle_open xs ≡ false → is_cycle_open (xs ++ (e, r) ∷ []) ≡ true → BeginsNewestCycle (xs ++ (e, r) ∷ []) xs ((e, r) ∷ [])
 cycle_begins xs e r shut opened = record {
@@ -182,9 +181,8 @@ owed_once tree limits events reports words words' o o' =
 
 -- only where a phase of a cycle is posted does a cycle end
 was_open : (c : MachineState) (x : MachineState × Report) → IsCollected c x → x.1 ≡ CycleDone → is_of_cycle c.posts.posted_phase ≡ true
-was_open c _ waits e = absurd cc
-was_open c _ (works d of) e = absurd cc
 was_open c _ (ends d last idle spaces) e = ap is_of_cycle last
+was_open c _ _ e = absurd cc
 
 module _ (each : InstructionsAreAlike) (tree : Tree) (accepted : IsAccepted tree) (limits : Limits) (in_range : IsTrue (are_in_range limits)) (events : List Event) (reports : List Report) (s : State) (h : IsRunOf tree limits events reports s) where
   abbrev all : Events

@@ -15,7 +15,7 @@ use Rattle.std.proofs.lemmas.Option.{same_Some}
 use Rattle.interpreter.specs.reference_machine.OwedWords.{IsOwed, OwesWords, words_of_object}
 use Rattle.interpreter.specs.reference_machine.Reachable.{IsReachable, from_member, from_root, members_of, roots}
 use Rattle.interpreter.specs.reference_machine.States.{State, object_at}
-use Rattle.interpreter.specs.reference_machine.Values.{Born, Int32, Int64, Literal, Native, Null, ObjectName, Reference, Value}
+use Rattle.interpreter.specs.reference_machine.Values.{Born, Literal, ObjectName, Reference, Value}
 use Rattle.reference_machine.specs.TypedStates.{IsTyped}
 use Rattle.reference_machine.proofs.ReachableObjects.TypedStates.{reachable_is_there}
 use Rattle.reference_machine.proofs.ReachableObjects.Values.{AreWithin, IsWithin, contained_within}
@@ -25,11 +25,7 @@ use Rattle.simulation.proofs.OwedWords.SumsOverNames.{distinct_sum, is_listed}
 
 abbrev choose : List ℕ → Value → Option ℕ → Option ℕ
 choose names (Reference (Born n)) later = if is_listed names n then later else Some n
-choose names (Reference (Literal characters)) later = later
-choose names Null later = later
-choose names (Int32 z) later = later
-choose names (Int64 z) later = later
-choose names (Native z) later = later
+choose names _ later = later
 
 abbrev first_new : List ℕ → List Value → Option ℕ
 first_new names [] = None
@@ -50,11 +46,7 @@ module _ (names : List ℕ) where
 
       by_value : (u : Value) → choose names u (first_new names vs) ≡ None → IsWithin Inside u × (first_new names vs ≡ None)
       by_value (Reference (Born n)) h = by_test n (is_listed names n) refl h
-      by_value (Reference (Literal characters)) h = (tt, h)
-      by_value Null h = (tt, h)
-      by_value (Int32 z) h = (tt, h)
-      by_value (Int64 z) h = (tt, h)
-      by_value (Native z) h = (tt, h)
+      by_value _ h = (tt, h)
 
   -- it is among the values
   first_is : (vs : List Value) (n : ℕ) → first_new names vs ≡ Some n → Contains vs (Reference (Born n)) × (is_listed names n ≡ false)
@@ -70,11 +62,7 @@ module _ (names : List ℕ) where
 
       by_value : (u : Value) → u ≡ v → choose names u (first_new names vs) ≡ Some n → (first_new names vs ≡ Some n → Contains (v ∷ vs) (Reference (Born n)) × (is_listed names n ≡ false)) → Contains (v ∷ vs) (Reference (Born n)) × (is_listed names n ≡ false)
       by_value (Reference (Born k)) is h following = by_test k is (is_listed names k) refl h following
-      by_value (Reference (Literal characters)) is h following = following h
-      by_value Null is h following = following h
-      by_value (Int32 z) is h following = following h
-      by_value (Int64 z) is h following = following h
-      by_value (Native z) is h following = following h
+      by_value _ is h following = following h
 
 -- a number that is on no list is apart from each on it
 apart_from : (n : ℕ) (names : List ℕ) → is_listed names n ≡ false → AllByRecursion (λ y. (n == y) ≡ false) names

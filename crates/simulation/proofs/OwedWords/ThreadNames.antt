@@ -24,7 +24,7 @@ use Rattle.collector.proofs.ThreadReferences.AfterStores.{marked_first, monitor_
 use Rattle.collector.proofs.Births.BirthSoundness.{near_of_close}
 use Rattle.collector.proofs.Addresses.TagChanges.{AreAlike}
 use Rattle.collector.proofs.Addresses.Tests.{old_cell, permanent_not_old}
-use Rattle.simulation.specs.Refines.{IsOfContents, IsValue, int32, int64, native, null_reference, reference, Names}
+use Rattle.simulation.specs.Refines.{IsOfContents, IsValue, null_reference, reference, Names}
 use Rattle.simulation.proofs.CollectedHeap.CollectedMemory.{collected}
 use Rattle.simulation.proofs.CollectedHeap.NewObjects.{births_copied, births_only, collected_births}
 use Rattle.simulation.proofs.CollectedHeap.VisibleNames.{FitsCollected, first_hold, means}
@@ -42,13 +42,11 @@ reference_is a x e = cc
 
 module _ (name : Names) (o : Objects) (spaces : AreSpaces o.spaces) (x : Addr) (old : is_old o.spaces x ≡ true) where
   value_named : (v : Value) (u : StateValue) → IsValue name v u → v ≡ Ref x → IsNamed name x
-  value_named v u (int32 z fits) e = absurd cc
-  value_named v u (int64 z fits) e = absurd cc
-  value_named v u (native z fits) e = absurd cc
   value_named v u null_reference e =
       let c = old_cell o.spaces x old in
       none_is_some c.0 (sym (subst (λ (a : Addr). cell_in o.spaces.old a ≡ None) (reference_is null x e) (permanent_not_old o.spaces spaces null refl)) ∙ c.1)
   value_named v u (reference a n is) e = (n, subst (λ (b : Addr). name b.number ≡ Some n) (reference_is a x e) is)
+  value_named v u _ e = absurd cc
 
 module _ (tree : Tree) (legal : IsLegal tree) (words : ℕ) (h : Handshakes) (p : Progress) (seat : Seat) (close : IsClose h seat) (rounds : h.posted_phase ≡ Mark → h.has_round ≡ true → p.scanned_statics ≡ true) (first : Objects)
     (time : IsOnTime seat.phase h.posted_phase h.has_round p first.spaces) (all : Names) (own : Names) (begun : ℕ) where

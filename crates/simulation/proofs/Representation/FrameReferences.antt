@@ -115,10 +115,8 @@ module _ (test : Test) where
 
 module _ (test after : Test) (g : Addr → Addr) (pass : (a : Addr) → test a ≡ true → after (g a) ≡ true) where
   value_replaced : (v : Value) → ValuePasses test v → ValuePasses after (with_reference g v)
-  value_replaced (Int32 n) h = tt
-  value_replaced (Int64 n) h = tt
-  value_replaced (Native n) h = tt
   value_replaced (Ref a) h = pass a h
+  value_replaced _ h = tt
 
   values_replaced : (vs : List Value) → Each (ValuePasses test) vs → Each (ValuePasses after) (map (with_reference g) vs)
   values_replaced = each_map (ValuePasses test) (ValuePasses after) (with_reference g) value_replaced

@@ -49,7 +49,7 @@ use Rattle.collector.specs.Phases.{no_progress}
 use Rattle.collector.specs.Holding.{Hold, hold_of, may_hold, passes, static_hold_of, static_may_hold}
 use Rattle.collector.specs.Soundness.{IsListed, IsSoundHeap}
 use Rattle.collector.proofs.PhaseChanges.BetweenCycles.{quiet_is_sound}
-use Rattle.simulation.proofs.Representation.NewThreads.{beginning_refines}
+use Rattle.simulation.proofs.Representation.MoreNames.{beginning_refines}
 use Rattle.simulation.proofs.Representation.LiteralNames.{same_for_each, free_first, literal_names, IsNamedLiteral, named_literal, literal_named, literals_small, literals_apart}
 
 module _ (tree : Tree) (limits : Limits) (accepted : IsAccepted tree) (in_range : IsTrue (are_in_range limits)) where

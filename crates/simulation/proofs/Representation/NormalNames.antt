@@ -32,9 +32,9 @@ use Rattle.collector.proofs.Copying.VisibleCopies.{ShowSame, has_words, old_show
 use Rattle.collector.proofs.ThreadReferences.LiveValues.{reference_again}
 use Rattle.simulation.specs.Refines.{Names, AreTwins, HasOneName, IsValue, int32, int64, native, null_reference, reference, IsWord, IsCell, IsBornAt, IsHeap, IsLiteralAt, IsMonitor, IsOfContents}
 use Rattle.simulation.proofs.CollectedHeap.TwoCopies.{late_of, words_are_live}
-use Rattle.simulation.proofs.Memory.TypedWords.{kind_of_state}
-use Rattle.simulation.proofs.Memory.ReferenceSlots.{is_reference_kind}
+use Rattle.simulation.proofs.Memory.ReferenceSlots.{kind_of_state, is_reference_kind}
 use Rattle.simulation.proofs.Representation.RenamedSlots.{ShowAlike, contents_shown}
+use Rattle.simulation.proofs.Memory.NamedAddresses.{born_renamed}
 
 -- What is named is live, and the new copy of a named old object has its name where it is live too.
 pub record IsNormal (posted_phase : Phase) (m : Spaces) (name : Names) : Type 0 where
@@ -287,15 +287,13 @@ module _ (tree : Tree) (posted_phase : Phase) (has_round : Bool) (words : ℕ) (
       word_forwarded late word u kind live h = subst (λ w. IsWord names (forward_word m w) u) h.is (by_value h.value u h.refines kind (subst (λ w. is_live posted_phase m (reference_in w) ≡ true) (sym h.is) live))
         where
           by_value : (v : Value) (x : StateValue) → IsValue name v x → is_reference_kind (kind_of_state x) ≡ true → is_live posted_phase m (reference_in (value_word v)) ≡ true → IsWord names (forward_word m (value_word v)) x
-          by_value v x (int32 z fits) wrong l = never wrong
-          by_value v x (int64 z fits) wrong l = never wrong
-          by_value v x (native z fits) wrong l = never wrong
           by_value v x null_reference k l = record { value = Ref null; refines = null_reference; is = ap (λ (y : Addr). y.number) (sym (ap (forward m) (reference_again null (omega arith)) ∙ forward_null m sound.blocks.spaces)) }
           by_value v x (reference a n is) k l = record {
             value = Ref (forward m a);
             refines = reference (forward m a) n (forward_named a n is late (subst (λ x. is_live posted_phase m x ≡ true) (again a n is) l));
             is = ap (λ (y : Addr). (forward m y).number) (sym (again a n is));
           }
+          by_value v x _ wrong l = never wrong
 
       -- ---- objects
 
@@ -304,17 +302,8 @@ module _ (tree : Tree) (posted_phase : Phase) (has_round : Bool) (words : ℕ) (
         own_born : (a : ℕ) (n : ℕ) → is_live posted_phase m (record { number = a }) ≡ true → name a ≡ Some (Born n) → IsBornAt tree names o s a n
         own_born a n live named =
             let b = heap.born a n named in
-            record {
-              no_literal = b.no_literal;
-              cell = b.cell;
-              lies = b.lies;
-              object = b.object;
-              is = b.is;
-              refines = record {
-                contents = contents_shown tree legal s name names b.cell.kind b.cell.slots b.cell.slots (alike b.cell b.lies) b.object.contents b.object.thread (typed.objects n b.object b.is) b.refines.contents;
-                monitor = b.refines.monitor;
-              };
-            }
+            born_renamed tree name names o s a n b
+            (contents_shown tree legal s name names b.cell.kind b.cell.slots b.cell.slots (alike b.cell b.lies) b.object.contents b.object.thread (typed.objects n b.object b.is) b.refines.contents)
           where
             alike : (cell : Cell) → object_cell o (record { number = a }) ≡ Some cell → ShowAlike tree name names cell.kind cell.slots cell.slots
             alike cell lies = record {

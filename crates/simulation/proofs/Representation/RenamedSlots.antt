@@ -18,8 +18,7 @@ use Rattle.collector.specs.References.{holds_reference}
 use Rattle.simulation.specs.Agreement.{Agree}
 use Rattle.simulation.specs.Refines.{Names, IsValue, int32, int64, native, null_reference, reference, IsWord, IsInstanceCell, IsOfContents, hidden_words, thread_word}
 use Rattle.simulation.proofs.ListLaws.AgreeingLists.{agree_get, agree_length}
-use Rattle.simulation.proofs.Memory.TypedWords.{kind_fits, kind_of_state}
-use Rattle.simulation.proofs.Memory.ReferenceSlots.{element_says, hidden_says, is_reference_kind, slot_says}
+use Rattle.simulation.proofs.Memory.ReferenceSlots.{kind_fits, kind_of_state, element_says, hidden_says, is_reference_kind, slot_says}
 use Rattle.interpreter.proofs.cil_model.Lists.{get_before, none_is_some}
 use Rattle.interpreter.proofs.cil_model.SameLaws.{never}
 
@@ -31,8 +30,7 @@ agree_of_indices R [] [] same h = tt
 agree_of_indices R (x ∷ xs) (y ∷ ys) same h =
     let first = h 0 y refl in
     (subst (λ z. R z y) (sym (same_Some x first.0 first.1)) first.2, agree_of_indices R xs ys (omega (arith, same)) (λ n z is. h (suc n) z is))
-agree_of_indices R [] (y ∷ ys) same h = absurd (omega (arith, same))
-agree_of_indices R (x ∷ xs) [] same h = absurd (omega (arith, same))
+agree_of_indices R _ _ same h = absurd (omega (arith, same))
 
 -- an item after the first of two lists
 get_after : {X : Type 0} (xs ys : List X) (n : ℕ) → slice_get (xs ++ ys) (length xs + n) ≡ slice_get ys n
@@ -110,8 +108,7 @@ module _ (tree : Tree) (legal : IsLegal tree) (s : State) (name names : Names) w
       where
         by_test : (b : Bool) → is_thread_class tree c ≡ b → (n : ℕ) → slice_get (if b then thread_word thread ∷ [] else []) n ≡ Some w → holds_reference tree (Instance class) n ≡ false
         by_test true test zero is = hidden_says tree c class h.class_is test
-        by_test true test (suc n) is = none_is_some w is
-        by_test false test n is = none_is_some w is
+        by_test _ test _ is = none_is_some w is
 
     -- so it is the same
     hidden_shown : (n w : ℕ) → slice_get hidden n ≡ Some w → slice_get shown n ≡ Some w
@@ -143,5 +140,4 @@ module _ (tree : Tree) (legal : IsLegal tree) (s : State) (name names : Names) w
       IsOfContents tree name kind slots contents thread → IsOfContents tree names kind shown contents thread
   contents_shown (Instance class) slots shown alike (IsInstance c fields) thread typed h = instance_shown class slots shown alike c fields thread h typed.2
   contents_shown (Array e) slots shown alike (IsArray t elements) thread typed h = (h.0, array_shown e slots shown alike t elements typed h)
-  contents_shown (Instance class) slots shown alike (IsArray t elements) thread typed h = h
-  contents_shown (Array e) slots shown alike (IsInstance c fields) thread typed h = h
+  contents_shown _ slots shown alike _ thread typed h = h

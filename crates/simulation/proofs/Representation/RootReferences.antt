@@ -75,11 +75,9 @@ listed_in_values (Ref b ∷ vs) a (inr h) = inr (listed_in_values vs a h)
 
 module _ (name : Names) (test : Test) (nulls : test (record { number = 0 }) ≡ true) (named : (a : ℕ) (n : ObjectName) → name a ≡ Some n → test (record { number = a }) ≡ true) where
   value_passes : (v : Value) (u : StateValue) → IsValue name v u → ValuePasses test v
-  value_passes v u (int32 z fits) = tt
-  value_passes v u (int64 z fits) = tt
-  value_passes v u (native z fits) = tt
   value_passes v u null_reference = nulls
   value_passes v u (reference a n is) = named a.number n is
+  value_passes v u _ = tt
 
   -- a value among those that represent some
   among_passes : (vs : List Value) (us : List StateValue) → Agree (IsValue name) vs us → (v : Value) → IsAmong vs v → ValuePasses test v
@@ -165,10 +163,8 @@ values_listed [] a h = h
 values_listed (v ∷ vs) a (inr h) = following v (values_listed vs a h)
   where
     following : (v : Value) → IsListed (filter_map reference_in vs) a → IsListed (filter_map reference_in (v ∷ vs)) a
-    following (Int32 n) h = h
-    following (Int64 n) h = h
-    following (Native n) h = h
     following (Ref b) h = inr h
+    following _ h = h
 values_listed (v ∷ vs) a (inl same) = subst (λ x. IsListed (filter_map reference_in (x ∷ vs)) a) (sym same) (inl refl)
 
 module _ (test : Test) (name names : Names) (cut : (a : ℕ) (n : ObjectName) → name a ≡ Some n → test (record { number = a }) ≡ true → names a ≡ Some n) where
@@ -180,16 +176,12 @@ module _ (test : Test) (name names : Names) (cut : (a : ℕ) (n : ObjectName) �
   value_cut v u (reference a n is) pass = reference a n (cut a.number n is (pass a refl))
 
   values_cut : (vs : List Value) (us : List StateValue) → Agree (IsValue name) vs us → ((a : Addr) → IsAmong vs (Ref a) → test a ≡ true) → Agree (IsValue names) vs us
-  values_cut [] [] agree pass = agree
   values_cut (v ∷ vs) (u ∷ us) agree pass = (value_cut v u agree.0 (λ a same. pass a (inl same)), values_cut vs us agree.1 (λ a h. pass a (inr h)))
-  values_cut [] (u ∷ us) agree pass = agree
-  values_cut (v ∷ vs) [] agree pass = agree
+  values_cut _ _ agree pass = agree
 
   object_cut : (o : Option Addr) (n : Option ObjectName) → IsObject name o n → ((a : Addr) → IsListed (option_to_list o) a → test a ≡ true) → IsObject names o n
-  object_cut None None is pass = is
   object_cut (Some a) (Some n) is pass = cut a.number n is (pass a (inl refl))
-  object_cut None (Some n) is pass = is
-  object_cut (Some a) None is pass = is
+  object_cut _ _ is pass = is
 
   module _ (tree : Tree) where
     -- a frame
@@ -207,10 +199,8 @@ module _ (test : Test) (name names : Names) (cut : (a : ℕ) (n : ObjectName) �
         of_value a k = pass a (listed_first (filter_map reference_in (values_of f)) (option_to_list f.constructed) a (values_listed (values_of f) a k))
 
     frame_list_cut : (fs : List Frame) (gs : List StateFrame) → Agree (IsFrame tree name) fs gs → ((f : Frame) → IsAmong fs f → (a : Addr) → IsListed (frame_roots f) a → test a ≡ true) → Agree (IsFrame tree names) fs gs
-    frame_list_cut [] [] agree pass = agree
     frame_list_cut (f ∷ fs) (g ∷ gs) agree pass = (frame_cut f g agree.0 (pass f (inl refl)), frame_list_cut fs gs agree.1 (λ x k. pass x (inr k)))
-    frame_list_cut [] (g ∷ gs) agree pass = agree
-    frame_list_cut (f ∷ fs) [] agree pass = agree
+    frame_list_cut _ _ agree pass = agree
 
     -- those of a thread
     pub thread_cut : (limits : Limits) (m : Frames) (gs : List StateFrame) → AreFrames tree limits name m gs → ((a : Addr) → IsListed (roots m) a → test a ≡ true) → AreFrames tree limits names m gs

@@ -34,14 +34,12 @@ use Rattle.interpreter.proofs.cil_model.Lists.{none_is_some}
 same_end : (tree : Tree) (limits : Limits) (name : Names) (thread_status : ThreadStatus) (frames : List StateFrame) (ended : Option End) → StatusRefines tree limits name thread_status frames ended → end_in thread_status ≡ ended
 same_end tree limits name (Live m) frames None h = refl
 same_end tree limits name (Ended e) frames (Some e') h = ap Some h
-same_end tree limits name (Live m) frames (Some e) h = absurd h
-same_end tree limits name (Ended e) frames None h = absurd h
+same_end tree limits name _ frames _ h = absurd h
 
 ends_agree : (tree : Tree) (limits : Limits) (name : Names) (ts : List Thread) (us : List StateThread) → Agree (IsThread tree limits name) ts us → map end_of ts ≡ map (λ (u : StateThread). u.ended) us
 ends_agree tree limits name [] [] h = refl
 ends_agree tree limits name (t ∷ ts) (u ∷ us) h = ap (λ e. e ∷ map end_of ts) (same_end tree limits name t.thread_status u.frames u.ended h.0.thread_status) ∙ ap (λ es. u.ended ∷ es) (ends_agree tree limits name ts us h.1)
-ends_agree tree limits name [] (u ∷ us) h = absurd h
-ends_agree tree limits name (t ∷ ts) [] h = absurd h
+ends_agree tree limits name _ _ h = absurd h
 
 -- whether a thread of a number is live, and how many are, follows from how the threads have ended
 same_first : (a b : Option End) (xs ys : List (Option End)) → a ∷ xs ≡ b ∷ ys → a ≡ b

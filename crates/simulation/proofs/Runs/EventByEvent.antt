@@ -81,8 +81,7 @@ module _ (tree : Tree) (limits : Limits) (all : List (Event × Report)) (now : S
   runs_following : (xs : List (Event × Report)) (e : Event) (r : Report) (s after t : State) → IsNext tree limits s e r after → run tree limits after (thread_part xs) ≡ RunsTo (step_reports xs) t →
       run tree limits s (thread_part ((e, r) ∷ xs)) ≡ RunsTo (step_reports ((e, r) ∷ xs)) t
   runs_following xs (Step n) r s after t is runs = ap (λ o. followed_by o (λ (u : State). run tree limits u (thread_part xs))) is ∙ ap (preceded_by r) runs
-  runs_following xs (Ack n) r s after t is runs = subst (λ (u : State). run tree limits u (thread_part xs) ≡ RunsTo (step_reports xs) t) is runs
-  runs_following xs Gc r s after t is runs = subst (λ (u : State). run tree limits u (thread_part xs) ≡ RunsTo (step_reports xs) t) is runs
+  runs_following xs _ r s after t is runs = subst (λ (u : State). run tree limits u (thread_part xs) ≡ RunsTo (step_reports xs) t) is runs
 
   -- what holds from event to event holds where the run ends
   module _ (Holds : List (Event × Report) → MachineState → State → Type 0)

@@ -31,19 +31,15 @@ use Rattle.simulation.proofs.Instructions.FrameInstructions.{no_operation_alike,
 use Rattle.simulation.proofs.Instructions.InstanceFields.{load_field_alike, store_field_alike}
 use Rattle.simulation.proofs.Instructions.StaticFields.{load_static_field_alike, store_static_field_alike}
 use Rattle.simulation.proofs.Instructions.ArraysAndLengths.{new_array_alike, load_length_alike}
-use Rattle.simulation.proofs.Instructions.ArrayElements.{load_element_int32_alike, load_element_int64_alike, load_element_reference_alike, store_element_int32_alike, store_element_int64_alike}
+use Rattle.simulation.proofs.Instructions.ArrayElements.{load_element_int32_alike, load_element_int64_alike, load_element_reference_alike, store_element_int32_alike, store_element_int64_alike, store_element_reference_alike}
 use Rattle.simulation.proofs.Instructions.Casts.{cast_class_alike, is_instance_alike}
-use Rattle.simulation.proofs.Instructions.ReferenceElementStores.{store_element_reference_alike}
-use Rattle.simulation.proofs.Instructions.Calls.MethodExecution.{methods_run_alike}
-use Rattle.simulation.proofs.Instructions.Calls.DirectCalls.{call_alike}
-use Rattle.simulation.proofs.Instructions.Calls.Returns.{return_alike}
-use Rattle.simulation.proofs.Instructions.Calls.VirtualCalls.{call_virtual_alike}
+use Rattle.simulation.proofs.Instructions.Calls.MethodExecution.{methods_run_alike, return_alike}
+use Rattle.simulation.proofs.Instructions.Calls.MethodCalls.{call_alike, call_virtual_alike}
 use Rattle.simulation.proofs.Instructions.NewObjects.{new_object_alike}
 use Rattle.simulation.specs.Ready.{IsReady, IsAnswerable}
 use Rattle.simulation.proofs.Representation.InitialContents.{initial_represents}
-use Rattle.simulation.proofs.Threads.Steps.{thread_ready, answerable, step_follows}
+use Rattle.simulation.proofs.Threads.Steps.{thread_ready, answerable, step_follows, refused_beyond_room}
 use Rattle.simulation.specs.Rooms.{HasNoRoom}
-use Rattle.simulation.proofs.Threads.RefusedSteps.{refused_beyond_room}
 
 module _ (here : Setting) (model : MemoryModel here.tree) (name : Names) (m : Frames) (o : Objects) (statics : List Value) (printed : List ℕ) (s : State) (f : StateFrame) (below : List StateFrame) where
   -- by what runs for the instruction

@@ -11,7 +11,7 @@ use Rattle.interpreter.specs.cil_model.declared.limits.TheConstants.{MOST_THREAD
 use Rattle.interpreter.specs.cil_model.declared.phases.Phase.{Phase}
 use Rattle.interpreter.specs.cil_model.declared.phases.Phase.TheVariants.{Idle}
 use Rattle.interpreter.specs.cil_model.declared.reports.Report.{Report}
-use Rattle.interpreter.specs.cil_model.declared.reports.Report.TheVariants.{Ran, Blocked, Ended as HasEnded, Absent, Acked, NothingPosted, Worked, Waiting, CycleDone}
+use Rattle.interpreter.specs.cil_model.declared.reports.Report.TheVariants.{Ended as HasEnded}
 use Rattle.interpreter.specs.cil_model.declared.trees.Code.{Code}
 use Rattle.interpreter.specs.cil_model.declared.trees.Method.{Method}
 use Rattle.interpreter.specs.cil_model.declared.trees.Tree.{Tree}
@@ -37,7 +37,7 @@ use Rattle.simulation.specs.Runs.{AreSteps, IsRunOf, RefusesBeyondRoom}
 use Rattle.simulation.specs.Refines.{Represents}
 use Rattle.simulation.specs.Transitions.{IsTransition, machine_state_at, left_by, initial_machine_state, seats_after}
 use Rattle.simulation.proofs.Instructions.Correspondence.{InstructionsAreAlike}
-use Rattle.simulation.proofs.CollectedHeap.ReportedRoom.{room_seen}
+use Rattle.simulation.proofs.CollectedHeap.MemoryWithRoom.{room_seen}
 use Rattle.simulation.proofs.Threads.StepEffects.{HasBegun, IsFinished, finished_by, same_program, step_by}
 use Rattle.simulation.proofs.Representation.InitialContents.{initial_represents}
 use Rattle.simulation.proofs.Threads.Steps.{step_follows}
@@ -63,14 +63,7 @@ between_set h n o new are t s is = by_index (set_or_was h.seats n t o (Some s) (
 -- a thread that ends leaves, and with any other report the seats stay
 between_after : (h : Handshakes) (t : ℕ) (r : Report) → AreBetween h → AreBetween (seats_after h t r)
 between_after h t (HasEnded e) are = between_set h t None (λ s is. none_is_some s is) are
-between_after h t Ran are = are
-between_after h t Blocked are = are
-between_after h t Absent are = are
-between_after h t Acked are = are
-between_after h t NothingPosted are = are
-between_after h t Worked are = are
-between_after h t Waiting are = are
-between_after h t CycleDone are = are
+between_after h t _ are = are
 
 -- so does each step leave them
 between_stepped : (c : MachineState) (t : ℕ) (after : MachineState × Report) → IsTransition c (Step t) after → AreBetween c.posts → AreBetween after.0.posts
@@ -152,10 +145,8 @@ module _ (each : InstructionsAreAlike) where
   -- ---- runs
 
   one_space : (events : List Event) (reports : List Report) → AreSteps events → (c : MachineState) (s : State) (last : MachineState) → HasWhole c s → RefusesBeyondRoom c s (zip events reports) last → RefusesBeyondOneSpace c.tree c.limits s (thread_part (zip events reports))
-  one_space [] reports steps c s last h run = tt
   one_space (Ack t ∷ es) reports steps c s last h run = absurd steps
   one_space (Gc ∷ es) reports steps c s last h run = absurd steps
-  one_space (Step t ∷ es) [] steps c s last h run = tt
   one_space (Step t ∷ es) (r ∷ rs) steps c s last h (next, transition, refused, later) =
       let after = whole_stepped c s h t (next, r) transition in
       let same = same_program c (next, r) (Step t) transition in (
@@ -166,6 +157,7 @@ module _ (each : InstructionsAreAlike) where
             subst (λ (u : State). RefusesBeyondOneSpace c.tree c.limits u (thread_part (zip es rs))) one
             (subst (λ (l : Limits). RefusesBeyondOneSpace c.tree l after.0 (thread_part (zip es rs))) same.1 (subst (λ (u : Tree). RefusesBeyondOneSpace u next.limits after.0 (thread_part (zip es rs))) same.0 rest)),
       )
+  one_space _ _ steps c s last h run = tt
 
 -- ---- the initial state
 
@@ -181,9 +173,8 @@ module _ (tree : Tree) (limits : Limits) where
   first_between t s is = by_seat t is
     where
       none_after : (n k : ℕ) → option_and_then (λ (x : Option Seat). x) (slice_get (replicate n None) k) ≡ Some s → s.phase ≡ Idle
-      none_after zero k e = none_is_some s e
-      none_after (suc n) zero e = none_is_some s e
       none_after (suc n) (suc k) e = none_after n k e
+      none_after _ _ e = none_is_some s e
 
       by_seat : (k : ℕ) → seat_of first_handshakes k ≡ Some s → s.phase ≡ Idle
       by_seat zero e = sym (ap (λ (x : Seat). x.phase) (same_Some first_seat s e))

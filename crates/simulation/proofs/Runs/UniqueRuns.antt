@@ -3,7 +3,7 @@ use Rattle.std.proofs.Common.{◌≡◌, ℕ, List, [], ◌∷◌, Some, length,
 use Rattle.std.specs.List.{zip}
 use Rattle.std.proofs.lemmas.Option.{same_Some}
 use Rattle.interpreter.specs.cil_model.declared.events.Event.{Event}
-use Rattle.interpreter.specs.cil_model.declared.events.Event.TheVariants.{Step, Ack, Gc}
+use Rattle.interpreter.specs.cil_model.declared.events.Event.TheVariants.{Step}
 use Rattle.interpreter.specs.cil_model.declared.instructions.Instruction.{Instruction}
 use Rattle.interpreter.specs.cil_model.declared.limits.Limits.{Limits}
 use Rattle.interpreter.specs.cil_model.declared.reports.Report.{Report}
@@ -71,8 +71,7 @@ module _ (tree : Tree) (limits : Limits) (one : (lines : List Line) (i : Instruc
       let answers : step tree limits s n (is_refusal r) ≡ Answers r x.after = x.answers ∙ ap (λ q. Answers q x.after) (sym reports) in
       let here : step c.tree c.limits s n (is_refusal r) ≡ Answers r x.after = ap (λ (u : Tree). step u c.limits s n (is_refusal r)) of.0 ∙ (ap (λ (l : Limits). step tree l s n (is_refusal r)) of.1 ∙ answers) in
       record { after = x.after; is_next = answers; later = record { runs = x.runs ∙ ap (λ l. RunsTo l t) (sym rest); last = h.last; refuses = h.refuses.3 x.after here } }
-  follows c s (Ack n) r events t of h = record { after = s; is_next = refl; later = record { runs = h.runs; last = h.last; refuses = h.refuses.3 s refl } }
-  follows c s Gc r events t of h = record { after = s; is_next = refl; later = record { runs = h.runs; last = h.last; refuses = h.refuses.3 s refl } }
+  follows c s _ r events t of h = record { after = s; is_next = refl; later = record { runs = h.runs; last = h.last; refuses = h.refuses.3 s refl } }
 
   -- after the same event with the same report the state is the same
   next_once : (s : State) (e : Event) (r r' : Report) (t u : State) → r ≡ r' → IsNext tree limits s e r t → IsNext tree limits s e r' u → t ≡ u
@@ -80,8 +79,7 @@ module _ (tree : Tree) (limits : Limits) (one : (lines : List Line) (i : Instruc
     where
       same_after : (r q : Report) (s t : State) → Answers r s ≡ Answers q t → s ≡ t
       same_after r q s t e = cc
-  next_once s (Ack n) r r' t u same h k = h ∙ sym k
-  next_once s Gc r r' t u same h k = h ∙ sym k
+  next_once s _ r r' t u same h k = h ∙ sym k
 
   one_from : (events : List Event) (reports reports' : List Report) → length reports ≡ length events → length reports' ≡ length events → (c : MachineState) (s t t' : State) → IsOf c
       → ResultsIn c s (zip events reports) t → ResultsIn c s (zip events reports') t' → (reports ≡ reports') × (t ≡ t')

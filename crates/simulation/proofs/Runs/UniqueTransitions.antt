@@ -2,7 +2,7 @@
 use Rattle.std.proofs.Common.{◌≡◌, List, Some, None, Option, slice_get, ℕ, sym, ap, ◌∙◌, subst}
 use Rattle.std.proofs.lemmas.Option.{same_Some}
 use Rattle.interpreter.specs.cil_model.declared.events.Event.{Event}
-use Rattle.interpreter.specs.cil_model.declared.events.Event.TheVariants.{Step, Ack, Gc}
+use Rattle.interpreter.specs.cil_model.declared.events.Event.TheVariants.{Step}
 use Rattle.interpreter.specs.cil_model.declared.instructions.Instruction.{Instruction}
 use Rattle.interpreter.specs.cil_model.declared.reports.Report.{Report}
 use Rattle.interpreter.specs.cil_model.declared.trees.Line.{Line}
@@ -48,5 +48,4 @@ module _ (c : MachineState) (one : (lines : List Line) (i : Instruction) (o p : 
 
   pub one_transition : (event : Event) (x y : MachineState × Report) → IsTransition c event x → IsTransition c event y → x ≡ y
   one_transition (Step t) x y h k = thread_once t (slice_get c.threads t) x y h k
-  one_transition (Ack t) x y h k = h ∙ sym k
-  one_transition Gc x y h k = h ∙ sym k
+  one_transition _ x y h k = h ∙ sym k

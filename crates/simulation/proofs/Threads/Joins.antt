@@ -33,10 +33,9 @@ use Rattle.simulation.proofs.Threads.LiveThreads.{own_model, own_names}
 
 module _ (c : MachineState) (s : State) (r : Represents c s) where
   status_lives : (thread_status : ThreadStatus) (fs : List StateFrame) (e : Option End) → StatusRefines c.tree c.limits r.refines.name thread_status fs e → is_none (end_in thread_status) ≡ is_none e
-  status_lives (Live m) fs None h = refl
-  status_lives (Ended e) fs (Some e') h = refl
   status_lives (Live m) fs (Some e') h = elim h [ ]
   status_lives (Ended e) fs None h = elim h [ ]
+  status_lives _ fs _ h = refl
 
   -- the same on both
   pub lives_alike : (k : ℕ) → is_live_at c.threads k ≡ is_live s k

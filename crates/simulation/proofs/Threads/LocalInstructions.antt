@@ -24,9 +24,8 @@ use Rattle.interpreter.proofs.cil_model.Lists.{set_is_there, set_itself}
 
 -- one index set twice
 pub set_twice : {X : Type 0} (xs : List X) (n : ℕ) (x y : X) → slice_set (slice_set xs n x) n y ≡ slice_set xs n y
-set_twice [] n x y = refl
-set_twice (z ∷ zs) zero x y = refl
 set_twice (z ∷ zs) (suc n) x y = ap (λ l. z ∷ l) (set_twice zs n x y)
+set_twice _ _ x y = refl
 
 -- a step after which the thread continues, with another step left after it
 step_charged_goes : (left : ℕ) (m : Frames) → 1 < left → charge Continues (live_thread left m) ≡ (live_thread (left - 1) m, Ran)

@@ -1,5 +1,5 @@
 -- An event that is neither a step nor an acknowledgement of a thread leaves that thread as it is.
-use Rattle.std.proofs.Common.{◌≡◌, ◌≢◌, ◌⊎◌, length, if◌then◌else◌, ℕ, zero, suc, Bool, true, false, List, [], ◌∷◌, Option, Some, None, slice_get, slice_set, refl, inl, inr, sym, ap, ◌∙◌, subst}
+use Rattle.std.proofs.Common.{◌≡◌, ◌≢◌, ◌⊎◌, length, if◌then◌else◌, ℕ, Bool, true, List, [], ◌∷◌, Option, Some, None, slice_get, inl, inr, sym, ap, ◌∙◌, subst}
 use Rattle.interpreter.specs.cil_model.declared.events.Event.{Event}
 use Rattle.interpreter.specs.cil_model.declared.events.Event.TheVariants.{Step, Ack, Gc}
 use Rattle.interpreter.specs.cil_model.declared.reports.Report.{Report}
@@ -15,15 +15,8 @@ use Rattle.simulation.specs.MachineStates.{MachineState}
 use Rattle.simulation.specs.Transitions.{IsStatusTransition, IsThreadTransition, IsTransition, finish_step, left_by, live_thread}
 use Rattle.simulation.proofs.CollectorEvents.UnchangedState.{collected_keeps}
 use Rattle.simulation.proofs.Threads.StepEffects.{HasBegun, finished_by}
-use Rattle.interpreter.proofs.cil_model.Lists.{get_before, none_is_some}
-
--- what is at one index stays where another one is set
-pub set_other : {X : Type 0} (xs : List X) (n m : ℕ) (y x : X) → n ≢ m → slice_get xs m ≡ Some x → slice_get (slice_set xs n y) m ≡ Some x
-set_other [] n m y x apart e = none_is_some x e
-set_other (z ∷ zs) zero zero y x apart e = absurd (apart refl)
-set_other (z ∷ zs) zero (suc m) y x apart e = e
-set_other (z ∷ zs) (suc n) zero y x apart e = e
-set_other (z ∷ zs) (suc n) (suc m) y x apart e = set_other zs n m y x (λ same. apart (ap suc same)) e
+use Rattle.interpreter.proofs.cil_model.Lists.{get_before}
+use Rattle.simulation.proofs.Threads.Seats.{set_other}
 
 module _ (c : MachineState) (after : MachineState × Report) (t : ℕ) (x : Thread) (there : slice_get c.threads t ≡ Some x) where
   abbrev Stays : MachineState × Report → Type 0
@@ -33,9 +26,9 @@ module _ (c : MachineState) (after : MachineState × Report) (t : ℕ) (x : Thre
   stepped : (n left : ℕ) (a : Answer) (o : InstructionOutcome) → n ≢ t → finish_step c n left a o ≡ Some after → Stays after
   stepped n left a o apart is =
       let way = finished_by c n left a after o is in
-      let left_there : slice_get (left_by c n left a).threads t ≡ Some x = set_other c.threads n t (live_thread left a.frames) x apart there in
+      let left_there : slice_get (left_by c n left a).threads t ≡ Some x = set_other c.threads n t (live_thread left a.frames) (λ same. apart (sym same)) ∙ there in
       let beside : slice_get way.threads t ≡ Some x = by_way way.threads way.posts left_there way.are in
-      subst Stays way.is (set_other way.threads n t (charge way.effect (live_thread left way.frames)).0 x apart beside)
+      subst Stays way.is (set_other way.threads n t (charge way.effect (live_thread left way.frames)).0 (λ same. apart (sym same)) ∙ beside)
     where
       by_way : (threads : List Thread) (posts : Handshakes) → slice_get (left_by c n left a).threads t ≡ Some x
           → ((threads ≡ (left_by c n left a).threads) × (posts ≡ c.posts)) ⊎ (HasBegun c.limits.budget (left_by c n left a).threads threads × (posts ≡ join_thread c.posts (length (left_by c n left a).threads) n)) → slice_get threads t ≡ Some x
@@ -43,9 +36,8 @@ module _ (c : MachineState) (after : MachineState × Report) (t : ℕ) (x : Thre
       by_way threads posts e (inr (more, seats)) = ap (λ (l : List Thread). slice_get l t) more.are ∙ get_before (left_by c n left a).threads (more.new ∷ []) t x e
 
   flipped : (n : ℕ) → n ≢ t → (b : Bool) (o : Option Thread) → slice_get (if b then with_flipped c.objects c.threads n o else c.threads) t ≡ Some x
-  flipped n apart false o = there
-  flipped n apart true None = there
-  flipped n apart true (Some y) = set_other c.threads n t (thread_flipped c.objects y) x apart there
+  flipped n apart true (Some y) = set_other c.threads n t (thread_flipped c.objects y) (λ same. apart (sym same)) ∙ there
+  flipped n apart _ _ = there
 
   by_thread_status : (n left : ℕ) → n ≢ t → (thread_status : ThreadStatus) → IsStatusTransition c n left thread_status after → Stays after
   by_thread_status n left apart (Live m) k = stepped n left k.0 k.0.outcome apart k.2

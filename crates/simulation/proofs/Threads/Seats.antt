@@ -1,36 +1,76 @@
+-- Which seat each thread has once the seat of one is changed.
 -- What the end of a thread, the start of another and an acknowledgement leave of the seats of threads.
-use Rattle.std.proofs.Common.{◌≡◌, ◌⊎◌, ◌<◌, ◌-◌, ◌∙◌, ℕ, zero, suc, true, false, List, [], ◌∷◌, ◌++◌, length, replicate, get_or, Option, Some, None, option_and_then, slice_get, slice_set, refl, inl, inr, sym, ap, arith}
+use Rattle.std.proofs.Common.{◌≡◌, ◌⊎◌, ◌==◌, ℕ, zero, suc, Bool, true, false, List, ◌∷◌, Option, Some, option_and_then, slice_get, slice_set, refl, inl, inr, sym, ap, ◌∙◌, ◌<◌, ◌-◌, [], ◌++◌, length, replicate, get_or, None, arith}
+use Rattle.std.proofs.lemmas.Bool.{eqb-true, eq-eqb}
+use Rattle.std.proofs.lemmas.Option.{same_Some, slice_get-get_or}
+use Rattle.interpreter.proofs.cil_model.Lists.{set_is_there, last_is_there, none_is_some, set_or_was}
+use Rattle.interpreter.proofs.cil_model.SameLaws.{never}
+use Rattle.collector.specs.phase_handshake.Handshakes.{Handshakes, seat_of, first_handshakes, first_seat, join_thread, leave_handshakes as without_seat}
+use Rattle.collector.specs.phase_handshake.declared.posts.Seat.{Seat}
+use Rattle.collector.proofs.phase_handshake.Closeness.{seat_there, joined_close, left_close}
 use Rattle.std.specs.Prelude.{is_some}
 use Rattle.std.specs.Option.{option_map_or}
 use Rattle.std.proofs.lemmas.List.{length-replicate}
-use Rattle.std.proofs.lemmas.Option.{same_Some, slice_get-get_or}
 use Rattle.interpreter.specs.cil_model.declared.limits.TheConstants.{MOST_THREADS}
-use Rattle.interpreter.proofs.cil_model.Lists.{last_is_there, none_is_some, set_is_there, set_or_was}
-use Rattle.interpreter.proofs.cil_model.SameLaws.{never}
-use Rattle.collector.specs.phase_handshake.Handshakes.{Handshakes, first_handshakes, first_seat, join_thread, leave_handshakes as without_seat, seat_of}
-use Rattle.collector.proofs.phase_handshake.Closeness.{joined_close, left_close, seat_there}
-use Rattle.collector.specs.phase_handshake.declared.posts.Seat.{Seat}
 use Rattle.interpreter.specs.cil_model.declared.reports.End.{End}
 use Rattle.interpreter.specs.threads_monitors.Frames.{Frames}
 use Rattle.interpreter.specs.threads_monitors.Threads.{end_after, is_live, is_live_at, report_of, charge, status_after}
 use Rattle.interpreter.specs.threads_monitors.declared.effects.Effect.{Effect}
-use Rattle.interpreter.specs.threads_monitors.declared.effects.Effect.TheVariants.{Continues, Returns, Blocks, Raises}
+use Rattle.interpreter.specs.threads_monitors.declared.effects.Effect.TheVariants.{Continues}
 use Rattle.interpreter.specs.threads_monitors.declared.threads.ThreadStatus.TheVariants.{Live, Ended}
 use Rattle.interpreter.specs.threads_monitors.declared.threads.Thread.{Thread}
 use Rattle.interpreter.specs.cil_model.declared.reports.Report.{Report}
 use Rattle.interpreter.specs.cil_model.declared.reports.Report.TheVariants.{Ended as HasEnded}
 use Rattle.simulation.specs.Sound.{AreSeated}
-use Rattle.simulation.proofs.Threads.ChangedSeats.{same_or_other, set_other}
 use Rattle.simulation.specs.Transitions.{live_thread, seats_after}
+
+-- ---- indices of lists
+
+-- two indices are one, or they differ
+pub same_or_other : (n t : ℕ) → (n ≡ t) ⊎ (n ≡ t → ⊥)
+same_or_other n t = by_test (n == t) refl
+  where
+    by_test : (b : Bool) → (n == t) ≡ b → (n ≡ t) ⊎ (n ≡ t → ⊥)
+    by_test true e = inl (eqb-true n t e)
+    by_test false e = inr (λ k. never (sym e ∙ eq-eqb n t k))
+
+-- a change leaves every other item
+pub set_other : {X : Type 0} (xs : List X) (t n : ℕ) (x : X) → (n ≡ t → ⊥) → slice_get (slice_set xs t x) n ≡ slice_get xs n
+set_other (y ∷ ys) zero zero x other = absurd (other refl)
+set_other (y ∷ ys) (suc t) (suc n) x other = set_other ys t n x (λ e. other (ap suc e))
+set_other _ _ _ x other = refl
+
+-- ---- seats
+
+-- the seat at another index is as it was
+pub other_seat : (h : Handshakes) (t n : ℕ) (o : Option Seat) → (n ≡ t → ⊥) → seat_of (record h { seats = slice_set h.seats t o }) n ≡ seat_of h n
+other_seat h t n o other = ap (option_and_then (λ (x : Option Seat). x)) (set_other h.seats t n o other)
+
+module _ (h : Handshakes) (t : ℕ) (next : Seat) where
+  abbrev after : Handshakes
+  after = record h { seats = slice_set h.seats t (Some next) }
+
+  -- a seat that was there is the new one
+  pub own_seat : (s : Seat) → seat_of h t ≡ Some s → seat_of after t ≡ Some next
+  own_seat s is = ap (option_and_then (λ (x : Option Seat). x)) (set_is_there h.seats t (Some next) (Some s) (seat_there h t s is))
+
+  -- so each seat is the new one or as it was
+  pub seat_cases : (s : Seat) → seat_of h t ≡ Some s → (n : ℕ) (x : Seat) → seat_of after n ≡ Some x → ((n ≡ t) × (x ≡ next)) ⊎ ((n ≡ t → ⊥) × (seat_of h n ≡ Some x))
+  seat_cases s here n x is = by_index (same_or_other n t)
+    where
+      by_index : (n ≡ t) ⊎ (n ≡ t → ⊥) → ((n ≡ t) × (x ≡ next)) ⊎ ((n ≡ t → ⊥) × (seat_of h n ≡ Some x))
+      by_index (inl same) = inl (same, same_Some x next (sym is ∙ ap (seat_of after) same ∙ own_seat s here))
+      by_index (inr other) = inr (other, sym (other_seat h t n (Some next) other) ∙ is)
+
+-- ---- What the end of a thread, the start of another and an acknowledgement leave of the seats of threads.
 
 -- ---- indices of lists
 
 -- one item more at the end leaves every other item
 pub append_other : {X : Type 0} (xs : List X) (n : ℕ) (x : X) → (n ≡ length xs → ⊥) → slice_get (xs ++ x ∷ []) n ≡ slice_get xs n
 append_other [] zero x other = absurd (other refl)
-append_other [] (suc n) x other = refl
-append_other (y ∷ ys) zero x other = refl
 append_other (y ∷ ys) (suc n) x other = append_other ys n x (λ e. other (ap suc e))
+append_other _ _ x other = refl
 
 -- ---- live threads
 
@@ -38,9 +78,8 @@ append_other (y ∷ ys) (suc n) x other = append_other ys n x (λ e. other (ap s
 pub live_set : (xs : List Thread) (t n : ℕ) (x : Thread) → is_live x ≡ true → is_live_at xs t ≡ true → is_live_at (slice_set xs t x) n ≡ is_live_at xs n
 live_set [] t n x lives there = never there
 live_set (y ∷ ys) zero zero x lives there = lives ∙ sym there
-live_set (y ∷ ys) zero (suc n) x lives there = refl
-live_set (y ∷ ys) (suc t) zero x lives there = refl
 live_set (y ∷ ys) (suc t) (suc n) x lives there = live_set ys t n x lives there
+live_set _ _ _ x lives there = refl
 
 -- a live one is so beside one more
 pub live_more : (xs : List Thread) (t : ℕ) (x : Thread) → is_live_at xs t ≡ true → is_live_at (xs ++ x ∷ []) t ≡ true
@@ -61,21 +100,15 @@ live_get xs ys n e = ap (λ o. option_map_or is_live o false) e
 
 -- indices without seats
 empty_indices : (m n : ℕ) → option_and_then (λ (x : Option Seat). x) (slice_get (replicate m None) n) ≡ None
-empty_indices zero n = refl
-empty_indices (suc m) zero = refl
 empty_indices (suc m) (suc n) = empty_indices m n
+empty_indices _ _ = refl
 
 -- ---- another seat
 
 -- an index without a seat
 emptied : (seats : List (Option Seat)) (t : ℕ) → option_and_then (λ (x : Option Seat). x) (slice_get (slice_set seats t None) t) ≡ None
-emptied [] t = refl
-emptied (x ∷ xs) zero = refl
 emptied (x ∷ xs) (suc t) = emptied xs t
-
--- the seat at another index is as it was
-pub other_seat : (h : Handshakes) (t n : ℕ) (o : Option Seat) → (n ≡ t → ⊥) → seat_of (record h { seats = slice_set h.seats t o }) n ≡ seat_of h n
-other_seat h t n o other = ap (option_and_then (λ (x : Option Seat). x)) (set_other h.seats t n o other)
+emptied _ _ = refl
 
 -- a seat that is there once one is set is that one, or was there
 pub set_seat : (h : Handshakes) (t n : ℕ) (o : Option Seat) (s : Seat) → seat_of (record h { seats = slice_set h.seats t o }) n ≡ Some s → (o ≡ Some s) ⊎ (seat_of h n ≡ Some s)
@@ -114,9 +147,7 @@ module _ (h : Handshakes) (threads : List Thread) (fit : AreSeated h threads) wh
     where
       by_effect : (e : Effect) (x : Thread) → is_live x ≡ true → AreSeated (seats_after h t (report_of e)) (slice_set threads t x)
       by_effect Continues x lives = live_fits t x lives there
-      by_effect Returns x lives = live_fits t x lives there
-      by_effect Blocks x lives = live_fits t x lives there
-      by_effect (Raises f) x lives = live_fits t x lives there
+      by_effect _ x lives = live_fits t x lives there
 
       by_end : (o : Option End) → AreSeated (seats_after h t (status_after o m (leave_handshakes - 1) effect).1) (slice_set threads t (status_after o m (leave_handshakes - 1) effect).0)
       by_end None = by_effect effect (record { thread_status = Live m; steps_left = leave_handshakes - 1 }) refl

@@ -218,9 +218,8 @@ acknowledged_threads : (c : MachineState) (t : ℕ) → length (threads_after c 
 acknowledged_threads c t = by_flip (flips_frames c t) (slice_get c.threads t)
   where
     by_flip : (b : Bool) (o : Option Thread) → length (if b then with_flipped c.objects c.threads t o else c.threads) ≡ length c.threads
-    by_flip false o = refl
-    by_flip true None = refl
     by_flip true (Some x) = length-set c.threads t (thread_flipped c.objects x)
+    by_flip _ _ = refl
 
 module _ (c : MachineState) (after : MachineState × Report) where
   -- what holds where nothing changes, and after each step of a live thread

@@ -2,7 +2,7 @@
 use Rattle.std.proofs.Common.{◌≡◌, ◌⊎◌, inl, inr, ℕ, length, refl, ap, ◌∙◌, subst}
 use Rattle.interpreter.specs.cil_model.declared.events.Event.TheVariants.{Step}
 use Rattle.interpreter.specs.cil_model.declared.reports.Report.{Report}
-use Rattle.interpreter.specs.cil_model.declared.reports.Report.TheVariants.{Ran, Blocked, Ended as HasEnded, Absent, Acked, NothingPosted, Worked, Waiting, CycleDone}
+use Rattle.interpreter.specs.cil_model.declared.reports.Report.TheVariants.{Ended as HasEnded}
 use Rattle.interpreter.specs.Instructions.{Answer}
 use Rattle.collector.specs.phase_handshake.Handshakes.{Handshakes, join_thread}
 use Rattle.simulation.specs.MachineStates.{MachineState}
@@ -17,14 +17,7 @@ pub record KeepsPosts (h k : Handshakes) : Type 0 where
 -- a thread that ends leaves, and with any other report the seats stay
 seats_keep : (h : Handshakes) (t : ℕ) (r : Report) → KeepsPosts h (seats_after h t r)
 seats_keep h t (HasEnded e) = record { posted_phase = refl; round = refl }
-seats_keep h t Ran = record { posted_phase = refl; round = refl }
-seats_keep h t Blocked = record { posted_phase = refl; round = refl }
-seats_keep h t Absent = record { posted_phase = refl; round = refl }
-seats_keep h t Acked = record { posted_phase = refl; round = refl }
-seats_keep h t NothingPosted = record { posted_phase = refl; round = refl }
-seats_keep h t Worked = record { posted_phase = refl; round = refl }
-seats_keep h t Waiting = record { posted_phase = refl; round = refl }
-seats_keep h t CycleDone = record { posted_phase = refl; round = refl }
+seats_keep h t _ = record { posted_phase = refl; round = refl }
 
 keeps_then : {h k l : Handshakes} → KeepsPosts h k → KeepsPosts k l → KeepsPosts h l
 keeps_then f g = record { posted_phase = g.posted_phase ∙ f.posted_phase; round = g.round ∙ f.round }
