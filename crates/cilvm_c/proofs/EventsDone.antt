@@ -6,7 +6,7 @@ use Rattle.std.proofs.lemmas.Option.{get_or_from_slice_get, slice_get-get_or, sl
 use Rattle.std.proofs.Math.Seq.{take-append-add}
 use Rattle.cil_model.specs.declared.events.Event.{Event}
 use Rattle.cil_model.specs.declared.events.Event.TheVariants.{Step}
-use Rattle.cil_model.specs.declared.reports.End.TheVariants.{Done as DoneOf, Budget as BudgetOf, Fault as FaultOf}
+use Rattle.cil_model.specs.declared.reports.End.TheVariants.{Fault as FaultOf}
 use Rattle.cil_model.specs.declared.reports.Fault.{Fault}
 use Rattle.cil_model.specs.declared.reports.Report.{Report}
 use Rattle.cil_model.specs.declared.reports.Report.TheVariants as reports
@@ -34,31 +34,13 @@ fault_is_no_run f = grind (arith)
 
 -- that of a report says that the event was done
 report_is_done : (r : Report) → is_not_done (number_of (report_code r)) ≡ false
-report_is_done reports.Ran = refl
-report_is_done reports.Blocked = refl
-report_is_done (reports.Ended DoneOf) = refl
-report_is_done (reports.Ended BudgetOf) = refl
 report_is_done (reports.Ended (FaultOf fault)) = fault_is_done fault
-report_is_done reports.Absent = refl
-report_is_done reports.Acked = refl
-report_is_done reports.NothingPosted = refl
-report_is_done reports.Worked = refl
-report_is_done reports.Waiting = refl
-report_is_done reports.CycleDone = refl
+report_is_done r = refl
 
 -- and whether it is a step that ran
 report_ran : (r : Report) → is_ran (number_of (report_code r)) ≡ has_ran r
-report_ran reports.Ran = refl
-report_ran reports.Blocked = refl
-report_ran (reports.Ended DoneOf) = refl
-report_ran (reports.Ended BudgetOf) = refl
 report_ran (reports.Ended (FaultOf fault)) = fault_is_no_run fault
-report_ran reports.Absent = refl
-report_ran reports.Acked = refl
-report_ran reports.NothingPosted = refl
-report_ran reports.Worked = refl
-report_ran reports.Waiting = refl
-report_ran reports.CycleDone = refl
+report_ran r = refl
 
 module _ (c now : MachineState) (most : ℕ) (e : Event) (n : ℕ) where
   pub act_done : (acts : ActsBy c most e n now) → is_not_done n ≡ false → IsDone c most e acts.0 now
@@ -131,9 +113,6 @@ steps_all c now printed t most n all h =
 
 abbrev pub HasTurned : MachineState → List Event → MachineState → Type 0
 HasTurned c events after = (rs : List Report) × AreTransitions c events after rs
-
-pub turned_none : (c : MachineState) → HasTurned c [] c
-turned_none c = ([], (refl, refl))
 
 pub turned_more : (c d now : MachineState) (es : List Event) (e : Event) (r : Report) → HasTurned c es d → IsTransition d e (now, r) → HasTurned c (es ++ e ∷ []) now
 turned_more c d now es e r h transition = (h.0 ++ r ∷ [], transitions_more c d now es h.0 e r h.1 transition)

@@ -1,2 +1,5 @@
 mod EventsDone
+mod Loans
+mod Names
 mod SessionLaws
+mod Walks

@@ -1,4 +1,4 @@
-//! The calls of a host. Each one that is given a session has a function of the same name below it, which does the work on the session itself.
+//! The calls of a host. Each one that is given a session calls a safe function of the same name, which does the work on the session itself.
 
 ghost use Rattle.std.specs.Prelude.{◌≡◌};
 ghost use types.Logic.{sem};
@@ -102,12 +102,6 @@ pub unsafe extern "C" fn cilvm_step(at: *mut u8, thread: u8) -> u32
     step(&mut *session, thread)
 }
 
-fn steps(session: &mut Session, thread: u8, most: u32, done: &mut u32) -> u32
-    ensures { HasStepped thread session.old most done.new result session.new }
-{
-    session.steps(thread, most, done)
-}
-
 /// Has a thread make steps until one does not report that it ran, at most `most`, and returns the last code. `done` says how many were made.
 #[unsafe(no_mangle)]
 pub unsafe extern "C" fn cilvm_steps(at: *mut u8, thread: u8, most: u32, done: &mut u32) -> u32
@@ -116,7 +110,7 @@ pub unsafe extern "C" fn cilvm_steps(at: *mut u8, thread: u8, most: u32, done: &
     ensures* { sem 𝓛 (such_is_held row.the_row at (HasStepped thread held most done.new result)) }
 {
     let session: *mut Session = at.cast();
-    steps(&mut *session, thread, most, done)
+    (*session).steps(thread, most, done)
 }
 
 fn ack(session: &mut Session, thread: u8) -> u32
@@ -153,12 +147,6 @@ pub unsafe extern "C" fn cilvm_gc(at: *mut u8) -> u32
     gc(&mut *session)
 }
 
-fn run(session: &mut Session, text: &[u8], done: &mut u64) -> u32
-    ensures { HasRunText text.now session.old done.new result session.new }
-{
-    session.run(text, done)
-}
-
 /// Does the events of a schedule's text, and returns 0, or why it stopped. `done` says how many were done: none where the text is refused.
 #[unsafe(no_mangle)]
 pub unsafe extern "C" fn cilvm_run(at: *mut u8, text: &[u8], done: &mut u64) -> u32
@@ -167,7 +155,7 @@ pub unsafe extern "C" fn cilvm_run(at: *mut u8, text: &[u8], done: &mut u64) -> 
     ensures* { sem 𝓛 (such_is_held row.the_row at (HasRunText text.now held done.new result)) }
 {
     let session: *mut Session = at.cast();
-    run(&mut *session, text, done)
+    (*session).run(text, done)
 }
 
 fn read(session: &mut Session, from: usize, to: &mut [u8]) -> usize

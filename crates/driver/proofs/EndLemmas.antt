@@ -1,16 +1,6 @@
 -- What a run shows: what its machine shows, and what explains how threads ended.
 use Rattle.std.proofs.Common.{◌++◌, ℕ, Bool, List, append_assoc, inr, map, refl, subst}
-use Rattle.std.specs.List.{zip}
-use Rattle.cil_model.specs.declared.events.Event.{Event}
-use Rattle.cil_model.specs.declared.limits.Limits.{Limits}
-use Rattle.cil_model.specs.declared.reports.Report.{Report}
-use Rattle.outputs.specs.Taken.{Fails, Taken, Takes}
-use Rattle.outputs.proofs.TakenLaws.{fails_second, takes_both}
-use Rattle.source_runs.specs.simulation.MachineStates.{MachineState}
-use Rattle.source_runs.specs.simulation.threads_monitors.Threads.{end_of}
-use Rattle.driver.specs.Outcomes.{IsEndText, IsMachineShown, IsMachineShownInPart, IsRunShown, IsRunShownInPart}
-use Rattle.driver.specs.Outputs.{OutputState}
-use Rattle.driver.specs.Threads.{lines_from}
+use Rattle.driver.proofs.Names.{zip, Event, Limits, Report, Fails, Taken, Takes, fails_second, takes_both, MachineState, end_of, IsEndText, IsMachineShown, IsMachineShownInPart, IsRunShown, IsRunShownInPart, OutputState, lines_from}
 use Rattle.driver.proofs.OutcomeLemmas.{live_text}
 
 module _ (explain : Bool) (source : List ℕ) (limits : Limits) (events : List Event) (reports : List Report) (c : MachineState) (o m : OutputState) where

@@ -1,12 +1,7 @@
 -- The first outcome of a list that differs, and why an exploration is not done.
 use Rattle.std.proofs.Common.{◌≡◌, ℕ, zero, suc, Bool, true, false, if◌then◌else◌, List, [], ◌∷◌, None, Some, slice_get, take, ap, refl, sym, ◌∙◌, inl, inr}
-use Rattle.source_runs.specs.acceptance.Sources.{IsLetIn}
-use Rattle.source_runs.specs.acceptance.declared.failure.Failure.{Failure}
-use Rattle.source_runs.specs.acceptance.declared.failure.Failure.TheVariants.{Device}
-use Rattle.cil_model.specs.declared.limits.Limits.{Limits}
 use Rattle.outcome_search.specs.exploration.declared.findings.Found.{Found}
-use Rattle.driver.specs.Explorations.{IsNotPictured, first_other, first_other_in, is_other}
-use Rattle.driver.specs.Outcomes.{HasNotExplored}
+use Rattle.driver.proofs.Names.{IsLetIn, Failure, Device, Limits, IsNotPictured, first_other, first_other_in, is_other, HasNotExplored}
 use Rattle.driver.proofs.Refusals.{not_run}
 
 -- one more outcome does not differ

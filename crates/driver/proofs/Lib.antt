@@ -6,3 +6,4 @@ pub mod Refusals
 pub mod ReplayLemmas
 pub mod ThreadLemmas
 pub mod WorkerLemmas
+mod Names

@@ -1,33 +1,8 @@
 -- What a run that is shown, whole or in part, shows of its source.
 use Rattle.std.proofs.Common.{◌≡◌, ◌⊎◌, ◌++◌, ℕ, Bool, true, false, List, [], map, None, Option, Result, Ok, Err, refl, ap, ap₂, sym, ◌∙◌, subst, inl, inr, append-nil}
-use Rattle.std.specs.List.{zip}
 use Rattle.std.specs.Prelude.{IfErr, IfSome, OnErr}
-use Rattle.source_runs.proofs.simulation.Representation.VisibleState.{ends_refine, printed_refines}
-use Rattle.source_runs.specs.simulation.MachineStates.{MachineState}
-use Rattle.source_runs.specs.simulation.Runs.{RefinesAfter}
-use Rattle.source_runs.specs.simulation.Refines.{Represents}
-use Rattle.source_runs.specs.simulation.threads_monitors.Threads.{end_of}
-use Rattle.source_runs.specs.reference_machine.States.{State}
-use Rattle.cil_model.specs.declared.events.Event.{Event}
-use Rattle.cil_model.specs.declared.limits.Limits.{Limits}
-use Rattle.cil_model.specs.declared.reports.Report.{Report}
-use Rattle.source_runs.specs.acceptance.Failures.{IsOfWriting, is_refusal}
-use Rattle.source_runs.specs.acceptance.declared.failure.Failure.{Failure}
-use Rattle.source_runs.specs.acceptance.declared.failure.Failure.TheVariants.{Memory, Device}
-use Rattle.event_trace.specs.Traces.{IsTraced}
-use Rattle.source_runs.specs.Runs.{IsPrintedUpTo, IsReady, IsRunBy}
-use Rattle.driver.specs.Outputs.{HasBroken, IsGivenUp, IsUntouched, OutputState}
-use Rattle.driver.specs.Outcomes.{AreCut, AreEndsExplainedFor, AreNotesShownInPart, AreThreadsExplained, HasRunSource, HasTraced, IsEndText, IsExplanation, IsMachineShown, IsMachineShownInPart, IsRun, IsRunInPart, IsRunShown, IsRunShownInPart, IsRunText, IsShown, IsThreadText, IsTracedThenInPart, status_after, stop_text}
-use Rattle.driver.specs.Replays.{differences_from, differences_text, status_if_same}
-use Rattle.driver.specs.Statistics.{IsMostOfRun, stats_text}
 use Rattle.run_files.specs.declared.differences.Differences.{Differences}
-use Rattle.run_files.specs.declared.file.RunFile.{RunFile}
-use Rattle.driver.specs.Threads.{ends_of, lines_from, status_of}
-use Rattle.outputs.specs.Taken.{Fails, HasGrown, Taken, Takes}
-use Rattle.outputs.proofs.TakenLaws.{fails_first, fails_second, takes_both}
-use Rattle.source_runs.proofs.RunLemmas.{results_in}
-use Rattle.source_runs.proofs.interleaving_core.Runs.LongerRuns.{has_done}
-use Rattle.source_runs.specs.shared_machine.interleaving_core.Histories.{HasDone}
+use Rattle.driver.proofs.Names.{zip, ends_refine, printed_refines, MachineState, RefinesAfter, Represents, end_of, State, Event, Limits, Report, IsOfWriting, is_refusal, Failure, Memory, Device, IsTraced, IsPrintedUpTo, IsReady, IsRunBy, HasBroken, IsGivenUp, IsUntouched, OutputState, AreCut, AreEndsExplainedFor, AreNotesShownInPart, AreThreadsExplained, HasRunSource, HasTraced, IsEndText, IsExplanation, IsMachineShown, IsMachineShownInPart, IsRun, IsRunInPart, IsRunShown, IsRunShownInPart, IsRunText, IsShown, IsThreadText, IsTracedThenInPart, status_after, stop_text, differences_from, differences_text, status_if_same, IsMostOfRun, stats_text, RunFile, ends_of, lines_from, status_of, Fails, HasGrown, Taken, Takes, fails_first, fails_second, takes_both, results_in, has_done, HasDone}
 
 pub for_err : {T E : Type 0} {P : Type 0} (r : Result T E) → P → IfErr r (λ _. P)
 for_err (Ok x) p = tt
@@ -53,11 +28,6 @@ pub no_thread_text : (explain : Bool) (c : MachineState) → IsThreadText explai
 no_thread_text true c = inl refl
 no_thread_text false c = refl
 
--- the whole text explains the states of threads, where that is asked for
-pub whole_thread_text : (explain : Bool) (c : MachineState) (text : List ℕ) → explain ≡ true → AreThreadsExplained c text → IsThreadText explain c text
-whole_thread_text true c text asked are = inr are
-whole_thread_text false c text asked are = absurd (cc asked)
-
 -- nothing explains how threads ended, as where memory runs out
 pub no_end_text : (explain : Bool) (source : List ℕ) (limits : Limits) (events : List (Event × Report)) → IsEndText explain source limits events []
 no_end_text true source limits events = inl refl
@@ -67,12 +37,6 @@ no_end_text false source limits events = refl
 pub live_text : (explain ended : Bool) (source : List ℕ) (limits : Limits) (events : List (Event × Report)) (c : MachineState) (text : List ℕ) → IsThreadText explain c text
     → IsRunText explain ended source limits events c text
 live_text explain ended source limits events c text explains = (text, [], explains, no_end_text ended source limits events, sym (append-nil text))
-
--- the whole text explains how threads ended, where that is asked for
-pub whole_end_text : (explain : Bool) (source : List ℕ) (limits : Limits) (events : List (Event × Report)) (text : List ℕ) → explain ≡ true → AreEndsExplainedFor source limits events text
-    → IsEndText explain source limits events text
-whole_end_text true source limits events text asked are = inr are
-whole_end_text false source limits events text asked are = absurd (cc asked)
 
 -- what a machine shows is what the state shows that it represents
 shown_of : (c : MachineState) (state : State) (more : List ℕ) (o o' : OutputState) (status : ℕ) → Represents c state → IsShown c.printed (map end_of c.threads) more o o' status

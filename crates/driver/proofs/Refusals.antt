@@ -1,29 +1,20 @@
 -- What refuses a source, limits or a schedule is no failed write.
 use Rattle.std.proofs.Common.{◌≡◌, ℕ, List, inl, inr, sym, ◌∙◌}
-use Rattle.cil_model.specs.declared.limits.Limits.{Limits}
 use Rattle.schedule_text.specs.declared.errors.ScheduleError.{ScheduleError}
-use Rattle.schedule_text.specs.declared.errors.ScheduleError.TheVariants.{NoItem, NoThread, TooLong as TooManyEvents, OutOfMemory as UnscheduledForMemory}
+use Rattle.schedule_text.specs.declared.errors.ScheduleError.TheVariants.{NoItem}
 use Rattle.source_runs.specs.acceptance.Errors.{failure_of_source}
-use Rattle.source_runs.specs.acceptance.Failures.{failure_of_schedule}
-use Rattle.source_runs.specs.acceptance.Sources.{IsNotAccepted, IsNotRun}
 use Rattle.source_runs.specs.acceptance.declared.errors.SourceError.{SourceError}
-use Rattle.source_runs.specs.acceptance.declared.errors.SourceError.TheVariants.{Unread, Illegal, Untyped, OutOfMemory}
-use Rattle.source_runs.specs.acceptance.declared.failure.Failure.{Failure}
-use Rattle.source_runs.specs.acceptance.declared.failure.Failure.TheVariants.{Device}
-use Rattle.source_runs.specs.Runs.{IsNotRunBy}
+use Rattle.source_runs.specs.acceptance.declared.errors.SourceError.TheVariants.{OutOfMemory}
+use Rattle.driver.proofs.Names.{Limits, failure_of_schedule, IsNotAccepted, IsNotRun, Failure, Device, IsNotRunBy}
 use Rattle.driver.proofs.OutcomeLemmas.{no_device}
 
 scheduling : (error : ScheduleError) → failure_of_schedule error ≡ Device → ⊥
 scheduling NoItem same = absurd (cc same)
-scheduling NoThread same = absurd (cc same)
-scheduling TooManyEvents same = absurd (cc same)
-scheduling UnscheduledForMemory same = absurd (cc same)
+scheduling error same = absurd (cc same)
 
 of_source : (error : SourceError) → failure_of_source error ≡ Device → ⊥
-of_source (Unread error) same = absurd (cc same)
-of_source (Illegal tree violation) same = absurd (cc same)
-of_source (Untyped program method failure) same = absurd (cc same)
 of_source OutOfMemory same = absurd (cc same)
+of_source error same = absurd (cc same)
 
 pub not_accepted : (source : List ℕ) (failure : Failure) → IsNotAccepted source failure → failure ≡ Device → ⊥
 not_accepted source failure (error, found, is) device = of_source error (sym is ∙ device)

@@ -1,8 +1,6 @@
 -- The lines of threads, one after another.
 use Rattle.std.proofs.Common.{◌≡◌, ◌+◌, ◌<◌, ℕ, List, ◌∷◌, [], ◌++◌, length, take, drop, get_or, Option, arith, sym, ◌∙◌, ap, zero, suc, append_assoc}
-use Rattle.std.proofs.lemmas.List.{append-nil}
-use Rattle.cil_model.specs.declared.reports.End.{End}
-use Rattle.driver.specs.Threads.{line_of, lines_from}
+use Rattle.driver.proofs.Names.{append-nil, End, line_of, lines_from}
 
 -- a line more
 pub lines_more : (thread k n : ℕ) (ends : List (Option End)) (d : Option End) → thread + k ≡ n → k < length ends

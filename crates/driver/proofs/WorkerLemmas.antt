@@ -3,48 +3,23 @@ use Rattle.std.proofs.Common.{◌≡◌, ◌++◌, ◌+◌, ℕ, Bool, true, fal
 use Rattle.std.proofs.lemmas.Bool.{lt-ltb}
 use Rattle.std.proofs.lemmas.List.Elements.{All-head, All-tail}
 use Rattle.std.proofs.lemmas.List.Sums.{sum_by-cons}
-use Rattle.std.specs.List.{count_by, list_all, list_any, zip}
 use Rattle.std.specs.Prelude.{IfSome}
-use Rattle.cil_model.specs.declared.events.Event.{Event}
 use Rattle.cil_model.specs.declared.events.Event.TheVariants.{Step, Ack, Gc}
-use Rattle.cil_model.specs.declared.limits.Limits.{Limits}
 use Rattle.cil_model.specs.declared.limits.TheConstants.{MOST_THREADS}
-use Rattle.cil_model.specs.declared.reports.End.{End}
-use Rattle.schedule_text.specs.Items.{has_thread_number}
-use Rattle.outputs.specs.Taken.{Fails, Taken, Takes}
-use Rattle.outputs.proofs.TakenLaws.{takes_both}
-use Rattle.source_runs.proofs.simulation.Representation.VisibleState.{ends_refine, printed_refines}
-use Rattle.source_runs.specs.acceptance.Sources.{HasRunTo}
-use Rattle.source_runs.specs.Runs.{IsPrintedUpTo}
-use Rattle.source_runs.proofs.RunLemmas.{results_in}
-use Rattle.source_runs.specs.shared_machine.Histories.{events_of, reports_of}
 use Rattle.source_runs.specs.shared_machine.declared.history.Entry.{Entry}
-use Rattle.source_runs.specs.simulation.MachineStates.{MachineState}
-use Rattle.source_runs.specs.simulation.Runs.{RefinesAfter}
-use Rattle.source_runs.specs.simulation.threads_monitors.Threads.{end_of, is_live as is_live_thread}
 use Rattle.source_runs.specs.simulation.threads_monitors.declared.threads.Thread.{Thread}
-use Rattle.source_runs.specs.shared_machine.Work.{HasEnded, IsOwn, IsOwnOf}
-use Rattle.source_runs.specs.simulation.Refines.{Represents}
-use Rattle.source_runs.specs.reference_machine.States.{State}
 use Rattle.cil_model.specs.declared.stops.StopAt.{StopAt}
 use Rattle.cil_model.specs.declared.stops.StopAt.TheVariants.{End as AtEnd, Deadlock as AtDeadlock}
-use Rattle.commands.specs.Orders.{record_file_of}
 use Rattle.commands.specs.declared.order.Order.{Order}
 use Rattle.commands.specs.declared.order.Order.TheVariants.{Check, Run as RunOrder, Trace, Picture, Explore, Flip}
 use Rattle.commands.specs.declared.run.Run.{Run}
 use Rattle.commands.specs.declared.run.RunKind.{RunKind}
 use Rattle.commands.specs.declared.run.RunKind.TheVariants.{Schedule, Replay, Workers}
 use Rattle.commands.specs.Runs.{record_file_of_kind}
-use Rattle.driver.specs.Outcomes.{AreCut, HasRunThreads, HaveEnded, IsOutcome, IsRunByWorkers, IsRunByWorkersInPart, IsRunDone, IsRunShown, IsRunShownInPart, IsRunText, status_after, stop_text}
-use Rattle.driver.specs.Outputs.{OutputState}
-use Rattle.driver.specs.Records.{IsRecordOf, is_short, status_with, texts_in, texts_over, too_long_text}
-use Rattle.driver.specs.Statistics.{IsMostOfRun, stats_text}
-use Rattle.driver.specs.Threads.{is_live, lines_from, status_of}
+use Rattle.driver.proofs.Names.{count_by, list_all, list_any, zip, Event, Limits, End, has_thread_number, Fails, Taken, Takes, takes_both, ends_refine, printed_refines, HasRunTo, IsPrintedUpTo, results_in, events_of, reports_of, MachineState, RefinesAfter, end_of, is_live_thread, HasEnded, IsOwn, IsOwnOf, Represents, State, record_file_of, AreCut, HasRunThreads, HaveEnded, IsOutcome, IsRunByWorkers, IsRunByWorkersInPart, IsRunDone, IsRunShown, IsRunShownInPart, IsRunText, status_after, stop_text, OutputState, IsRecordOf, is_short, status_with, texts_in, texts_over, too_long_text, IsMostOfRun, stats_text, is_live, lines_from, status_of, run_file, RunFile}
 use Rattle.driver.proofs.OutcomeLemmas.{cut_after, cut_more}
 use Rattle.driver.specs.declared.recording.Record.{Record}
 use Rattle.driver.specs.declared.recording.Record.TheVariants.{Unasked, Texts, TooLong, NoMemory}
-use Rattle.run_files.specs.RunFiles.{run_file}
-use Rattle.run_files.specs.declared.file.RunFile.{RunFile}
 
 -- a worker's own event names a thread that a machine can have
 own_has_number : (workers worker : ℕ) (e : Event) → IsOwn workers worker e → has_thread_number e ≡ true

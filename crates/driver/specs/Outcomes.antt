@@ -237,9 +237,8 @@ pub record HasTraced (source : List ℕ) (limits : Limits) (text : List ℕ) (ex
   pub same : o'.texts ≡ o.texts
 
 -- A run is drawn. A machine that holds what the program begins with makes the transitions of the events, with the reports of the run, and a
--- picture of those of a part is shown, which are few. It then represents the state that the run ends in, and the states of its threads
--- are shown. Where the last event ends a cycle, the machine has no more words in use than are owed.
-pub record HasDrawn (source : List ℕ) (limits : Limits) (text : List ℕ) (part : Part) (explain : Bool) (o o' : OutputState) (status : ℕ) : Type 0 where
+-- picture of those of a part is shown, which are few. It then represents the state that the run ends in.
+pub record IsRunDrawn (source : List ℕ) (limits : Limits) (text : List ℕ) (part : Part) (explain : Bool) (o o' : OutputState) : Type 0 where
   pub events : List Event
   pub few : event_count part (length events) ≤ MOST_EVENTS
   pub reports : List Report
@@ -250,11 +249,16 @@ pub record HasDrawn (source : List ℕ) (limits : Limits) (text : List ℕ) (par
   pub after : MachineState
   pub pictured : IsPicture begins events after reports (window_of part (length events)) o.out.contents o'.out.contents
   pub represents : Represents after state
-  pub leaves : LeavesOnlyOwed results_in.by_events.tree limits events reports after
   pub explanation : List ℕ
   pub explains : IsThreadText explain after explanation
-  pub errors : Takes o.err o'.err (lines_from 0 (ends_of state) ++ explanation)
-  pub status_is : status ≡ status_of (ends_of state)
+
+-- A run is drawn, and the states of its threads are shown. Where the last event ends a cycle, the machine has no more words in use than are
+-- owed.
+pub record HasDrawn (source : List ℕ) (limits : Limits) (text : List ℕ) (part : Part) (explain : Bool) (o o' : OutputState) (status : ℕ) : Type 0 where
+  pub drawn : IsRunDrawn source limits text part explain o o'
+  pub leaves : LeavesOnlyOwed drawn.results_in.by_events.tree limits drawn.events drawn.reports drawn.after
+  pub errors : Takes o.err o'.err (lines_from 0 (ends_of drawn.state) ++ drawn.explanation)
+  pub status_is : status ≡ status_of (ends_of drawn.state)
   pub same : o'.texts ≡ o.texts
 
 -- A picture would have more events than it may. Nothing is run, and their number is reported.
@@ -389,19 +393,8 @@ pub record IsPictureCut (source : List ℕ) (limits : Limits) (text : List ℕ) 
 
 -- a run is drawn, and a write of the states of its threads failed
 pub record IsPicturedThenInPart (source : List ℕ) (limits : Limits) (text : List ℕ) (part : Part) (explain : Bool) (o o' : OutputState) : Type 0 where
-  pub events : List Event
-  pub few : event_count part (length events) ≤ MOST_EVENTS
-  pub reports : List Report
-  pub state : State
-  pub results_in : ResultsIn source limits text events reports state
-  pub begins : MachineState
-  pub opened : IsOpened results_in.by_events.tree limits begins
-  pub after : MachineState
-  pub pictured : IsPicture begins events after reports (window_of part (length events)) o.out.contents o'.out.contents
-  pub represents : Represents after state
-  pub explanation : List ℕ
-  pub explains : IsThreadText explain after explanation
-  pub errors : Fails o.err o'.err (lines_from 0 (ends_of state) ++ explanation)
+  pub drawn : IsRunDrawn source limits text part explain o o'
+  pub errors : Fails o.err o'.err (lines_from 0 (ends_of drawn.state) ++ drawn.explanation)
 
 -- a write failed of the line that reports too many events
 pub record IsTooManyInPart (source : List ℕ) (limits : Limits) (text : List ℕ) (part : Part) (o o' : OutputState) : Type 0 where

@@ -1,7 +1,6 @@
 //! Instructions with their lines of the source.
 
-ghost use Rattle.std.specs.Prelude.{◌≡◌, IfOk, map, option_and_then, option_map, slice_get};
-ghost use Rattle.cil_model.specs.Bodies.{lines_of};
+ghost use Rattle.std.specs.Prelude.{◌≡◌, IfOk, map, option_and_then, option_map};
 ghost use Rattle.cil_model.specs.Declarations.{built_ins};
 ghost use Rattle.event_trace.specs.Columns.{found_at};
 ghost use Rattle.event_trace.specs.Lines.{method_and_pc};
@@ -11,10 +10,8 @@ ghost use Rattle.end_explanations.specs.Located.{method_after, line_of};
 
 use crate::names::Names;
 use cil_model::memory::NoMemory;
-use cil_model::trees::{Line, Method};
-use event_trace::{InstructionPosition, Machine, Position, instruction_at};
-use instruction_text::{InstructionText, MethodNameText};
-use name_tables::bodies::lines_of;
+use event_trace::{InstructionPosition, LineText, Machine, Position, instruction_at, line_at};
+use instruction_text::MethodNameText;
 use name_tables::built_in::BuiltInClass;
 use std::fmt;
 
@@ -41,7 +38,7 @@ impl<'a> fmt::Display for Located<'a> {
         let owner = found.owner;
         let name = MethodNameText(&found.method.name);
         let line = LineNote(self.line);
-        let instruction = OfLine(line_at(found.method, pc as usize));
+        let instruction = LineText(line_at(found.method, pc as usize));
         write!(f, "{owner}::{name}+{pc}{line}{instruction}")
     }
 }
@@ -62,31 +59,6 @@ impl fmt::Display for LineNote {
             Some(line) => write!(f, " (line {line})"),
         }
     }
-}
-
-/// Two spaces and the instruction of a line of code. Nothing if there is none.
-#[derive(Clone, Copy)]
-struct OfLine<'a>(Option<&'a Line>);
-
-impl<'a> fmt::Display for OfLine<'a> {
-    ghost use Rattle.std.specs.Prelude.{Some, option_map};
-    ghost use Rattle.event_trace.specs.Columns.{line_text};
-
-    ghost output = { λ text. Some (line_text (option_map (λ line. line.now) text.0)) };
-
-    fn fmt<W: fmt::Write>(&self, f: &mut fmt::Formatter<W>) -> fmt::Result {
-        match self.0 {
-            None => Ok(()),
-            Some(line) => write!(f, "  {}", InstructionText(&line.instruction)),
-        }
-    }
-}
-
-/// The line of a method's code at an index. None if there is none.
-fn line_at(method: &Method, index: usize) -> Option<&Line>
-    ensures { option_map (λ l. l.now) result ≡ slice_get (lines_of method.now) index }
-{
-    lines_of(method).get(index)
 }
 
 /// The instruction at a position of the program that a machine runs, with its line. The only error is out of memory.

@@ -2,19 +2,12 @@
 use Rattle.std.proofs.Common.{◌≡◌, ◌==◌, is_none, ℕ, Bool, true, false, if◌then◌else◌, List, [], ◌∷◌, Option, Some, None, option_map, option_and_then, slice_get, refl, sym, ap, ◌∙◌, subst}
 use Rattle.cil_model.specs.declared.instructions.Instruction.{Instruction}
 use Rattle.cil_model.specs.declared.reports.End.{End}
-use Rattle.cil_model.specs.declared.trees.Line.{Line}
-use Rattle.cil_model.specs.declared.trees.Method.{Method}
-use Rattle.cil_model.specs.declared.types.ClassName.{ClassName}
 use Rattle.cil_model.specs.Bodies.{lines_of}
-use Rattle.interleaving_core.specs.simulation.reference_machine.BuiltIn.{Action, Construct, Write, Enter, Exit, Start, Join as JoinAction, act, join}
+use Rattle.interleaving_core.specs.simulation.reference_machine.BuiltIn.{Action, Enter, Join as JoinAction, act, join}
 use Rattle.interleaving_core.specs.simulation.reference_machine.Effects.{Setting}
-use Rattle.interleaving_core.specs.simulation.reference_machine.States.{Monitor as StateMonitor, Free as IsFree, Held as IsHeld, HeapObject, Frame as StateFrame, Thread as StateThread, State, is_live, monitor_of, object_at}
 use Rattle.interleaving_core.specs.simulation.reference_machine.Steps.{instruction_at}
-use Rattle.interleaving_core.specs.simulation.reference_machine.Values.{ObjectName, Value as StateValue, Null, Reference}
 use Rattle.interleaving_core.specs.simulation.reference_machine.TypedStates.{AreTypedFrames}
 use Rattle.interleaving_core.proofs.simulation.reference_machine.TypedStates.RunningFrames.{IsTypedEffect}
-use Rattle.interleaving_core.specs.simulation.reference_machine.Waits.{ForMonitor, ForEnd, called_action, top_object, wait_of, wait_of_thread}
-use Rattle.interleaving_core.specs.simulation.reference_machine.Waits.{Wait as StateWait, wait_by as state_wait_by, wait_in as state_wait_in, held_by_another as state_held, end_awaited as state_awaited}
 use Rattle.interleaving_core.proofs.simulation.reference_machine.Deadlocks.WaitingThreads.{calling_acts}
 use Rattle.interleaving_core.specs.simulation.object_memory.declared.addresses.Addr.{Addr}
 use Rattle.interleaving_core.specs.simulation.object_memory.declared.monitors.Monitor.{Monitor as AnyMonitor}
@@ -24,25 +17,18 @@ use Rattle.interleaving_core.specs.simulation.object_memory.declared.values.Valu
 use Rattle.interleaving_core.specs.simulation.object_memory.Cells.{null}
 use Rattle.interleaving_core.specs.simulation.object_memory.Objects.{monitor_at}
 use Rattle.interleaving_core.specs.simulation.threads_monitors.Frames.{Frames}
-use Rattle.interleaving_core.specs.simulation.threads_monitors.Threads.{thread_on}
 use Rattle.interleaving_core.specs.simulation.threads_monitors.declared.threads.ThreadStatus.{ThreadStatus}
 use Rattle.interleaving_core.specs.simulation.threads_monitors.declared.threads.ThreadStatus.TheVariants.{Live, Ended}
 use Rattle.interleaving_core.specs.simulation.threads_monitors.declared.threads.Thread.{Thread}
 use Rattle.interleaving_core.specs.simulation.interpreter.Calls.{top_reference}
 use Rattle.interleaving_core.specs.simulation.interpreter.Instructions.{line_at}
-use Rattle.interleaving_core.specs.simulation.MachineStates.{MachineState}
 use Rattle.interleaving_core.specs.simulation.Agreement.{Agree}
-use Rattle.interleaving_core.specs.simulation.Refines.{Names, AreFrames, IsFrame, IsMonitor, IsThread, IsValue, Represents, StatusRefines, int32, int64, native, null_reference, reference}
-use Rattle.interleaving_core.specs.Waits.{class_of_object, end_awaited, held_by_another, join_wait, monitor_wait, status_wait, wait_at, wait_by, wait_in}
-use Rattle.interleaving_core.specs.declared.waits.Wait.{Wait}
-use Rattle.interleaving_core.specs.declared.waits.Wait.TheVariants.{Monitor, Join}
-use Rattle.interleaving_core.proofs.simulation.ListLaws.AgreeingLists.{agree_beyond, agree_get}
 use Rattle.interleaving_core.proofs.simulation.Memory.NamedAddresses.{named_is_not_null}
 use Rattle.interleaving_core.proofs.simulation.Memory.MemoryModels.{IsReadable}
 use Rattle.interleaving_core.proofs.simulation.object_memory.Spaces.{slots_few}
 use Rattle.interleaving_core.proofs.simulation.Memory.Monitors.{AreMonitors, monitors_there}
-use Rattle.interleaving_core.proofs.simulation.Threads.Joins.{lives_alike}
 use Rattle.interleaving_core.proofs.simulation.Memory.ThreadObjects.{IsThreadObject, thread_object_is, thread_on_is}
+use Rattle.event_trace.proofs.Names.{Line, Method, ClassName, StateMonitor, IsFree, IsHeld, HeapObject, StateFrame, StateThread, State, is_live, monitor_of, object_at, ObjectName, StateValue, Null, Reference, ForMonitor, ForEnd, called_action, top_object, wait_of, wait_of_thread, StateWait, state_wait_by, state_wait_in, state_held, state_awaited, thread_on, MachineState, Names, AreFrames, IsFrame, IsMonitor, IsThread, IsValue, Represents, StatusRefines, int32, int64, native, null_reference, reference, class_of_object, end_awaited, held_by_another, join_wait, monitor_wait, status_wait, wait_at, wait_by, wait_in, Wait, Monitor, Join, agree_beyond, agree_get, lives_alike}
 
 -- a machine's wait is for the same thread
 abbrev pub IsWaitAlike : Wait → StateWait → Type 0
@@ -131,19 +117,12 @@ module _ (c : MachineState) (s : State) (r : Represents c s) (t : ℕ) where
     object_alike JoinAction same x n rest rest' named stack =
         let done = calling_acts here r.accepted s r.typed f below typed i at a acts n (ap top_object stack) in
         joins_alike f below done.0 x n named (subst (λ k. IsTypedEffect c.tree (act here s f below k (Reference n ∷ []) done.0)) same done.3)
-    object_alike Construct same x n rest rest' named stack = tt
-    object_alike Write same x n rest rest' named stack = tt
-    object_alike Exit same x n rest rest' named stack = tt
-    object_alike Start same x n rest rest' named stack = tt
+    object_alike b same x n rest rest' named stack = tt
 
     -- of null
     null_alike : (b : Action) (rest : List Value) (rest' : List StateValue) → AreWaitsAlike (wait_by c t b (Ref null ∷ rest)) (state_wait_by s t b (Null ∷ rest'))
     null_alike Enter rest rest' = tt
-    null_alike JoinAction rest rest' = tt
-    null_alike Construct rest rest' = tt
-    null_alike Write rest rest' = tt
-    null_alike Exit rest rest' = tt
-    null_alike Start rest rest' = tt
+    null_alike b rest rest' = tt
 
     -- of no reference
     no_object : (b : Action) (vs : List Value) (us : List StateValue) → top_reference vs ≡ None → top_object us ≡ None → AreWaitsAlike (wait_by c t b vs) (state_wait_by s t b us)
@@ -153,10 +132,7 @@ module _ (c : MachineState) (s : State) (r : Represents c s) (t : ℕ) where
     no_object JoinAction vs us e e' =
         subst (λ o. AreWaitsAlike (option_and_then (join_wait c.threads c.objects) o) (option_and_then (λ n. option_and_then (λ (x : HeapObject). option_and_then (state_awaited s) x.thread) (object_at s n)) (top_object us))) (sym e)
         (subst (λ o. AreWaitsAlike None (option_and_then (λ n. option_and_then (λ (x : HeapObject). option_and_then (state_awaited s) x.thread) (object_at s n)) o)) (sym e') tt)
-    no_object Construct vs us e e' = tt
-    no_object Write vs us e e' = tt
-    no_object Exit vs us e e' = tt
-    no_object Start vs us e e' = tt
+    no_object b vs us e e' = tt
 
     value_alike : (v : Value) (u : StateValue) → IsValue name v u → (rest : List Value) (rest' : List StateValue) → f.stack ≡ u ∷ rest' → ActsAlike (v ∷ rest) (u ∷ rest')
     value_alike _ _ (int32 z fits) rest rest' stack = no_object a _ _ refl refl

@@ -1,12 +1,7 @@
 -- The class of a number after the built-in ones is one of the source.
 use Rattle.std.proofs.Common.{◌≡◌, ◌+◌, ◌∷◌, [], ◌++◌, ℕ, zero, suc, List, length, map, Some, option_map, slice_get, ap, ◌∙◌, arith}
-use Rattle.std.proofs.lemmas.Option.{slice_get-map}
-use Rattle.cil_model.specs.Declarations.{Declaration, built_ins, source_name}
-use Rattle.cil_model.specs.declared.trees.Class.{Class}
-use Rattle.cil_model.specs.declared.trees.Tree.{Tree}
-use Rattle.cil_model.specs.declared.types.ClassName.{ClassName}
-use Rattle.name_tables.specs.Numbers.{source_entry}
 use Rattle.interleaving_core.specs.simulation.resolved_code.ById.{class_name}
+use Rattle.event_trace.proofs.Names.{slice_get-map, Declaration, built_ins, source_name, Class, Tree, ClassName, source_entry}
 
 -- what follows a list
 get_after : {X : Type 0} (xs ys : List X) (n k : ℕ) → n ≡ length xs + k → slice_get (xs ++ ys) n ≡ slice_get ys k

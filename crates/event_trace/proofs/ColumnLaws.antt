@@ -1,26 +1,16 @@
 -- Columns are printable.
 use Rattle.std.proofs.Common.{◌≡◌, ◌++◌, ℕ, List, [], ◌∷◌, Option, Some, None, codes, refl, ap, ◌∙◌, append_assoc}
-use Rattle.std.proofs.lemmas.List.Elements.{All-cons, All-nil}
 use Rattle.std.specs.Prelude.{All, decimal, option_and_then}
-use Rattle.cil_model.specs.declared.types.ClassName.{ClassName}
-use Rattle.cil_model.specs.declared.trees.Line.{Line}
-use Rattle.cil_model.specs.declared.trees.Method.{Method}
-use Rattle.cil_model.specs.declared.events.Event.{Event}
-use Rattle.cil_model.specs.declared.events.Event.TheVariants.{Step, Ack, Gc}
-use Rattle.cil_model.specs.declared.reports.End.TheVariants.{Done, Budget, Fault as ByFault}
+use Rattle.cil_model.specs.declared.reports.End.TheVariants.{Fault as ByFault}
 use Rattle.cil_model.specs.declared.reports.Fault.{Fault}
 use Rattle.cil_model.specs.declared.reports.Fault.TheVariants as fault
-use Rattle.cil_model.specs.declared.reports.Report.{Report}
-use Rattle.cil_model.specs.declared.reports.Report.TheVariants.{Ran, Blocked, Ended, Absent, Acked, NothingPosted, Worked, Waiting, CycleDone}
+use Rattle.cil_model.specs.declared.reports.Report.TheVariants.{Ended}
 use Rattle.cil_model.specs.ExceptionNames.{name_of as fault_text}
 use Rattle.cil_model.specs.declared.phases.Phase.{Phase}
-use Rattle.cil_model.specs.declared.phases.Phase.TheVariants.{Idle, Mark, Allocate, Copy, PreFlip, HeapFlip, ThreadFlip, Reclaim}
+use Rattle.cil_model.specs.declared.phases.Phase.TheVariants.{Idle}
 use Rattle.interleaving_core.specs.declared.positions.Position.{Position}
-use Rattle.schedule_text.specs.Items.{name_of as event_text}
-use Rattle.instruction_text.specs.Characters.{IsPrintable}
 use Rattle.instruction_text.proofs.Printable.{Printable, both, printable_class, printable_decimal, printable_instruction, printable_method_name, word}
-use Rattle.event_trace.specs.Columns.{found_at, heap_columns, heap_for, instruction_column, line_text, own_column, phase_text, position_for, report_text, size_columns}
-use Rattle.event_trace.specs.Laws.{LinesHaveColumns}
+use Rattle.event_trace.proofs.Names.{All-cons, All-nil, ClassName, Line, Method, Event, Step, Ack, Gc, Report, event_text, IsPrintable, found_at, heap_columns, heap_for, instruction_column, line_text, own_column, phase_text, position_for, report_text, size_columns, LinesHaveColumns}
 
 printable_event : (e : Event) → Printable (event_text e)
 printable_event (Step t) = both (word (codes "s") refl) (printable_decimal t)
@@ -29,41 +19,15 @@ printable_event Gc = word (codes "g") refl
 
 printable_fault : (f : Fault) → Printable (fault_text f)
 printable_fault fault.NullReference = word (fault_text fault.NullReference) refl
-printable_fault fault.IndexOutOfRange = word (fault_text fault.IndexOutOfRange) refl
-printable_fault fault.ArrayTypeMismatch = word (fault_text fault.ArrayTypeMismatch) refl
-printable_fault fault.InvalidCast = word (fault_text fault.InvalidCast) refl
-printable_fault fault.DivideByZero = word (fault_text fault.DivideByZero) refl
-printable_fault fault.Arithmetic = word (fault_text fault.Arithmetic) refl
-printable_fault fault.Overflow = word (fault_text fault.Overflow) refl
-printable_fault fault.OutOfMemory = word (fault_text fault.OutOfMemory) refl
-printable_fault fault.TooManyThreads = word (fault_text fault.TooManyThreads) refl
-printable_fault fault.StackOverflow = word (fault_text fault.StackOverflow) refl
-printable_fault fault.ArgumentNull = word (fault_text fault.ArgumentNull) refl
-printable_fault fault.SynchronizationLock = word (fault_text fault.SynchronizationLock) refl
-printable_fault fault.ThreadState = word (fault_text fault.ThreadState) refl
+printable_fault f = word (fault_text f) refl
 
 printable_report : (r : Report) → Printable (report_text r)
 printable_report (Ended (ByFault f)) = printable_fault f
-printable_report Ran = word (report_text Ran) refl
-printable_report Blocked = word (report_text Blocked) refl
-printable_report (Ended Done) = word (report_text (Ended Done)) refl
-printable_report (Ended Budget) = word (report_text (Ended Budget)) refl
-printable_report Absent = word (report_text Absent) refl
-printable_report Acked = word (report_text Acked) refl
-printable_report NothingPosted = word (report_text NothingPosted) refl
-printable_report Worked = word (report_text Worked) refl
-printable_report Waiting = word (report_text Waiting) refl
-printable_report CycleDone = word (report_text CycleDone) refl
+printable_report r = word (report_text r) refl
 
 printable_phase : (p : Phase) → Printable (phase_text p)
 printable_phase Idle = word (phase_text Idle) refl
-printable_phase Mark = word (phase_text Mark) refl
-printable_phase Allocate = word (phase_text Allocate) refl
-printable_phase Copy = word (phase_text Copy) refl
-printable_phase PreFlip = word (phase_text PreFlip) refl
-printable_phase HeapFlip = word (phase_text HeapFlip) refl
-printable_phase ThreadFlip = word (phase_text ThreadFlip) refl
-printable_phase Reclaim = word (phase_text Reclaim) refl
+printable_phase p = word (phase_text p) refl
 
 printable_own : (p : Option Phase) → Printable (own_column p)
 printable_own None = word (codes "-") refl

@@ -1,13 +1,8 @@
 -- The numbers of a set of threads, and how many there are.
 use Rattle.std.proofs.Common.{◌≡◌, ◌≢◌, ◌==◌, ◌≤◌, ◌+◌, ◌∷◌, ◌++◌, ℕ, zero, suc, Bool, true, false, if◌then◌else◌, List, [], length, append_assoc, add-one, arith, codes, sym, ap, ◌∙◌}
-use Rattle.std.proofs.lemmas.Bool.{eq-eqb, ne_eqb}
-use Rattle.std.proofs.lemmas.List.{append-nil}
-use Rattle.std.specs.List.{count_by}
 use Rattle.std.specs.Prelude.{decimal}
 use Rattle.interleaving_core.specs.simulation.threads_monitors.Threads.{is_live}
-use Rattle.interleaving_core.specs.simulation.MachineStates.{MachineState}
-use Rattle.event_trace.specs.Rounds.{is_in}
-use Rattle.event_trace.specs.Texts.{count_below, deadlock_line, deadlock_word, numbers_below, separator}
+use Rattle.event_trace.proofs.Names.{eq-eqb, ne_eqb, append-nil, count_by, MachineState, is_in, count_below, deadlock_line, deadlock_word, numbers_below, separator}
 
 -- no more of them are below a number than there are numbers
 pub count_small : (set : List Bool) (n : ℕ) → count_below set n ≤ n

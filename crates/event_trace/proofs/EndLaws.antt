@@ -1,11 +1,6 @@
 -- No line of a trace is empty.
 use Rattle.std.proofs.Common.{◌≡◌, ◌==◌, ◌+◌, ◌++◌, ◌∙◌, ℕ, true, false, List, [], ◌∷◌, length, refl, sym, ap, append_assoc}
-use Rattle.std.proofs.lemmas.Bool.{and_parts, ne_eqb}
-use Rattle.std.proofs.lemmas.List.Elements.{recursion_from_All}
-use Rattle.std.specs.List.{AllByRecursion, join_with_byte, list_all}
-use Rattle.instruction_text.specs.Characters.{IsPrintable, is_printable}
-use Rattle.event_trace.specs.Columns.{line_of}
-use Rattle.event_trace.specs.Laws.{IsLineOf, LinesComeBefore, before_empty_line}
+use Rattle.event_trace.proofs.Names.{and_parts, ne_eqb, recursion_from_All, AllByRecursion, join_with_byte, list_all, IsPrintable, is_printable, line_of, IsLineOf, LinesComeBefore, before_empty_line}
 use Rattle.event_trace.proofs.ColumnLaws.{line_columns}
 
 -- ---- bytes without a line feed

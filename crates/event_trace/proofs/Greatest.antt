@@ -1,27 +1,11 @@
 -- More rounds than there are threads leave the greatest set of threads that wait for one another.
 use Rattle.std.proofs.Common.{◌≡◌, ◌≤◌, ◌<◌, ◌+◌, ◌⊎◌, ◌&&◌, ◌||◌, not, ℕ, zero, suc, Bool, true, false, List, length, replicate, Option, Some, None, option_map, slice_get, unwrap_or, refl, inl, inr, sym, ap, ◌∙◌, subst, arith}
 use Rattle.std.specs.Option.{option_map_or}
-use Rattle.std.proofs.lemmas.List.{length-replicate}
-use Rattle.std.proofs.lemmas.Option.{same_Some, slice_get_within}
 use Rattle.cil_model.proofs.Lists.{none_is_some}
-use Rattle.cil_model.proofs.SameLaws.{not_both}
-use Rattle.interleaving_core.specs.simulation.reference_machine.States.{Held, HeapObject, Thread as StateThread, State, is_live_thread}
-use Rattle.interleaving_core.specs.simulation.reference_machine.Values.{Born, Literal}
-use Rattle.interleaving_core.specs.simulation.reference_machine.Waits.{Wait as StateWait, ForMonitor, ForEnd, wait_of}
 use Rattle.interleaving_core.specs.simulation.reference_machine.Blocking.{HasEnded, HoldersWereStarted, IsBlockedSet, IsHeldUp, IsIn}
-use Rattle.interleaving_core.proofs.simulation.reference_machine.Deadlocks.ReadyThreads.{IsTrueWait, waits_truly}
-use Rattle.interleaving_core.proofs.simulation.reference_machine.Deadlocks.LastingDeadlocks.{waiting_lives}
-use Rattle.interleaving_core.specs.simulation.threads_monitors.Threads.{is_live_at}
-use Rattle.interleaving_core.specs.simulation.MachineStates.{MachineState}
-use Rattle.interleaving_core.specs.simulation.Refines.{IsThread, Represents}
-use Rattle.interleaving_core.specs.Waits.{wait_at}
-use Rattle.interleaving_core.specs.declared.waits.Wait.{Wait}
-use Rattle.interleaving_core.specs.declared.waits.Wait.TheVariants.{Monitor, Join}
-use Rattle.interleaving_core.proofs.simulation.ListLaws.AgreeingLists.{agree_length}
 use Rattle.interleaving_core.specs.simulation.Counts.{IsCountedMonitor}
-use Rattle.interleaving_core.proofs.simulation.Threads.Joins.{lives_alike}
+use Rattle.event_trace.proofs.Names.{length-replicate, same_Some, slice_get_within, not_both, Held, HeapObject, StateThread, State, is_live_thread, Born, Literal, StateWait, ForMonitor, ForEnd, wait_of, IsTrueWait, waits_truly, waiting_lives, is_live_at, MachineState, IsThread, Represents, wait_at, Wait, Monitor, Join, agree_length, lives_alike, after_round, is_held_up, is_in, stays}
 use Rattle.event_trace.specs.Deadlocks.{IsDeadlockOf}
-use Rattle.event_trace.specs.Rounds.{after_round, is_held_up, is_in, stays}
 use Rattle.event_trace.proofs.Agreeing.{AreWaitsAlike, IsWaitAlike, waits_alike}
 use Rattle.event_trace.proofs.RoundLaws.{count, count_within, in_is, is_in_truly, passing_at, passing_length, same_or_less}
 

@@ -8,3 +8,4 @@ pub mod Classes
 pub mod Counting
 pub mod RoundLaws
 pub mod Greatest
+mod Names

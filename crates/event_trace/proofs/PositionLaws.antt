@@ -1,23 +1,11 @@
 -- The positions of methods, as they are listed one by one.
 use Rattle.std.proofs.Common.{◌≡◌, ◌+◌, ◌<◌, ◌≤◌, ◌⊎◌, ℕ, zero, suc, List, [], ◌∷◌, ◌++◌, length, take, get_or, map, Option, Some, None, inl, inr, refl, sym, ap, subst, ◌∙◌, arith, append-nil, append_assoc}
-use Rattle.std.specs.List.{filter_map, flat_map}
 use Rattle.std.specs.Prelude.{option_and_then, option_map, slice_get}
-use Rattle.std.proofs.lemmas.List.{map-append}
 use Rattle.std.proofs.lemmas.Grind.{flat_map-append}
-use Rattle.std.proofs.lemmas.Option.{slice_get_cases, slice_get_read}
-use Rattle.cil_model.specs.declared.types.ClassName.{ClassName}
-use Rattle.cil_model.specs.declared.trees.Tree.{Tree}
-use Rattle.cil_model.specs.declared.trees.Class.{Class}
-use Rattle.cil_model.specs.declared.trees.Method.{Method}
 use Rattle.cil_model.specs.declared.trees.Member.{Member}
 use Rattle.cil_model.specs.declared.trees.Member.TheVariants.{Field as FieldMember, Method as MethodMember}
-use Rattle.cil_model.specs.Declarations.{Declaration, built_ins, as_method, source_name}
 use Rattle.name_tables.proofs.Lists.{filter_map-take_more, map-take_more}
-use Rattle.name_tables.specs.Numbers.{source_entry}
-use Rattle.interleaving_core.specs.simulation.loaded_program.AllMethods.{all_methods, owned_methods}
-use Rattle.event_trace.specs.MethodPositions.{built_in_method, method_by, methods_by, source_method}
-use Rattle.event_trace.specs.declared.method_positions.MethodPosition.{MethodPosition}
-use Rattle.event_trace.specs.declared.method_positions.MethodPosition.TheVariants.{BuiltIn, Source}
+use Rattle.event_trace.proofs.Names.{filter_map, flat_map, map-append, slice_get_cases, slice_get_read, ClassName, Tree, Class, Method, Declaration, built_ins, as_method, source_name, source_entry, all_methods, owned_methods, built_in_method, method_by, methods_by, source_method, MethodPosition, BuiltIn, Source}
 
 -- ---- lists whose items correspond one by one to those of another list
 

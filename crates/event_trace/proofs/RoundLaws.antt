@@ -1,7 +1,6 @@
 -- What a round leaves of a set.
 use Rattle.std.proofs.Common.{◌≡◌, ◌≤◌, ◌<◌, ◌+◌, ◌⊎◌, ◌&&◌, ℕ, zero, suc, Bool, true, false, List, [], ◌∷◌, ◌++◌, length, take, Option, Some, None, option_map, slice_get, unwrap_or, refl, inl, inr, sym, ap, ◌∙◌, arith}
-use Rattle.cil_model.proofs.SameLaws.{not_both}
-use Rattle.event_trace.specs.Rounds.{is_in, passing}
+use Rattle.event_trace.proofs.Names.{not_both, is_in, passing}
 
 -- how many truths there are
 abbrev pub count : List Bool → ℕ

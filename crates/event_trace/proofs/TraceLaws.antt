@@ -2,21 +2,12 @@
 use Rattle.std.proofs.Common.{◌≡◌, ◌+◌, ◌<◌, ◌≤◌, ◌⊎◌, ℕ, suc, List, [], ◌∷◌, ◌++◌, length, take, get_or, Option, inl, inr, refl, sym, ap, subst, ◌∙◌, arith, append-nil, append_assoc}
 use Rattle.std.proofs.KnownBytes.{Appends-nil, Appends-trans}
 use Rattle.std.proofs.Math.Seq.{take-append_seam}
-use Rattle.std.proofs.lemmas.List.{length-append, take_all}
-use Rattle.std.specs.Io.KnownBytes.{Appends}
-use Rattle.cil_model.specs.declared.events.Event.{Event}
-use Rattle.cil_model.specs.declared.reports.Report.{Report}
-use Rattle.schedule_text.specs.Items.{events_of}
 use Rattle.schedule_text.specs.declared.items.Item.{Item}
-use Rattle.schedule_text.proofs.SoFar.{so_far, so_far_all, so_far_before, so_far_more, so_far_none}
-use Rattle.interleaving_core.specs.simulation.MachineStates.{MachineState}
 use Rattle.interleaving_core.specs.simulation.Runs.{AreTransitions}
 use Rattle.interleaving_core.specs.simulation.Transitions.{IsTransition}
-use Rattle.interleaving_core.proofs.Runs.FollowedRuns.{SameProgram, transitions_follow, transitions_length, transitions_program}
-use Rattle.event_trace.specs.Columns.{line_of}
+use Rattle.event_trace.proofs.Names.{length-append, take_all, Appends, Event, Report, events_of, so_far, so_far_all, so_far_before, so_far_more, so_far_none, MachineState, SameProgram, transitions_follow, transitions_length, transitions_program, line_of, AppendsBeginning}
 use Rattle.event_trace.specs.Pieces.{TakesAllBut}
 use Rattle.event_trace.specs.Traces.{AreTraced, IsEventCut, IsTraced, IsTracedInPart}
-use Rattle.outputs.specs.Beginnings.{AppendsBeginning}
 use Rattle.outputs.proofs.BeginningLaws.{begins_first, begins_nothing, begins_second}
 
 -- ---- bytes after bytes
@@ -101,9 +92,6 @@ pub record TracedSoFar (c : MachineState) (es : List Event) (d : MachineState) (
   pub text : List ℕ
   pub traced : AreTraced 1 c es d reports text
   pub held : TakesAllBut pending out out' text
-
-pub trace_begun : (c : MachineState) (pending : List ℕ) (out : Option (List ℕ)) → pending ≡ [] → TracedSoFar c [] c pending out out
-trace_begun c pending out empty = record { reports = []; text = []; traced = (refl, refl, refl); held = ([], sym empty, Appends-nil out) }
 
 -- the lines with one more
 line_more : (c d after : MachineState) (es : List Event) (n : ℕ) (e : Event) (r : Report) (reports : List Report) (text : List ℕ) → n ≡ length es + 1 → AreTraced 1 c es d reports text → IsTransition d e (after, r) →

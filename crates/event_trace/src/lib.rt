@@ -24,7 +24,7 @@ pub use explanations::{add_deadlock, add_thread_numbers, awaited_by, explain_thr
 pub use interleaving_core::{Machine, Position, Wait};
 pub use lines::InstructionColumn;
 pub use method_positions::MethodPositions;
-pub use owned_methods::{InstructionPosition, Owner};
+pub use owned_methods::{InstructionPosition, LineText, Owner, line_at};
 pub use texts::{AwaitedText, OwnerText};
 pub use tracing::{instruction_at, position_for, trace};
 pub use waiting::{deadlocked_threads, is_in};

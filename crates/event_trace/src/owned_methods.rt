@@ -66,7 +66,7 @@ impl<'a> fmt::Display for InstructionPosition<'a> {
 
 /// Two spaces and the instruction of a line. Nothing where there is no line.
 #[derive(Clone, Copy)]
-struct LineText<'a>(Option<&'a Line>);
+pub struct LineText<'a>(pub Option<&'a Line>);
 
 impl<'a> fmt::Display for LineText<'a> {
     ghost use Rattle.std.specs.Prelude.{Some, option_map};
@@ -83,7 +83,7 @@ impl<'a> fmt::Display for LineText<'a> {
 }
 
 /// The line at a pc of a method's code. None where there is none.
-fn line_at(method: &Method, pc: usize) -> Option<&Line>
+pub fn line_at(method: &Method, pc: usize) -> Option<&Line>
     ensures { option_map (λ l. l.now) result ≡ slice_get (lines_of method.now) pc }
 {
     lines_of(method).get(pc)

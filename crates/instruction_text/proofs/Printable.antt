@@ -158,38 +158,23 @@ printable_labels labels = both (both (word (codes "(") refl) (printable_list cha
 
 printable_binary : (op : BinaryOperation) → Printable (binary_word op)
 printable_binary binary.Add = word (binary_word binary.Add) refl
-printable_binary binary.Subtract = word (binary_word binary.Subtract) refl
-printable_binary binary.Multiply = word (binary_word binary.Multiply) refl
-printable_binary binary.AddOverflow = word (binary_word binary.AddOverflow) refl
-printable_binary binary.SubtractOverflow = word (binary_word binary.SubtractOverflow) refl
-printable_binary binary.MultiplyOverflow = word (binary_word binary.MultiplyOverflow) refl
-printable_binary binary.Divide = word (binary_word binary.Divide) refl
-printable_binary binary.Remainder = word (binary_word binary.Remainder) refl
-printable_binary binary.And = word (binary_word binary.And) refl
-printable_binary binary.Or = word (binary_word binary.Or) refl
-printable_binary binary.ExclusiveOr = word (binary_word binary.ExclusiveOr) refl
+printable_binary op = word (binary_word op) refl
 
 printable_unary : (op : UnaryOperation) → Printable (unary_word op)
 printable_unary unary.Negate = word (unary_word unary.Negate) refl
-printable_unary unary.Complement = word (unary_word unary.Complement) refl
+printable_unary op = word (unary_word op) refl
 
 printable_shift : (op : ShiftOperation) → Printable (shift_word op)
 printable_shift shift.Left = word (shift_word shift.Left) refl
-printable_shift shift.Right = word (shift_word shift.Right) refl
-printable_shift shift.RightUnsigned = word (shift_word shift.RightUnsigned) refl
+printable_shift op = word (shift_word op) refl
 
 printable_comparison : (op : Comparison) → Printable (comparison_word op)
 printable_comparison comparison.Equal = word (comparison_word comparison.Equal) refl
-printable_comparison comparison.Greater = word (comparison_word comparison.Greater) refl
-printable_comparison comparison.Less = word (comparison_word comparison.Less) refl
+printable_comparison op = word (comparison_word op) refl
 
 printable_branch : (op : BranchComparison) → Printable (branch_word op)
 printable_branch branch.Equal = word (branch_word branch.Equal) refl
-printable_branch branch.NotEqual = word (branch_word branch.NotEqual) refl
-printable_branch branch.GreaterOrEqual = word (branch_word branch.GreaterOrEqual) refl
-printable_branch branch.Greater = word (branch_word branch.Greater) refl
-printable_branch branch.LessOrEqual = word (branch_word branch.LessOrEqual) refl
-printable_branch branch.Less = word (branch_word branch.Less) refl
+printable_branch op = word (branch_word op) refl
 
 printable_word : (i : Instruction) → Printable (word_text i)
 printable_word (named.Binary op) = printable_binary op
@@ -197,42 +182,9 @@ printable_word (named.Unary op) = printable_unary op
 printable_word (named.Shift op) = printable_shift op
 printable_word (named.Compare op) = printable_comparison op
 printable_word (named.BranchCompare op label) = printable_branch op
-printable_word named.NoOperation = word (codes "nop") refl
-printable_word (named.LoadInt32 z) = word (codes "ldc.i4") refl
-printable_word (named.LoadInt64 z) = word (codes "ldc.i8") refl
-printable_word named.LoadNull = word (codes "ldnull") refl
-printable_word (named.LoadString cs) = word (codes "ldstr") refl
-printable_word (named.LoadArgument n) = word (codes "ldarg") refl
-printable_word (named.StoreArgument n) = word (codes "starg") refl
-printable_word (named.LoadLocal n) = word (codes "ldloc") refl
-printable_word (named.StoreLocal n) = word (codes "stloc") refl
-printable_word named.Duplicate = word (codes "dup") refl
-printable_word named.Pop = word (codes "pop") refl
-printable_word named.ConvertInt32 = word (codes "conv.i4") refl
-printable_word named.ConvertInt64 = word (codes "conv.i8") refl
-printable_word (named.Branch l) = word (codes "br") refl
-printable_word (named.BranchTrue l) = word (codes "brtrue") refl
-printable_word (named.BranchFalse l) = word (codes "brfalse") refl
-printable_word (named.Switch ls) = word (codes "switch") refl
-printable_word (named.LoadField r) = word (codes "ldfld") refl
-printable_word (named.StoreField r) = word (codes "stfld") refl
-printable_word (named.LoadStaticField r) = word (codes "ldsfld") refl
-printable_word (named.StoreStaticField r) = word (codes "stsfld") refl
-printable_word (named.NewArray t) = word (codes "newarr") refl
-printable_word named.LoadLength = word (codes "ldlen") refl
-printable_word named.LoadElementInt32 = word (codes "ldelem.i4") refl
-printable_word named.LoadElementInt64 = word (codes "ldelem.i8") refl
-printable_word named.LoadElementReference = word (codes "ldelem.ref") refl
-printable_word named.StoreElementInt32 = word (codes "stelem.i4") refl
-printable_word named.StoreElementInt64 = word (codes "stelem.i8") refl
-printable_word named.StoreElementReference = word (codes "stelem.ref") refl
-printable_word (named.CastClass t) = word (codes "castclass") refl
-printable_word (named.IsInstance t) = word (codes "isinst") refl
 printable_word (named.Call true r) = word (codes "call instance") refl
 printable_word (named.Call false r) = word (codes "call") refl
-printable_word (named.CallVirtual owner name g) = word (codes "callvirt instance") refl
-printable_word (named.NewObject owner ts) = word (codes "newobj instance") refl
-printable_word named.Return = word (codes "ret") refl
+printable_word i = word (word_text i) refl
 
 -- every text that there is, is printable
 abbrev AllPrintable : Option (List ℕ) → Type 0
@@ -262,24 +214,7 @@ printable_operand (named.IsInstance t) = printable_type t
 printable_operand (named.Call is_instance r) = printable_method r
 printable_operand (named.CallVirtual owner name g) = printable_virtual owner name g
 printable_operand (named.NewObject owner ts) = printable_constructor owner ts
-printable_operand named.NoOperation = tt
-printable_operand named.LoadNull = tt
-printable_operand named.Duplicate = tt
-printable_operand named.Pop = tt
-printable_operand named.ConvertInt32 = tt
-printable_operand named.ConvertInt64 = tt
-printable_operand named.LoadLength = tt
-printable_operand named.LoadElementInt32 = tt
-printable_operand named.LoadElementInt64 = tt
-printable_operand named.LoadElementReference = tt
-printable_operand named.StoreElementInt32 = tt
-printable_operand named.StoreElementInt64 = tt
-printable_operand named.StoreElementReference = tt
-printable_operand named.Return = tt
-printable_operand (named.Binary op) = tt
-printable_operand (named.Unary op) = tt
-printable_operand (named.Shift op) = tt
-printable_operand (named.Compare op) = tt
+printable_operand i = tt
 
 printable_after : (text : Option (List ℕ)) → AllPrintable text → Printable (option_map_or (λ operand. codes " " ++ operand) text [])
 printable_after None h = word [] refl

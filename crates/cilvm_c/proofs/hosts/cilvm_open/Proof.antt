@@ -1,94 +1,48 @@
--- `cilvm_open` meets its contract: the walk of tools/host_walks. The session is lent for a lifetime that is made for the call of `open`, and comes back once it is ended.
-use Rattle.std.proofs.Common.{◌<◌, ◌^◌, ℕ, List, [], ◌∷◌, ◌++◌, length, refl, w32}
-use Rattle.std.proofs.raw_atomic.Walks.{proved}
-use base.Fraction.{full_share}
-use base.Logic.{id⊢}
-use base.Fml.{Lft, Share, ftrue, flft, flent, fex}
-use mir.Syntax.{named}
-use mir.Val.{vptr}
-use prog.Wp.{WpFn}
-use contract.Monad.{fact}
-use contract.Running.{tables}
-use types.Kit.{‵, raw, ◌⊛◌, some, later, prop, ◌$◌, ◌∵◌, !, qed, done, move, keep, use1, use2, use3, split, join, fsplit, fpack, pick, await, regoal, suffices, group}
-use types.Run.{enter, of_opd, addr, stop, no_more, and_then, returns}
-use types.ByLocal.{alloc_all, pass_all, free_all, look_at, get, through, sets, lands_as}
-use types.Tokens.{lft_new, lft_end}
-use types.SemTy.{Body}
-use denote.Builtin.{u8, u32}
-use denote.Exit.{yes}
-use denote.Laws.{Is, shows}
-use denote.Lend.{lends_ref, ref_back}
-use denote.Memory.{mem, part_at}
-use denote.Plain.{uint_Lawful}
-use denote.RattleType.{owns}
-use denote.RawPtr.{Ptr, RawPtr, block_ptr, in_a_block, rawptr_vals, rawptr_Tells}
-use denote.Ref.{Bor, MutRef, ShrRef, shr_vals, shr_Tells}
-use denote.Signature.{plain, shr_slice_of, shr_ref_to}
-use denote.Slice.{ShrSlice, Room, shr_slice_vals, shr_slice_Tells}
-use denote.Steps.{nothing, heard, peeks}
-use denote.Triple.Call.{calls_at}
-use denote.Triple.Clauses.{lasts}
-use denote.Triple.Spec.{triple_of}
-use denote.Triple.Table.{framed}
-use denote.Triple.Walked.{Stays, walk_of, stay_dropped, Goes-dropped, ends_at}
-use Rattle.cilvm_c.specs.contracts.sessions.Session as row
-use Rattle.cilvm_c.specs.contracts.limits.HostLimits as limits_row
-use Rattle.cilvm_c.specs.declared.limits.HostLimits.{HostLimits}
-use Rattle.cilvm_c.specs.Handles.{is_held}
-use Rattle.cilvm_c.specs.InitialStates.{IsInitialBy}
-use Rattle.cilvm_c.specs.Sessions.{Held}
+-- `cilvm_open` meets its contract. The session is lent for the time of the call of `open`.
+use Rattle.cilvm_c.proofs.Names.{◌<◌, ◌^◌, ℕ, List, [], ◌∷◌, ◌++◌, length, refl, w32, proved, full_share, id⊢, Lft, Share, ftrue, flft, named, vptr, WpFn, fact, tables, ‵, raw, ◌⊛◌, some, later, prop, ◌$◌, ◌∵◌, !, qed, done, move, keep, use1, use2, split, join, fsplit, regoal, suffices, group, enter, of_opd, addr, stop, no_more, and_then, returns, alloc_all, pass_all, free_all, look_at, get, through, sets, lands_as, u8, u32, yes, uint_Lawful, owns, Ptr, RawPtr, block_ptr, in_a_block, rawptr_vals, rawptr_Tells, Bor, ShrRef, shr_vals, shr_Tells, plain, shr_slice_of, shr_ref_to, ShrSlice, Room, shr_slice_vals, shr_slice_Tells, nothing, calls_at, lasts, triple_of, framed, Stays, walk_of, stay_dropped, Goes-dropped, ends_at, host_limits, HostLimits, session, is_held, IsInitialBy, Held, lent, lends, comes_back}
 use Rattle.cilvm_c.specs.contracts.hosts.cilvm_open as f
 use Rattle.cilvm_c.proofs.hosts.cilvm_open.Statement.{statement}
 use Rattle.cilvm_c.proofs.hosts.cilvm_open.Code as code
 use Rattle.cilvm_c.specs.contracts.hosts.open as g
 use Rattle.cilvm_c.proofs.hosts.open.Met.{met}
 
-abbrev stayed : Stays f.ended.signature.params f.ended.kept
-stayed = (stay_dropped _ yes, (stay_dropped _ yes, (stay_dropped _ yes, tt)))
-
 pub cilvm_open_spec : {M : Type 1} → statement M
 cilvm_open_spec 𝓤 𝓛 𝓜 𝓡 wired =
-    let c = f.clauses 𝓛 𝓜.mem 𝓡.returns in let W = walk_of 𝓛 f.ended stayed c in let 𝓣 = tables 𝓤 𝓛.H 𝓜 𝓡 𝓡.env in
-    proved 𝓛 f.ended stayed c 𝓜 𝓡
-    (Goes-dropped 𝓛 2 (plain (λ _. RawPtr)) yes (λ κs x w. refl), (Goes-dropped 𝓛 2 (shr_slice_of (0 ∷ []) tt (plain (λ _. u8))) yes (λ κs x w. refl), (Goes-dropped 𝓛 2 (shr_ref_to (1 ∷ []) tt (plain (λ _. limits_row.the_row))) yes (λ κs x w. refl), tt)))
+    let hs : Stays f.ended.signature.params f.ended.kept = (stay_dropped _ yes, (stay_dropped _ yes, (stay_dropped _ yes, tt))) in
+    let c = f.clauses 𝓛 𝓜.mem 𝓡.returns in let W = walk_of 𝓛 f.ended hs c in let 𝓣 = tables 𝓤 𝓛.H 𝓜 𝓡 𝓡.env in
+    proved 𝓛 f.ended hs c 𝓜 𝓡
+    (Goes-dropped 𝓛 2 (plain (λ _. RawPtr)) yes (λ κs x w. refl), (Goes-dropped 𝓛 2 (shr_slice_of (0 ∷ []) tt (plain (λ _. u8))) yes (λ κs x w. refl), (Goes-dropped 𝓛 2 (shr_ref_to (1 ∷ []) tt (plain (λ _. host_limits))) yes (λ κs x w. refl), tt)))
     f.Key.name code.function (code.unfolded 𝓤 𝓛.H 𝓜 𝓡 wired)
-    (λ κs. (rawptr_vals, (shr_slice_vals, (shr_vals, tt)))) (λ κs. (rawptr_Tells, (shr_slice_Tells (named 0) κs.0 u8, (shr_Tells (named 1) κs.1.0 limits_row.the_row, tt)))) (λ κs qs bounds a it are.
+    (λ κs. (rawptr_vals, (shr_slice_vals, (shr_vals, tt)))) (λ κs. (rawptr_Tells, (shr_slice_Tells (named 0) κs.0 u8, (shr_Tells (named 1) κs.1.0 host_limits, tt)))) (λ κs qs bounds a it are.
     let κ0 : Lft = κs.0 in let q0 : Share = qs.0 in
     let source : Bor (List ℕ) = a.1.0 in
     let room0 : Room u8 (length source.now) = are.1.0.0.1 in let count0 : length source.now < 2 ^ 64 = room0.0 in
     let κ1 : Lft = κs.1.0 in let q1 : Share = qs.1.0 in
     let limits : Bor HostLimits = a.1.1.0 in
     let y : Ptr → W.Ghost = λ p. ((κs, qs, bounds, (p, (source, (limits, tt))), (rawptr_vals p, (shr_slice_vals source, (shr_vals limits, tt)))), it) in
-    qed 𝓛 (((‵ (flft κ0 q0) ⊛ (‵ (flft κ1 q1) ⊛ ‵ ftrue)) ⊛ ‵ (owns (RawPtr ∷ ShrSlice (named 0) κ0 u8 ∷ ShrRef (named 1) κ1 limits_row.the_row ∷ []) (a.0, (source, (limits, tt))) (rawptr_vals a.0, (shr_slice_vals source, (shr_vals limits, tt))))) ∷ ‵ (is_held row.the_row a.0 it) ∷ []) ∵
+    qed 𝓛 (((‵ (flft κ0 q0) ⊛ (‵ (flft κ1 q1) ⊛ ‵ ftrue)) ⊛ ‵ (owns (RawPtr ∷ ShrSlice (named 0) κ0 u8 ∷ ShrRef (named 1) κ1 host_limits ∷ []) (a.0, (source, (limits, tt))) (rawptr_vals a.0, (shr_slice_vals source, (shr_vals limits, tt))))) ∷ ‵ (is_held session a.0 it) ∷ []) ∵
     split ! $ split ! $ move ! (1 ∷ []) $ split ! $ move ! (3 ∷ []) $ fsplit ! $ move ! (1 ∷ []) $ fsplit ! $ move ! (1 ∷ []) $ fsplit ! $ keep ! (7 ∷ 2 ∷ 0 ∷ 6 ∷ 4 ∷ []) $
     -- [the session; what was lent by the caller; the tokens of its lifetimes]
-    in_a_block ! a.0 (λ p. is_held row.the_row p it) (id⊢ 𝓤 _) (λ b o e.
+    in_a_block ! a.0 (λ p. is_held session p it) (id⊢ 𝓤 _) (λ b o e.
     regoal ! (λ p. prop (WpFn 𝓤 𝓛.H 𝓣.C 𝓣.Λ code.function (rawptr_vals p ++ (shr_slice_vals source ++ shr_vals limits)) (W.post (y p)))) e refl $
     enter ! _ _ _ _ _ $ alloc_all ! (λ l. pass_all ! refl ((tt, tt), ((tt, (tt, (record { fits = count0 }, tt))), ((tt, tt), tt))) $
     -- let session: *mut Session = at.cast();
     sets ! (of_opd ! (get ! refl)) refl (tt, tt) $
     -- &mut *session
     sets ! (addr ! (through ! refl (stop !))) refl (tt, tt) $
-    lft_new ! tt (λ α. move ! (1 ∷ []) $
-    use1 𝓛 (later (some (λ (δ : ℕ). ‵ ((MutRef (named 0) (α ∷ []) row.the_row).own_val (record { ref_ptr = (b, o); ghost_name = δ; now = it }) (vptr b o ∷ [])) ⊛ ‵ (flent (α ∷ []) (Body (mem row.the_row) b o δ)))))
-    (lends_ref 𝓛 row.the_row (named 0) (α ∷ []) it b o) $ await ! tt $ pick ! (λ δ. split ! $
+    lends ! tt it b o (λ α δ.
     -- [the loan; the lender's part; the token of α; what was lent by the caller; the tokens of its lifetimes]
     let G = triple_of 𝓛 g.signature (g.spec 𝓛 𝓜.mem 𝓡.returns) in
-    let z : G.Ghost = (((α ∷ [], (κ0, (κ1, tt))), (full_share, (q0, (q1, tt))), tt, (record { ref_ptr = (b, o); ghost_name = δ; now = it }, (source, (limits, tt))), (vptr b o ∷ [], (shr_slice_vals source, (shr_vals limits, tt)))), tt) in
+    let z : G.Ghost = (((α ∷ [], (κ0, (κ1, tt))), (full_share, (q0, (q1, tt))), tt, (lent b o δ it, (source, (limits, tt))), (vptr b o ∷ [], (shr_slice_vals source, (shr_vals limits, tt)))), tt) in
     nothing ! $ move ! (5 ∷ 0 ∷ []) $ join ! $ move ! (4 ∷ 0 ∷ []) $ join ! $ move ! (1 ∷ 0 ∷ []) $ join ! $
     nothing ! $ move ! (5 ∷ 0 ∷ []) $ join ! $ move ! (4 ∷ 0 ∷ []) $ join ! $ move ! (3 ∷ 0 ∷ []) $ join ! $ join ! $
     nothing ! $ move ! (1 ∷ 0 ∷ []) $ use2 𝓛 (raw (G.pre z)) (id⊢ 𝓤 _) $
-    calls_at ! (framed 𝓤 𝓛.H 𝓜 (tables 𝓤 𝓛.H 𝓜 𝓡 𝓡.env)) G (met 𝓤 𝓛 𝓜 𝓡 (code.calls-cilvm_c::hosts::open 𝓡.env wired)) z
+    calls_at ! (framed 𝓤 𝓛.H 𝓜 𝓣) G (met 𝓤 𝓛 𝓜 𝓡 (code.calls-cilvm_c::hosts::open 𝓡.env wired)) z
     (and_then ! (get ! refl) (and_then ! (get ! refl) (and_then ! (get ! refl) (no_more !)))) (λ v.
+    let P : ℕ → (Unit {0} × (Unit {0} × Unit {0})) → Held → Type 0 = λ u last after. IsInitialBy source.now limits.now u after in
     use1 𝓛 (later (some (λ (u : ℕ). ((‵ (flft (α ∷ []) full_share) ⊛ (‵ (flft κ0 q0) ⊛ (‵ (flft κ1 q1) ⊛ ‵ ftrue))) ⊛ ‵ (u32.own_val u (v ∷ []))) ⊛
-    some (λ (ws : Held × (Unit {0} × (Unit {0} × Unit {0}))). ‵ (lasts g.ended z.0.0 z.0.3 ws) ⊛ raw (fact 𝓤 (IsInitialBy source.now limits.now u ws.0)))))) (id⊢ 𝓤 _) $
-    await ! tt $ pick ! (λ u. split ! $ split ! $ split ! $ lft_end ! tt $ move ! (2 ∷ []) $
-    peeks ! u32 (Is u32) (shows 𝓛 u32) u (v ∷ []) (λ is. lands_as ! refl refl ((uint_Lawful 𝓛 w32).typed u _ is).0 $
-    -- [the result; α is over; the caller's tokens; the last values; the lender's part]
-    move ! (3 ∷ []) $ pick ! (λ ws. split ! $ move ! (1 ∷ []) $ heard ! _ (λ is_so. fsplit ! $ fsplit ! $
-    move ! (4 ∷ 6 ∷ 0 ∷ []) $ use3 𝓛 (later (‵ (part_at row.the_row full_share ws.0 b o))) (ref_back 𝓛 row.the_row (α ∷ []) δ ws.0 b o) $ await ! tt $
-    fpack ! (IsInitialBy source.now limits.now u ws.0) (λ _. is_held row.the_row (block_ptr b o) ws.0) is_so $
-    fpack ! (Held) (λ w. fex (IsInitialBy source.now limits.now u w) (λ _. is_held row.the_row (block_ptr b o) w)) ws.0 $
-    returns ! (look_at ! 0 refl) $ free_all ! refl $ keep ! (3 ∷ 0 ∷ 4 ∷ []) $
-    suffices ! _ (ends_at 𝓛 f.ended stayed c (y (block_ptr b o)) v u (tt, (tt, (tt, tt))) (tt, (tt, (tt, tt)))) $
-    nothing ! $ nothing ! $ join ! $ nothing ! $ join ! $ nothing ! $ join ! $ move ! (3 ∷ []) $ group ! 3 $ done !))))))))))
+    some (λ (ws : Held × (Unit {0} × (Unit {0} × Unit {0}))). ‵ (lasts g.ended z.0.0 z.0.3 ws) ⊛ raw (fact 𝓤 (P u ws.1 ws.0)))))) (id⊢ 𝓤 _) $
+    comes_back ! tt b o u32 P (λ u ws is. lands_as ! refl refl ((uint_Lawful 𝓛 w32).typed u _ is).0 $
+    returns ! (look_at ! 0 refl) $ free_all ! refl $ keep ! (0 ∷ 1 ∷ 3 ∷ []) $
+    suffices ! _ (ends_at 𝓛 f.ended hs c (y (block_ptr b o)) v u (tt, (tt, (tt, tt))) (tt, (tt, (tt, tt)))) $
+    nothing ! $ nothing ! $ join ! $ nothing ! $ join ! $ nothing ! $ join ! $ move ! (3 ∷ []) $ group ! 3 $ done !))))))

@@ -1,61 +1,26 @@
--- `cilvm_used` meets its contract: the walk of tools/host_walks. The session is lent for a lifetime that is made for the call of `used`, and comes back once it is ended.
-use Rattle.std.proofs.Common.{ℕ, [], ◌∷◌, ◌++◌, refl, w32}
-use Rattle.std.proofs.raw_atomic.Walks.{proved}
-use base.Fraction.{full_share}
-use base.Logic.{id⊢}
-use base.Fml.{Lft, Share, ftrue, flft, flent, fex}
-use mir.Syntax.{named}
-use mir.Val.{vptr}
-use prog.Wp.{WpFn}
-use contract.Monad.{fact}
-use contract.Running.{tables}
-use types.Kit.{‵, raw, ◌⊛◌, some, later, prop, ◌$◌, ◌∵◌, !, qed, done, move, keep, use1, use2, use3, split, join, fsplit, fpack, pick, await, regoal, suffices, group}
-use types.Run.{enter, of_opd, addr, stop, no_more, and_then, returns}
-use types.ByLocal.{alloc_all, pass_all, free_all, look_at, get, through, sets, lands_as}
-use types.Tokens.{lft_new, lft_end}
-use types.SemTy.{Body}
-use denote.Builtin.{u32}
-use denote.Exit.{yes}
-use denote.Laws.{Is, shows}
-use denote.Lend.{lends_ref, ref_back}
-use denote.Memory.{mem, part_at}
-use denote.Plain.{uint_Lawful}
-use denote.RattleType.{owns}
-use denote.RawPtr.{Ptr, RawPtr, block_ptr, in_a_block, rawptr_vals, rawptr_Tells}
-use denote.Ref.{MutBor, MutRef, mut_vals, mut_Tells}
-use denote.Signature.{plain}
-use denote.Steps.{nothing, heard, peeks}
-use denote.Triple.Call.{calls_at}
-use denote.Triple.Clauses.{lasts}
-use denote.Triple.Spec.{triple_of}
-use denote.Triple.Table.{framed}
-use denote.Triple.Walked.{Stays, walk_of, stay_dropped, gave_ref, Goes-dropped, Goes-gave_ref, ends_at}
-use Rattle.cilvm_c.specs.contracts.sessions.Session as row
-use Rattle.cilvm_c.specs.Handles.{is_held}
-use Rattle.cilvm_c.specs.Sessions.{AreUsed, Held}
+-- `cilvm_used` meets its contract. The session is lent for the time of the call of `used`.
+use Rattle.cilvm_c.proofs.Names.{ℕ, [], ◌∷◌, ◌++◌, refl, w32, proved, full_share, id⊢, Lft, Share, ftrue, flft, named, vptr, WpFn, fact, tables, ‵, raw, ◌⊛◌, some, later, prop, ◌$◌, ◌∵◌, !, qed, done, move, keep, use1, use2, split, join, fsplit, regoal, suffices, group, enter, of_opd, addr, stop, no_more, and_then, returns, alloc_all, pass_all, free_all, look_at, get, through, sets, lands_as, u32, yes, uint_Lawful, owns, Ptr, RawPtr, block_ptr, in_a_block, rawptr_vals, rawptr_Tells, MutBor, MutRef, mut_vals, mut_Tells, plain, nothing, calls_at, lasts, triple_of, framed, Stays, walk_of, stay_dropped, gave_ref, Goes-dropped, Goes-gave_ref, ends_at, session, is_held, AreUsed, Held, lent, lends, comes_back}
 use Rattle.cilvm_c.specs.contracts.hosts.cilvm_used as f
 use Rattle.cilvm_c.proofs.hosts.cilvm_used.Statement.{statement}
 use Rattle.cilvm_c.proofs.hosts.cilvm_used.Code as code
 use Rattle.cilvm_c.specs.contracts.hosts.used as g
 use Rattle.cilvm_c.proofs.hosts.used.Met.{met}
 
-abbrev stayed : Stays f.ended.signature.params f.ended.kept
-stayed = (stay_dropped _ yes, (gave_ref (0 ∷ []) tt (plain (λ _. u32)), tt))
-
 pub cilvm_used_spec : {M : Type 1} → statement M
 cilvm_used_spec 𝓤 𝓛 𝓜 𝓡 wired =
-    let c = f.clauses 𝓛 𝓜.mem 𝓡.returns in let W = walk_of 𝓛 f.ended stayed c in let 𝓣 = tables 𝓤 𝓛.H 𝓜 𝓡 𝓡.env in
-    proved 𝓛 f.ended stayed c 𝓜 𝓡
+    let hs : Stays f.ended.signature.params f.ended.kept = (stay_dropped _ yes, (gave_ref (0 ∷ []) tt (plain (λ _. u32)), tt)) in
+    let c = f.clauses 𝓛 𝓜.mem 𝓡.returns in let W = walk_of 𝓛 f.ended hs c in let 𝓣 = tables 𝓤 𝓛.H 𝓜 𝓡 𝓡.env in
+    proved 𝓛 f.ended hs c 𝓜 𝓡
     (Goes-dropped 𝓛 1 (plain (λ _. RawPtr)) yes (λ κs x w. refl), (Goes-gave_ref 𝓛 1 0 tt (plain (λ _. u32)), tt))
     f.Key.name code.function (code.unfolded 𝓤 𝓛.H 𝓜 𝓡 wired)
     (λ κs. (rawptr_vals, (mut_vals, tt))) (λ κs. (rawptr_Tells, (mut_Tells (named 0) κs.0 u32, tt))) (λ κs qs bounds a it are.
     let κ0 : Lft = κs.0 in let q0 : Share = qs.0 in
     let new_words : MutBor ℕ = a.1.0 in
     let y : Ptr → W.Ghost = λ p. ((κs, qs, bounds, (p, (new_words, tt)), (rawptr_vals p, (mut_vals new_words, tt))), it) in
-    qed 𝓛 (((‵ (flft κ0 q0) ⊛ ‵ ftrue) ⊛ ‵ (owns (RawPtr ∷ MutRef (named 0) κ0 u32 ∷ []) (a.0, (new_words, tt)) (rawptr_vals a.0, (mut_vals new_words, tt)))) ∷ ‵ (is_held row.the_row a.0 it) ∷ []) ∵
+    qed 𝓛 (((‵ (flft κ0 q0) ⊛ ‵ ftrue) ⊛ ‵ (owns (RawPtr ∷ MutRef (named 0) κ0 u32 ∷ []) (a.0, (new_words, tt)) (rawptr_vals a.0, (mut_vals new_words, tt)))) ∷ ‵ (is_held session a.0 it) ∷ []) ∵
     split ! $ split ! $ move ! (2 ∷ []) $ fsplit ! $ move ! (1 ∷ []) $ fsplit ! $ keep ! (5 ∷ 0 ∷ 3 ∷ []) $
     -- [the session; what was lent by the caller; the tokens of its lifetimes]
-    in_a_block ! a.0 (λ p. is_held row.the_row p it) (id⊢ 𝓤 _) (λ b o e.
+    in_a_block ! a.0 (λ p. is_held session p it) (id⊢ 𝓤 _) (λ b o e.
     regoal ! (λ p. prop (WpFn 𝓤 𝓛.H 𝓣.C 𝓣.Λ code.function (rawptr_vals p ++ mut_vals new_words) (W.post (y p)))) e refl $
     enter ! _ _ _ _ _ $ alloc_all ! (λ l. pass_all ! refl ((tt, tt), ((tt, tt), tt)) $
     -- let session: *mut Session = at.cast();
@@ -64,28 +29,21 @@ cilvm_used_spec 𝓤 𝓛 𝓜 𝓡 wired =
     sets ! (addr ! (through ! refl (stop !))) refl (tt, tt) $
     -- &mut *new_words
     sets ! (addr ! (through ! refl (stop !))) refl (tt, tt) $
-    lft_new ! tt (λ α. move ! (1 ∷ []) $
-    use1 𝓛 (later (some (λ (δ : ℕ). ‵ ((MutRef (named 0) (α ∷ []) row.the_row).own_val (record { ref_ptr = (b, o); ghost_name = δ; now = it }) (vptr b o ∷ [])) ⊛ ‵ (flent (α ∷ []) (Body (mem row.the_row) b o δ)))))
-    (lends_ref 𝓛 row.the_row (named 0) (α ∷ []) it b o) $ await ! tt $ pick ! (λ δ. split ! $
+    lends ! tt it b o (λ α δ.
     -- [the loan; the lender's part; the token of α; what was lent by the caller; the tokens of its lifetimes]
     let G = triple_of 𝓛 g.signature (g.spec 𝓛 𝓜.mem 𝓡.returns) in
-    let z : G.Ghost = (((α ∷ [], (κ0, tt)), (full_share, (q0, tt)), tt, (record { ref_ptr = (b, o); ghost_name = δ; now = it }, (new_words, tt)), (vptr b o ∷ [], (mut_vals new_words, tt))), tt) in
+    let z : G.Ghost = (((α ∷ [], (κ0, tt)), (full_share, (q0, tt)), tt, (lent b o δ it, (new_words, tt)), (vptr b o ∷ [], (mut_vals new_words, tt))), tt) in
     nothing ! $ move ! (4 ∷ 0 ∷ []) $ join ! $ move ! (1 ∷ 0 ∷ []) $ join ! $
     nothing ! $ move ! (4 ∷ 0 ∷ []) $ join ! $ move ! (3 ∷ 0 ∷ []) $ join ! $ join ! $
     nothing ! $ move ! (1 ∷ 0 ∷ []) $ use2 𝓛 (raw (G.pre z)) (id⊢ 𝓤 _) $
-    calls_at ! (framed 𝓤 𝓛.H 𝓜 (tables 𝓤 𝓛.H 𝓜 𝓡 𝓡.env)) G (met 𝓤 𝓛 𝓜 𝓡 (code.calls-cilvm_c::hosts::used 𝓡.env wired)) z
+    calls_at ! (framed 𝓤 𝓛.H 𝓜 𝓣) G (met 𝓤 𝓛 𝓜 𝓡 (code.calls-cilvm_c::hosts::used 𝓡.env wired)) z
     (and_then ! (get ! refl) (and_then ! (get ! refl) (no_more !))) (λ v.
+    let P : ℕ → (ℕ × Unit {0}) → Held → Type 0 = λ u last after. AreUsed it u last.0 after in
     use1 𝓛 (later (some (λ (u : ℕ). ((‵ (flft (α ∷ []) full_share) ⊛ (‵ (flft κ0 q0) ⊛ ‵ ftrue)) ⊛ ‵ (u32.own_val u (v ∷ []))) ⊛
-    some (λ (ws : Held × (ℕ × Unit {0})). ‵ (lasts g.ended z.0.0 z.0.3 ws) ⊛ raw (fact 𝓤 (AreUsed it u ws.1.0 ws.0)))))) (id⊢ 𝓤 _) $
-    await ! tt $ pick ! (λ u. split ! $ split ! $ split ! $ lft_end ! tt $ move ! (2 ∷ []) $
-    peeks ! u32 (Is u32) (shows 𝓛 u32) u (v ∷ []) (λ is. lands_as ! refl refl ((uint_Lawful 𝓛 w32).typed u _ is).0 $
-    -- [the result; α is over; the caller's tokens; the last values; the lender's part]
-    move ! (3 ∷ []) $ pick ! (λ ws. split ! $ move ! (1 ∷ []) $ heard ! _ (λ is_so. fsplit ! $ fsplit ! $
-    move ! (4 ∷ 6 ∷ 0 ∷ []) $ use3 𝓛 (later (‵ (part_at row.the_row full_share ws.0 b o))) (ref_back 𝓛 row.the_row (α ∷ []) δ ws.0 b o) $ await ! tt $
-    fpack ! (AreUsed it u ws.1.0 ws.0) (λ _. is_held row.the_row (block_ptr b o) ws.0) is_so $
-    fpack ! (Held) (λ w. fex (AreUsed it u ws.1.0 w) (λ _. is_held row.the_row (block_ptr b o) w)) ws.0 $
-    -- [the session; its borrow; the other last values; the result; the caller's tokens]
+    some (λ (ws : Held × (ℕ × Unit {0})). ‵ (lasts g.ended z.0.0 z.0.3 ws) ⊛ raw (fact 𝓤 (P u ws.1 ws.0)))))) (id⊢ 𝓤 _) $
+    comes_back ! tt b o u32 P (λ u ws is. lands_as ! refl refl ((uint_Lawful 𝓛 w32).typed u _ is).0 $
+    -- [the result; the session; the other last values; the caller's tokens]
     move ! (2 ∷ []) $ fsplit ! $
-    returns ! (look_at ! 0 refl) $ free_all ! refl $ keep ! (0 ∷ 4 ∷ 2 ∷ 5 ∷ []) $
-    suffices ! _ (ends_at 𝓛 f.ended stayed c (y (block_ptr b o)) v u (tt, (ws.1.0, tt)) (tt, (tt, tt))) $
-    nothing ! $ move ! (1 ∷ 0 ∷ []) $ join ! $ nothing ! $ join ! $ move ! (3 ∷ []) $ group ! 3 $ done !))))))))))
+    returns ! (look_at ! 0 refl) $ free_all ! refl $ keep ! (0 ∷ 2 ∷ 3 ∷ 4 ∷ []) $
+    suffices ! _ (ends_at 𝓛 f.ended hs c (y (block_ptr b o)) v u (tt, (ws.1.0, tt)) (tt, (tt, tt))) $
+    nothing ! $ move ! (1 ∷ 0 ∷ []) $ join ! $ nothing ! $ join ! $ move ! (3 ∷ []) $ group ! 3 $ done !))))))

@@ -1,10 +1,10 @@
 use Rattle.std.proofs.Common.{◌≡◌, ◌+◌, ◌<◌, ◌≤◌, ◌^◌, ℕ, List, length, get_or, take, replicate, ap, arith, length-append}
-use Rattle.std.proofs.lemmas.List.{length-replicate}
 use Rattle.std.proofs.lemmas.List.Folds.{length-flat_map-take}
 use Rattle.schedule_text.specs.Items.{events_of}
 use Rattle.schedule_text.specs.declared.errors.TheConstants.{MOST_EVENTS}
 use Rattle.schedule_text.specs.declared.items.Item.{Item}
 use Rattle.schedule_text.proofs.SoFar.{so_far_all}
+use Rattle.driver.proofs.Names.{length-replicate}
 use Rattle.driver.proofs.drawing.event_count.Goals as goal
 
 module _ (items : List Item) (i : ℕ) (d : Item) (events : ℕ) (so_far : events ≡ length (events_of (take i items))) (below : i < length items) where

@@ -1,6 +1,5 @@
 use Rattle.std.proofs.Common.{◌∙◌, inl, inr, refl, subst}
-use Rattle.source_runs.proofs.acceptance.SourceLemmas.{handed_on, on_err}
-use Rattle.outputs.specs.Taken.{Fails, Takes}
+use Rattle.driver.proofs.Names.{handed_on, on_err, Fails, Takes}
 use Rattle.driver.proofs.OutcomeLemmas.{no_device}
 use Rattle.driver.proofs.drawing.report_too_many.Goals as goal
 

@@ -1,16 +1,6 @@
 use Rattle.std.proofs.Common.{◌≡◌, ◌≤◌, ◌<◌, List, length, inl, inr, refl, subst, sym, ap, ◌∙◌}
-use Rattle.cil_model.specs.declared.events.Event.{Event}
-use Rattle.commands.specs.Orders.{event_count}
-use Rattle.outputs.specs.Taken.{Fails, Takes}
-use Rattle.run_picture.specs.Pictures.{IsPicture, IsPictureInPart}
-use Rattle.run_picture.specs.declared.windows.TheConstants.{MOST_EVENTS}
 use Rattle.schedule_text.specs.Items.{events_of}
-use Rattle.schedule_text.specs.declared.errors.TheConstants.{MOST_EVENTS as MOST_SCHEDULED}
-use Rattle.source_runs.specs.acceptance.Failures.{IsOfWriting}
-use Rattle.source_runs.proofs.acceptance.SourceLemmas.{handed_on, if_ok}
-use Rattle.driver.specs.Outcomes.{HasNotTraced, IsPictureCut}
-use Rattle.driver.specs.Outputs.{output_state}
-use Rattle.driver.specs.Pictures.{too_many_text, window_of}
+use Rattle.driver.proofs.Names.{Event, event_count, Fails, Takes, IsPicture, IsPictureInPart, MOST_EVENTS, MOST_SCHEDULED, IsOfWriting, handed_on, if_ok, HasNotTraced, IsPictureCut, output_state, too_many_text, window_of}
 use Rattle.driver.proofs.OutcomeLemmas.{all_of_err, by_either, no_refusal, nothing_written, write_failed}
 use Rattle.driver.proofs.Refusals.{not_run_by}
 use Rattle.driver.proofs.PictureLemmas.{drawn_in_part, has_drawn}

@@ -1,5 +1,5 @@
 use Rattle.std.proofs.Common.{inr}
-use Rattle.source_runs.proofs.acceptance.SourceLemmas.{if_ok, on_err_of}
+use Rattle.driver.proofs.Names.{if_ok, on_err_of}
 use Rattle.driver.proofs.driving.carry_out.Goals as goal
 
 pub returns-clause-reported : goal.returns-clause-reported

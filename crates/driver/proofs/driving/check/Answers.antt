@@ -1,7 +1,5 @@
 use Rattle.std.proofs.Common.{◌∙◌, inl, inr, refl, subst, sym}
-use Rattle.driver.specs.Outcomes.{IsNotChecked}
-use Rattle.driver.specs.Outputs.{output_state}
-use Rattle.source_runs.proofs.acceptance.SourceLemmas.{handed_on}
+use Rattle.driver.proofs.Names.{IsNotChecked, output_state, handed_on}
 use Rattle.driver.proofs.OutcomeLemmas.{notes_break, nothing_written, write_failed}
 use Rattle.driver.proofs.Refusals.{not_accepted}
 use Rattle.driver.proofs.driving.check.Goals as goal

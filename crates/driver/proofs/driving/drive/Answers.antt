@@ -1,4 +1,4 @@
-use Rattle.driver.specs.Outputs.{output_state}
+use Rattle.driver.proofs.Names.{output_state}
 use Rattle.driver.proofs.WorkerLemmas.{nothing_kept}
 use Rattle.driver.proofs.driving.drive.Goals as goal
 

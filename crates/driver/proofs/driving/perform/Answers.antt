@@ -1,8 +1,6 @@
 use Rattle.std.proofs.Common.{subst}
 use Rattle.std.specs.Prelude.{IfErr, IfOk}
-use Rattle.driver.specs.Explorations.{HasExplored}
-use Rattle.driver.specs.Outcomes.{HasNotTraced, HasTraced, IsDrawn, IsDrawnInPart, IsTracedUpTo}
-use Rattle.driver.specs.Outputs.{IsGivenUp, output_state}
+use Rattle.driver.proofs.Names.{HasExplored, HasNotTraced, HasTraced, IsDrawn, IsDrawnInPart, IsTracedUpTo, IsGivenUp, output_state}
 use Rattle.driver.proofs.driving.perform.Goals as goal
 
 pub returns-in-Check-clause-done : goal.returns-in-Check-clause-done

@@ -1,7 +1,6 @@
 use Rattle.std.proofs.Common.{subst}
 use Rattle.std.specs.Prelude.{IfErr, IfOk, None}
-use Rattle.driver.specs.Outcomes.{HasNotRun, HasNotRunThreads, HasRunSource, HasRunThreads, IsRunByWorkersInPart, IsRunInPart}
-use Rattle.driver.specs.Outputs.{IsGivenUp, output_state}
+use Rattle.driver.proofs.Names.{HasNotRun, HasNotRunThreads, HasRunSource, HasRunThreads, IsRunByWorkersInPart, IsRunInPart, IsGivenUp, output_state}
 use Rattle.driver.proofs.driving.perform_run.Goals as goal
 
 pub returns-in-Schedule-clause-done : goal.returns-in-Schedule-clause-done

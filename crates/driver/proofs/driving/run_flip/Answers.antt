@@ -1,8 +1,5 @@
 use Rattle.std.proofs.Common.{ℕ, refl, inl, inr, subst}
-use Rattle.outputs.specs.Taken.{Fails, Takes}
-use Rattle.source_runs.proofs.acceptance.SourceLemmas.{handed_on}
-use Rattle.driver.specs.Outcomes.{flip_text}
-use Rattle.driver.specs.Outputs.{output_state}
+use Rattle.driver.proofs.Names.{Fails, Takes, handed_on, flip_text, output_state}
 use Rattle.driver.proofs.OutcomeLemmas.{no_device, nothing_written, write_failed}
 use Rattle.driver.proofs.driving.run_flip.Goals as goal
 

@@ -1,9 +1,5 @@
 use Rattle.std.proofs.Common.{◌∙◌, inl, inr, None, refl, subst, sym}
-use Rattle.source_runs.specs.shared_machine.Histories.{events_of, reports_of}
-use Rattle.driver.specs.Outcomes.{HasNotRun}
-use Rattle.driver.specs.Outputs.{output_state}
-use Rattle.driver.specs.Replays.{differences_from}
-use Rattle.source_runs.proofs.acceptance.SourceLemmas.{handed_on}
+use Rattle.driver.proofs.Names.{events_of, reports_of, HasNotRun, output_state, differences_from, handed_on}
 use Rattle.driver.proofs.OutcomeLemmas.{cut_breaks, has_run, nothing_written, run_in_part, run_then_in_part, write_failed}
 use Rattle.driver.proofs.Refusals.{not_run_by}
 use Rattle.driver.proofs.driving.show_run.Goals as goal

@@ -1,10 +1,6 @@
 use Rattle.std.proofs.Common.{◌∙◌, inl, inr, refl, subst, sym}
-use Rattle.event_trace.specs.Traces.{IsTraced, IsTracedInPart}
 use Rattle.schedule_text.specs.Items.{events_of}
-use Rattle.driver.specs.Outcomes.{HasNotTraced, IsTraceInPart}
-use Rattle.driver.specs.Outputs.{output_state}
-use Rattle.source_runs.specs.acceptance.Failures.{IsOfWriting}
-use Rattle.source_runs.proofs.acceptance.SourceLemmas.{handed_on}
+use Rattle.driver.proofs.Names.{IsTraced, IsTracedInPart, HasNotTraced, IsTraceInPart, output_state, IsOfWriting, handed_on}
 use Rattle.driver.proofs.OutcomeLemmas.{breaks_later, cut_breaks, has_traced, no_refusal, nothing_written, traced_in_part, write_failed}
 use Rattle.driver.proofs.Refusals.{not_run_by}
 use Rattle.driver.proofs.driving.show_trace.Goals as goal

@@ -1,7 +1,5 @@
 use Rattle.std.proofs.Common.{[], subst}
-use Rattle.outputs.proofs.TakenLaws.{fails_first, fails_second}
-use Rattle.source_runs.specs.acceptance.Failures.{message_of}
-use Rattle.driver.specs.Outcomes.{IsExplanation}
+use Rattle.driver.proofs.Names.{fails_first, fails_second, message_of, IsExplanation}
 use Rattle.driver.proofs.OutcomeLemmas.{for_err, no_explanation}
 use Rattle.driver.proofs.explaining.report_failure.Goals as goal
 

@@ -1,6 +1,5 @@
 use Rattle.std.proofs.Common.{◌≡◌, None, Some, true, false, add-one, ap, arith, length, refl, slice_get, subst, sym, take, ◌∙◌}
-use Rattle.std.proofs.lemmas.Option.{slice_get_read}
-use Rattle.driver.specs.Explorations.{first_other_in, is_other}
+use Rattle.driver.proofs.Names.{slice_get_read, first_other_in, is_other}
 use Rattle.driver.proofs.ExplorationLemmas.{first_here, first_other_at, none_more}
 use Rattle.driver.proofs.exploring.first_other.Goals as goal
 

@@ -1,5 +1,5 @@
 use Rattle.std.proofs.Common.{◌≡◌, None, take}
-use Rattle.driver.specs.Explorations.{first_other_in}
+use Rattle.driver.proofs.Names.{first_other_in}
 use Rattle.driver.proofs.exploring.first_other.Given as goal
 
 -- the outcomes so far do not differ

@@ -1,11 +1,6 @@
 use Rattle.std.proofs.Common.{ap, inl, inr, refl, subst, sym, ◌∙◌}
 use Rattle.std.specs.Prelude.{string_bytes}
-use Rattle.source_runs.proofs.acceptance.SourceLemmas.{handed_on}
-use Rattle.outputs.specs.Taken.{Fails, Takes}
-use Rattle.driver.specs.Explorations.{AreSaved, status_of_exploration}
-use Rattle.driver.specs.Outcomes.{HasNotExplored}
-use Rattle.driver.specs.Outputs.{output_state}
-use Rattle.driver.specs.Records.{texts_of}
+use Rattle.driver.proofs.Names.{handed_on, Fails, Takes, AreSaved, status_of_exploration, HasNotExplored, output_state, texts_of}
 use Rattle.driver.proofs.ExplorationLemmas.{not_explored, not_pictured}
 use Rattle.driver.proofs.OutcomeLemmas.{no_device, nothing_written, write_failed}
 use Rattle.driver.proofs.Refusals.{not_run}

@@ -1,8 +1,6 @@
 use Rattle.std.proofs.Common.{inl, subst, sym}
-use Rattle.source_runs.proofs.acceptance.SourceLemmas.{handed_on}
 use Rattle.cil_model.specs.declared.trees.Tree.{Tree}
-use Rattle.driver.specs.Explorations.{IsNotPictured}
-use Rattle.event_trace.specs.MethodPositions.{ArePositionsOf}
+use Rattle.driver.proofs.Names.{handed_on, IsNotPictured, ArePositionsOf}
 use Rattle.driver.proofs.outcome_pictures.picture_of.Goals as goal
 
 pub returns-in_err-machine : goal.returns-in_err-machine

@@ -1,4 +1,4 @@
-use Rattle.event_trace.specs.MethodPositions.{ArePositionsOf}
+use Rattle.driver.proofs.Names.{ArePositionsOf}
 use Rattle.driver.proofs.outcome_pictures.picture_of.Given as goal
 
 -- the positions are those of the methods of the machine's program

@@ -1,7 +1,6 @@
 use Rattle.std.proofs.Common.{◌≡◌, ◌++◌, ◌+◌, suc, Some, length, add-one, ap, arith, refl, slice_get, subst, sym, ◌∙◌}
-use Rattle.std.proofs.lemmas.Option.{slice_get_read}
 use Rattle.std.specs.Prelude.{string_bytes}
-use Rattle.driver.specs.Explorations.{IsOutcomeText, IsShownBelow}
+use Rattle.driver.proofs.Names.{slice_get_read, IsOutcomeText, IsShownBelow}
 use Rattle.driver.proofs.outcome_texts.outcomes_text.Goals as goal
 
 pub loop-index-preserved : goal.loop-index-preserved

@@ -1,5 +1,5 @@
 use Rattle.std.specs.Prelude.{string_bytes}
-use Rattle.driver.specs.Explorations.{IsShownBelow}
+use Rattle.driver.proofs.Names.{IsShownBelow}
 use Rattle.driver.proofs.outcome_texts.outcomes_text.Given as goal
 
 -- the text has the lines of the outcomes so far

@@ -1,6 +1,4 @@
-use Rattle.source_runs.specs.shared_machine.Histories.{events_of, reports_of}
-use Rattle.source_runs.proofs.acceptance.SourceLemmas.{on_err}
-use Rattle.driver.specs.Outputs.{output_state}
+use Rattle.driver.proofs.Names.{events_of, reports_of, on_err, output_state}
 use Rattle.driver.proofs.EndLemmas.{cut_run, ends_cut, live_run, whole_run}
 use Rattle.driver.proofs.outcomes.show_outcome.Goals as goal
 

@@ -1,7 +1,5 @@
 use Rattle.std.proofs.Common.{◌∙◌, ap₂, subst, sym, List, ℕ}
-use Rattle.run_files.specs.RunFiles.{run_file}
-use Rattle.source_runs.specs.shared_machine.Histories.{events_of}
-use Rattle.driver.specs.Records.{IsRecordOf}
+use Rattle.driver.proofs.Names.{run_file, events_of, IsRecordOf}
 use Rattle.driver.proofs.recording.record_of.Goals as goal
 
 pub returns-in-Ok : goal.returns-in-Ok

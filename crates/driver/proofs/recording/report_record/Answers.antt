@@ -1,8 +1,5 @@
 use Rattle.std.proofs.Common.{subst}
-use Rattle.source_runs.specs.acceptance.Failures.{message_of}
-use Rattle.source_runs.proofs.acceptance.SourceLemmas.{on_err, on_err_of}
-use Rattle.outputs.specs.Taken.{Fails, Takes}
-use Rattle.outputs.proofs.TakenLaws.{fails_first, fails_second}
+use Rattle.driver.proofs.Names.{message_of, on_err, on_err_of, Fails, Takes, fails_first, fails_second}
 use Rattle.driver.proofs.recording.report_record.Goals as goal
 
 pub returns-in_err-write_report-in-TooLong-clause-cut : goal.returns-in_err-write_report-in-TooLong-clause-cut

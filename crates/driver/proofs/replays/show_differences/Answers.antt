@@ -1,6 +1,5 @@
 use Rattle.std.proofs.Common.{subst}
-use Rattle.std.proofs.lemmas.Result.{on_err_weaker, on_ok_weaker}
-use Rattle.outputs.specs.Taken.{Fails, Takes}
+use Rattle.driver.proofs.Names.{on_err_weaker, on_ok_weaker, Fails, Takes}
 use Rattle.driver.proofs.ReplayLemmas.{three_texts}
 use Rattle.driver.proofs.replays.show_differences.Goals as goal
 

@@ -1,14 +1,8 @@
 use Rattle.std.proofs.Common.{◌≡◌, false, ap, inl, inr, None, refl, subst, sym, ◌∙◌, List, ℕ, Option}
-use Rattle.source_runs.proofs.acceptance.SourceLemmas.{handed_on}
-use Rattle.source_runs.specs.shared_machine.Histories.{events_of}
-use Rattle.source_runs.specs.shared_machine.Work.{HasEnded}
-use Rattle.driver.specs.Outcomes.{HasNotRunThreads}
-use Rattle.driver.specs.Outputs.{output_state}
-use Rattle.driver.specs.Records.{texts_of, texts_over}
+use Rattle.driver.proofs.Names.{handed_on, events_of, HasEnded, HasNotRunThreads, output_state, texts_of, texts_over, run_file}
 use Rattle.driver.proofs.OutcomeLemmas.{cut_breaks, nothing_written, write_failed}
 use Rattle.driver.proofs.Refusals.{not_run}
 use Rattle.driver.proofs.WorkerLemmas.{all_have_numbers, has_run_threads, some_record, threads_in_part, threads_then_in_part}
-use Rattle.run_files.specs.RunFiles.{run_file}
 use Rattle.driver.proofs.running_threads.show_threads.Goals as goal
 
 pub record_of-record-requires : goal.record_of-record-requires

@@ -1,8 +1,5 @@
 use Rattle.std.proofs.Common.{◌∙◌, ap, inl, inr, refl, subst}
-use Rattle.std.proofs.lemmas.Result.{on_err_weaker, on_ok_weaker}
-use Rattle.source_runs.proofs.acceptance.SourceLemmas.{on_err}
-use Rattle.outputs.specs.Taken.{Fails, Takes}
-use Rattle.driver.specs.Threads.{lines_from}
+use Rattle.driver.proofs.Names.{on_err_weaker, on_ok_weaker, on_err, Fails, Takes, lines_from}
 use Rattle.driver.proofs.showing.emit.Goals as goal
 
 pub returns-in_err-write_whole-clause-cut : goal.returns-in_err-write_whole-clause-cut

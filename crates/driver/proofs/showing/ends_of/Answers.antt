@@ -1,7 +1,6 @@
 use Rattle.std.proofs.Common.{[], ap, arith, map, sym, take, ◌+◌, ◌++◌, ◌<◌, ◌≤◌, ◌∙◌, ◌∷◌, add-one, length, subst}
-use Rattle.std.proofs.lemmas.List.{length-map, take_all}
-use Rattle.source_runs.specs.simulation.threads_monitors.Threads.{end_of}
 use Rattle.source_runs.proofs.interleaving_core.Threads.Ends.{ends_more}
+use Rattle.driver.proofs.Names.{length-map, take_all, end_of}
 use Rattle.driver.proofs.showing.ends_of.Goals as goal
 
 pub loop-thread-preserved : goal.loop-thread-preserved

@@ -1,6 +1,6 @@
 use Rattle.std.proofs.Common.{◌≡◌, map, take}
 use Rattle.arrayvec.specs.ArrayVec.{array_vec_len}
-use Rattle.source_runs.specs.simulation.threads_monitors.Threads.{end_of}
+use Rattle.driver.proofs.Names.{end_of}
 use Rattle.driver.proofs.showing.ends_of.Given as goal
 
 -- the ends of the threads so far

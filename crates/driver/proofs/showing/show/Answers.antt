@@ -1,6 +1,5 @@
 use Rattle.std.proofs.Common.{[], inl, inr, refl, subst}
-use Rattle.source_runs.proofs.acceptance.SourceLemmas.{if_ok, on_err, on_err_of}
-use Rattle.outputs.specs.Taken.{Fails, Takes}
+use Rattle.driver.proofs.Names.{if_ok, on_err, on_err_of, Fails, Takes}
 use Rattle.driver.proofs.OutcomeLemmas.{no_thread_text}
 use Rattle.driver.proofs.showing.show.Goals as goal
 

@@ -1,6 +1,5 @@
 use Rattle.std.proofs.Common.{[], ◌++◌, ◌∷◌, ◌∙◌, ap, codes, decimal, subst}
-use Rattle.std.proofs.lemmas.Result.{on_err_weaker}
-use Rattle.outputs.specs.Taken.{Fails}
+use Rattle.driver.proofs.Names.{on_err_weaker, Fails}
 use Rattle.driver.proofs.ThreadLemmas.{five_texts}
 use Rattle.driver.proofs.showing.show_flip.Goals as goal
 

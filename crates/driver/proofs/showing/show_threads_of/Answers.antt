@@ -1,8 +1,5 @@
 use Rattle.std.proofs.Common.{[], ◌∙◌, ap, subst}
-use Rattle.source_runs.proofs.acceptance.SourceLemmas.{on_err}
-use Rattle.outputs.specs.Taken.{Fails, Takes}
-use Rattle.outputs.proofs.TakenLaws.{fails_first, fails_second, takes_both}
-use Rattle.driver.specs.Threads.{lines_from, status_of}
+use Rattle.driver.proofs.Names.{on_err, Fails, Takes, fails_first, fails_second, takes_both, lines_from, status_of}
 use Rattle.driver.proofs.OutcomeLemmas.{no_thread_text}
 use Rattle.driver.proofs.showing.show_threads_of.Goals as goal
 

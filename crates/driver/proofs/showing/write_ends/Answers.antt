@@ -1,8 +1,5 @@
 use Rattle.std.proofs.Common.{◌+◌, ◌++◌, ◌∙◌, None, add-one, ap, arith, drop, get_or, subst, suc, sym, take}
-use Rattle.source_runs.proofs.acceptance.SourceLemmas.{on_err}
-use Rattle.outputs.specs.Taken.{Fails, Takes}
-use Rattle.outputs.proofs.TakenLaws.{fails_first, fails_second, takes_both}
-use Rattle.driver.specs.Threads.{line_of, lines_from}
+use Rattle.driver.proofs.Names.{on_err, Fails, Takes, fails_first, fails_second, takes_both, line_of, lines_from}
 use Rattle.driver.proofs.ThreadLemmas.{lines_around, lines_more}
 use Rattle.driver.proofs.showing.write_ends.Goals as goal
 

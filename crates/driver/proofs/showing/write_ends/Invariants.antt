@@ -1,6 +1,5 @@
 use Rattle.std.proofs.Common.{take}
-use Rattle.outputs.specs.Taken.{Takes}
-use Rattle.driver.specs.Threads.{lines_from}
+use Rattle.driver.proofs.Names.{Takes, lines_from}
 use Rattle.driver.proofs.showing.write_ends.Given as goal
 
 -- the lines of the threads so far are written

@@ -1,7 +1,5 @@
 use Rattle.std.proofs.Common.{ap, ◌∙◌}
-use Rattle.source_runs.proofs.acceptance.SourceLemmas.{on_err}
-use Rattle.outputs.proofs.TakenLaws.{fails_first, fails_second, takes_both}
-use Rattle.driver.specs.Outcomes.{status_after}
+use Rattle.driver.proofs.Names.{on_err, fails_first, fails_second, takes_both, status_after}
 use Rattle.driver.proofs.statistics.show_last.Goals as goal
 
 pub returns-in_err-status-clause-cut : goal.returns-in_err-status-clause-cut

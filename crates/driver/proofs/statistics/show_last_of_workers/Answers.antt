@@ -1,5 +1,4 @@
-use Rattle.source_runs.proofs.acceptance.SourceLemmas.{on_err}
-use Rattle.outputs.proofs.TakenLaws.{fails_first, fails_second, takes_both}
+use Rattle.driver.proofs.Names.{on_err, fails_first, fails_second, takes_both}
 use Rattle.driver.proofs.statistics.show_last_of_workers.Goals as goal
 
 pub returns-in_err-status-clause-cut : goal.returns-in_err-status-clause-cut

@@ -1,8 +1,6 @@
 use Rattle.std.proofs.Common.{subst, sym}
 use Rattle.std.specs.Prelude.{OnErr}
-use Rattle.outputs.specs.Taken.{Fails}
-use Rattle.source_runs.specs.shared_machine.Histories.{events_of, reports_of}
-use Rattle.driver.specs.Statistics.{stats_text}
+use Rattle.driver.proofs.Names.{Fails, events_of, reports_of, stats_text}
 use Rattle.driver.proofs.statistics.show_statistics.Goals as goal
 
 pub returns-clause-cut : goal.returns-clause-cut

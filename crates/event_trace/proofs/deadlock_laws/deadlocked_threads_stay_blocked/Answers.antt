@@ -1,7 +1,5 @@
-use Rattle.std.specs.List.{zip}
 use Rattle.interleaving_core.specs.simulation.reference_machine.Runs.{step_reports, thread_part}
-use Rattle.interleaving_core.proofs.Runs.FollowedRuns.{transitions_follow}
-use Rattle.interleaving_core.proofs.simulation.reference_machine.Deadlocks.LastingDeadlocks.{runs_last}
+use Rattle.event_trace.proofs.Names.{zip, transitions_follow, runs_last}
 use Rattle.event_trace.proofs.deadlock_laws.deadlocked_threads_stay_blocked.Goals as goal
 
 pub returns : goal.returns

@@ -1,4 +1,4 @@
-use Rattle.interleaving_core.proofs.simulation.reference_machine.Deadlocks.ReadyThreads.{continues_unless_all}
+use Rattle.event_trace.proofs.Names.{continues_unless_all}
 use Rattle.event_trace.proofs.Greatest.{holders_started}
 use Rattle.event_trace.proofs.deadlock_laws.some_thread_continues_unless_all_are_deadlocked.Goals as goal
 

@@ -1,6 +1,6 @@
 use Rattle.std.proofs.Common.{◌≡◌, ◌++◌}
 use Rattle.std.specs.Prelude.{string_bytes}
-use Rattle.event_trace.specs.Texts.{count_below, numbers_below}
+use Rattle.event_trace.proofs.Names.{count_below, numbers_below}
 use Rattle.event_trace.proofs.explanations.add_thread_numbers.Given as goal
 
 -- the numbers so far were added, and counted

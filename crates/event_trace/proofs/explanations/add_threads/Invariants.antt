@@ -1,6 +1,6 @@
 use Rattle.std.proofs.Common.{◌≡◌, ◌++◌}
 use Rattle.std.specs.Prelude.{string_bytes}
-use Rattle.event_trace.specs.Texts.{lines_below}
+use Rattle.event_trace.proofs.Names.{lines_below}
 use Rattle.event_trace.proofs.explanations.add_threads.Given as goal
 
 -- the lines of the threads so far were added

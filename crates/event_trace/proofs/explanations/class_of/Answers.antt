@@ -1,8 +1,5 @@
 use Rattle.std.proofs.Common.{◌≡◌, ◌+◌, ◌-◌, length, Some, refl, sym, ap, ◌∙◌, subst, slice_get, arith}
-use Rattle.std.proofs.lemmas.List.{length-map}
-use Rattle.std.proofs.lemmas.Option.{slice_get_read}
-use Rattle.cil_model.specs.Declarations.{built_ins}
-use Rattle.name_tables.specs.BuiltInTable.{built_in_entry}
+use Rattle.event_trace.proofs.Names.{length-map, slice_get_read, built_ins, built_in_entry}
 use Rattle.event_trace.proofs.Classes.{source_class}
 use Rattle.event_trace.proofs.explanations.class_of.Goals as goal
 

@@ -1,7 +1,5 @@
 use Rattle.std.proofs.Common.{◌≡◌, ◌<◌, ◌≤◌, ◌++◌, ◌∷◌, [], arith, length, map, rules, subst}
-use Rattle.std.proofs.lemmas.List.{take_all}
-use Rattle.cil_model.specs.declared.trees.Method.{Method}
-use Rattle.event_trace.specs.declared.method_positions.MethodPosition.TheVariants.{BuiltIn}
+use Rattle.event_trace.proofs.Names.{take_all, Method, BuiltIn}
 use Rattle.event_trace.proofs.PositionLaws.{Occur, built_in_more}
 use Rattle.event_trace.proofs.method_positions.add_built_in.Goals as goal
 

@@ -1,9 +1,6 @@
 use Rattle.std.proofs.Common.{◌≡◌, List, Some, length, map, take}
 use Rattle.std.specs.Prelude.{slice_get}
-use Rattle.cil_model.specs.declared.types.ClassName.{ClassName}
-use Rattle.cil_model.specs.declared.trees.Method.{Method}
-use Rattle.cil_model.specs.declared.trees.Tree.{Tree}
-use Rattle.cil_model.specs.Declarations.{Declaration}
+use Rattle.event_trace.proofs.Names.{ClassName, Method, Tree, Declaration}
 use Rattle.event_trace.proofs.PositionLaws.{Occur}
 use Rattle.event_trace.proofs.method_positions.add_built_in.Given as goal
 

@@ -1,10 +1,6 @@
 use Rattle.std.proofs.Common.{◌≡◌, ◌≤◌, ◌∙◌, Some, ap, length, map, refl, subst, sym}
-use Rattle.std.specs.List.{flat_map}
 use Rattle.std.specs.Prelude.{slice_get}
-use Rattle.std.proofs.lemmas.List.{take_all}
-use Rattle.std.proofs.lemmas.Option.{slice_get_read}
-use Rattle.name_tables.specs.Numbers.{source_entry}
-use Rattle.interleaving_core.specs.simulation.loaded_program.AllMethods.{owned_methods}
+use Rattle.event_trace.proofs.Names.{flat_map, take_all, slice_get_read, source_entry, owned_methods}
 use Rattle.event_trace.proofs.PositionLaws.{Occur, class_more}
 use Rattle.event_trace.proofs.method_positions.add_classes.Goals as goal
 

@@ -1,10 +1,5 @@
 use Rattle.std.proofs.Common.{◌≡◌, List, map, take}
-use Rattle.std.specs.List.{flat_map}
-use Rattle.cil_model.specs.declared.types.ClassName.{ClassName}
-use Rattle.cil_model.specs.declared.trees.Tree.{Tree}
-use Rattle.cil_model.specs.Declarations.{Declaration}
-use Rattle.name_tables.specs.Numbers.{source_entry}
-use Rattle.interleaving_core.specs.simulation.loaded_program.AllMethods.{owned_methods}
+use Rattle.event_trace.proofs.Names.{flat_map, ClassName, Tree, Declaration, source_entry, owned_methods}
 use Rattle.event_trace.proofs.PositionLaws.{Occur}
 use Rattle.event_trace.proofs.method_positions.add_classes.Given as goal
 

@@ -1,9 +1,5 @@
 use Rattle.std.proofs.Common.{Global, Vec, ◌≡◌, ◌<◌, ◌≤◌, ◌+◌, get_or, length, map, subst, sym}
-use Rattle.std.specs.List.{filter_map}
-use Rattle.std.proofs.lemmas.List.{take_all}
-use Rattle.cil_model.specs.Declarations.{as_method, source_name}
-use Rattle.cil_model.specs.declared.trees.Method.{Method}
-use Rattle.event_trace.specs.declared.method_positions.MethodPosition.{MethodPosition}
+use Rattle.event_trace.proofs.Names.{filter_map, take_all, as_method, source_name, Method, MethodPosition}
 use Rattle.event_trace.proofs.PositionLaws.{Occur, field_more, method_more, own_methods}
 use Rattle.event_trace.proofs.method_positions.add_members.Goals as goal
 use Rattle.event_trace.proofs.method_positions.add_members.Goals.{in-Method+in_ok-push, in_default}

@@ -1,9 +1,6 @@
 use Rattle.std.proofs.Common.{◌≡◌, List, Some}
 use Rattle.std.specs.Prelude.{slice_get}
-use Rattle.cil_model.specs.declared.types.ClassName.{ClassName}
-use Rattle.cil_model.specs.declared.trees.Class.{Class}
-use Rattle.cil_model.specs.declared.trees.Tree.{Tree}
-use Rattle.cil_model.specs.Declarations.{Declaration}
+use Rattle.event_trace.proofs.Names.{ClassName, Class, Tree, Declaration}
 use Rattle.event_trace.proofs.PositionLaws.{Occur, own_methods}
 use Rattle.event_trace.proofs.method_positions.add_members.Given as goal
 

@@ -1,5 +1,5 @@
 use Rattle.std.proofs.Common.{subst}
-use Rattle.std.specs.Io.KnownBytes.{Appends}
+use Rattle.event_trace.proofs.Names.{Appends}
 use Rattle.event_trace.proofs.TraceLaws.{takes_all, takes_none}
 use Rattle.event_trace.proofs.pieces.write_piece.Goals as goal
 

@@ -1,5 +1,5 @@
 use Rattle.std.proofs.Common.{inr}
-use Rattle.interleaving_core.proofs.Threads.RefusedMemory.{on_err}
+use Rattle.event_trace.proofs.Names.{on_err}
 use Rattle.event_trace.proofs.tracing.add_event.Goals as goal
 
 pub returns-in_err-text-clause-stopped : goal.returns-in_err-text-clause-stopped

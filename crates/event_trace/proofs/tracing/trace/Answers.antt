@@ -1,12 +1,5 @@
 use Rattle.std.proofs.Common.{◌≤◌, ◌+◌, ◌++◌, ◌∷◌, ◌∙◌, [], ap, length, subst, sym, take}
-use Rattle.std.specs.Io.KnownBytes.{Appends}
-use Rattle.cil_model.specs.declared.events.Event.TheVariants.{Gc}
-use Rattle.cil_model.specs.declared.trees.Tree.{Tree}
-use Rattle.schedule_text.specs.Items.{events_of}
-use Rattle.schedule_text.proofs.SoFar.{so_far_whole}
-use Rattle.interleaving_core.proofs.Threads.RefusedMemory.{on_err}
-use Rattle.outputs.specs.Beginnings.{AppendsBeginning}
-use Rattle.event_trace.specs.MethodPositions.{ArePositionsOf}
+use Rattle.event_trace.proofs.Names.{Appends, Gc, Tree, events_of, so_far_whole, on_err, AppendsBeginning, ArePositionsOf}
 use Rattle.event_trace.proofs.TraceLaws.{TracedSoFar, all_traced, end_cut, item_cut, nothing_traced, number_cut, number_item, number_none, number_time, same_so_far}
 use Rattle.event_trace.proofs.TraceLaws.{traced_item, traced_none, traced_time}
 use Rattle.event_trace.proofs.tracing.trace.Goals as goal

@@ -1,7 +1,5 @@
 use Rattle.std.proofs.Common.{◌≡◌, length, take}
-use Rattle.schedule_text.specs.Items.{events_of}
-use Rattle.schedule_text.proofs.SoFar.{so_far}
-use Rattle.event_trace.specs.MethodPositions.{ArePositionsOf}
+use Rattle.event_trace.proofs.Names.{events_of, so_far, ArePositionsOf}
 use Rattle.event_trace.proofs.TraceLaws.{TracedSoFar}
 use Rattle.event_trace.proofs.tracing.trace.Given as goal
 

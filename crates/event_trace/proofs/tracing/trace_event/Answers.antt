@@ -1,6 +1,5 @@
 use Rattle.std.proofs.Common.{◌∙◌, inr, subst}
-use Rattle.interleaving_core.proofs.Threads.RefusedMemory.{on_err}
-use Rattle.outputs.specs.Beginnings.{AppendsBeginning}
+use Rattle.event_trace.proofs.Names.{on_err, AppendsBeginning}
 use Rattle.event_trace.proofs.TraceLaws.{event_cut}
 use Rattle.event_trace.proofs.tracing.trace_event.Goals as goal
 

@@ -1,5 +1,5 @@
 use Rattle.std.proofs.Common.{◌≡◌, ◌<◌, ◌+◌, ◌&&◌, ◌∷◌, [], ◌++◌, Bool, length, take, sym, ap, ◌∙◌, add-one, arith}
-use Rattle.event_trace.specs.Rounds.{is_in, passing, stays}
+use Rattle.event_trace.proofs.Names.{is_in, passing, stays}
 use Rattle.event_trace.proofs.RoundLaws.{passing_more}
 use Rattle.event_trace.proofs.waiting.after_round.Goals as goal
 

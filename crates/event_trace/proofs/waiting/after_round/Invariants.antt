@@ -1,5 +1,5 @@
 use Rattle.std.proofs.Common.{◌≡◌, take}
-use Rattle.event_trace.specs.Rounds.{passing, stays}
+use Rattle.event_trace.proofs.Names.{passing, stays}
 use Rattle.event_trace.proofs.waiting.after_round.Given as goal
 
 -- the entries so far

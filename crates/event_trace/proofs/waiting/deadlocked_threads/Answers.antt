@@ -1,5 +1,5 @@
 use Rattle.std.proofs.Common.{rules, ◌+◌, true, replicate, sym, ap, subst, ◌∙◌, arith}
-use Rattle.event_trace.specs.Rounds.{after_round}
+use Rattle.event_trace.proofs.Names.{after_round}
 use Rattle.event_trace.proofs.Greatest.{RoundsSoFar, one_round_more, rounds_begun, rounds_done}
 use Rattle.event_trace.proofs.waiting.deadlocked_threads.Goals as goal
 

@@ -1,8 +1,6 @@
 use Rattle.std.proofs.Common.{◌≡◌, ◌∙◌, Some, ap, map, sym}
 use Rattle.std.specs.Prelude.{option_and_then, slice_get}
-use Rattle.name_tables.specs.BuiltInTable.{built_in_entry}
-use Rattle.interleaving_core.specs.simulation.loaded_program.AllMethods.{all_methods}
-use Rattle.event_trace.specs.MethodPositions.{method_by}
+use Rattle.event_trace.proofs.Names.{built_in_entry, all_methods, method_by}
 use Rattle.event_trace.proofs.PositionLaws.{at_number}
 use Rattle.event_trace.proofs.method_positions.MethodPositions.method.Goals as goal
 

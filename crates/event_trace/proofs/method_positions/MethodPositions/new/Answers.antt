@@ -1,8 +1,5 @@
 use Rattle.std.proofs.Common.{ap, map, subst, sym}
-use Rattle.std.specs.List.{flat_map}
-use Rattle.name_tables.specs.BuiltInTable.{built_in_entry}
-use Rattle.name_tables.specs.Numbers.{source_entry}
-use Rattle.interleaving_core.specs.simulation.loaded_program.AllMethods.{owned_methods}
+use Rattle.event_trace.proofs.Names.{flat_map, built_in_entry, source_entry, owned_methods}
 use Rattle.event_trace.proofs.PositionLaws.{Occur, all_placed}
 use Rattle.event_trace.proofs.method_positions.MethodPositions.new.Goals as goal
 
