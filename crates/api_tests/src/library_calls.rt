@@ -48,7 +48,7 @@ pub struct Call {
 }
 
 /// A call by its name, and whether its outcome is as expected.
-pub fn came_to(name: &'static str, is_as_expected: bool) -> Call
+pub fn call_result(name: &'static str, is_as_expected: bool) -> Call
     ensures { (result.name.now ≡ name.now) × (result.is_as_expected ≡ is_as_expected) }
 {
     Call {
@@ -60,38 +60,38 @@ pub fn came_to(name: &'static str, is_as_expected: bool) -> Call
 /// Makes the calls. One that runs out of memory counts as one with another outcome.
 pub fn calls(threads: &(impl Threads + Sync), alloc: Global) -> [Call; 11] {
     [
-        came_to(
+        call_result(
             "a source that is too long",
             reads_no_more(alloc).unwrap_or(false),
         ),
-        came_to(
+        call_result(
             "a schedule as text",
             writes_schedules(alloc).unwrap_or(false),
         ),
-        came_to("events among others", inserts_events(alloc)),
-        came_to(
+        call_result("events among others", inserts_events(alloc)),
+        call_result(
             "characters as text",
             writes_characters(alloc).unwrap_or(false),
         ),
-        came_to("names as keys", are_keys(alloc).unwrap_or(false)),
-        came_to(
+        call_result("names as keys", are_keys(alloc).unwrap_or(false)),
+        call_result(
             "a slot that another seat loads",
             is_loaded_by_another(alloc).unwrap_or(false),
         ),
-        came_to(
+        call_result(
             "a word through all stages",
             takes_a_word_through_all_stages(alloc).unwrap_or(false),
         ),
-        came_to(
+        call_result(
             "epochs",
             threads_see_every_epoch(threads, alloc).unwrap_or(false),
         ),
-        came_to(
+        call_result(
             "epochs one call behind another",
             counts_in_transition(alloc).unwrap_or(false),
         ),
-        came_to("the plain machine", runs_plainly(alloc).unwrap_or(false)),
-        came_to(
+        call_result("the plain machine", runs_plainly(alloc).unwrap_or(false)),
+        call_result(
             "barriers in each phase",
             barriers_do_as_shown(alloc).unwrap_or(false),
         ),

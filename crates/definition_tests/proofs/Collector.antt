@@ -2,4 +2,4 @@
 pub mod Barriers
 pub mod Cycles
 pub mod RunsDuringCopying
-pub mod OwedWords
+pub mod RetainedWords

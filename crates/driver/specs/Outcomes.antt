@@ -10,7 +10,7 @@ use Rattle.event_trace.specs.Texts.{threads_text}
 use Rattle.event_trace.specs.Traces.{IsTraced, IsTracedInPart}
 use Rattle.event_trace.specs.declared.errors.TraceError.{TraceError}
 use Rattle.event_trace.specs.declared.errors.TraceError.TheVariants.{Memory as MemoryRanOut, Device as CantWrite}
-use Rattle.source_runs.specs.simulation.Owed.{LeavesOnlyOwed}
+use Rattle.source_runs.specs.simulation.Retained.{LeavesOnlyRetained}
 use Rattle.source_runs.specs.simulation.Refines.{Represents}
 use Rattle.source_runs.specs.simulation.threads_monitors.Threads.{end_of}
 use Rattle.cil_model.specs.declared.events.Event.{Event}
@@ -218,7 +218,7 @@ failure_of_tracing CantWrite = Device
 
 -- A run is traced. A machine that holds what the program begins with makes the transitions of the events, with the reports of the run, and a
 -- line of each is shown, and an empty line. It then represents the state that the run ends in, and what was printed and the states of its
--- threads are shown as if it were not traced. Where the last event ends a cycle, the machine has no more words in use than are owed.
+-- threads are shown as if it were not traced. Where the last event ends a cycle, the machine has no more words in use than are retained.
 pub record HasTraced (source : List ℕ) (limits : Limits) (text : List ℕ) (explain : Bool) (o o' : OutputState) (status : ℕ) : Type 0 where
   pub events : List Event
   pub reports : List Report
@@ -230,7 +230,7 @@ pub record HasTraced (source : List ℕ) (limits : Limits) (text : List ℕ) (ex
   pub between : Taken
   pub traced : IsTraced begins events after reports o.out.contents between.contents
   pub represents : Represents after state
-  pub leaves : LeavesOnlyOwed results_in.by_events.tree limits events reports after
+  pub leaves : LeavesOnlyRetained results_in.by_events.tree limits events reports after
   pub explanation : List ℕ
   pub explains : IsThreadText explain after explanation
   pub shown : IsShown state.printed (ends_of state) explanation (record o { out = between }) o' status
@@ -253,10 +253,10 @@ pub record IsRunDrawn (source : List ℕ) (limits : Limits) (text : List ℕ) (p
   pub explains : IsThreadText explain after explanation
 
 -- A run is drawn, and the states of its threads are shown. Where the last event ends a cycle, the machine has no more words in use than are
--- owed.
+-- retained.
 pub record HasDrawn (source : List ℕ) (limits : Limits) (text : List ℕ) (part : Part) (explain : Bool) (o o' : OutputState) (status : ℕ) : Type 0 where
   pub drawn : IsRunDrawn source limits text part explain o o'
-  pub leaves : LeavesOnlyOwed drawn.results_in.by_events.tree limits drawn.events drawn.reports drawn.after
+  pub leaves : LeavesOnlyRetained drawn.results_in.by_events.tree limits drawn.events drawn.reports drawn.after
   pub errors : Takes o.err o'.err (lines_from 0 (ends_of drawn.state) ++ drawn.explanation)
   pub status_is : status ≡ status_of (ends_of drawn.state)
   pub same : o'.texts ≡ o.texts

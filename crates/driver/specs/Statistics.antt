@@ -12,6 +12,6 @@ use Rattle.source_runs.specs.simulation.MachineStates.{MachineState}
 abbrev pub IsMostOfRun : List ℕ → Limits → List (Event × Report) → ℕ → Type 0
 IsMostOfRun source limits events most = (begins last : MachineState) × IsMade source limits begins × IsMostInUse begins events last most
 
--- what is reported of the numbers of a run by these events with these reports, which leaves this content and had at most this number of words in use
+-- what is reported of the numbers of a run by these events with these reports, which leaves this machine state and had at most this number of words in use
 abbrev pub stats_text : Bool → List Event → List Report → MachineState → Option ℕ → List ℕ
 stats_text stats events reports c most = if stats then statistics_text events reports c most else []

@@ -43,12 +43,12 @@ module _ (first : MachineState) (paths : List (List Event)) where
       let same : led.0 ≡ events = same_Some led.0 events (sym led.1 ∙ there) in
       (c, subst (λ (es : List Event). LeadsTo first es c) same led.2, few, λ live. let no : true ≡ false = sym live ∙ dead in absurd (cc no), λ yes. absurd (cc yes))
 
-  -- a content to which a list leads is one of the set
+  -- a machine state to which a list leads is one of the set
   pub led_among : (n : ℕ) (c : MachineState) → IsLedToBy first paths n c → IsLedTo first paths c
   led_among n c led = record { path_index = n; path = led.0; there = led.1; reports = led.2.reports; transitions = led.2.transitions }
 
   module _ (one : IsOneOperation first.tree) where
-    -- a step that leads to a content of the set
+    -- a step that leads to a machine state of the set
     pub stepped : (events : List Event) (t : ℕ) (target : MachineState) (can : Bool) → IsStepInto first events t target can → IsLedTo first paths target → IsStepChecked first paths events t can
     stepped events t target can h among = (
       h.machine_state,

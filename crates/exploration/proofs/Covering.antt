@@ -1,4 +1,4 @@
--- A content that lags behind one that lags behind a third.
+-- A machine state that lags behind one that lags behind a third.
 use Rattle.std.proofs.Common.{◌≡◌, List, [], ◌∷◌, refl, ap, ◌∙◌, subst, map}
 use Rattle.interleaving_core.specs.Alike.{AreAlike, status_of}
 use Rattle.exploration.proofs.Names.{Tree, Frames, ThreadStatus, Live, Ended, Thread, Agree, MachineState, IsLagging, IsAhead, here, onward, IsStatusLagging, IsThreadLagging, IsCovered}
@@ -32,7 +32,7 @@ lagging_more b c d h k =
       threads = threads_more b.tree b.threads c.threads d.threads h.threads (subst (λ (t : Tree). Agree (IsThreadLagging t) c.threads d.threads) same k.threads);
     }
 
--- ---- a content and itself
+-- ---- a machine state and itself
 
 pub threads_itself : (tree : Tree) (xs : List Thread) → Agree (IsThreadLagging tree) xs xs
 threads_itself tree [] = tt
@@ -55,7 +55,7 @@ head_is s u xs ys h = cc
 tail_is : (s u : ThreadStatus) (xs ys : List ThreadStatus) → s ∷ xs ≡ u ∷ ys → xs ≡ ys
 tail_is s u xs ys h = cc
 
--- ---- contents that differ in budgets alone
+-- ---- machine states that differ in budgets alone
 
 statuses_lagging : (tree : Tree) (xs ys : List Thread) → map status_of xs ≡ map status_of ys → Agree (IsThreadLagging tree) xs ys
 statuses_lagging tree [] [] h = tt

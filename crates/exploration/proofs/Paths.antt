@@ -15,7 +15,7 @@ events_there paths n p is = slice_get-map events_of paths n ∙ ap (option_map e
 abbrev pub IsOneOperation : Tree → Type 0
 IsOneOperation tree = (lines : List Line) (i : Instruction) (o p : Operation) → IsOperation tree lines i o → IsOperation tree lines i p → o ≡ p
 
--- so a list of events leads to one content
+-- so a list of events leads to one machine state
 pub led_once : (c : MachineState) → IsOneOperation c.tree → (events : List Event) (x y : MachineState) (rs qs : List Report) → AreTransitions c events x rs → AreTransitions c events y qs → x ≡ y
 led_once c one [] x y rs qs h k = h.0 ∙ sym k.0
 led_once c one (e ∷ es) x y [] qs h k = elim h [ ]
@@ -87,7 +87,7 @@ module _ (first : MachineState) (one : IsOneOperation first.tree) where
 pub not_terminal_shown : (first : MachineState) (outcomes : List ShownOutcome) (events : List Event) → IsNotTerminalAt first events → ShowsOneOf first outcomes events
 not_terminal_shown first outcomes events h = (h.0, h.1, λ terminal. absurd (h.2 terminal))
 
--- the outcome of a content in which no thread can make a step
+-- the outcome of a machine state in which no thread can make a step
 pub is_real : (first : MachineState) (found : Found) (c : MachineState) → LeadsTo first found.events.items c → IsOneOperation first.tree → IsTerminalAt first found.events.items → outcome_shown c ≡ outcome_found found → IsReal first found
 is_real first found c led one h shows = record {
   machine_state = c;

@@ -1,4 +1,4 @@
--- A run from a content that a closed list covers.
+-- A run from a machine state that a closed list covers.
 use Rattle.std.proofs.Common.{◌≡◌, ◌⊎◌, ◌≢◌, IsTrue, ℕ, Bool, true, false, List, [], ◌∷◌, Option, Some, None, option_map, option_and_then, length, slice_get, refl, inl, inr, sym, ap, ◌∙◌, subst, arith}
 use Rattle.std.specs.List.{zip}
 use Rattle.interleaving_core.specs.simulation.cil_model.Bodies.{entry_points}
@@ -11,7 +11,7 @@ use Rattle.interleaving_core.specs.simulation.Rooms.{HasNoRoom}
 use Rattle.interleaving_core.specs.simulation.reference_machine.Rooms.{ExceedsRoom, words_of_all}
 use Rattle.interleaving_core.specs.simulation.Refines.{Represents}
 use Rattle.interleaving_core.proofs.simulation.reference_machine.Runs.JoinedRuns.{first_of, same_state}
-use Rattle.interleaving_core.proofs.simulation.OwedWords.BornWords.{AreWithin, IsWithinBirths, acknowledgement_granted, acknowledgement_within, collection_granted, collection_within, exceeds_one_space, opened_within, step_within}
+use Rattle.interleaving_core.proofs.simulation.RetainedWords.BornWords.{AreWithin, IsWithinBirths, acknowledgement_granted, acknowledgement_within, collection_granted, collection_within, exceeds_one_space, opened_within, step_within}
 use Rattle.interleaving_core.proofs.simulation.Runs.RunsWithoutCollection.{HasWhole, beyond_own, opened_whole, whole_stepped}
 use Rattle.exploration.proofs.Names.{same_Some, AreSteps, AreTransitions, IsRunOf, RefusesBeyondRoom, none_is_some, Event, Step, Ack, Gc, Limits, Budget, Report, Absent, Ran, HasEnded, Tree, RunsTo, is_refusal, initial_state, run, step_reports, thread_part, State, Answers, step, is_live_at, MachineState, IsTransition, machine_state_at, initial_machine_state, same_program, one_transition, acknowledgement_keeps, collection_keeps, each_alike, step_is_refused, IsLagging, AreOrdinary, IsClosed, IsCovered, IsSeen, KeepBudgets, LeadsInto}
 use Rattle.exploration.proofs.Covering.{covered_more, one_covers}
@@ -56,7 +56,7 @@ module _ (known : MachineState → Type 0) (closed : IsClosed known) where
           by_step leads after q transition (inr (inr both)) =
               record { after = after; report = q; transition = transition; over = inr (covered_more known after leads.next both.1 leads.covered); granted = ap is_refusal both.0 ∙ leads.granted }
 
-  -- a step that uses up no budget leads to a covered content
+  -- a step that uses up no budget leads to a covered machine state
   still : (d : MachineState) (q : Report) → (q ≡ HasEnded Budget) ⊎ IsCovered known d → ((q ≡ HasEnded Budget) → ⊥) → IsCovered known d
   still d q (inl over) not = absurd (not over)
   still d q (inr covered') not = covered'
@@ -64,7 +64,7 @@ module _ (known : MachineState → Type 0) (closed : IsClosed known) where
   -- ---- a run
 
   module _ (tree : Tree) (limits : Limits) where
-    -- a machine that collects nothing is at a covered content
+    -- a machine that collects nothing is at a covered machine state
     record IsAlone (c : MachineState) (s : State) : Type 0 where
       pub program : c.tree ≡ tree
       pub within : c.limits ≡ limits

@@ -37,9 +37,9 @@ charges_step_alike tree (Raises f) m left left' lasts = inr (refl, refl)
 charges_step_alike tree Continues m left left' lasts = by_budget tree Continues m (left - 1) (left' - 1) (left - 1 == 0) (left' - 1 == 0) lasts
 charges_step_alike tree Blocks m left left' lasts = by_budget tree Blocks m (left - 1) (left' - 1) (left - 1 == 0) (left' - 1 == 0) lasts
 
--- ---- the whole content
+-- ---- the whole machine state
 
--- a transition uses up the budget, or both have one report and the first content lags behind the second
+-- a transition uses up the budget, or both have one report and the first machine state lags behind the second
 abbrev pub TransitionsAlike : MachineState × Report → MachineState × Report → Type 0
 TransitionsAlike x y = (x.1 ≡ HasEnded Budget) ⊎ ((x.1 ≡ y.1) × IsLagging x.0 y.0)
 

@@ -42,7 +42,7 @@ module _ (tree : Tree) (limits : Limits) (known : MachineState → Type 0) (clos
   transition_is : (next : MachineState) (r q : Report) (t : ℕ) → IsTransition d (Step t) (next, r) → q ≡ r → q ≡ Blocked → IsTransition d (Step t) (next, Blocked)
   transition_is next r q t transition same is = subst (λ (x : Report). IsTransition d (Step t) (next, x)) (sym same ∙ is) transition
 
-  -- a thread that is blocked in the state is blocked in the content that covers it
+  -- a thread that is blocked in the state is blocked in the machine state that covers it
   blocked_there : (t : ℕ) → is_live_at d.threads t ≡ true → (next : State) → step c.tree c.limits s t false ≡ Answers Blocked next → (after : MachineState) × IsTransition d (Step t) (after, Blocked)
   blocked_there t live next blocked =
       let live_c : is_live_at c.threads t ≡ true = lives_in_both t ∙ live in

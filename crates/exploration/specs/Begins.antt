@@ -6,11 +6,11 @@ use Rattle.interleaving_core.specs.simulation.collector.Phases.{no_progress}
 use Rattle.interleaving_core.specs.simulation.MachineStates.{MachineState}
 use Rattle.interleaving_core.specs.simulation.Transitions.{initial_machine_state}
 
--- the second content is the initial content of a machine with the program and the limits of the first
+-- the second machine state is the initial machine state of a machine with the program and the limits of the first
 abbrev pub Begins : MachineState → MachineState → Type 0
 Begins c first = initial_machine_state c.tree c.limits ≡ Some first
 
--- the content of no machine
+-- the state of no machine
 abbrev pub no_machine_state : MachineState
 no_machine_state = record {
   tree = record { externs = []; assembly = None; classes = [] };

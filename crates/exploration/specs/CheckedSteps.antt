@@ -1,5 +1,5 @@
--- What the check notes of steps (this profile). It has an entry for each list of events and each thread: whether the thread can make a step after these events, or none if the step is not
--- checked.
+-- What the check notes of steps (this profile). It has an entry for each list of events and each thread: whether the thread can make a step after these
+-- events, or none if the step is not checked.
 use Rattle.std.specs.Prelude.{◌≡◌, ◌≢◌, ◌<◌, ◌≤◌, ◌+◌, ◌*◌, ℕ, Bool, true, List, Option, Some, length, slice_get}
 use Rattle.interleaving_core.specs.simulation.cil_model.declared.events.Event.{Event}
 use Rattle.interleaving_core.specs.simulation.cil_model.declared.limits.TheConstants.{MOST_THREADS}
@@ -10,7 +10,7 @@ use Rattle.exploration.specs.Paths.{LeadsTo}
 use Rattle.exploration.specs.Searches.{IsLedTo, LeadsInto}
 use Rattle.exploration.specs.Shown.{CannotStep}
 
--- after the events, the step of the live thread leads to a content that lags behind this one; if `can` is true, it is not blocked
+-- after the events, the step of the live thread leads to a machine state that lags behind this one; if `can` is true, it is not blocked
 pub record IsStepInto (first : MachineState) (events : List Event) (t : ℕ) (target : MachineState) (can : Bool) : Type 0 where
   pub machine_state : MachineState
   pub leads : LeadsTo first events machine_state
@@ -19,11 +19,11 @@ pub record IsStepInto (first : MachineState) (events : List Event) (t : ℕ) (ta
   pub into : LeadsInto (λ c. c ≡ target) machine_state t
   pub made : can ≡ true → into.report ≢ Blocked
 
--- the list of events at this index leads to the content
+-- the list of events at this index leads to the machine state
 abbrev pub IsLedToBy : MachineState → List (List Event) → ℕ → MachineState → Type 0
 IsLedToBy first paths n c = (events : List Event) × (slice_get paths n ≡ Some events) × LeadsTo first events c
 
--- after the events, the step of the thread, if it is live, leads to a content of the set; if `can` is true, the thread can make it
+-- after the events, the step of the thread, if it is live, leads to a machine state of the set; if `can` is true, the thread can make it
 abbrev pub IsStepChecked : MachineState → List (List Event) → List Event → ℕ → Bool → Type 0
 IsStepChecked first paths events t can =
     (c : MachineState) × LeadsTo first events c × (length c.threads ≤ MOST_THREADS) × (is_live_at c.threads t ≡ true → LeadsInto (IsLedTo first paths) c t) × (can ≡ true → CannotStep c t → ⊥)

@@ -35,7 +35,7 @@ IsStatusLagging tree (Ended e) (Live n) = ⊥
 abbrev pub IsThreadLagging : Tree → Thread → Thread → Type 0
 IsThreadLagging tree x y = IsStatusLagging tree x.thread_status y.thread_status
 
--- the contents differ in their threads alone: each thread of the second may be ahead, and have other remaining steps
+-- the machine states differ in their threads alone: each thread of the second may be ahead, and have other remaining steps
 pub record IsLagging (c d : MachineState) : Type 0 where
   pub rest : d ≡ record c { threads = d.threads }
   pub threads : Agree (IsThreadLagging c.tree) c.threads d.threads

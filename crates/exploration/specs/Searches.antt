@@ -1,4 +1,4 @@
--- Sets of contents that no schedule leaves (this profile). A set is given by what is true of its contents.
+-- Sets of machine states that no schedule leaves (this profile). A set is given by what is true of its machine states.
 use Rattle.std.specs.Prelude.{◌≡◌, ◌≢◌, ℕ, true, false, List, [], ◌∷◌, Some, slice_get}
 use Rattle.interleaving_core.specs.simulation.cil_model.declared.events.Event.{Event}
 use Rattle.interleaving_core.specs.simulation.cil_model.declared.events.Event.TheVariants.{Step}
@@ -16,13 +16,13 @@ use Rattle.interleaving_core.specs.simulation.Runs.{AreTransitions}
 use Rattle.interleaving_core.specs.simulation.Transitions.{IsTransition}
 use Rattle.exploration.specs.Lagging.{IsLagging}
 
--- a content lags behind one of a set
+-- a machine state lags behind one of a set
 pub record IsCovered (known : MachineState → Type 0) (c : MachineState) : Type 0 where
   pub machine_state : MachineState
   pub among : known machine_state
   pub lagging : IsLagging c machine_state
 
--- a step of the thread leads from this content to one that lags behind one of the set; it is refused no memory, and the thread has steps left
+-- a step of the thread leads from this machine state to one that lags behind one of the set; it is refused no memory, and the thread has steps left
 pub record LeadsInto (known : MachineState → Type 0) (c : MachineState) (t : ℕ) : Type 0 where
   pub next : MachineState
   pub report : Report
@@ -31,7 +31,7 @@ pub record LeadsInto (known : MachineState → Type 0) (c : MachineState) (t : �
   pub granted : is_refusal report ≡ false
   pub covered : IsCovered known next
 
--- so does each step of a live thread, from each content of the set
+-- so does each step of a live thread, from each machine state of the set
 abbrev pub IsClosed : (MachineState → Type 0) → Type 0
 IsClosed known = (c : MachineState) → known c → (t : ℕ) → is_live_at c.threads t ≡ true → LeadsInto known c t
 
@@ -45,7 +45,7 @@ abbrev pub KeepBudgets : List Report → Type 0
 KeepBudgets [] = Unit {0}
 KeepBudgets (r ∷ rs) = (r ≢ Ended Budget) × KeepBudgets rs
 
--- a machine of this program within these limits, at a content behind one of the set, represents the state
+-- a machine of this program within these limits, at a machine state behind one of the set, represents the state
 pub record IsSeen (tree : Tree) (limits : Limits) (known : MachineState → Type 0) (s : State) : Type 0 where
   pub machine_state : MachineState
   pub program : machine_state.tree ≡ tree
@@ -53,7 +53,7 @@ pub record IsSeen (tree : Tree) (limits : Limits) (known : MachineState → Type
   pub represents : Represents machine_state s
   pub covered : IsCovered known machine_state
 
--- one of these lists of events leads to the content
+-- one of these lists of events leads to the machine state
 pub record IsLedTo (first : MachineState) (paths : List (List Event)) (c : MachineState) : Type 0 where
   pub path_index : ℕ
   pub path : List Event

@@ -1,4 +1,4 @@
--- What a user sees of a state, and of the content that covers it (this profile).
+-- What a user sees of a state, and of the machine state that covers it (this profile).
 use Rattle.std.specs.Prelude.{Contains, ◌≡◌, ◌⊎◌, ℕ, false, List, Option, map}
 use Rattle.interleaving_core.specs.simulation.cil_model.declared.events.Event.TheVariants.{Step}
 use Rattle.interleaving_core.specs.simulation.cil_model.declared.reports.End.{End}
@@ -40,6 +40,6 @@ outcome_of s = record { printed = s.printed; ends = map (λ (t : StateThread). t
 abbrev pub outcome_shown : MachineState → ShownOutcome
 outcome_shown c = record { printed = c.printed; ends = map end_of c.threads }
 
--- each content of the set in which no thread can make a step shows one of these outcomes
+-- each machine state of the set in which no thread can make a step shows one of these outcomes
 abbrev pub ShowOnly : (MachineState → Type 0) → List ShownOutcome → Type 0
 ShowOnly known outcomes = (c : MachineState) → known c → IsTerminal c → Contains outcomes (outcome_shown c)

@@ -29,15 +29,15 @@ pub fn a_lagging_machine_stays_lagging()
         (after : MachineState) × (q : Report) × IsTransition c (Step t) (after, q) × ((q ≡ Ended Budget) ⊎ (((q ≡ Ran) × IsLagging after d) ⊎ ((q ≡ r) × IsLagging after next))) }
 {}
 
-/// If a closed set covers the initial content, it covers the final state of each run, with any events of a collector: a machine that lags behind a content of
-/// the set represents that state, and no step was refused memory. This holds up to the first step that uses up a budget.
+/// If a closed set covers the initial machine state, it covers the final state of each run, with any events of a collector: a machine that lags behind a
+/// machine state of the set represents that state, and no step was refused memory. This holds up to the first step that uses up a budget.
 pub fn a_closed_set_covers_all_runs()
     ensures { (tree : Tree) (limits : Limits) (first : MachineState) (paths : List (List Event)) → IsClosed (IsLedTo first paths) → (s : State) → initial_machine_state tree limits ≡ Some first → initial_state tree limits ≡ Some s → Represents first s → IsCovered (IsLedTo first paths) first →
         (events : List Event) (reports : List Report) (last : State) → IsRunOf tree limits events reports last → KeepBudgets reports → IsSeen tree limits (IsLedTo first paths) last × AreOrdinary reports }
 {}
 
-/// A state that a closed set covers has the outcome of a content of the set: the same printed bytes, and the same end of each thread. If no thread can make a step in that
-/// state, none can in the content.
+/// A state that a closed set covers has the outcome of a machine state of the set: the same printed bytes, and the same end of each thread. If no thread can
+/// make a step in that state, none can in the machine state.
 pub fn a_covered_state_is_shown()
     ensures { (tree : Tree) (limits : Limits) (first : MachineState) (paths : List (List Event)) → IsClosed (IsLedTo first paths) → (s : State) → IsSeen tree limits (IsLedTo first paths) s →
         (c : MachineState) × IsLedTo first paths c × (outcome_shown c ≡ outcome_of s) × (IsOver tree limits s → IsTerminal c) }
@@ -49,15 +49,15 @@ pub fn a_local_instruction_moves_alone()
         IsLocalMove tree (frames_over f below depth room) (frames_over g below depth room) }
 {}
 
-/// In runs of steps alone, without events of a collector, a closed set that covers the initial content covers each later one, and no memory is refused: up to the first step
-/// that uses up a budget.
+/// In runs of steps alone, without events of a collector, a closed set that covers the initial machine state covers each later one, and no memory is refused:
+/// up to the first step that uses up a budget.
 pub fn steps_alone_stay_covered()
     ensures { (first : MachineState) (paths : List (List Event)) → IsLegal first.tree → IsClosed (IsLedTo first paths) → IsCovered (IsLedTo first paths) first →
         (events : List Event) → AreSteps events → (after : MachineState) (reports : List Report) → AreTransitions first events after reports → KeepBudgets reports → IsCovered (IsLedTo first paths) after × AreOrdinary reports }
 {}
 
-/// If each content of a closed set in which no thread can make a step shows one of these outcomes, each run that is over has one of them, with any events of a collector, if no
-/// thread used up its budget.
+/// If each machine state of a closed set in which no thread can make a step shows one of these outcomes, each run that is over has one of them, with any
+/// events of a collector, if no thread used up its budget.
 pub fn no_outcome_is_missing()
     ensures { (tree : Tree) (limits : Limits) (first : MachineState) (paths : List (List Event)) → IsClosed (IsLedTo first paths) → (s : State) → initial_machine_state tree limits ≡ Some first → initial_state tree limits ≡ Some s → Represents first s → IsCovered (IsLedTo first paths) first →
         (outcomes : List ShownOutcome) → ShowOnly (IsLedTo first paths) outcomes →

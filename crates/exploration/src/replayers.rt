@@ -25,7 +25,7 @@ use std::marker::{Brand, Model, PhantomData};
 /// What a digest is multiplied by for each byte of a text: the prime of the hash FNV-1a.
 const TEXT_FACTOR: u64 = 1_099_511_628_211;
 
-/// Names the initial content of machines of one program within the same limits. The caller that makes the machines picks it, at `Brand`.
+/// Names the initial machine state of machines of one program within the same limits. The caller that makes the machines picks it, at `Brand`.
 pub trait First {
     ghost use Rattle.interleaving_core.specs.simulation.MachineStates.{MachineState};
 
@@ -38,7 +38,7 @@ impl First for Brand {
     ghost first = { no_machine_state };
 }
 
-/// A machine of the program and the limits whose initial content `M` names. Contracts see its content.
+/// A machine of the program and the limits whose initial machine state `M` names. Contracts see its machine state.
 /// It keeps the memory of the reports of the last replay for the next one.
 #[derive(Drop)]
 pub struct Replayer<M: First> {
@@ -134,8 +134,8 @@ impl<M: First> Replayer<M> {
         self.machine.is_live(thread) && self.machine.wait_of(thread).is_none()
     }
 
-    /// A hash of the machine's state. It is a hint: no contract says anything of it, and nothing that is proved rests on it. Machines that differ in nothing but the remaining steps of
-    /// threads have the same digest, and other machines seldom do. If a search merges two states because of it, the check fails.
+    /// A hash of the machine's state. It is a hint: no contract says anything of it, and nothing that is proved rests on it. Machines that differ in nothing
+    /// but the remaining steps of threads have the same digest, and other machines seldom do. If a search merges two states because of it, the check fails.
     pub fn digest(&self) -> u64 {
         let mut digest = self.machine.digest();
         for thread in 0..self.machine.started() {

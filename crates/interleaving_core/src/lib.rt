@@ -2,7 +2,7 @@
 //! `Machine::new` refuses limits exactly where one is out of range. `step` does exactly the transition of the event (`IsTransition`), or nothing where memory
 //! is out, which only a print, a start or the opening of a cycle can meet (`TakesMemory`). From every state that the machine represents, the
 //! reference machine's run over the steps is never stuck, has the same reports and refused births, and reaches a state that the machine then
-//! represents (`FollowsReference`). Of all events since it was made (`HasDone`, `DoesMore`): cycles are bounded, and leave no more words than are owed.
+//! represents (`FollowsReference`). Of all events since it was made (`HasDone`, `DoesMore`): cycles are bounded, and leave no more words than are retained.
 #![tactic(auto)]
 
 mod acknowledgements;

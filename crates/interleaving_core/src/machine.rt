@@ -131,7 +131,7 @@ impl Machine {
     /// What the machine does on one event, and what it reports.
     ///
     /// Whatever it has done since it was made, it has then done this event too: the reference machine has the same reports, no cycle of the collector had
-    /// more working events than its bound, and where this event ends a cycle, no more words are in use than are owed.
+    /// more working events than its bound, and where this event ends a cycle, no more words are in use than are retained.
     ///
     /// Running out of memory, which only a print, a start or the opening of a cycle can cause, changes nothing and isn't counted.
     #[inline(always)]

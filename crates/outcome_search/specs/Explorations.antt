@@ -13,7 +13,8 @@ use Rattle.exploration.specs.simulation.MachineStates.{MachineState}
 use Rattle.exploration.specs.simulation.Runs.{IsRunOf}
 use Rattle.exploration.specs.simulation.reference_machine.States.{State}
 
--- some list of paths from the initial content leads to every reachable content, and these are the outcomes of those in which no thread can make a step
+-- some list of paths from the initial machine state leads to every reachable machine state, and these are the outcomes of those in which no thread can make a
+-- step
 abbrev pub IsOutcomeList : MachineState → List ShownOutcome → Type 0
 IsOutcomeList first outcomes = (paths : List (List Event)) × IsComplete first paths outcomes
 

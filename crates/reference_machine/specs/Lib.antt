@@ -10,7 +10,7 @@ pub mod Cycles
 pub mod Rooms
 pub mod Runs
 pub mod Reachable
-pub mod OwedWords
+pub mod RetainedWords
 pub mod Outcomes
 pub mod TypedStates
 pub mod Waits

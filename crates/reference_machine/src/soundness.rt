@@ -10,7 +10,7 @@ ghost use Rattle.reference_machine.specs.States.{State};
 ghost use Rattle.reference_machine.specs.Steps.{step, Answers};
 ghost use Rattle.reference_machine.specs.Runs.{StepRequest, RunsTo, initial_state, run};
 ghost use Rattle.reference_machine.specs.Reachable.{IsReachable};
-ghost use Rattle.reference_machine.specs.OwedWords.{IsOwed};
+ghost use Rattle.reference_machine.specs.RetainedWords.{IsRetained};
 ghost use Rattle.reference_machine.specs.TypedStates.{IsTyped};
 
 /// An accepted program has an initial state, and it is typed.
@@ -40,6 +40,6 @@ pub fn what_is_reached_was_reached_or_is_new()
     ensures run { (tree : Tree) (limits : Limits) (requests : List StepRequest) (s s' : State) (reports : List Report) →
         run tree limits s requests ≡ RunsTo reports s' → (n : ℕ) → IsReachable s' (Born n) → IsReachable s (Born n) ⊎ (length s.objects ≤ n) }
     ensures there { (tree : Tree) (s : State) → IsTyped tree s → (n : ℕ) → IsReachable s (Born n) → n + 1 ≤ length s.objects }
-    ensures owed { (tree : Tree) (limits : Limits) (requests : List StepRequest) (s s' : State) (reports : List Report) →
-        run tree limits s requests ≡ RunsTo reports s' → IsTyped tree s' → (n : ℕ) → IsReachable s' (Born n) → IsOwed s s' n }
+    ensures retained { (tree : Tree) (limits : Limits) (requests : List StepRequest) (s s' : State) (reports : List Report) →
+        run tree limits s requests ≡ RunsTo reports s' → IsTyped tree s' → (n : ℕ) → IsReachable s' (Born n) → IsRetained s s' n }
 {}

@@ -9,7 +9,8 @@ use crate::worker_runs::{
     stops_at_a_deadlock,
 };
 use api_tests::{
-    Call, LIMITS, SUM, act_in_transition, act_many, came_to, finish_twice, keeps_the_mark, run_both,
+    Call, LIMITS, SUM, act_in_transition, act_many, call_result, finish_twice, keeps_the_mark,
+    run_both,
 };
 use cil_model::events::Event;
 use cil_model::limits::Limits;
@@ -28,100 +29,100 @@ use std::thread::Threads;
 /// Makes the calls. One that runs out of memory counts as one with another outcome.
 pub fn run_calls(threads: &(impl Threads + Wait + Sync), alloc: Global) -> [Call; 25] {
     [
-        came_to("a reader that fails", reports_of_readers(alloc)),
-        came_to(
+        call_result("a reader that fails", reports_of_readers(alloc)),
+        call_result(
             "equal steps as one run",
             has_one_run(threads, alloc).unwrap_or(false),
         ),
-        came_to(
+        call_result(
             "a worker in each of two threads",
             acts_once(threads, alloc).unwrap_or(false),
         ),
-        came_to(
+        call_result(
             "two threads that act often",
             acts_often(threads, alloc).unwrap_or(false),
         ),
-        came_to(
+        call_result(
             "tickets in either order",
             acts_in_transition(threads, alloc).unwrap_or(false),
         ),
-        came_to(
+        call_result(
             "a ticket that is missing",
             finishes_twice(alloc).unwrap_or(false),
         ),
-        came_to(
+        call_result(
             "the stop mark",
             keeps_its_mark(threads, alloc).unwrap_or(false),
         ),
-        came_to(
+        call_result(
             "local instructions on a loan",
             does_all(threads, alloc).unwrap_or(false),
         ),
-        came_to(
+        call_result(
             "one local instruction on a loan",
             does_one(threads, alloc).unwrap_or(false),
         ),
-        came_to(
+        call_result(
             "a loan up to the last step of the budget",
             leaves_the_last_step(threads, alloc).unwrap_or(false),
         ),
-        came_to(
+        call_result(
             "a loan up to a fault",
             leaves_the_fault(threads, alloc).unwrap_or(false),
         ),
-        came_to(
+        call_result(
             "a frame that is lent twice",
             answers(threads, alloc, Question::IsLentOnce).unwrap_or(false),
         ),
-        came_to(
+        call_result(
             "events of a lent thread",
             answers(threads, alloc, Question::IsAway).unwrap_or(false),
         ),
-        came_to(
+        call_result(
             "a collector that waits for a lent thread",
             answers(threads, alloc, Question::IsWaitedFor).unwrap_or(false),
         ),
-        came_to(
+        call_result(
             "the record of one worker",
             records_one_worker(threads, alloc).unwrap_or(false),
         ),
-        came_to(
+        call_result(
             "a replay of one worker",
             replays_workers(threads, alloc, 1).unwrap_or(false),
         ),
-        came_to(
+        call_result(
             "a replay of four workers",
             replays_workers(threads, alloc, 4).unwrap_or(false),
         ),
-        came_to(
+        call_result(
             "a replay of sixteen workers",
             replays_workers(threads, alloc, 16).unwrap_or(false),
         ),
-        came_to(
+        call_result(
             "one thread by four workers",
             has_record_of_one(threads, alloc, 4).unwrap_or(false),
         ),
-        came_to(
+        call_result(
             "one thread by sixteen workers",
             has_record_of_one(threads, alloc, 16).unwrap_or(false),
         ),
-        came_to(
+        call_result(
             "a deadlock that stops one worker",
             stops_at_a_deadlock(threads, alloc, 1).unwrap_or(false),
         ),
-        came_to(
+        call_result(
             "a deadlock that stops four workers",
             stops_at_a_deadlock(threads, alloc, 4).unwrap_or(false),
         ),
-        came_to(
+        call_result(
             "a run without a deadlock to stop at",
             ends_without_a_deadlock(threads, alloc).unwrap_or(false),
         ),
-        came_to(
+        call_result(
             "a first worker that is held",
             continues_without_the_first(threads, alloc).unwrap_or(false),
         ),
-        came_to(
+        call_result(
             "a worker that is held in each phase",
             waits_in_each_phase(threads, alloc, 1).unwrap_or(false),
         ),

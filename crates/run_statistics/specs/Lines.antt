@@ -45,6 +45,6 @@ total_text events reports words heap most = line_of (codes "events") (number_of 
     ++ most_text most
     ++ line_of (codes "refused allocations") (number_of RefusedAllocations events reports)
 
--- all lines of a run by these events with these reports, which leaves this content and had at most this number of words in use
+-- all lines of a run by these events with these reports, which leaves this machine state and had at most this number of words in use
 abbrev pub statistics_text : List Event → List Report → MachineState → Option ℕ → List ℕ
 statistics_text events reports c most = steps_text events reports (length c.threads) ++ total_text events reports (words_in_use c) (heap_words c) most

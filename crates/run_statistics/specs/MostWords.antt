@@ -6,7 +6,7 @@ use Rattle.run_statistics.specs.Lines.{words_in_use}
 use Rattle.shared_machine.specs.simulation.MachineStates.{MachineState}
 use Rattle.shared_machine.specs.simulation.Transitions.{IsTransition}
 
--- The greatest of the words in use of a machine that performs these events with these reports, from one content to the last one: before the first
+-- The greatest of the words in use of a machine that performs these events with these reports, from one machine state to the last one: before the first
 -- event, and after each one.
 abbrev pub IsMostInUse : MachineState → List (Event × Report) → MachineState → ℕ → Type 0
 IsMostInUse c [] last most = (last ≡ c) × (most ≡ words_in_use c)

@@ -24,7 +24,7 @@ use Rattle.shared_machine.specs.declared.answer.Answer.{Answer}
 use Rattle.shared_machine.specs.declared.answer.Answer.TheVariants.{Did, NoMemory, Away}
 use Rattle.shared_machine.specs.declared.history.Entry.{Entry}
 
--- the content of no machine
+-- the state of no machine
 abbrev pub no_machine_state : MachineState
 no_machine_state = record {
   tree = record { externs = []; assembly = None; classes = [] };
@@ -170,8 +170,8 @@ pub record IsCheckedIn (old : Shown) (t : Count) (l : Lent) (n : ℕ) (new : Sho
   pub recorded : new ≡ with_entries old t n l.thread new.core
   pub counted : u ≡ added_times t n (Step l.thread) Ran
 
--- A thread did n local instructions where it is: none if it is lent or not live, else as many as there are, at most `most`. Each is a step of it, which
--- reports that it ran, and is recorded and counted.
+-- A thread did n local instructions where it is: none if it is lent or not live, else all of them up to the first instruction that is not local, at most
+-- `most`. Each is a step of it, which reports that it ran, and is recorded and counted.
 pub record HasSteppedLocally (old : Shown) (t : Count) (thread most n : ℕ) (new : Shown) (u : Count) : Type 0 where
   pub none : CannotLend old thread → n ≡ 0
   pub ran : is_live_at old.core.threads thread ≡ true → is_lent_in old.lent thread ≡ false → RanInPlace old.core thread most n new.core

@@ -1,5 +1,5 @@
 //! A machine that workers share under a lock, and workers that run its threads, each worker in a thread of its own.
-//! Whenever the lock is free, the machine is at what its transitions over the events of the history make of its initial content, with the
+//! Whenever the lock is free, the machine is at what its transitions over the events of the history make of its initial machine state, with the
 //! history's reports, and each worker's count is that of its entries (`World::laws`): a history that a single thread could have made. `perform` adds
 //! exactly one entry, or changes nothing where memory is out; `finish` refuses exactly where a ticket is missing. Equal counts have equal events,
 //! reports and order (`counts_fix_events`). A ticket and the book agree by ghost words (`renew`): counts are in proofs alone.
@@ -26,6 +26,6 @@ pub use outcome::Outcome;
 pub use record::write_record;
 pub use shared::{MOST_WORKERS, Shared, Unfinished};
 pub use together::run_together;
-pub use workers::crew::run_workers;
 pub use workers::gate::{Gate, OpenGate};
+pub use workers::pool::run_workers;
 pub use world::{Initial, Lent, World, check_in, lend, perform, run_local, stop};

@@ -144,7 +144,7 @@ fn is_print_within(core: &Machine, most_printed: Option<u32>, event: Event) -> b
 ///
 /// The reference machine does the same, with a birth refused exactly where it exceeds the room. Whatever the machine has done since it was made, it
 /// has then done this event too: no cycle of the collector had more working events than its bound, and where this event ends a cycle, no more words
-/// are in use than are owed.
+/// are in use than are retained.
 ///
 /// The history has one entry more, the worker's count in the book and the ticket has that entry, and the stop mark stays as it was.
 /// Running out of memory, for the entry or for what the event prints or starts, changes nothing. Neither does an event that would print beyond the

@@ -18,5 +18,5 @@ pub mod MonitorCounts
 pub mod CollectedHeap
 pub mod CollectorEvents
 pub mod CycleBounds
-pub mod OwedWords
+pub mod RetainedWords
 pub mod Runs

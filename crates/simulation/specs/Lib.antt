@@ -22,4 +22,4 @@ pub mod Ready
 pub mod Lending
 pub mod Budgets
 pub mod Runs
-pub mod Owed
+pub mod Retained

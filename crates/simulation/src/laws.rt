@@ -28,7 +28,7 @@ ghost use Rattle.interpreter.specs.Instructions.{IsDone, Answer};
 ghost use Rattle.interpreter.specs.Local.{AreLocalSteps, IsReadySomewhere, frames_over};
 ghost use Rattle.simulation.specs.Lending.{RunsFrame, with_live};
 ghost use Rattle.simulation.specs.MachineStates.{MachineState, frame_room, mutator_of};
-ghost use Rattle.simulation.specs.Owed.{AreCyclesBounded, LeavesOnlyOwed, OwesAfter};
+ghost use Rattle.simulation.specs.Retained.{AreCyclesBounded, LeavesOnlyRetained, RetainsAfter};
 ghost use Rattle.simulation.specs.Reached.{IsReached};
 ghost use Rattle.simulation.specs.Rooms.{HasNoRoom};
 ghost use Rattle.simulation.specs.Runs.{AreSteps, AreTransitions, IsRunOf, RefinesAfter};
@@ -132,22 +132,22 @@ pub fn the_run_is_one()
         IsRunOf tree limits events reports s → IsRunOf tree limits events reports' s' → (reports ≡ reports') × (s ≡ s') }
 {}
 
-/// At the end of a cycle no more words are in use than are owed: those of the objects that were reachable in the state of the reference machine when the
+/// At the end of a cycle no more words are in use than are retained: those of the objects that were reachable in the state of the reference machine when the
 /// cycle began, or were born since. They are all in one space.
-pub fn a_cycle_leaves_what_is_owed()
+pub fn a_cycle_leaves_what_is_retained()
     ensures { (tree : Tree) → IsAccepted tree → (limits : Limits) → IsTrue (are_in_range limits) → (events : List Event) (reports : List Report) (c : MachineState) → RefinesAfter tree limits events reports c →
-        LeavesOnlyOwed tree limits events reports c }
+        LeavesOnlyRetained tree limits events reports c }
 {}
 
-/// There are words that are owed from the beginning of a run's newest cycle on, whatever comes later; where a run ends a cycle, it has a newest one; and no
-/// other number of words is owed.
+/// There are words that are retained from the beginning of a run's newest cycle on, whatever comes later; where a run ends a cycle, it has a newest one; and no
+/// other number of words is retained.
 pub fn cycles_have_what_they_owe()
     ensures begun { (tree : Tree) → IsAccepted tree → (limits : Limits) → IsTrue (are_in_range limits) → (events : List Event) (reports : List Report) (s : State) → IsRunOf tree limits events reports s →
-        (earlier later : List (Event × Report)) → BeginsNewestCycle (zip events reports) earlier later → (words : ℕ) × OwesAfter tree limits events reports words }
+        (earlier later : List (Event × Report)) → BeginsNewestCycle (zip events reports) earlier later → (words : ℕ) × RetainsAfter tree limits events reports words }
     ensures ended { (tree : Tree) → IsAccepted tree → (limits : Limits) → IsTrue (are_in_range limits) → (events : List Event) (reports : List Report) (s : State) → IsRunOf tree limits events reports s →
-        (most : List (Event × Report)) → zip events reports ≡ most ++ (Gc, CycleDone) ∷ [] → (words : ℕ) × OwesAfter tree limits events reports words }
+        (most : List (Event × Report)) → zip events reports ≡ most ++ (Gc, CycleDone) ∷ [] → (words : ℕ) × RetainsAfter tree limits events reports words }
     ensures one { (tree : Tree) (limits : Limits) (events : List Event) (reports : List Report) (words words' : ℕ) →
-        OwesAfter tree limits events reports words → OwesAfter tree limits events reports words' → words ≡ words' }
+        RetainsAfter tree limits events reports words → RetainsAfter tree limits events reports words' → words ≡ words' }
 {}
 
 /// Local instructions on the top frame of a live thread are steps of the thread, each of which reports that it ran, as long as a step is left after them:

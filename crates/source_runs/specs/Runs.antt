@@ -9,7 +9,7 @@ use Rattle.cil_model.specs.declared.events.Event.{Event}
 use Rattle.cil_model.specs.declared.limits.Limits.{Limits}
 use Rattle.cil_model.specs.declared.trees.Tree.{Tree}
 use Rattle.cil_model.specs.declared.reports.Report.{Report}
-use Rattle.shared_machine.specs.simulation.Owed.{AreCyclesBounded}
+use Rattle.shared_machine.specs.simulation.Retained.{AreCyclesBounded}
 use Rattle.shared_machine.specs.simulation.Runs.{IsRunOf}
 use Rattle.shared_machine.specs.simulation.MachineStates.{MachineState}
 use Rattle.reference_machine.specs.States.{State}

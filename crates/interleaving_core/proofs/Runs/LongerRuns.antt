@@ -11,7 +11,7 @@ use Rattle.simulation.specs.Runs.{AreTransitions, RefinesAfter}
 use Rattle.simulation.specs.Transitions.{IsTransition, initial_machine_state}
 use Rattle.simulation.proofs.CycleBounds.BoundedCycles.{cycles_bounded}
 use Rattle.simulation.proofs.CycleBounds.OpenCycles.{opened_is}
-use Rattle.simulation.proofs.OwedWords.CycleEnds.{leaves_owed}
+use Rattle.simulation.proofs.RetainedWords.CycleEnds.{leaves_retained}
 use Rattle.simulation.proofs.Runs.EventCorrespondence.{each_alike}
 use Rattle.simulation.proofs.Representation.VisibleState.{occurs_after}
 use Rattle.interleaving_core.specs.Histories.{DoesMore, HasDone}
@@ -43,7 +43,7 @@ has_done tree limits first c events reports accepted in_range opens transitions 
       transitions = transitions;
       refines = refines;
       bounded = cycles_bounded tree limits accepted in_range events reports refines.state refines.is_run;
-      leaves = leaves_owed each_alike tree accepted limits in_range events reports c refines;
+      leaves = leaves_retained each_alike tree accepted limits in_range events reports c refines;
     }
 
 -- so with more transitions

@@ -10,7 +10,7 @@ use Rattle.cil_model.specs.declared.reports.Report.TheVariants.{Ran, Blocked, En
 use Rattle.reference_machine.specs.Values.{Born}
 use Rattle.reference_machine.specs.States.{Frame, Thread, State}
 use Rattle.reference_machine.specs.Effects.{Setting, Effect, Goes, Blocks, Raises, Sticks}
-use Rattle.reference_machine.specs.OwedWords.{IsOwed}
+use Rattle.reference_machine.specs.RetainedWords.{IsRetained}
 use Rattle.reference_machine.specs.Reachable.{IsReachable}
 use Rattle.reference_machine.specs.Steps.{StepOutcome, Answers, Stuck, instruction_at, effect_of, with_thread_at, ended_as, continues, charge, step_of, step}
 use Rattle.reference_machine.specs.Runs.{StepRequest, RunsTo, followed_by, run}
@@ -92,10 +92,10 @@ pub run_reaches : (tree : Tree) (limits : Limits) (requests : List StepRequest) 
 run_reaches tree limits requests s s' reports e n reached =
     reachable_within (IsReachedOrUnborn s) s' (run_within (IsReachedOrUnborn s) tree limits requests s s' reports (reached_is_closed s) e).holds (Born n) reached
 
--- where the state that a run reaches is typed, each object that is reachable in it is owed
-pub reached_is_owed : (tree : Tree) (limits : Limits) (requests : List StepRequest) (s s' : State) (reports : List Report) → run tree limits s requests ≡ RunsTo reports s' → IsTyped tree s' → (n : ℕ) → IsReachable s' (Born n) → IsOwed s s' n
-reached_is_owed tree limits requests s s' reports e typed n reached = by_age (run_reaches tree limits requests s s' reports e n reached)
+-- where the state that a run reaches is typed, each object that is reachable in it is retained
+pub reached_is_retained : (tree : Tree) (limits : Limits) (requests : List StepRequest) (s s' : State) (reports : List Report) → run tree limits s requests ≡ RunsTo reports s' → IsTyped tree s' → (n : ℕ) → IsReachable s' (Born n) → IsRetained s s' n
+reached_is_retained tree limits requests s s' reports e typed n reached = by_age (run_reaches tree limits requests s s' reports e n reached)
   where
-    by_age : IsReachable s (Born n) ⊎ (length s.objects ≤ n) → IsOwed s s' n
+    by_age : IsReachable s (Born n) ⊎ (length s.objects ≤ n) → IsRetained s s' n
     by_age (inl was) = inl was
     by_age (inr new) = inr (new, reachable_is_there tree s' typed n reached)

@@ -10,8 +10,8 @@ use crate::answer::Answer;
 use crate::counts::book::Ticket;
 use crate::counts::view::TableName;
 use crate::shared::Shared;
-use crate::workers::findings::{Findings, found_in, is_served, served_threads};
 use crate::workers::pace::{Pace, Passed, Progress};
+use crate::workers::pass_snapshot::{PassSnapshot, found_in, is_served, served_threads};
 use crate::workers::plan::Plan;
 use crate::workers::seats::{Parked, seat_of};
 use crate::world::{Initial, Lent, World, check_in, lend, perform, run_local, step_locally, stop};
@@ -175,7 +175,7 @@ fn step_each<'s, M: Initial, R: Wait>(
     mut world: MutexGuard<'s, World<M>>,
     ticket: &mut Ticket<M>,
     plan: Plan,
-    found: Findings,
+    found: PassSnapshot,
 ) -> (Progress, MutexGuard<'s, World<M>>)
     requires some { 0 < plan.workers }
     requires few { found.started ≤ MOST_THREADS }
@@ -212,7 +212,7 @@ fn acknowledge_each<M: Initial>(
     world: &mut World<M>,
     ticket: &mut Ticket<M>,
     workers: u8,
-    found: Findings,
+    found: PassSnapshot,
 ) -> Progress
     requires some { 0 < workers }
     requires few { found.started ≤ MOST_THREADS }
@@ -240,7 +240,7 @@ fn acknowledge<M: Initial>(
     seat: Seat,
     acknowledged: u64,
     workers: u8,
-    found: Findings,
+    found: PassSnapshot,
 ) -> (Progress, Seat, u64)
     requires some { 0 < workers }
     requires few { found.started ≤ MOST_THREADS }
@@ -272,7 +272,7 @@ fn take_part<M: Initial, E: TableName, R: Wait>(
     seat: Option<Seat>,
     acknowledged: u64,
     workers: u8,
-    found: Findings,
+    found: PassSnapshot,
 ) -> (Progress, Option<Seat>, u64)
     requires some { 0 < workers }
     requires few { found.started ≤ MOST_THREADS }
@@ -372,7 +372,7 @@ fn serve<'s, M: Initial, E: TableName, R: Wait>(
     mut world: MutexGuard<'s, World<M>>,
     worker: &mut Worker<M>,
     plan: Plan,
-    found: Findings,
+    found: PassSnapshot,
 ) -> (Passed, MutexGuard<'s, World<M>>)
     requires some { 0 < plan.workers }
     requires few { found.started ≤ MOST_THREADS }

@@ -36,7 +36,7 @@ use Rattle.collector.proofs.Addresses.Disjunctions.{either_true, or_first, or_se
 use Rattle.simulation.specs.Refines.{AreTwins, HasOneName, IsBornAt, IsCell, IsHeap, IsMonitor, IsOfContents, IsValue, Names}
 use Rattle.simulation.proofs.ListLaws.AgreeingLists.{agree_weaken}
 use Rattle.simulation.proofs.Representation.MoreNames.{cell_extends, value_extends}
-use Rattle.simulation.proofs.OwedWords.CycleNames.{marked_before_birth, new_before_birth}
+use Rattle.simulation.proofs.RetainedWords.CycleNames.{marked_before_birth, new_before_birth}
 use Rattle.simulation.proofs.Memory.MemoryModels.{IsBirth}
 use Rattle.simulation.proofs.CollectedHeap.TwoCopies.{AreOldAndNew, copies_apart, copy_stays, forward_either, new_forward_itself, noted, noted_twin, old_forward, same_forward, twins_either, twins_forward, twins_late, twins_stay, twins_turned, words_not_last, copy_is_new, words_are_live}
 use Rattle.simulation.proofs.CollectedHeap.VisibleNames.{address_is, FitsCollected, cut_is, cut_names, first_hold, is_cut_name, named_passes, named_whole}

@@ -28,7 +28,7 @@ use Rattle.simulation.specs.Transitions.{IsTransition, machine_state_at, initial
 use Rattle.simulation.proofs.CollectorEvents.Reports.{IsCollected, collected_is, ends, waits, works}
 use Rattle.simulation.proofs.Instructions.Correspondence.{InstructionsAreAlike}
 use Rattle.simulation.proofs.Threads.UnchangedPosts.{step_posted}
-use Rattle.simulation.proofs.OwedWords.OpenCycleStates.{acknowledged_posted}
+use Rattle.simulation.proofs.RetainedWords.OpenCycleStates.{acknowledged_posted}
 use Rattle.simulation.proofs.Threads.Steps.{step_follows}
 use Rattle.simulation.proofs.Runs.EventCorrespondence.{acknowledgement_keeps, collection_keeps}
 

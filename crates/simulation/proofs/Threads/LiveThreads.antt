@@ -20,9 +20,9 @@ use Rattle.simulation.specs.Refines.{AreFrames, Extends, Names, Represents}
 use Rattle.simulation.proofs.CollectedHeap.CollectedMemory.{frames_cut}
 use Rattle.simulation.proofs.CollectedHeap.VisibleNames.{FitsCollected, begins, cut_is, cut_names, first_hold}
 use Rattle.simulation.proofs.Representation.MoreNames.{frames_extend}
-use Rattle.simulation.proofs.OwedWords.CycleNames.{AreCopiesOfMarked, is_kept}
+use Rattle.simulation.proofs.RetainedWords.CycleNames.{AreCopiesOfMarked, is_kept}
 use Rattle.simulation.proofs.Memory.MemoryModels.{IsModelled, IsReadable, MemoryModel}
-use Rattle.simulation.proofs.OwedWords.ThreadNames.{IsKnown, named}
+use Rattle.simulation.proofs.RetainedWords.ThreadNames.{IsKnown, named}
 use Rattle.simulation.proofs.Representation.NormalContents.{RefinesNormally, has_seat, normal_from, normal_keeps, normal_names, sound_is_held}
 use Rattle.simulation.proofs.CollectedHeap.MemoryWithRoom.{KeepsRoom, in_room, keeps_itself}
 

@@ -53,7 +53,7 @@ use Rattle.simulation.proofs.CollectorEvents.AcknowledgementCases.{after_acknowl
 use Rattle.simulation.proofs.ListLaws.AgreeingLists.{agree_at}
 use Rattle.simulation.proofs.CollectedHeap.RewrittenCells.{IsNamedWord, contents_named}
 use Rattle.simulation.proofs.CollectorEvents.Soundness.{posting}
-use Rattle.simulation.proofs.OwedWords.CycleNames.{AreCopiesOfMarked, IsCopyOfMarked, IsNamed, copies_darker, is_kept, kept_darker, kept_is_live, value_mark_adds}
+use Rattle.simulation.proofs.RetainedWords.CycleNames.{AreCopiesOfMarked, IsCopyOfMarked, IsNamed, copies_darker, is_kept, kept_darker, kept_is_live, value_mark_adds}
 use Rattle.simulation.proofs.Representation.NormalNames.{IsNormal, other_cell}
 use Rattle.simulation.proofs.Memory.ReferenceSlots.{typed_is_linked}
 use Rattle.simulation.proofs.Representation.RootReferences.{roots_pass}

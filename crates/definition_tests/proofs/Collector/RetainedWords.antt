@@ -1,4 +1,4 @@
--- What is owed where one of two arrays is held: the words of the one that is held.
+-- What is retained where one of two arrays is held: the words of the one that is held.
 use Rattle.std.proofs.Common.{◌≡◌, ℕ, zero, suc, [], ◌∷◌, None, Contains, refl, inl, inr, sym, subst, arith, lit<}
 use Rattle.std.specs.List.{IsDistinct}
 use Rattle.cil_model.specs.declared.types.Element.TheVariants.{Int32 as Int32Element}
@@ -6,7 +6,7 @@ use Rattle.cil_model.specs.Declarations.{plain}
 use Rattle.reference_machine.specs.Values.{ObjectName, Born, Reference}
 use Rattle.reference_machine.specs.States.{Free, Array, State, object_at}
 use Rattle.reference_machine.specs.Reachable.{IsReachable, from_root, from_member, members_of}
-use Rattle.reference_machine.specs.OwedWords.{IsOwed, OwesWords}
+use Rattle.reference_machine.specs.RetainedWords.{IsRetained, RetainsWords}
 use Rattle.definition_tests.proofs.Samples.FarmProgram.{farm, idle_frame, heap_object, int, object}
 
 -- thread 0 holds the first array, and nothing holds the second
@@ -41,13 +41,13 @@ reachable_is_first _ (from_member m n reached held) = absurd (no_reference n (al
     P : ObjectName → Type 0
     P x = Contains (members_of (object_at two_arrays x)) (Reference n)
 
-owed_is_first : (n : ℕ) → IsOwed two_arrays two_arrays n → Contains (0 ∷ []) n
-owed_is_first n (inl reached) = let Q : ℕ → Type 0 = λ x. Contains (0 ∷ []) x in subst Q (sym (same_born n 0 (reachable_is_first (Born n) reached))) (0, lit< tt, refl)
-owed_is_first n (inr (born, less)) = absurd (omega (arith, born, less))
+retained_is_first : (n : ℕ) → IsRetained two_arrays two_arrays n → Contains (0 ∷ []) n
+retained_is_first n (inl reached) = let Q : ℕ → Type 0 = λ x. Contains (0 ∷ []) x in subst Q (sym (same_born n 0 (reachable_is_first (Born n) reached))) (0, lit< tt, refl)
+retained_is_first n (inr (born, less)) = absurd (omega (arith, born, less))
 
-first_is_owed : (n : ℕ) → Contains (0 ∷ []) n → IsOwed two_arrays two_arrays n
-first_is_owed n h = let Q : ℕ → Type 0 = λ x. IsOwed two_arrays two_arrays x in subst Q (alone 0 n h) (inl (from_root (Born 0) (0, lit< tt, refl)))
+first_is_retained : (n : ℕ) → Contains (0 ∷ []) n → IsRetained two_arrays two_arrays n
+first_is_retained n h = let Q : ℕ → Type 0 = λ x. IsRetained two_arrays two_arrays x in subst Q (alone 0 n h) (inl (from_root (Born 0) (0, lit< tt, refl)))
 
-first_alone : OwesWords farm two_arrays two_arrays 4
+first_alone : RetainsWords farm two_arrays two_arrays 4
 unfolding IsDistinct
-first_alone = record { names = 0 ∷ []; distinct = (tt, tt); owed = λ n. (first_is_owed n, owed_is_first n); total = refl }
+first_alone = record { names = 0 ∷ []; distinct = (tt, tt); retained = λ n. (first_is_retained n, retained_is_first n); total = refl }

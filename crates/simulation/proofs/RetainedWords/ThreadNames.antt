@@ -28,7 +28,7 @@ use Rattle.simulation.specs.Refines.{IsOfContents, IsValue, null_reference, refe
 use Rattle.simulation.proofs.CollectedHeap.CollectedMemory.{collected}
 use Rattle.simulation.proofs.CollectedHeap.NewObjects.{births_copied, births_only, collected_births}
 use Rattle.simulation.proofs.CollectedHeap.VisibleNames.{FitsCollected, first_hold, means}
-use Rattle.simulation.proofs.OwedWords.CycleNames.{IsNamed, KeepsNames, birth_adds, birth_copies, copies_alike, first_adds, first_copies, is_kept, kept_alike, kept_is_held, kept_is_live}
+use Rattle.simulation.proofs.RetainedWords.CycleNames.{IsNamed, KeepsNames, birth_adds, birth_copies, copies_alike, first_adds, first_copies, is_kept, kept_alike, kept_is_held, kept_is_live}
 use Rattle.simulation.proofs.Memory.MemoryModels.{IsBirth, MemoryModel}
 
 -- a name that was there, or that of an object born since there were this number

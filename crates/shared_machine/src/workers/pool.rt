@@ -39,7 +39,7 @@ impl<M: Initial> Promise<Ticket<M>> for GivesBack<M> {
 
 /// Workers that are not sent to work yet: a ticket for each, and the right to post, which is for worker 0.
 #[derive(Drop)]
-struct Crew<M: Initial> {
+struct WorkerPool<M: Initial> {
     tickets: Vec<Ticket<M>>,
     herald: Option<Herald>,
 }
@@ -115,18 +115,18 @@ fn send_all<
     parked: &'s Mutex<Parked<E>>,
     gate: &'s G,
     plan: Plan,
-    crew: Crew<M>,
+    pool: WorkerPool<M>,
 ) -> Vec<Ticket<M>>
     requires some { 0 < plan.workers }
-    requires herald { IsHeraldOf epochs.now crew.herald }
+    requires herald { IsHeraldOf epochs.now pool.herald }
     requires same { epochs.now.table ≡ E.table }
-    ensures worked { HaveWorked plan.workers crew.tickets.items result.items }
-    ensures room { (vec_len result ≡ vec_len crew.tickets) × (vec_capacity result ≡ vec_capacity crew.tickets) }
+    ensures worked { HaveWorked plan.workers pool.tickets.items result.items }
+    ensures room { (vec_len result ≡ vec_len pool.tickets) × (vec_capacity result ≡ vec_capacity pool.tickets) }
 {
-    let Crew {
+    let WorkerPool {
         mut tickets,
         mut herald,
-    } = crew;
+    } = pool;
     let Some(ticket) = tickets.pop() else {
         return tickets;
     };
@@ -138,7 +138,7 @@ fn send_all<
         herald: theirs,
         pace: Pace::new(),
     };
-    let rest = Crew { tickets, herald };
+    let rest = WorkerPool { tickets, herald };
     let sent = send(scope, rt, alloc, shared, epochs, parked, gate, plan, worker);
     let mut tickets = send_all(scope, rt, alloc, shared, epochs, parked, gate, plan, rest);
     let ticket = match sent {
@@ -163,27 +163,27 @@ fn run_threads<
     parked: &Mutex<Parked<E>>,
     gate: &G,
     plan: Plan,
-    crew: Crew<M>,
+    pool: WorkerPool<M>,
 ) -> Vec<Ticket<M>>
     requires some { 0 < plan.workers }
-    requires herald { IsHeraldOf epochs.now crew.herald }
+    requires herald { IsHeraldOf epochs.now pool.herald }
     requires same { epochs.now.table ≡ E.table }
-    ensures { HaveWorked plan.workers crew.tickets.items result.items }
+    ensures { HaveWorked plan.workers pool.tickets.items result.items }
 {
     thread::scope(
         thread::scope_env(),
         rt,
         move |scope| -> Vec<Ticket<M>>
             requires some { 0 < plan.workers }
-            requires herald { IsHeraldOf epochs.now crew.herald }
+            requires herald { IsHeraldOf epochs.now pool.herald }
             requires same { epochs.now.table ≡ E.table }
-            ensures { HaveWorked plan.workers crew.tickets.items result.items }
-        { send_all(scope, rt, alloc, shared, epochs, parked, gate, plan, crew) },
+            ensures { HaveWorked plan.workers pool.tickets.items result.items }
+        { send_all(scope, rt, alloc, shared, epochs, parked, gate, plan, pool) },
     )
 }
 
 /// Runs these workers, with their seats, which are of the epochs that `E` names.
-fn run_crew<
+fn run_pool<
     M: Initial + Send + Sync,
     E: TableName + Send + Sync,
     R: Threads + Wait + Sync,
@@ -196,16 +196,16 @@ fn run_crew<
     seats: Vec<Seat>,
     gate: &G,
     plan: Plan,
-    crew: Crew<M>,
+    pool: WorkerPool<M>,
 ) -> Vec<Ticket<M>>
     requires some { 0 < plan.workers }
     requires seats { All (IsSeatOf epochs.now) seats.items }
-    requires herald { IsHeraldOf epochs.now crew.herald }
+    requires herald { IsHeraldOf epochs.now pool.herald }
     requires same { epochs.now.table ≡ E.table }
-    ensures { HaveWorked plan.workers crew.tickets.items result.items }
+    ensures { HaveWorked plan.workers pool.tickets.items result.items }
 {
     let parked = Mutex::new(Parked::<E>::new(seats));
-    run_threads(rt, alloc, shared, epochs, &parked, gate, plan, crew)
+    run_threads(rt, alloc, shared, epochs, &parked, gate, plan, pool)
 }
 
 /// Runs workers, each in a thread of its own, until each has found in a pass that no thread of the machine is live or that the stop mark
@@ -245,9 +245,9 @@ pub fn run_workers<M: Initial + Send + Sync, R: Threads + Wait + Sync, G: Gate +
         stop_at,
         is_open: gate.is_open(),
     };
-    let crew = Crew {
+    let pool = WorkerPool {
         tickets,
         herald: Some(herald),
     };
-    run_crew::<M, Brand, R, G>(rt, alloc, shared, epochs, seats, gate, plan, crew)
+    run_pool::<M, Brand, R, G>(rt, alloc, shared, epochs, seats, gate, plan, pool)
 }

@@ -1,4 +1,4 @@
--- At the end of a cycle no more words are in use than are owed.
+-- At the end of a cycle no more words are in use than are retained.
 use Rattle.std.proofs.Common.{◌≡◌, ◌⊎◌, ◌≤◌, ◌<◌, ◌+◌, ℕ, Bool, true, false, List, [], ◌∷◌, ◌++◌, length, Contains, refl, inl, inr, sym, ap, ◌∙◌, subst, arith, append_assoc, length-append, slice_get, Option, Some}
 use Rattle.std.specs.Prelude.{◌||◌, ◌==◌, nat_le, sum_by, IsTrue}
 use Rattle.std.specs.Cmp.{nat_eq_equiv}
@@ -17,7 +17,7 @@ use Rattle.interpreter.specs.cil_model.declared.trees.Tree.{Tree}
 use Rattle.interpreter.specs.cil_model.Ranges.{are_in_range}
 use Rattle.interpreter.specs.cil_model.Typings.{IsAccepted}
 use Rattle.interpreter.specs.reference_machine.Cycles.{begins_cycle, ends_cycle, is_cycle_open, is_working}
-use Rattle.interpreter.specs.reference_machine.OwedWords.{IsOwed, OwesWords, words_of_object}
+use Rattle.interpreter.specs.reference_machine.RetainedWords.{IsRetained, RetainsWords, words_of_object}
 use Rattle.interpreter.specs.reference_machine.Runs.{step_reports}
 use Rattle.interpreter.specs.reference_machine.States.{State}
 use Rattle.interpreter.specs.reference_machine.Values.{Born, Literal, ObjectName}
@@ -30,21 +30,21 @@ use Rattle.interpreter.specs.object_memory.Spaces.{Spaces, close_cycle, AreSpace
 use Rattle.collector.specs.Phases.{is_of_cycle, is_new}
 use Rattle.simulation.specs.MachineStates.{MachineState}
 use Rattle.simulation.specs.Collecting.{collect}
-use Rattle.simulation.specs.Owed.{LeavesOnlyOwed, OwesAfter}
+use Rattle.simulation.specs.Retained.{LeavesOnlyRetained, RetainsAfter}
 use Rattle.simulation.specs.Runs.{IsNext, IsRunOf, RefusesBeyondRoom, RefinesAfter}
 use Rattle.simulation.specs.Refines.{Represents, IsHeap, Names}
 use Rattle.simulation.specs.Transitions.{IsTransition}
 use Rattle.simulation.proofs.CollectorEvents.Reports.{IsCollected, ends, waits, works}
 use Rattle.simulation.proofs.Instructions.Correspondence.{InstructionsAreAlike}
-use Rattle.simulation.proofs.OwedWords.CycleNames.{is_kept, IsNamed}
-use Rattle.simulation.proofs.OwedWords.SumsOverNames.{is_listed, words_by_id}
-use Rattle.simulation.proofs.OwedWords.NamesInSets.{born_inside}
+use Rattle.simulation.proofs.RetainedWords.CycleNames.{is_kept, IsNamed}
+use Rattle.simulation.proofs.RetainedWords.SumsOverNames.{is_listed, words_by_id}
+use Rattle.simulation.proofs.RetainedWords.NamesInSets.{born_inside}
 use Rattle.simulation.proofs.Threads.LiveThreads.{normally}
 use Rattle.simulation.proofs.CycleBounds.OpenCycles.{IsBefore, IsOpened, before_goes, gc_is, idle_of, open_then, opened_is, split_at_last, then_open}
 use Rattle.simulation.proofs.Representation.InitialContents.{initial_represents}
-use Rattle.simulation.proofs.OwedWords.NewestCycles.{end_owes}
+use Rattle.simulation.proofs.RetainedWords.NewestCycles.{end_retains}
 use Rattle.simulation.proofs.Threads.UnchangedPosts.{step_posted}
-use Rattle.simulation.proofs.OwedWords.OpenCycleStates.{IsOwedBy, acknowledged_owed, acknowledged_posted, begins_owed, collected_owed, stepped_owed_as}
+use Rattle.simulation.proofs.RetainedWords.OpenCycleStates.{IsRetainedBy, acknowledged_retained, acknowledged_posted, begins_retained, collected_retained, stepped_retained_as}
 use Rattle.simulation.proofs.Runs.EventByEvent.{OwnEffect, Continues, IsAt, continues, walk}
 use Rattle.interpreter.proofs.cil_model.Lists.{none_is_some}
 use Rattle.interpreter.specs.object_memory.declared.addresses.Addr.{Addr}
@@ -111,7 +111,7 @@ module _ (tree : Tree) (name : Names) (o : Objects) (s : State) (spaces : AreSpa
     one = λ a b c d lies lies' same. one_born a b c d lies lies' same;
   })
 
--- ---- At the end of a cycle no more words are in use than are owed.
+-- ---- At the end of a cycle no more words are in use than are retained.
 
 module _ (each : InstructionsAreAlike) where
   -- ---- the cycle
@@ -124,9 +124,9 @@ module _ (each : InstructionsAreAlike) where
       some : 0 < length done
       closed_now : is_cycle_open (earlier ++ done) ≡ false
 
-    -- what is kept is owed, or the cycle is over
+    -- what is kept is retained, or the cycle is over
     abbrev Within : List (Event × Report) → MachineState → State → Type 0
-    Within done c s = IsOwedBy Inside is_inside decoded inside c s ⊎ IsOver done c
+    Within done c s = IsRetainedBy Inside is_inside decoded inside c s ⊎ IsOver done c
 
     some_done : (done : List (Event × Report)) (e : Event × Report) → 0 < length (done ++ e ∷ [])
     some_done done e = let one = length-append done (e ∷ []) in omega (arith, one)
@@ -135,10 +135,10 @@ module _ (each : InstructionsAreAlike) where
     open_after done e r = ap is_cycle_open (sym (append_assoc earlier done ((e, r) ∷ []))) ∙ open_then (earlier ++ done) e r
 
     -- an event of the collector
-    owed_collected : (done : List (Event × Report)) (c : MachineState) (s : State) (x : MachineState × Report) → x ≡ collect c → IsCollected c x → IsOwedBy Inside is_inside decoded inside c s → Within (done ++ (Gc, x.1) ∷ []) x.0 s
-    owed_collected done c s _ e waits h = inl h
-    owed_collected done c s _ e (works d of) h = inl (subst (λ (x : MachineState × Report). IsOwedBy Inside is_inside decoded inside x.0 s) (sym e) (collected_owed Inside is_inside decoded inside c s h))
-    owed_collected done c s _ e (ends d last idle spaces) h = inr (record { idle = ap is_of_cycle idle; some = some_done done (Gc, CycleDone); closed_now = open_after done Gc CycleDone })
+    retained_collected : (done : List (Event × Report)) (c : MachineState) (s : State) (x : MachineState × Report) → x ≡ collect c → IsCollected c x → IsRetainedBy Inside is_inside decoded inside c s → Within (done ++ (Gc, x.1) ∷ []) x.0 s
+    retained_collected done c s _ e waits h = inl h
+    retained_collected done c s _ e (works d of) h = inl (subst (λ (x : MachineState × Report). IsRetainedBy Inside is_inside decoded inside x.0 s) (sym e) (collected_retained Inside is_inside decoded inside c s h))
+    retained_collected done c s _ e (ends d last idle spaces) h = inr (record { idle = ap is_of_cycle idle; some = some_done done (Gc, CycleDone); closed_now = open_after done Gc CycleDone })
 
     over_collected : (done rest : List (Event × Report)) (c : MachineState) (x : MachineState × Report) → later ≡ done ++ (Gc, x.1) ∷ rest → IsCollected c x → IsOver done c → IsOver (done ++ (Gc, x.1) ∷ []) x.0
     over_collected done rest c _ split waits o = record { idle = o.idle; some = some_done done (Gc, Waiting); closed_now = open_after done Gc Waiting ∙ o.closed_now }
@@ -146,10 +146,10 @@ module _ (each : InstructionsAreAlike) where
     over_collected done rest c _ split (ends d last idle spaces) o = never (sym o.idle ∙ ap is_of_cycle last)
 
     within_goes : (done rest : List (Event × Report)) (e : Event) (r : Report) (c next : MachineState) (s after : State) → later ≡ done ++ (e, r) ∷ rest → Within done c s → IsTransition c e (next, r) → IsNext c.tree c.limits s e r after → Within (done ++ (e, r) ∷ []) next after
-    within_goes done rest (Step t) r c next s after split (inl h) transition is = inl (stepped_owed_as Inside is_inside decoded inside each c s t next r h transition after is)
+    within_goes done rest (Step t) r c next s after split (inl h) transition is = inl (stepped_retained_as Inside is_inside decoded inside each c s t next r h transition after is)
     within_goes done rest (Ack t) r c next s after split (inl h) transition is =
-        inl (subst (λ (u : State). IsOwedBy Inside is_inside decoded inside next u) (sym is) (subst (λ (x : MachineState × Report). IsOwedBy Inside is_inside decoded inside x.0 s) (sym transition) (acknowledged_owed Inside is_inside decoded inside c s t h)))
-    within_goes done rest Gc r c next s after split (inl h) transition is = subst (λ (u : State). Within (done ++ (Gc, r) ∷ []) next u) (sym is) (owed_collected done c s (next, r) transition (gc_is c (next, r) transition) h)
+        inl (subst (λ (u : State). IsRetainedBy Inside is_inside decoded inside next u) (sym is) (subst (λ (x : MachineState × Report). IsRetainedBy Inside is_inside decoded inside x.0 s) (sym transition) (acknowledged_retained Inside is_inside decoded inside c s t h)))
+    within_goes done rest Gc r c next s after split (inl h) transition is = subst (λ (u : State). Within (done ++ (Gc, r) ∷ []) next u) (sym is) (retained_collected done c s (next, r) transition (gc_is c (next, r) transition) h)
     within_goes done rest (Step t) r c next s after split (inr o) transition is =
         inr (record { idle = ap is_of_cycle (step_posted c t (next, r) transition) ∙ o.idle; some = some_done done (Step t, r); closed_now = open_after done (Step t) r ∙ o.closed_now })
     within_goes done rest (Ack t) r c next s after split (inr o) transition is = inr (record {
@@ -166,49 +166,49 @@ module _ (each : InstructionsAreAlike) where
     ended c _ (ends d last idle spaces) e = (last, spaces)
     ended c _ _ e = absurd cc
 
-    -- each object of the new block has words that are owed
-    owed_words : (c : MachineState) (s : State) → c.posts.posted_phase ≡ Reclaim → IsOwedBy Inside is_inside decoded inside c s → (names : List ℕ) → ((n : ℕ) → n < length s.objects → is_inside n ≡ true → is_listed names n ≡ true) →
+    -- each object of the new block has words that are retained
+    retained_words : (c : MachineState) (s : State) → c.posts.posted_phase ≡ Reclaim → IsRetainedBy Inside is_inside decoded inside c s → (names : List ℕ) → ((n : ℕ) → n < length s.objects → is_inside n ≡ true → is_listed names n ≡ true) →
         used_words c.objects.spaces.new.cells ≤ sum_by (λ n. words_of_object c.tree (slice_get s.objects n)) names
-    owed_words c s last h names listed =
+    retained_words c s last h names listed =
         let own = normally c s h.represents in
         new_words c.tree own.name c.objects s h.represents.sound.heap.blocks.spaces own.by.memory.heap
         (λ a new. h.has.kept a (ap (λ x. is_kept x c.objects.spaces a) last ∙ new))
         names
         (λ a n is. (let b = own.by.memory.heap.born a n is in listed n (slice_get_within s.objects n b.object b.is) (born_inside is_inside n (h.known a (Born n) is))))
 
--- ---- what is owed
+-- ---- what is retained
 
-module _ (tree : Tree) (before now : State) (words : ℕ) (owes : OwesWords tree before now words) where
-  abbrev Owed : ℕ → Type 0
-  Owed = IsReachedOrUnborn before
+module _ (tree : Tree) (before now : State) (words : ℕ) (retains : RetainsWords tree before now words) where
+  abbrev Retained : ℕ → Type 0
+  Retained = IsReachedOrUnborn before
 
-  abbrev is_owed : ℕ → Bool
-  is_owed n = is_listed owes.names n || nat_le (length before.objects) n
+  abbrev is_retained : ℕ → Bool
+  is_retained n = is_listed retains.names n || nat_le (length before.objects) n
 
-  listed_of : (n : ℕ) → Contains owes.names n → is_listed owes.names n ≡ true
-  listed_of n h = list_any-from_Contains nat_eq_equiv n owes.names h
+  listed_of : (n : ℕ) → Contains retains.names n → is_listed retains.names n ≡ true
+  listed_of n h = list_any-from_Contains nat_eq_equiv n retains.names h
 
-  of_listed : (n : ℕ) → is_listed owes.names n ≡ true → Contains owes.names n
-  of_listed n h = Contains-from_any {eq = ◌==◌} eqb-true n owes.names h
+  of_listed : (n : ℕ) → is_listed retains.names n ≡ true → Contains retains.names n
+  of_listed n h = Contains-from_any {eq = ◌==◌} eqb-true n retains.names h
 
-  owed_decoded : (n : ℕ) → Owed n → is_owed n ≡ true
-  owed_decoded n (inl reached) = or_left (is_listed owes.names n) (nat_le (length before.objects) n) (listed_of n ((owes.owed n).1 (inl reached)))
-  owed_decoded n (inr more) = or_right (is_listed owes.names n) (nat_le (length before.objects) n) (let test : nat_le (length before.objects) n ≡ true = grind (arith, nat_tests) in test)
+  retained_decoded : (n : ℕ) → Retained n → is_retained n ≡ true
+  retained_decoded n (inl reached) = or_left (is_listed retains.names n) (nat_le (length before.objects) n) (listed_of n ((retains.retained n).1 (inl reached)))
+  retained_decoded n (inr more) = or_right (is_listed retains.names n) (nat_le (length before.objects) n) (let test : nat_le (length before.objects) n ≡ true = grind (arith, nat_tests) in test)
 
-  owed_is : (n : ℕ) → is_owed n ≡ true → Owed n
-  owed_is n h = elim (or_cases (is_listed owes.names n) (nat_le (length before.objects) n) h) [
-    | inl listed ↦ by_owed ((owes.owed n).0 (of_listed n listed))
+  retained_is : (n : ℕ) → is_retained n ≡ true → Retained n
+  retained_is n h = elim (or_cases (is_listed retains.names n) (nat_le (length before.objects) n) h) [
+    | inl listed ↦ by_retained ((retains.retained n).0 (of_listed n listed))
     | inr test ↦ inr (let more : length before.objects ≤ n = grind (arith, nat_tests) in more)
   ]
     where
-      by_owed : IsOwed before now n → Owed n
-      by_owed (inl reached) = inl reached
-      by_owed (inr new) = inr new.0
+      by_retained : IsRetained before now n → Retained n
+      by_retained (inl reached) = inl reached
+      by_retained (inr new) = inr new.0
 
-  there_listed : (n : ℕ) → n < length now.objects → is_owed n ≡ true → is_listed owes.names n ≡ true
-  there_listed n there h = elim (or_cases (is_listed owes.names n) (nat_le (length before.objects) n) h) [
+  there_listed : (n : ℕ) → n < length now.objects → is_retained n ≡ true → is_listed retains.names n ≡ true
+  there_listed n there h = elim (or_cases (is_listed retains.names n) (nat_le (length before.objects) n) h) [
     | inl listed ↦ listed
-    | inr test ↦ listed_of n ((owes.owed n).1 (inr (
+    | inr test ↦ listed_of n ((retains.retained n).1 (inr (
       (let more : length before.objects ≤ n = grind (arith, nat_tests) in more),
       (let less : n + 1 ≤ length now.objects = omega (arith, there) in less),
     )))
@@ -217,7 +217,7 @@ module _ (tree : Tree) (before now : State) (words : ℕ) (owes : OwesWords tree
 -- ---- runs
 
 module _ (each : InstructionsAreAlike) (tree : Tree) (accepted : IsAccepted tree) (limits : Limits) (in_range : IsTrue (are_in_range limits)) (events : List Event) (reports : List Report) (c : MachineState) (refines : RefinesAfter tree limits events reports c)
-    (most : List (Event × Report)) (over : zip events reports ≡ most ++ (Gc, CycleDone) ∷ []) (words : ℕ) (o : OwesAfter tree limits events reports words) where
+    (most : List (Event × Report)) (over : zip events reports ≡ most ++ (Gc, CycleDone) ∷ []) (words : ℕ) (o : RetainsAfter tree limits events reports words) where
   abbrev all : List (Event × Report)
   all = zip events reports
 
@@ -259,11 +259,11 @@ module _ (each : InstructionsAreAlike) (tree : Tree) (accepted : IsAccepted tree
   none_open : begun.machine_state.posts.posted_phase ≡ Idle
   none_open = idle_of begun.machine_state.posts.posted_phase (begun.holds.posted_phase ∙ o.split.none_was_open)
 
-  abbrev owes : OwesWords tree begun.state o.now words
-  owes = subst (λ (u : State). OwesWords tree u o.now words) (sym same_before) o.owes
+  abbrev retains : RetainsWords tree begun.state o.now words
+  retains = subst (λ (u : State). RetainsWords tree u o.now words) (sym same_before) o.retains
 
-  abbrev owed : ℕ → Bool
-  owed = is_owed tree begun.state o.now words owes
+  abbrev retained : ℕ → Bool
+  retained = is_retained tree begun.state o.now words retains
 
   abbrev front : List (Event × Report)
   front = (split_at_last o.earlier o.later most (Gc, CycleDone) o.split.begins (sym o.split.whole ∙ over)).0
@@ -275,14 +275,14 @@ module _ (each : InstructionsAreAlike) (tree : Tree) (accepted : IsAccepted tree
   at_cycle = subst (λ l. IsAt tree limits o.later o.now h.last [] l begun.machine_state begun.state) later_is
       (record { of_tree = begun.there.of_tree; of_limits = begun.there.of_limits; split = refl; runs = begun.there.runs; refuses = begun.there.refuses })
 
-  -- what the cycle keeps is owed
+  -- what the cycle keeps is retained
   abbrev Holds : List (Event × Report) → MachineState → State → Type 0
-  Holds = Within each o.earlier o.later o.split.newest (IsReachedOrUnborn begun.state) owed (owed_decoded tree begun.state o.now words owes) (owed_is tree begun.state o.now words owes)
+  Holds = Within each o.earlier o.later o.split.newest (IsReachedOrUnborn begun.state) retained (retained_decoded tree begun.state o.now words retains) (retained_is tree begun.state o.now words retains)
 
-  abbrev come : OwnEffect tree limits o.later o.now h.last Holds (within_goes each o.earlier o.later o.split.newest (IsReachedOrUnborn begun.state) owed (owed_decoded tree begun.state o.now words owes) (owed_is tree begun.state o.now words owes)) front ((Gc, CycleDone) ∷ []) [] begun.state
+  abbrev come : OwnEffect tree limits o.later o.now h.last Holds (within_goes each o.earlier o.later o.split.newest (IsReachedOrUnborn begun.state) retained (retained_decoded tree begun.state o.now words retains) (retained_is tree begun.state o.now words retains)) front ((Gc, CycleDone) ∷ []) [] begun.state
   come =
-      walk tree limits o.later o.now h.last Holds (within_goes each o.earlier o.later o.split.newest (IsReachedOrUnborn begun.state) owed (owed_decoded tree begun.state o.now words owes) (owed_is tree begun.state o.now words owes)) front ((Gc, CycleDone) ∷ []) [] begun.machine_state begun.state at_cycle
-      (inl (begins_owed (IsReachedOrUnborn begun.state) owed (owed_decoded tree begun.state o.now words owes) (owed_is tree begun.state o.now words owes) begun.machine_state begun.state begun.holds.represents (reached_is_closed begun.state) none_open))
+      walk tree limits o.later o.now h.last Holds (within_goes each o.earlier o.later o.split.newest (IsReachedOrUnborn begun.state) retained (retained_decoded tree begun.state o.now words retains) (retained_is tree begun.state o.now words retains)) front ((Gc, CycleDone) ∷ []) [] begun.machine_state begun.state at_cycle
+      (inl (begins_retained (IsReachedOrUnborn begun.state) retained (retained_decoded tree begun.state o.now words retains) (retained_is tree begun.state o.now words retains) begun.machine_state begun.state begun.holds.represents (reached_is_closed begun.state) none_open))
 
   -- its last event
   abbrev on : Continues tree limits o.later o.now h.last ([] ++ front) [] come.machine_state come.state Gc CycleDone
@@ -292,35 +292,35 @@ module _ (each : InstructionsAreAlike) (tree : Tree) (accepted : IsAccepted tree
   same_now = sym on.is_next ∙ same_state [] [] on.after o.now on.there.runs
 
   done : (come.machine_state.posts.posted_phase ≡ Reclaim) × (on.next.objects.spaces ≡ close_cycle come.machine_state.objects.spaces)
-  done = ended each o.earlier o.later o.split.newest (IsReachedOrUnborn begun.state) owed (owed_decoded tree begun.state o.now words owes) (owed_is tree begun.state o.now words owes) come.machine_state (on.next, CycleDone) (gc_is come.machine_state (on.next, CycleDone) on.transition) refl
+  done = ended each o.earlier o.later o.split.newest (IsReachedOrUnborn begun.state) retained (retained_decoded tree begun.state o.now words retains) (retained_is tree begun.state o.now words retains) come.machine_state (on.next, CycleDone) (gc_is come.machine_state (on.next, CycleDone) on.transition) refl
 
-  new_is_owed : used_words come.machine_state.objects.spaces.new.cells ≤ words
-  new_is_owed = by_way come.holds
+  new_is_retained : used_words come.machine_state.objects.spaces.new.cells ≤ words
+  new_is_retained = by_way come.holds
     where
-      total : (d : Tree) (u : State) → d ≡ tree → u ≡ o.now → used_words come.machine_state.objects.spaces.new.cells ≤ sum_by (λ n. words_of_object d (slice_get u.objects n)) owes.names → used_words come.machine_state.objects.spaces.new.cells ≤ words
+      total : (d : Tree) (u : State) → d ≡ tree → u ≡ o.now → used_words come.machine_state.objects.spaces.new.cells ≤ sum_by (λ n. words_of_object d (slice_get u.objects n)) retains.names → used_words come.machine_state.objects.spaces.new.cells ≤ words
       total d u is same less =
-          subst (λ k. used_words come.machine_state.objects.spaces.new.cells ≤ k) owes.total
-          (subst (λ (v : State). used_words come.machine_state.objects.spaces.new.cells ≤ sum_by (λ n. words_of_object tree (slice_get v.objects n)) owes.names) same
-          (subst (λ (w : Tree). used_words come.machine_state.objects.spaces.new.cells ≤ sum_by (λ n. words_of_object w (slice_get u.objects n)) owes.names) is less))
+          subst (λ k. used_words come.machine_state.objects.spaces.new.cells ≤ k) retains.total
+          (subst (λ (v : State). used_words come.machine_state.objects.spaces.new.cells ≤ sum_by (λ n. words_of_object tree (slice_get v.objects n)) retains.names) same
+          (subst (λ (w : Tree). used_words come.machine_state.objects.spaces.new.cells ≤ sum_by (λ n. words_of_object w (slice_get u.objects n)) retains.names) is less))
 
       by_way : Holds ([] ++ front) come.machine_state come.state → used_words come.machine_state.objects.spaces.new.cells ≤ words
       by_way (inl k) =
           total come.machine_state.tree come.state come.there.of_tree same_now
-          (owed_words each o.earlier o.later o.split.newest (IsReachedOrUnborn begun.state) owed (owed_decoded tree begun.state o.now words owes) (owed_is tree begun.state o.now words owes) come.machine_state come.state done.0 k owes.names
-          (λ n there is. there_listed tree begun.state o.now words owes n (subst (λ (u : State). n < length u.objects) same_now there) is))
+          (retained_words each o.earlier o.later o.split.newest (IsReachedOrUnborn begun.state) retained (retained_decoded tree begun.state o.now words retains) (retained_is tree begun.state o.now words retains) come.machine_state come.state done.0 k retains.names
+          (λ n there is. there_listed tree begun.state o.now words retains n (subst (λ (u : State). n < length u.objects) same_now there) is))
       by_way (inr k) = never (sym k.idle ∙ ap is_of_cycle done.0)
 
   spaces_are : c.objects.spaces ≡ close_cycle come.machine_state.objects.spaces
   spaces_are = ap (λ (x : MachineState). x.objects.spaces) (sym refines.ends ∙ on.there.refuses) ∙ done.1
 
-  -- no more words are in use at the end of a cycle than are owed
-  pub cycle_leaves_owed : (used_space c.objects ≤ words) × (used_words c.objects.spaces.new.cells ≡ 0)
-  cycle_leaves_owed = (subst (λ (m : Spaces). used_words m.old.cells ≤ words) (sym spaces_are) new_is_owed, ap (λ (m : Spaces). used_words m.new.cells) spaces_are)
+  -- no more words are in use at the end of a cycle than are retained
+  pub cycle_leaves_retained : (used_space c.objects ≤ words) × (used_words c.objects.spaces.new.cells ≡ 0)
+  cycle_leaves_retained = (subst (λ (m : Spaces). used_words m.old.cells ≤ words) (sym spaces_are) new_is_retained, ap (λ (m : Spaces). used_words m.new.cells) spaces_are)
 
 -- and there are such words
-pub leaves_owed : InstructionsAreAlike → (tree : Tree) → IsAccepted tree → (limits : Limits) → IsTrue (are_in_range limits) → (events : List Event) (reports : List Report) (c : MachineState) → RefinesAfter tree limits events reports c →
-    LeavesOnlyOwed tree limits events reports c
-leaves_owed each tree accepted limits in_range events reports c refines most over =
-    let owes = end_owes each tree accepted limits in_range events reports refines.state refines.is_run most over in
-    let left = cycle_leaves_owed each tree accepted limits in_range events reports c refines most over owes.0 owes.1 in
-    (owes.0, owes.1, left.0, left.1)
+pub leaves_retained : InstructionsAreAlike → (tree : Tree) → IsAccepted tree → (limits : Limits) → IsTrue (are_in_range limits) → (events : List Event) (reports : List Report) (c : MachineState) → RefinesAfter tree limits events reports c →
+    LeavesOnlyRetained tree limits events reports c
+leaves_retained each tree accepted limits in_range events reports c refines most over =
+    let retains = end_retains each tree accepted limits in_range events reports refines.state refines.is_run most over in
+    let left = cycle_leaves_retained each tree accepted limits in_range events reports c refines most over retains.0 retains.1 in
+    (retains.0, retains.1, left.0, left.1)

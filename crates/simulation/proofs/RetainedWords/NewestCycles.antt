@@ -1,4 +1,4 @@
--- Where a run ends a cycle, its events have a newest cycle, and exactly one number of words is owed.
+-- Where a run ends a cycle, its events have a newest cycle, and exactly one number of words is retained.
 use Rattle.std.proofs.Common.{◌≡◌, ◌⊎◌, ◌≤◌, ◌<◌, ℕ, Bool, true, false, List, [], ◌∷◌, ◌++◌, length, Contains, refl, inl, inr, sym, ap, ◌∙◌, subst, arith, append_assoc, append-nil, length-append}
 use Rattle.std.specs.Prelude.{◌&&◌, not, sum_by, slice_get, IsTrue}
 use Rattle.std.specs.List.{AllByRecursion, zip}
@@ -14,7 +14,7 @@ use Rattle.interpreter.specs.cil_model.declared.reports.Report.TheVariants.{Cycl
 use Rattle.interpreter.specs.cil_model.declared.trees.Tree.{Tree}
 use Rattle.interpreter.specs.cil_model.Ranges.{are_in_range}
 use Rattle.interpreter.specs.cil_model.Typings.{IsAccepted}
-use Rattle.interpreter.specs.reference_machine.OwedWords.{OwesWords, words_of_object}
+use Rattle.interpreter.specs.reference_machine.RetainedWords.{RetainsWords, words_of_object}
 use Rattle.interpreter.specs.reference_machine.Cycles.{BeginsNewestCycle, begins_cycle, ends_cycle, is_cycle_open, is_working}
 use Rattle.interpreter.specs.reference_machine.Runs.{run, step_reports, thread_part}
 use Rattle.interpreter.specs.reference_machine.States.{State}
@@ -22,15 +22,15 @@ use Rattle.interpreter.proofs.reference_machine.Runs.JoinedRuns.{same_state}
 use Rattle.interpreter.proofs.cil_model.SameLaws.{never}
 use Rattle.collector.specs.Phases.{is_of_cycle}
 use Rattle.simulation.specs.MachineStates.{MachineState}
-use Rattle.simulation.specs.Owed.{OwesAfter}
+use Rattle.simulation.specs.Retained.{RetainsAfter}
 use Rattle.simulation.specs.Runs.{IsNext, IsRunOf}
 use Rattle.simulation.specs.Refines.{Represents}
 use Rattle.simulation.specs.Transitions.{IsTransition}
 use Rattle.interpreter.specs.reference_machine.TypedStates.{IsTyped}
 use Rattle.simulation.proofs.CollectorEvents.Reports.{IsCollected, ends}
 use Rattle.simulation.proofs.Instructions.Correspondence.{InstructionsAreAlike}
-use Rattle.simulation.proofs.OwedWords.SumsOverNames.{distinct_sum, is_listed}
-use Rattle.simulation.proofs.OwedWords.ReachableObjects.{words_owed}
+use Rattle.simulation.proofs.RetainedWords.SumsOverNames.{distinct_sum, is_listed}
+use Rattle.simulation.proofs.RetainedWords.ReachableObjects.{words_retained}
 use Rattle.simulation.proofs.CycleBounds.OpenCycles.{IsBefore, before_goes, gc_is, last_split, open_then, opened_is, then_open}
 use Rattle.simulation.proofs.Representation.InitialContents.{initial_represents}
 use Rattle.simulation.proofs.Runs.EventByEvent.{OwnEffect, IsAt, continues, walk}
@@ -152,29 +152,29 @@ begins_once all earlier later earlier' later' split split' = elim (split_cases e
   | inr h ↦ sym (none_later all earlier' later' earlier later h.0 split' split h.1 h.2)
 ]
 
-module _ (tree : Tree) (before now : State) (words words' : ℕ) (owes : OwesWords tree before now words) (owes' : OwesWords tree before now words') where
-  -- each owed object of one list is on the other
-  all_listed : AllByRecursion (λ n. is_listed owes'.names n ≡ true) owes.names
+module _ (tree : Tree) (before now : State) (words words' : ℕ) (retains : RetainsWords tree before now words) (retains' : RetainsWords tree before now words') where
+  -- each retained object of one list is on the other
+  all_listed : AllByRecursion (λ n. is_listed retains'.names n ≡ true) retains.names
   all_listed =
-      let listed : (n : ℕ) → Contains owes.names n → is_listed owes'.names n ≡ true = λ n there. list_any-from_Contains nat_eq_equiv n owes'.names ((owes'.owed n).1 ((owes.owed n).0 there)) in
-      recursion_from_All (λ n. is_listed owes'.names n ≡ true) owes.names (All-weaker (Contains owes.names) (λ n. is_listed owes'.names n ≡ true) listed owes.names (All-contains_itself owes.names))
+      let listed : (n : ℕ) → Contains retains.names n → is_listed retains'.names n ≡ true = λ n there. list_any-from_Contains nat_eq_equiv n retains'.names ((retains'.retained n).1 ((retains.retained n).0 there)) in
+      recursion_from_All (λ n. is_listed retains'.names n ≡ true) retains.names (All-weaker (Contains retains.names) (λ n. is_listed retains'.names n ≡ true) listed retains.names (All-contains_itself retains.names))
 
   no_more_words : words ≤ words'
   no_more_words =
-      let less = distinct_sum (λ n. words_of_object tree (slice_get now.objects n)) owes.names owes'.names owes.distinct all_listed in
-      subst (λ k. words ≤ k) owes'.total (subst (λ k. k ≤ sum_by (λ n. words_of_object tree (slice_get now.objects n)) owes'.names) owes.total less)
+      let less = distinct_sum (λ n. words_of_object tree (slice_get now.objects n)) retains.names retains'.names retains.distinct all_listed in
+      subst (λ k. words ≤ k) retains'.total (subst (λ k. k ≤ sum_by (λ n. words_of_object tree (slice_get now.objects n)) retains'.names) retains.total less)
 
--- this number of words is owed, and no other number
-pub owed_once : (tree : Tree) (limits : Limits) (events : List Event) (reports : List Report) (words words' : ℕ) → OwesAfter tree limits events reports words → OwesAfter tree limits events reports words' → words ≡ words'
-owed_once tree limits events reports words words' o o' =
+-- this number of words is retained, and no other number
+pub retained_once : (tree : Tree) (limits : Limits) (events : List Event) (reports : List Report) (words words' : ℕ) → RetainsAfter tree limits events reports words → RetainsAfter tree limits events reports words' → words ≡ words'
+retained_once tree limits events reports words words' o o' =
     let first : o.first ≡ o'.first = same_Some o.first o'.first (sym o.opens ∙ o'.opens) in
     let earlier : o.earlier ≡ o'.earlier = begins_once (zip events reports) o.earlier o.later o'.earlier o'.later o.split o'.split in
     let before : o.before ≡ o'.before = same_state (step_reports o.earlier) (step_reports o'.earlier) o.before o'.before
     (sym o.began ∙ (ap (λ l. run tree limits o.first (thread_part l)) earlier ∙ (ap (λ (u : State). run tree limits u (thread_part o'.earlier)) first ∙ o'.began))) in
     let now : o.now ≡ o'.now = same_state (step_reports (zip events reports)) (step_reports (zip events reports)) o.now o'.now (sym o.gives ∙ (ap (λ (u : State). run tree limits u (thread_part (zip events reports))) first ∙ o'.gives)) in
-    let owes : OwesWords tree o'.before o'.now words = subst (λ (u : State). OwesWords tree o'.before u words) now (subst (λ (u : State). OwesWords tree u o.now words) before o.owes) in
-    let less = no_more_words tree o'.before o'.now words words' owes o'.owes in
-    let more = no_more_words tree o'.before o'.now words' words o'.owes owes in
+    let retains : RetainsWords tree o'.before o'.now words = subst (λ (u : State). RetainsWords tree o'.before u words) now (subst (λ (u : State). RetainsWords tree u o.now words) before o.retains) in
+    let less = no_more_words tree o'.before o'.now words words' retains o'.retains in
+    let more = no_more_words tree o'.before o'.now words' words o'.retains retains in
     omega (arith, less, more)
 
 -- ---- runs
@@ -208,19 +208,19 @@ module _ (each : InstructionsAreAlike) (tree : Tree) (accepted : IsAccepted tree
   come xs ys split = walk tree limits all s h.last IsBefore goes xs ys [] h.machine h.first (at_first xs ys split) (record { represents = first_represents; posted_phase = ap is_of_cycle (opened_is tree limits h.machine h.opened).idle })
 
   -- there are words that the newest cycle must keep
-  pub cycle_owes : (earlier later : Events) → BeginsNewestCycle all earlier later → (words : ℕ) × OwesAfter tree limits events reports words
-  cycle_owes earlier later split =
+  pub cycle_retains : (earlier later : Events) → BeginsNewestCycle all earlier later → (words : ℕ) × RetainsAfter tree limits events reports words
+  cycle_retains earlier later split =
       let begun = come earlier later split.whole in
-      let owed = words_owed begun.state tree (subst (λ (t : Tree). IsTyped t begun.state) begun.there.of_tree begun.holds.represents.typed) s in (
-        owed.0,
-        record { earlier = earlier; later = later; split = split; first = h.first; opens = h.begins; before = begun.state; began = begun.ran; now = s; gives = h.gives; owes = owed.1 },
+      let retained = words_retained begun.state tree (subst (λ (t : Tree). IsTyped t begun.state) begun.there.of_tree begun.holds.represents.typed) s in (
+        retained.0,
+        record { earlier = earlier; later = later; split = split; first = h.first; opens = h.begins; before = begun.state; began = begun.ran; now = s; gives = h.gives; retains = retained.1 },
       )
 
   -- so there are where a cycle ends
-  pub end_owes : (most : Events) → all ≡ most ++ (Gc, CycleDone) ∷ [] → (words : ℕ) × OwesAfter tree limits events reports words
-  end_owes most over =
+  pub end_retains : (most : Events) → all ≡ most ++ (Gc, CycleDone) ∷ [] → (words : ℕ) × RetainsAfter tree limits events reports words
+  end_retains most over =
       let begun = come most ((Gc, CycleDone) ∷ []) over in
       let on = continues tree limits all s h.last ([] ++ most) [] begun.machine_state begun.state Gc CycleDone begun.there in
       let opened : is_cycle_open most ≡ true = sym begun.holds.posted_phase ∙ was_open begun.machine_state (on.next, CycleDone) (gc_is begun.machine_state (on.next, CycleDone) on.transition) refl in
       let newest = newest_of most opened in
-      cycle_owes newest.0 (newest.1 ++ (Gc, CycleDone) ∷ []) (subst (λ l. BeginsNewestCycle l newest.0 (newest.1 ++ (Gc, CycleDone) ∷ [])) (sym over) (cycle_continues most newest.0 newest.1 newest.2 opened (Gc, CycleDone)))
+      cycle_retains newest.0 (newest.1 ++ (Gc, CycleDone) ∷ []) (subst (λ l. BeginsNewestCycle l newest.0 (newest.1 ++ (Gc, CycleDone) ∷ [])) (sym over) (cycle_continues most newest.0 newest.1 newest.2 opened (Gc, CycleDone)))

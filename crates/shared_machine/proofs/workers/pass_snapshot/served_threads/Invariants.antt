@@ -1,6 +1,6 @@
 use Rattle.std.proofs.Common.{◌≡◌, ◌≤◌}
 use Rattle.shared_machine.specs.Work.{served_below}
-use Rattle.shared_machine.proofs.workers.findings.served_threads.Given as goal
+use Rattle.shared_machine.proofs.workers.pass_snapshot.served_threads.Given as goal
 
 abbrev pub invariant-loop-thread : goal.invariant-loop-thread
 invariant-loop-thread l = record {

@@ -13,12 +13,12 @@ words_of_object tree None = 0
 words_of_object tree (Some o) = cell_words tree o.contents
 
 -- the object was reachable when the cycle began, or was born since
-abbrev pub IsOwed : State → State → ℕ → Type 0
-IsOwed before now n = IsReachable before (Born n) ⊎ ((length before.objects ≤ n) × (n + 1 ≤ length now.objects))
+abbrev pub IsRetained : State → State → ℕ → Type 0
+IsRetained before now n = IsReachable before (Born n) ⊎ ((length before.objects ≤ n) × (n + 1 ≤ length now.objects))
 
--- the cells of exactly the objects that are owed have this number of words together
-pub record OwesWords (tree : Tree) (before now : State) (words : ℕ) : Type 0 where
+-- the cells of exactly the objects that are retained have this number of words together
+pub record RetainsWords (tree : Tree) (before now : State) (words : ℕ) : Type 0 where
   pub names : List ℕ
   pub distinct : IsDistinct nat_eq names
-  pub owed : (n : ℕ) → Contains names n ↔ IsOwed before now n
+  pub retained : (n : ℕ) → Contains names n ↔ IsRetained before now n
   pub total : sum_by (λ n. words_of_object tree (slice_get now.objects n)) names ≡ words

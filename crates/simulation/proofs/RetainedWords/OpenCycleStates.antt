@@ -1,4 +1,4 @@
--- While a cycle is open, each object that it keeps has the name of one that is owed; so where it ends, no more words are in use than are owed.
+-- While a cycle is open, each object that it keeps has the name of one that is retained; so where it ends, no more words are in use than are retained.
 use Rattle.std.proofs.Common.{◌≡◌, ℕ, Bool, true, if◌then◌else◌, length, Some, None, refl, inl, inr, sym, ap, ◌∙◌, subst}
 use Rattle.interpreter.specs.cil_model.declared.events.Event.TheVariants.{Step}
 use Rattle.interpreter.specs.cil_model.declared.phases.Phase.TheVariants.{Idle}
@@ -21,10 +21,10 @@ use Rattle.simulation.proofs.CollectorEvents.AcknowledgementNames.{acknowledgeme
 use Rattle.simulation.proofs.CollectorEvents.UnchangedState.{collected_represents}
 use Rattle.simulation.proofs.CollectorEvents.RepresentedObjects.{collected_refines}
 use Rattle.simulation.proofs.Instructions.Correspondence.{InstructionsAreAlike}
-use Rattle.simulation.proofs.OwedWords.NamesAfterEvents.{HasNames, Renames, acknowledged_has, collected_has, renamed}
-use Rattle.simulation.proofs.OwedWords.CycleNames.{AreCopiesOfMarked, IsNamed, is_copying, is_kept}
-use Rattle.simulation.proofs.OwedWords.ThreadNames.{IsKnown}
-use Rattle.simulation.proofs.OwedWords.NamesInSets.{cut_inside, inside_is, is_cut_inside, name_inside, refines_inside}
+use Rattle.simulation.proofs.RetainedWords.NamesAfterEvents.{HasNames, Renames, acknowledged_has, collected_has, renamed}
+use Rattle.simulation.proofs.RetainedWords.CycleNames.{AreCopiesOfMarked, IsNamed, is_copying, is_kept}
+use Rattle.simulation.proofs.RetainedWords.ThreadNames.{IsKnown}
+use Rattle.simulation.proofs.RetainedWords.NamesInSets.{cut_inside, inside_is, is_cut_inside, name_inside, refines_inside}
 use Rattle.simulation.proofs.Threads.UnchangedPosts.{step_posted}
 use Rattle.simulation.proofs.Threads.LiveThreads.{KeepsOwnNames, normally, normally_from, normally_keeps}
 use Rattle.simulation.proofs.Threads.StepResults.{KeepsOwnRoom}
@@ -40,12 +40,12 @@ acknowledged_posted c t = after_acknowledgement c t (λ (x : MachineState). x.po
   flips = λ seat here opened late flip. refl;
 })
 
--- ---- names of what is owed
+-- ---- names of what is retained
 
 module _ (Inside : ℕ → Type 0) (is_inside : ℕ → Bool) (decoded : (n : ℕ) → Inside n → is_inside n ≡ true) (inside : (n : ℕ) → is_inside n ≡ true → Inside n) where
   -- The machine represents the state, in which the set has all that its objects and the roots refer to; under normal names, each of them of an object of
   -- the set, what a cycle keeps has a name.
-  pub record IsOwedBy (c : MachineState) (s : State) : Type 0 where
+  pub record IsRetainedBy (c : MachineState) (s : State) : Type 0 where
     pub represents : Represents c s
     pub closed_set : IsClosed Inside s
     pub known : (a : ℕ) (n : ObjectName) → (normally c s represents).name a ≡ Some n → name_inside is_inside n ≡ Some n
@@ -62,8 +62,8 @@ module _ (Inside : ℕ → Type 0) (is_inside : ℕ → Bool) (decoded : (n : �
     renames : Renames name c own
     renames = record { live = λ a n live is. normally_keeps c s renamed_representation a n live is; normal = (normally c s renamed_representation).normal }
 
-    owed_by : HasNames own c → IsOwedBy c s
-    owed_by has = record {
+    retained_by : HasNames own c → IsRetainedBy c s
+    retained_by has = record {
       represents = renamed_representation;
       closed_set = set;
       known = λ a n is. (let b = normally_from c s renamed_representation a n is in known b.0 n b.1);
@@ -71,9 +71,9 @@ module _ (Inside : ℕ → Type 0) (is_inside : ℕ → Bool) (decoded : (n : �
     }
 
   -- where a machine begins that has no cycle open
-  pub begins_owed : (c : MachineState) (s : State) → Represents c s → IsClosed Inside s → c.posts.posted_phase ≡ Idle → IsOwedBy c s
-  begins_owed c s r set idle =
-      owed_by c s r set (cut_inside is_inside r.refines.name) (refines_inside is_inside Inside decoded r.refines.name c s set inside r.refines.by) (λ a n is. inside_is is_inside r.refines.name a n is)
+  pub begins_retained : (c : MachineState) (s : State) → Represents c s → IsClosed Inside s → c.posts.posted_phase ≡ Idle → IsRetainedBy c s
+  begins_retained c s r set idle =
+      retained_by c s r set (cut_inside is_inside r.refines.name) (refines_inside is_inside Inside decoded r.refines.name c s set inside r.refines.by) (λ a n is. inside_is is_inside r.refines.name a n is)
       (record {
         kept = λ a h. never (ap (λ x. is_kept x c.objects.spaces a) (sym idle) ∙ h);
         copies = λ copying. never (ap is_copying (sym idle) ∙ copying);
@@ -81,28 +81,28 @@ module _ (Inside : ℕ → Type 0) (is_inside : ℕ → Bool) (decoded : (n : �
 
   -- ---- acknowledgements and events of the collector
 
-  pub acknowledged_owed : (c : MachineState) (s : State) (t : ℕ) → IsOwedBy c s → IsOwedBy (with_acknowledgement c t).0 s
-  acknowledged_owed c s t h =
+  pub acknowledged_retained : (c : MachineState) (s : State) (t : ℕ) → IsRetainedBy c s → IsRetainedBy (with_acknowledgement c t).0 s
+  acknowledged_retained c s t h =
       let own = normally c s h.represents in
       let r' = acknowledgement_represents c t s h.represents in
       let by = acknowledgement_refines c t s own.name own.normal own.by h.represents.sound in
       let has = acknowledged_has c s own.name own.by h.represents.sound.heap.blocks.spaces h.has t in
-      owed_by (with_acknowledgement c t).0 s r' h.closed_set own.name by h.known
+      retained_by (with_acknowledgement c t).0 s r' h.closed_set own.name by h.known
       (renamed own.name (with_acknowledgement c t).0 (normally (with_acknowledgement c t).0 s (record r' { refines = record { name = own.name; by = by } })).name
       (renames (with_acknowledgement c t).0 s r' h.closed_set own.name by h.known) has)
 
-  pub collected_owed : (c : MachineState) (s : State) → IsOwedBy c s → IsOwedBy (collect c).0 s
-  collected_owed c s h =
+  pub collected_retained : (c : MachineState) (s : State) → IsRetainedBy c s → IsRetainedBy (collect c).0 s
+  collected_retained c s h =
       let own = normally c s h.represents in
       let r' = collected_represents c s h.represents own.name own.normal own.by in
       let by = collected_refines own.name c s h.represents.sound own.normal own.by in
-      owed_by (collect c).0 s r' h.closed_set own.name by h.known
+      retained_by (collect c).0 s r' h.closed_set own.name by h.known
       (collected_has c s h.represents.accepted.legal h.represents.typed own.name (normally (collect c).0 s (record r' { refines = record { name = own.name; by = by } })).name own.by h.represents.sound h.has
       (renames (collect c).0 s r' h.closed_set own.name by h.known))
 
   -- ---- steps
 
-  module _ (each : InstructionsAreAlike) (c : MachineState) (s : State) (t : ℕ) (next : MachineState) (r : Report) (h : IsOwedBy c s) (transition : IsTransition c (Step t) (next, r)) where
+  module _ (each : InstructionsAreAlike) (c : MachineState) (s : State) (t : ℕ) (next : MachineState) (r : Report) (h : IsRetainedBy c s) (transition : IsTransition c (Step t) (next, r)) where
     -- what the reference machine reaches by the same step
     abbrev follows : (u : State) × (step c.tree c.limits s t (is_refusal r) ≡ Answers r u) × (r' : Represents next u) × KeepsOwnRoom c s t next.objects u × KeepsOwnNames c s h.represents next.objects r'.refines.name
     follows = step_names each c s h.represents t (next, r) transition
@@ -147,10 +147,10 @@ module _ (Inside : ℕ → Type 0) (is_inside : ℕ → Bool) (decoded : (n : �
       copies = subst (λ x. AreCopiesOfMarked x next.objects.spaces) (sym same) (follows.4.copies h.has.copies);
     }
 
-    -- so they are owed after a step
-    stepped_owed : IsOwedBy next after
-    stepped_owed = owed_by next after follows.2 set_then cut by_then known_then
+    -- so they are retained after a step
+    stepped_retained : IsRetainedBy next after
+    stepped_retained = retained_by next after follows.2 set_then cut by_then known_then
         (renamed cut next (normally next after (record follows.2 { refines = record { name = cut; by = by_then } })).name (renames next after follows.2 set_then cut by_then known_then) has_then)
 
-    pub stepped_owed_as : (s' : State) → step c.tree c.limits s t (is_refusal r) ≡ Answers r s' → IsOwedBy next s'
-    stepped_owed_as s' is = subst (λ (u : State). IsOwedBy next u) (same_after r r after s' (sym follows.1 ∙ is)) stepped_owed
+    pub stepped_retained_as : (s' : State) → step c.tree c.limits s t (is_refusal r) ≡ Answers r s' → IsRetainedBy next s'
+    stepped_retained_as s' is = subst (λ (u : State). IsRetainedBy next u) (same_after r r after s' (sym follows.1 ∙ is)) stepped_retained

@@ -12,7 +12,7 @@ use Rattle.interpreter.specs.cil_model.Fields.{static_fields}
 use Rattle.interpreter.specs.object_memory.Cells.{used_words}
 use Rattle.interpreter.specs.object_memory.Objects.{used_space}
 use Rattle.interpreter.specs.reference_machine.Cycles.{BeginsNewestCycle, larger_words, most_working, working_in_cycle}
-use Rattle.interpreter.specs.reference_machine.OwedWords.{OwesWords}
+use Rattle.interpreter.specs.reference_machine.RetainedWords.{RetainsWords}
 use Rattle.interpreter.specs.reference_machine.Runs.{RunsTo, initial_state, run, step_reports, thread_part}
 use Rattle.interpreter.specs.reference_machine.States.{State}
 use Rattle.simulation.specs.MachineStates.{MachineState}
@@ -24,7 +24,7 @@ abbrev pub RunsUpTo : Tree → Limits → State → List (Event × Report) → S
 RunsUpTo tree limits first events s = run tree limits first (thread_part events) ≡ RunsTo (step_reports events) s
 
 -- what was reachable when the newest cycle began, and what was born since, have this number of words together after all events
-pub record OwesAfter (tree : Tree) (limits : Limits) (events : List Event) (reports : List Report) (words : ℕ) : Type 0 where
+pub record RetainsAfter (tree : Tree) (limits : Limits) (events : List Event) (reports : List Report) (words : ℕ) : Type 0 where
   pub earlier : List (Event × Report)
   pub later : List (Event × Report)
   pub split : BeginsNewestCycle (zip events reports) earlier later
@@ -34,13 +34,13 @@ pub record OwesAfter (tree : Tree) (limits : Limits) (events : List Event) (repo
   pub began : RunsUpTo tree limits first earlier before
   pub now : State
   pub gives : RunsUpTo tree limits first (zip events reports) now
-  pub owes : OwesWords tree before now words
+  pub retains : RetainsWords tree before now words
 
--- where the last event ends a cycle, no more words are in use than are owed, all in one space
-abbrev pub LeavesOnlyOwed : Tree → Limits → List Event → List Report → MachineState → Type 0
-LeavesOnlyOwed tree limits events reports c =
+-- where the last event ends a cycle, no more words are in use than are retained, all in one space
+abbrev pub LeavesOnlyRetained : Tree → Limits → List Event → List Report → MachineState → Type 0
+LeavesOnlyRetained tree limits events reports c =
     (most : List (Event × Report)) → zip events reports ≡ most ++ (Gc, CycleDone) ∷ [] →
-    (words : ℕ) × OwesAfter tree limits events reports words × (used_space c.objects ≤ words) × (used_words c.objects.spaces.new.cells ≡ 0)
+    (words : ℕ) × RetainsAfter tree limits events reports words × (used_space c.objects ≤ words) × (used_words c.objects.spaces.new.cells ≡ 0)
 
 -- After any of the events, the newest cycle has few working events: 16 for each word of the larger one of its two spaces, one for each static field, and 64.
 -- A cycle's larger space is the new one, which is the only one once the cycle is over.

@@ -12,7 +12,7 @@ use interleaving_core::Machine;
 
 /// What a worker finds as a pass begins.
 #[derive(Clone, Copy)]
-pub(crate) struct Findings {
+pub(crate) struct PassSnapshot {
     /// How many threads were started.
     pub started: usize,
     /// How many live threads the worker drives.
@@ -62,7 +62,7 @@ pub(crate) fn served_threads(machine: &Machine, workers: u8, worker: u8) -> usiz
 }
 
 /// What one of this many workers finds in a world.
-pub(crate) fn found_in<M: Initial>(world: &World<M>, workers: u8, worker: u8) -> Findings
+pub(crate) fn found_in<M: Initial>(world: &World<M>, workers: u8, worker: u8) -> PassSnapshot
     requires { 0 < workers }
     ensures started { (result.started ≡ length world.now.core.threads) × (result.started ≤ MOST_THREADS) }
     ensures served { result.served ≡ served_below world.now.core workers worker (length world.now.core.threads) }
@@ -71,7 +71,7 @@ pub(crate) fn found_in<M: Initial>(world: &World<M>, workers: u8, worker: u8) ->
 {
     let machine = world.machine();
     let is_stopped = world.is_stopped();
-    Findings {
+    PassSnapshot {
         started: machine.started(),
         served: served_threads(machine, workers, worker),
         is_stopped,

@@ -1,8 +1,8 @@
 use Rattle.std.proofs.Common.{subst, sym}
 use Rattle.shared_machine.specs.Work.{HasWorked}
 use Rattle.shared_machine.proofs.TicketCounts.{have_worked_more, worked_as}
-use Rattle.shared_machine.proofs.workers.crew.+send_all.Goals.{in-Ok, in-Err}
-use Rattle.shared_machine.proofs.workers.crew.+send_all.Goals as goal
+use Rattle.shared_machine.proofs.workers.pool.+send_all.Goals.{in-Ok, in-Err}
+use Rattle.shared_machine.proofs.workers.pool.+send_all.Goals as goal
 
 pub returns-clause-worked : goal.returns-clause-worked
 returns-clause-worked g t c =

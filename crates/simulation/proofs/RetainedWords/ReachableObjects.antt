@@ -1,4 +1,4 @@
--- A typed state has a list of exactly the objects that are reachable in it, so there are words that are owed.
+-- A typed state has a list of exactly the objects that are reachable in it, so there are words that are retained.
 use Rattle.std.proofs.Common.{◌≡◌, ◌⊎◌, ◌≤◌, ◌<◌, ◌+◌, ◌-◌, ℕ, zero, suc, Bool, true, false, if◌then◌else◌, List, [], ◌∷◌, ◌++◌, length, Option, Some, None, Contains, refl, inl, inr, sym, ap, ◌∙◌, subst, arith, lit<}
 use Rattle.std.specs.Prelude.{◌==◌, ◌||◌, nat_eq, sum_by, slice_get}
 use Rattle.std.specs.List.{AllByRecursion, IsDistinct}
@@ -12,14 +12,14 @@ use Rattle.std.proofs.lemmas.Map.Views.{Contains-from_any, list_any-from_Contain
 use Rattle.interpreter.specs.cil_model.declared.trees.Tree.{Tree}
 use Rattle.interpreter.proofs.cil_model.Lists.{none_is_some}
 use Rattle.std.proofs.lemmas.Option.{same_Some}
-use Rattle.interpreter.specs.reference_machine.OwedWords.{IsOwed, OwesWords, words_of_object}
+use Rattle.interpreter.specs.reference_machine.RetainedWords.{IsRetained, RetainsWords, words_of_object}
 use Rattle.interpreter.specs.reference_machine.Reachable.{IsReachable, from_member, from_root, members_of, roots}
 use Rattle.interpreter.specs.reference_machine.States.{State, object_at}
 use Rattle.interpreter.specs.reference_machine.Values.{Born, Literal, ObjectName, Reference, Value}
 use Rattle.reference_machine.specs.TypedStates.{IsTyped}
 use Rattle.reference_machine.proofs.ReachableObjects.TypedStates.{reachable_is_there}
 use Rattle.reference_machine.proofs.ReachableObjects.Values.{AreWithin, IsWithin, contained_within}
-use Rattle.simulation.proofs.OwedWords.SumsOverNames.{distinct_sum, is_listed}
+use Rattle.simulation.proofs.RetainedWords.SumsOverNames.{distinct_sum, is_listed}
 
 -- ---- the first object that is not on a list
 
@@ -209,14 +209,14 @@ module _ (s : State) where
         by_test false test h later = later h
 
     -- with this number that were born since
-    record ListsOwed (more : ℕ) : Type 0 where
+    record ListsRetained (more : ℕ) : Type 0 where
       names : List ℕ
       distinct : IsDistinct nat_eq names
       sound : (n : ℕ) → is_listed names n ≡ true → IsReachable s (Born n) ⊎ ((length s.objects ≤ n) × (n < length s.objects + more))
       complete : (n : ℕ) → IsReachable s (Born n) ⊎ ((length s.objects ≤ n) × (n < length s.objects + more)) → is_listed names n ≡ true
 
     -- one more
-    module _ (k : ℕ) (h : ListsOwed k) where
+    module _ (k : ℕ) (h : ListsRetained k) where
       abbrev last : ℕ
       last = length s.objects + k
 
@@ -244,10 +244,10 @@ module _ (s : State) where
             | inr new ↦ h.complete n (inr (new.0, let below_last : n < length s.objects + k = let less = new.1 in grind (arith, nat_tests) in below_last))
           ]
 
-      one_more : ListsOwed (suc k)
+      one_more : ListsRetained (suc k)
       one_more = record { names = last ∷ h.names; distinct = IsDistinct-cons nat_eq last h.names (apart_from last h.names (not_listed (is_listed h.names last) refl)) h.distinct; sound = sound_then; complete = complete_then }
 
-    with_born : (more : ℕ) → ListsOwed more
+    with_born : (more : ℕ) → ListsRetained more
     with_born zero = record {
       names = found.names;
       distinct = found.distinct;
@@ -256,21 +256,21 @@ module _ (s : State) where
     }
     with_born (suc k) = one_more k (with_born k)
 
-    -- ---- so there are words that are owed
+    -- ---- so there are words that are retained
 
-    pub words_owed : (now : State) → (words : ℕ) × OwesWords tree s now words
-    words_owed now = (
+    pub words_retained : (now : State) → (words : ℕ) × RetainsWords tree s now words
+    words_retained now = (
       sum_by (λ n. words_of_object tree (slice_get now.objects n)) all.names,
-      record { names = all.names; distinct = all.distinct; owed = λ n. (λ is. is_owed n (all.sound n (list_any-from_Contains nat_eq_equiv n all.names is)), λ is. Contains-from_any {eq = ◌==◌} eqb-true n all.names (all.complete n (was_owed n is))); total = refl },
+      record { names = all.names; distinct = all.distinct; retained = λ n. (λ is. is_retained n (all.sound n (list_any-from_Contains nat_eq_equiv n all.names is)), λ is. Contains-from_any {eq = ◌==◌} eqb-true n all.names (all.complete n (was_retained n is))); total = refl },
     )
       where
-        all : ListsOwed (length now.objects - length s.objects)
+        all : ListsRetained (length now.objects - length s.objects)
         all = with_born (length now.objects - length s.objects)
 
-        is_owed : (n : ℕ) → IsReachable s (Born n) ⊎ ((length s.objects ≤ n) × (n < length s.objects + (length now.objects - length s.objects))) → IsOwed s now n
-        is_owed n (inl reached) = inl reached
-        is_owed n (inr new) = let more = new.0 in let less = new.1 in inr (more, omega (arith, more, less))
+        is_retained : (n : ℕ) → IsReachable s (Born n) ⊎ ((length s.objects ≤ n) × (n < length s.objects + (length now.objects - length s.objects))) → IsRetained s now n
+        is_retained n (inl reached) = inl reached
+        is_retained n (inr new) = let more = new.0 in let less = new.1 in inr (more, omega (arith, more, less))
 
-        was_owed : (n : ℕ) → IsOwed s now n → IsReachable s (Born n) ⊎ ((length s.objects ≤ n) × (n < length s.objects + (length now.objects - length s.objects)))
-        was_owed n (inl reached) = inl reached
-        was_owed n (inr new) = let more = new.0 in let less = new.1 in inr (more, omega (arith, more, less))
+        was_retained : (n : ℕ) → IsRetained s now n → IsReachable s (Born n) ⊎ ((length s.objects ≤ n) × (n < length s.objects + (length now.objects - length s.objects)))
+        was_retained n (inl reached) = inl reached
+        was_retained n (inr new) = let more = new.0 in let less = new.1 in inr (more, omega (arith, more, less))
