@@ -157,7 +157,7 @@ fn add_reports(runs: &[Run], out: &mut Vec<u8>) -> io::Result<()> {
 fn add_equal(runs: &[Run], out: &mut Vec<u8>) -> io::Result<()> {
     let mut count = 0u64;
     for run in runs {
-        count = count.saturating_add(run.times);
+        count = count.saturating_add(u64::from(run.times));
     }
     match runs.first() {
         Some(run) => add_report(run.entry.report, out)?,

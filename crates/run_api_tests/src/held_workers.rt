@@ -167,11 +167,11 @@ impl Meanwhile {
     fn and(self, run: &Run) -> Meanwhile {
         match (run.entry.event, run.entry.report) {
             (Event::Step(_), _) => Meanwhile {
-                steps: self.steps.saturating_add(run.times),
+                steps: self.steps.saturating_add(u64::from(run.times)),
                 ..self
             },
             (Event::Gc, Report::Waiting) => Meanwhile {
-                waits: self.waits.saturating_add(run.times),
+                waits: self.waits.saturating_add(u64::from(run.times)),
                 ..self
             },
             (Event::Gc, _) => Meanwhile { waits: 0, ..self },
@@ -211,7 +211,7 @@ fn step_often(
     alloc: Global,
     machine: &mut Machine,
     event: Event,
-    times: u64,
+    times: u16,
 ) -> Result<(), NoMemory> {
     for _ in 0..times {
         machine.step(alloc, event)?;

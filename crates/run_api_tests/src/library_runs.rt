@@ -31,8 +31,8 @@ pub fn run_calls(threads: &(impl Threads + Wait + Sync), alloc: Global) -> [Call
     [
         call_result("a reader that fails", reports_of_readers(alloc)),
         call_result(
-            "equal steps as one run",
-            has_one_run(threads, alloc).unwrap_or(false),
+            "equal steps as few runs",
+            has_few_runs(threads, alloc).unwrap_or(false),
         ),
         call_result(
             "a worker in each of two threads",
@@ -171,22 +171,22 @@ fn is_reported(alloc: Global, kind: ErrorKind, required: Failure) -> bool {
         && text.err().map(Failure::from) == Some(required)
 }
 
-/// Whether the history of a million equal steps has one run.
-fn has_one_run(waits: &impl Wait, alloc: Global) -> Result<bool, Failure> {
+/// Whether the history of a million equal steps has as few runs as there can be: 15 of 65,535 steps, and one of the others.
+fn has_few_runs(waits: &impl Wait, alloc: Global) -> Result<bool, Failure> {
     let steps = Item {
         event: Event::Step(255),
         count: 1_000_000,
     };
     let outcome = run_events(waits, alloc, SUM.as_bytes(), LIMITS, &[steps], None)?;
     let runs = outcome.history.runs();
-    Ok(runs.len() == 1 && times(&outcome) == 1_000_000)
+    Ok(runs.len() == 16 && times(&outcome) == 1_000_000)
 }
 
 /// How many entries the history has.
 fn times(outcome: &Outcome) -> u64 {
     let mut times = 0u64;
     for run in outcome.history.runs() {
-        times = times.saturating_add(run.times);
+        times = times.saturating_add(u64::from(run.times));
     }
     times
 }

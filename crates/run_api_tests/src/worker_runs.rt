@@ -160,7 +160,7 @@ pub(crate) fn stops_at_a_deadlock(
 fn event_count(outcome: &Outcome) -> u64 {
     let mut count = 0u64;
     for run in outcome.history.runs() {
-        count = count.saturating_add(run.times);
+        count = count.saturating_add(u64::from(run.times));
     }
     count
 }

@@ -15,7 +15,7 @@ pub fn count(history: &History, quantity: Quantity) -> u64
     let runs = history.runs();
     for run in runs {
         if quantity.includes(run.entry.event, run.entry.report) {
-            number = number.saturating_add(run.times);
+            number = number.saturating_add(u64::from(run.times));
         }
     }
     number

@@ -1,5 +1,5 @@
 -- A worker that is alone: its count fixes the history.
-use Rattle.std.proofs.Common.{◌≡◌, ℕ, Bool, true, false, ◌+◌, ◌<◌, List, [], ◌≤◌, ◌∷◌, ◌++◌, get_or, take, length, replicate, refl, sym, ap, ◌∙◌, subst, append_assoc, arith, eq-eqb, All, nat_eq}
+use Rattle.std.proofs.Common.{◌≡◌, ℕ, Bool, true, ◌+◌, ◌<◌, List, [], ◌≤◌, ◌∷◌, ◌++◌, get_or, take, length, replicate, refl, sym, ap, ◌∙◌, subst, append_assoc, arith, eq-eqb, All, nat_eq}
 use Rattle.std.proofs.lemmas.List.{append-nil, length-append, replicate_more}
 use Rattle.std.proofs.lemmas.List.Elements.{All-head, All-nil, All-push, All-tail, All-weaker}
 use Rattle.shared_machine.specs.Counts.{Count}

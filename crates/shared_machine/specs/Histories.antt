@@ -1,20 +1,25 @@
 -- The history, its counts, and how it is kept.
-use Rattle.std.specs.Prelude.{◌≡◌, ℕ, Bool, true, false, nat_eq, List, [], ◌∷◌, ◌++◌, map, replicate, ◌≤◌, ◌<◌, All}
+use Rattle.std.specs.Prelude.{◌≡◌, ◌-◌, ◌*◌, ℕ, Bool, true, false, nat_eq, List, [], ◌∷◌, ◌++◌, map, replicate, ◌≤◌, ◌<◌, All}
 use Rattle.cil_model.specs.declared.events.Event.{Event}
 use Rattle.cil_model.specs.declared.reports.Report.{Report}
 use Rattle.shared_machine.specs.Codes.{add, event_number}
 use Rattle.shared_machine.specs.declared.history.Entry.{Entry}
 use Rattle.shared_machine.specs.declared.history.Run.{Run}
+use Rattle.shared_machine.specs.declared.history.TheConstants.{MOST_TIMES}
 
 -- the runs, one after another, each as often as it says
 abbrev pub plain : List Run → List Entry
 plain [] = []
 plain (r ∷ rs) = replicate r.times r.entry ++ plain rs
 
--- the entries, and whether there is room for one more
+-- how many equal entries there is room for where there are `runs` runs in memory for `capacity`
+abbrev pub room_in : ℕ → ℕ → ℕ
+room_in runs capacity = (capacity - runs) * MOST_TIMES
+
+-- the entries, and how many more equal ones there is room for in any case
 pub record Log : Type 0 where
   pub entries : List Entry
-  pub ready : Bool
+  pub room : ℕ
 
 -- an event of a worker, with its report
 abbrev pub entry : ℕ → Event → Report → Entry

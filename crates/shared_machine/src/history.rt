@@ -1,6 +1,6 @@
 //! The history of a shared machine, as runs of equal entries.
 
-ghost use Rattle.std.specs.Prelude.{◌≡◌, ◌<◌, ◌≤◌, ◌+◌, ℕ, List, replicate, ◌∷◌, ◌++◌, [], true, false, OnOk};
+ghost use Rattle.std.specs.Prelude.{◌≡◌, ◌<◌, ◌≤◌, ◌+◌, ◌*◌, ℕ, List, replicate, vec_len, vec_capacity, ◌∷◌, ◌++◌, [], true, false, OnOk};
 ghost use Rattle.shared_machine.specs.Histories.{Fixes, plain};
 ghost use Rattle.shared_machine.specs.declared.history.Entry.{Entry};
 ghost use Rattle.shared_machine.specs.declared.history.TheConstants.{MOST_TIMES};
@@ -11,7 +11,7 @@ use std::alloc::{AllocError, Global};
 use std::marker::Model;
 
 /// How often an entry is in a run at most.
-const MOST_TIMES: u64 = u64::MAX;
+const MOST_TIMES: u16 = u16::MAX;
 
 /// One event of a worker, with what the machine reported of it.
 #[derive(Clone, Copy, Debug)]
@@ -30,24 +30,24 @@ pub struct Run {
     /// The entry.
     pub entry: Entry,
     /// How often it is there.
-    pub times: u64,
+    pub times: u16,
 }
 
-/// All entries, the oldest first. To contracts it is the plain list of them, and whether there is room for one more.
+/// All entries, the oldest first. To contracts it is the plain list of them, and of how many more equal ones there is room for in any case.
 ///
-/// Equal entries in a row take the space of one.
+/// Up to 65,535 equal entries in a row take the space of one, 8 bytes.
 #[derive(Drop)]
 pub struct History {
     runs: Vec<Run>,
 }
 
 impl Model for History {
-    ghost use Rattle.std.specs.Prelude.{nat_lt, vec_len, vec_capacity};
-    ghost use Rattle.shared_machine.specs.Histories.{Log, plain};
+    ghost use Rattle.std.specs.Prelude.{vec_len, vec_capacity};
+    ghost use Rattle.shared_machine.specs.Histories.{Log, plain, room_in};
 
     ghost Value = { Log };
 
-    ghost view = { λ h. record { entries = plain h.runs.items; ready = nat_lt (vec_len h.runs) (vec_capacity h.runs) } };
+    ghost view = { λ h. record { entries = plain h.runs.items; room = room_in (vec_len h.runs) (vec_capacity h.runs) } };
 }
 
 impl History {
@@ -60,22 +60,24 @@ impl History {
         }
     }
 
-    /// Takes the memory that one entry more may need. The only error is out of memory. The entries stay as they were in any case.
-    pub fn make_room(&mut self) -> Result<(), AllocError>
+    /// Takes the memory that a number of equal entries more may need. The only error is out of memory. The entries stay as they were in any case.
+    pub fn make_room(&mut self, times: u32) -> Result<(), AllocError>
         ensures entries { self.new.entries ≡ self.old.entries }
-        ensures ready { OnOk result (self.new.ready ≡ true) }
+        ensures room { OnOk result (times ≤ self.new.room) }
     {
         let count = self.runs.len();
-        if count < self.runs.capacity() {
+        let needed = runs_for(times);
+        if needed <= self.runs.capacity() - count {
             return Ok(());
         }
         // Four times as much, since each growth moves all runs.
-        self.runs.reserve(count.saturating_mul(3).saturating_add(1))
+        self.runs
+            .reserve(count.saturating_mul(3).saturating_add(needed))
     }
 
     /// Adds an entry at the end, for which there has to be room. The entries before it stay.
     pub fn add(&mut self, entry: Entry)
-        requires { self.old.ready ≡ true }
+        requires { 0 < self.old.room }
         ensures { self.new.entries ≡ self.old.entries ++ entry ∷ [] }
     {
         if !lengthen(&mut self.runs, &entry) {
@@ -85,14 +87,19 @@ impl History {
 
     /// Adds an entry at the end `times` times, for which there has to be room. The entries before it stay.
     pub fn add_times(&mut self, entry: Entry, times: u32)
-        requires room { self.old.ready ≡ true }
-        requires some { 0 < times }
+        requires { times ≤ self.old.room }
         ensures { self.new.entries ≡ self.old.entries ++ replicate times entry }
     {
-        let times = u64::from(times);
-        if !lengthen_by(&mut self.runs, &entry, times) {
-            self.runs.push_reserved(Run { entry, times });
+        let most = u32::from(MOST_TIMES);
+        let mut left = times;
+        while left > most {
+            self.runs.push_reserved(Run {
+                entry,
+                times: MOST_TIMES,
+            });
+            left -= most;
         }
+        add_last(&mut self.runs, entry, left as u16);
     }
 
     /// The runs, the oldest first. One after another, each as often as it says, they are the entries.
@@ -151,15 +158,27 @@ fn lengthen(runs: &mut Vec<Run>, entry: &Entry) -> bool
     true
 }
 
+/// How many runs a number of equal entries may need.
+fn runs_for(times: u32) -> usize
+    ensures { times ≤ result * MOST_TIMES }
+{
+    // A division costs more than the rest of a step's record.
+    if times <= u32::from(MOST_TIMES) {
+        1
+    } else {
+        (times as usize).div_ceil(usize::from(MOST_TIMES))
+    }
+}
+
 /// Whether a run is one of this entry, and can be longer by that number.
-fn can_be_longer_by(run: &Run, entry: &Entry, times: u64) -> bool
+fn can_be_longer_by(run: &Run, entry: &Entry, times: u16) -> bool
     ensures { result ≡ true → (run.now.entry ≡ entry.now) × (run.now.times + times ≤ MOST_TIMES) }
 {
     times <= MOST_TIMES - run.times && is_same(&run.entry, entry)
 }
 
 /// Makes the last run longer by that number, where it is one of this entry and can be. Else it returns false, and the runs stay.
-fn lengthen_by(runs: &mut Vec<Run>, entry: &Entry, times: u64) -> bool
+fn lengthen_by(runs: &mut Vec<Run>, entry: &Entry, times: u16) -> bool
     ensures longer { result ≡ true → plain runs.new.items ≡ plain runs.old.items ++ replicate times entry.now }
     ensures same { result ≡ false → runs.new ≡ runs.old }
 {
@@ -170,4 +189,15 @@ fn lengthen_by(runs: &mut Vec<Run>, entry: &Entry, times: u64) -> bool
     }
     runs[count - 1].times += times;
     true
+}
+
+/// Adds an entry at the end that number of times: to the last run, if that is one of this entry and can be longer, else as a run of its own, for which
+/// there has to be room.
+fn add_last(runs: &mut Vec<Run>, entry: Entry, times: u16)
+    requires { 0 < times → vec_len runs.old < vec_capacity runs.old }
+    ensures { plain runs.new.items ≡ plain runs.old.items ++ replicate times entry }
+{
+    if times > 0 && !lengthen_by(runs, &entry, times) {
+        runs.push_reserved(Run { entry, times });
+    }
 }

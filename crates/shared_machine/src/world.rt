@@ -1,6 +1,6 @@
 //! What lies under the lock, and one event on it.
 
-ghost use Rattle.std.specs.Prelude.{◌≡◌, ◌++◌, ◌↔◌, ◌<◌, ◌⊎◌, IfErr, IfOk, IfSome, OnErr, None, ℕ, replicate, [], ◌∷◌, Some, length, slice_get, slice_set, true, false, All};
+ghost use Rattle.std.specs.Prelude.{◌≡◌, ◌++◌, ◌↔◌, ◌<◌, ◌≤◌, ◌⊎◌, IfErr, IfOk, IfSome, OnErr, None, ℕ, replicate, [], ◌∷◌, Some, length, slice_get, slice_set, true, false, All};
 ghost use Rattle.interleaving_core.specs.Histories.{DoesMore};
 ghost use Rattle.interleaving_core.specs.simulation.MachineStates.{MachineState};
 ghost use Rattle.interleaving_core.specs.simulation.Runs.{FollowsReference};
@@ -180,7 +180,7 @@ pub fn perform<M: Initial>(
     if !is_print_within(core, *most_printed, event) {
         return Answer::NoMemory;
     }
-    if history.make_room().is_err() {
+    if history.make_room(1).is_err() {
         return Answer::NoMemory;
     }
     match core.step(alloc, event) {
@@ -292,7 +292,7 @@ fn record_steps<M: Initial>(
     thread: u8,
     times: u32,
 )
-    requires { 0 < times → history.old.ready ≡ true }
+    requires { 0 < times → times ≤ history.old.room }
     ensures history { history.new.entries ≡ history.old.entries ++ replicate times (entry ticket.old.worker (StepOf thread) RanOf) }
     ensures agreed { 0 < times → slice_get book.old ticket.old.worker ≡ Some ticket.old.count }
     ensures book { book.new ≡ book_times book.old ticket.old times (StepOf thread) RanOf }
@@ -339,7 +339,7 @@ pub(crate) fn step_locally<M: Initial>(
     if is_lent(rooms, thread) {
         return Ok(0);
     }
-    history.make_room()?;
+    history.make_room(most)?;
     let count = core.run_local(thread, most);
     record_steps(history, book, ticket, thread, count);
     Ok(count)
@@ -375,7 +375,7 @@ pub fn check_in<M: Initial>(
     if !is_lent(rooms, thread) || !core.is_at_origin(&lent.loan) {
         return Err(lent);
     }
-    if times > 0 && history.make_room().is_err() {
+    if times > 0 && history.make_room(times).is_err() {
         return Err(lent);
     }
     rooms[usize::from(thread)] = Some(core.take_back(lent.into_loan()));

@@ -71,10 +71,11 @@ pub(crate) fn found_in<M: Initial>(world: &World<M>, workers: u8, worker: u8) ->
 {
     let machine = world.machine();
     let is_stopped = world.is_stopped();
+    let served = served_threads(machine, workers, worker);
     PassSnapshot {
         started: machine.started(),
-        served: served_threads(machine, workers, worker),
+        served,
         is_stopped,
-        is_last: machine.live() == 0 || is_stopped,
+        is_last: is_stopped || (served == 0 && machine.live() == 0),
     }
 }

@@ -40,6 +40,10 @@ pub(crate) struct Worker<M: Initial> {
     pub seat: Option<Seat>,
     /// The number that it last acknowledged, 0 before it did.
     pub acknowledged: u64,
+    /// Whether a newer number may be posted. A worker alone knows: nobody else posts.
+    pub polls: bool,
+    /// The thread, if one is known, whose next instruction is not local.
+    pub not_local: Option<u8>,
     /// The right to post, which worker 0 has.
     pub herald: Option<Herald>,
     /// How its passes went up to now.
@@ -82,6 +86,7 @@ fn most_on_loan(plan: Plan, worker: u8, served: usize) -> u32
     ensures herald { worker ≡ 0 → result ≡ MOST_LOCAL }
     ensures several { served ≢ 1 → result ≡ MOST_LOCAL }
     ensures held { plan.is_open ≡ false → result ≡ MOST_LOCAL }
+    ensures least { MOST_LOCAL ≤ result }
 {
     if plan.is_open && worker != 0 && served == 1 {
         MOST_LOCAL * PASSES_ON_A_LOAN
@@ -92,24 +97,32 @@ fn most_on_loan(plan: Plan, worker: u8, served: usize) -> u32
 
 /// How many of the local instructions of a thread a worker does under the lock, before it lends the frame for the others: all of a pass where it is
 /// alone, since nobody waits for the lock.
-fn most_in_place(workers: u8) -> u32 {
+fn most_in_place(workers: u8) -> u32
+    ensures { result ≤ MOST_LOCAL }
+{
     if workers == 1 { MOST_LOCAL } else { FEW_LOCAL }
 }
 
-/// Has a thread do local instructions where it is, as `step_locally`. Where the thread is the worker's own, the worker has done nothing else.
+/// Has a thread do local instructions where it is, as `step_locally`, unless its next instruction is known not to be local. Where the thread is the
+/// worker's own, the worker has done nothing else.
 fn step_in_place<M: Initial>(
     world: &mut World<M>,
     ticket: &mut Ticket<M>,
     thread: u8,
     most: u32,
+    not_local: &mut Option<u8>,
 ) -> Result<u32, AllocError>
     ensures { (workers : ℕ) → IsOwn workers ticket.old.worker (StepOf thread) → HasWorked workers ticket.old ticket.new }
 {
-    // To ask first takes less time than to begin.
-    if !world.machine().is_next_local(thread) {
+    if *not_local == Some(thread) {
+        *not_local = None;
         return Ok(0);
     }
-    step_locally(world, ticket, thread, most)
+    let done = step_locally(world, ticket, thread, most);
+    if matches!(done, Ok(count) if 0 < count && count < most) {
+        *not_local = Some(thread);
+    }
+    done
 }
 
 /// Does local instructions on a lent frame without the lock, at most the given number, and takes the frame back. The lock is held again at the end.
@@ -133,9 +146,9 @@ fn run_apart<'s, M: Initial, R: Wait>(
     (progress, again)
 }
 
-/// Advances a thread, under the lock that is held: by up to `most` local instructions, the first few of them where it is and the others without the
-/// lock, or, where its next instruction is not local, by one step. The lock is held again at the end. Where the thread is the worker's own, the
-/// worker has done nothing else.
+/// Advances a thread, under the lock that is held: by local instructions, the first few of them where it is and the others without the lock, or,
+/// where its next instruction is not local, by one step. The lock is held again at the end. Where the thread is the worker's own, the worker has
+/// done nothing else.
 // To lend a frame takes longer than a few instructions.
 fn advance<'s, M: Initial, R: Wait>(
     rt: &R,
@@ -143,27 +156,29 @@ fn advance<'s, M: Initial, R: Wait>(
     shared: &'s Shared<M>,
     mut world: MutexGuard<'s, World<M>>,
     ticket: &mut Ticket<M>,
-    workers: u8,
+    not_local: &mut Option<u8>,
+    plan: Plan,
+    served: usize,
     thread: u8,
-    most: u32,
 ) -> (Progress, MutexGuard<'s, World<M>>)
     ensures { (workers : ℕ) → IsOwn workers ticket.old.worker (StepOf thread) → HasWorked workers ticket.old ticket.new }
 {
-    let few = most.min(most_in_place(workers));
-    let Ok(done) = step_in_place(&mut *world, ticket, thread, few) else {
+    let few = most_in_place(plan.workers);
+    let Ok(done) = step_in_place(&mut *world, ticket, thread, few, not_local) else {
         return (Progress::OutOfMemory, world);
     };
     if done == 0 {
         let answer = ask(alloc, &mut *world, ticket, Event::Step(thread));
         return (Progress::of(answer), world);
     }
-    if done < few || done == most || !world.machine().is_next_local(thread) {
+    if done < few || plan.workers == 1 || !world.machine().is_next_local(thread) {
         return (Progress::Made, world);
     }
     let Some(lent) = lend(&mut *world, thread) else {
         return (Progress::Made, world);
     };
-    run_apart(rt, shared, world, ticket, lent, thread, most - few)
+    let most = most_on_loan(plan, ticket.worker(), served) - few;
+    run_apart(rt, shared, world, ticket, lent, thread, most)
 }
 
 /// Advances each live thread that the worker drives and that was started before the pass, in the order of their numbers. It stops where memory
@@ -174,6 +189,7 @@ fn step_each<'s, M: Initial, R: Wait>(
     shared: &'s Shared<M>,
     mut world: MutexGuard<'s, World<M>>,
     ticket: &mut Ticket<M>,
+    not_local: &mut Option<u8>,
     plan: Plan,
     found: PassSnapshot,
 ) -> (Progress, MutexGuard<'s, World<M>>)
@@ -181,7 +197,6 @@ fn step_each<'s, M: Initial, R: Wait>(
     requires few { found.started ≤ MOST_THREADS }
     ensures { HasWorked plan.workers ticket.old ticket.new }
 {
-    let most = most_on_loan(plan, ticket.worker(), found.served);
     let mut progress = Progress::None;
     for thread in 0..found.started {
         let number = thread as u8;
@@ -192,9 +207,10 @@ fn step_each<'s, M: Initial, R: Wait>(
                 shared,
                 world,
                 ticket,
-                plan.workers,
+                not_local,
+                plan,
+                found.served,
                 number,
-                most,
             );
             world = held;
             progress = progress.then(came);
@@ -301,6 +317,54 @@ fn take_part<M: Initial, E: TableName, R: Wait>(
     }
 }
 
+/// Takes part in what is posted, if a newer number may be, or if the worker drives no live thread and may have a seat to park.
+fn acknowledge_news<M: Initial, E: TableName, R: Wait>(
+    rt: &R,
+    alloc: Global,
+    epochs: &Epochs,
+    parked: &Mutex<Parked<E>>,
+    world: &mut World<M>,
+    worker: &mut Worker<M>,
+    workers: u8,
+    found: PassSnapshot,
+) -> Progress
+    requires some { 0 < workers }
+    requires few { found.started ≤ MOST_THREADS }
+    requires here { IsSeatHere epochs.now worker.old.seat }
+    requires same { epochs.now.table ≡ E.table }
+    ensures here { IsSeatHere epochs.now worker.new.seat }
+    ensures herald { worker.new.herald ≡ worker.old.herald }
+    ensures worked { HasWorked workers worker.old.ticket worker.new.ticket }
+{
+    if !worker.polls && found.served > 0 {
+        return Progress::None;
+    }
+    let Worker {
+        ticket,
+        seat,
+        acknowledged,
+        polls: _,
+        not_local: _,
+        herald: _,
+        pace: _,
+    } = worker;
+    let (progress, held_seat, number) = take_part(
+        rt,
+        alloc,
+        epochs,
+        parked,
+        world,
+        ticket,
+        seat.take(),
+        *acknowledged,
+        workers,
+        found,
+    );
+    *seat = held_seat;
+    *acknowledged = number;
+    progress
+}
+
 /// Posts the next number, where the herald is here, and returns whether a seat was late.
 fn post(epochs: &Epochs, herald: &mut Option<Herald>) -> bool
     requires { IsHeraldOf epochs.now herald.old }
@@ -381,31 +445,29 @@ fn serve<'s, M: Initial, E: TableName, R: Wait>(
     ensures here { IsSeatHere epochs.now worker.new.seat × IsHeraldOf epochs.now worker.new.herald }
     ensures worked { HasWorked plan.workers worker.old.ticket worker.new.ticket }
 {
-    let Worker {
-        ticket,
-        seat,
-        acknowledged,
-        herald,
-        pace,
-    } = worker;
-    let (mut progress, held_seat, number) = take_part(
+    let mut progress = acknowledge_news(
         rt,
         alloc,
         epochs,
         parked,
         &mut *world,
-        ticket,
-        seat.take(),
-        *acknowledged,
+        worker,
         plan.workers,
         found,
     );
-    *seat = held_seat;
-    *acknowledged = number;
+    let Worker {
+        ticket,
+        seat: _,
+        acknowledged: _,
+        polls,
+        not_local,
+        herald,
+        pace,
+    } = worker;
     let mut steps = Progress::None;
     let mut is_late = false;
     if progress.lasts() {
-        let (came, held) = step_each(rt, alloc, shared, world, ticket, plan, found);
+        let (came, held) = step_each(rt, alloc, shared, world, ticket, not_local, plan, found);
         world = held;
         steps = came;
         progress = progress.then(came);
@@ -422,6 +484,8 @@ fn serve<'s, M: Initial, E: TableName, R: Wait>(
             plan.workers,
         );
         is_late = late;
+        // Where the collector waits, worker 0 has posted.
+        *polls = plan.workers > 1 || came == Progress::None;
         progress = progress.then(came);
     }
     if !progress.lasts() {

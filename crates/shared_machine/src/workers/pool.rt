@@ -135,6 +135,8 @@ fn send_all<
         ticket,
         seat: None,
         acknowledged: 0,
+        polls: true,
+        not_local: None,
         herald: theirs,
         pace: Pace::new(),
     };
@@ -211,12 +213,12 @@ fn run_pool<
 /// Runs workers, each in a thread of its own, until each has found in a pass that no thread of the machine is live or that the stop mark
 /// is set, and gives all their tickets back, in order.
 ///
-/// Of n tickets, the worker of number k drives the threads t for which k is left when t is divided by n; its own threads in a pass are
-/// those that are live as the pass begins. A pass is reported to `gate`, which may leave some out where it is open. Then the worker polls its seat;
-/// where the number is newer than the last one that it acknowledged, it does an `Ack` of each of its own threads and acknowledges. It does a `Step`
-/// of each of them, in the order of their numbers. Worker 0 then does one `Gc`; where that returned `Waiting`, it acknowledges for the workers that
-/// drive no live thread, and posts the next number. A worker that runs out of memory sets the stop mark and ends; so does this function where a
-/// thread can't be started, and makes that worker's one pass itself.
+/// Of n tickets, the worker of number k drives the threads t for which k is left when t is divided by n; its own threads in a pass are those that are live as
+/// the pass begins. A pass is reported to `gate`, which may leave some out where it is open. Then the worker polls its seat, if it may be that a number was
+/// posted (a worker alone knows); where it is newer than the last one that it acknowledged, it does an `Ack` of each of its own threads and acknowledges. It
+/// does a `Step` of each of them, in the order of their numbers. Worker 0 then does one `Gc`; where that returned `Waiting`, it acknowledges for the workers
+/// that drive no live thread, and posts the next number. A worker that runs out of memory sets the stop mark and ends; so does this function where a thread
+/// can't be started, and makes that worker's one pass itself.
 ///
 /// With `StopAt::Deadlock` worker 0 sets the stop mark, too, where it finds after a pass that threads are live and each of them waits. It
 /// looks only after passes in which none of its own threads made progress: the first of such a row, and then one in 64. A pass that begins at the stop

@@ -1,4 +1,4 @@
-use Rattle.std.proofs.Common.{◌∙◌, ◌≤◌, ap, arith, length, sym}
+use Rattle.std.proofs.Common.{◌∙◌, ◌+◌, ◌≤◌, ap, arith, length, sym}
 use Rattle.std.proofs.lemmas.List.{take_all}
 use Rattle.shared_machine.specs.Histories.{plain}
 use Rattle.run_statistics.proofs.CountLemmas.{capped, counted, counted_pairs, more_no, more_yes}
@@ -11,7 +11,7 @@ loop-run-preserved c =
     let q = c.args.quantity in
     elim c.if-includes.branch [
       | then-includes w ↦
-          more_yes q runs c.loop-run.run-index _ c.loop-run.number c.if-includes.number c.loop-run-test.true (sym c.includes.ensures ∙ w.if-includes.true) c.loop-run.invariant (w.number-is ∙ w.saturating_add-number.ensures)
+          more_yes q runs c.loop-run.run-index _ c.loop-run.number c.if-includes.number c.loop-run-test.true (sym c.includes.ensures ∙ w.if-includes.true) c.loop-run.invariant (w.number-is ∙ w.saturating_add-number.ensures ∙ ap (λ k. capped (c.loop-run.number + k)) w.from.ensures)
       | else-includes w ↦
           w.number-is ∙ more_no q runs c.loop-run.run-index _ c.loop-run.number c.loop-run-test.true (sym c.includes.ensures ∙ w.if-includes.false) c.loop-run.invariant
     ]

@@ -1,5 +1,3 @@
-use Rattle.std.proofs.Common.{subst, sym}
-use Rattle.shared_machine.specs.Worlds.{HasCounted}
 use Rattle.shared_machine.proofs.OneWorker.{counted_none, counted_time, counted_times}
 use Rattle.shared_machine.proofs.alone.act_item.Goals as goal
 

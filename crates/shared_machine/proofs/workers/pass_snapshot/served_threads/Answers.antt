@@ -1,4 +1,4 @@
-use Rattle.std.proofs.Common.{◌≡◌, ap, sym, ◌∙◌, arith}
+use Rattle.std.proofs.Common.{sym, ◌∙◌, arith}
 use Rattle.shared_machine.proofs.ServedThreads.{count_with, count_without}
 use Rattle.shared_machine.proofs.workers.pass_snapshot.served_threads.Goals as goal
 use Rattle.shared_machine.proofs.workers.pass_snapshot.served_threads.Goals.{then-is_served, else-is_served}

@@ -5,7 +5,7 @@ use Rattle.shared_machine.proofs.workers.passes.serve.Goals.{then-lasts, else-la
 
 pub returns-clause-worked : goal.returns-clause-worked
 returns-clause-worked g c =
-    let first = c.take_part-progress.ensures.worked in
+    let first = c.acknowledge_news-progress.ensures.worked in
     let stepped : HasWorked c.args.plan.workers c.args.worker.now.ticket c.if-lasts.ticket = elim c.if-lasts.branch [
       | then-lasts w ↦ rw w.ticket-is (worked_both _ _ _ _ first w.step_each-came.ensures)
       | else-lasts w ↦ rw w.ticket-is first
