@@ -1,9 +1,10 @@
 -- What stores, births and comparisons of references do to what the heap and the static fields hold, by the phase that the thread has
 -- acknowledged (Hudson and Moss, "Sapphire"; this profile). Each rule of an instruction, a monitor or a start of a thread cites these.
-use Rattle.std.specs.Prelude.{◌≡◌, ℕ, ◌==◌, ◌&&◌, if◌then◌else◌, nat_lt, Bool, true, false, List, length, Option, is_some, slice_set}
+use Rattle.std.specs.Prelude.{◌≡◌, ℕ, ◌==◌, ◌&&◌, if◌then◌else◌, nat_lt, Bool, true, List, length, Option, is_some, slice_set}
 use Rattle.std.specs.Option.{option_map_or}
 use Rattle.cil_model.specs.declared.phases.Phase.{Phase}
 use Rattle.cil_model.specs.declared.phases.Phase.TheVariants.{Idle, Mark, Allocate, Copy, PreFlip, HeapFlip, ThreadFlip, Reclaim}
+use Rattle.cil_model.specs.PhaseOrder.{is_between}
 use Rattle.object_memory.specs.declared.addresses.Addr.{Addr}
 use Rattle.object_memory.specs.declared.kinds.Kind.{Kind}
 use Rattle.object_memory.specs.declared.monitors.Monitor.{Monitor}
@@ -92,14 +93,7 @@ stored_ref phase o a slot reference = stored_value phase o a slot (Ref reference
 
 -- whether a store reaches both copies of an object
 abbrev pub reaches_both : Phase → Bool
-reaches_both Idle = false
-reaches_both Mark = false
-reaches_both Allocate = false
-reaches_both Copy = true
-reaches_both PreFlip = true
-reaches_both HeapFlip = true
-reaches_both ThreadFlip = true
-reaches_both Reclaim = false
+reaches_both p = is_between Copy ThreadFlip p
 
 -- a word that is no reference: an integer's, or the one that identifies the thread that was started on an object
 abbrev pub stored_int : Phase → Objects → Addr → (slot word : ℕ) → Objects
@@ -157,14 +151,7 @@ can_bear phase o = if is_within_cycle phase then o.spaces.is_open else true
 
 -- whether references are compared by their forwards: in the phases in which a thread may meet the addresses of both copies
 abbrev pub compares_forwards : Phase → Bool
-compares_forwards Idle = false
-compares_forwards Mark = false
-compares_forwards Allocate = false
-compares_forwards Copy = true
-compares_forwards PreFlip = true
-compares_forwards HeapFlip = true
-compares_forwards ThreadFlip = false
-compares_forwards Reclaim = false
+compares_forwards p = is_between Copy HeapFlip p
 
 -- the address by which a reference is compared
 abbrev pub comparison_address : Phase → Objects → Addr → Addr

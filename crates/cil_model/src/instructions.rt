@@ -54,6 +54,23 @@ pub enum BranchComparison {
     Less,
 }
 
+/// When a branch goes to its label (ECMA-335 III.3.5 to III.3.18).
+#[derive(Clone, Copy)]
+pub enum BranchCondition {
+    Always,
+    IfTrue,
+    IfFalse,
+    Compare(BranchComparison),
+}
+
+/// What an array's elements are, to an instruction that reads or writes one (ECMA-335 III.4.8, III.4.27).
+#[derive(Clone, Copy)]
+pub enum ElementKind {
+    Int32,
+    Int64,
+    Reference,
+}
+
 /// The name of a method, or `.ctor` (ECMA-335 II.10.5.1).
 #[derive(Drop)]
 pub enum MethodName {
@@ -113,14 +130,8 @@ pub enum Instruction {
     ConvertInt32,
     /// `conv.i8`
     ConvertInt64,
-    /// `br`
-    Branch(Text),
-    /// `brtrue`
-    BranchTrue(Text),
-    /// `brfalse`
-    BranchFalse(Text),
-    /// `beq`, `bne.un`, `bge`, `bgt`, `ble`, `blt`
-    BranchCompare(BranchComparison, Text),
+    /// `br`, `brtrue`, `brfalse`, `beq`, `bne.un`, `bge`, `bgt`, `ble`, `blt`
+    Branch(BranchCondition, Text),
     /// `switch`
     Switch(Sequence<Text>),
     /// `ldfld`
@@ -135,18 +146,10 @@ pub enum Instruction {
     NewArray(DeclaredType),
     /// `ldlen`
     LoadLength,
-    /// `ldelem.i4`
-    LoadElementInt32,
-    /// `ldelem.i8`
-    LoadElementInt64,
-    /// `ldelem.ref`
-    LoadElementReference,
-    /// `stelem.i4`
-    StoreElementInt32,
-    /// `stelem.i8`
-    StoreElementInt64,
-    /// `stelem.ref`
-    StoreElementReference,
+    /// `ldelem.i4`, `ldelem.i8`, `ldelem.ref`
+    LoadElement(ElementKind),
+    /// `stelem.i4`, `stelem.i8`, `stelem.ref`
+    StoreElement(ElementKind),
     /// `castclass`
     CastClass(DeclaredType),
     /// `isinst`
@@ -173,10 +176,7 @@ impl Drop for Instruction {
     fn drop(self) {
         match self {
             Instruction::LoadString(_text) => (),
-            Instruction::Branch(_label)
-            | Instruction::BranchTrue(_label)
-            | Instruction::BranchFalse(_label)
-            | Instruction::BranchCompare(_, _label) => (),
+            Instruction::Branch(_, _label) => (),
             Instruction::Switch(_labels) => (),
             Instruction::LoadField(_field)
             | Instruction::StoreField(_field)
@@ -211,12 +211,8 @@ impl Drop for Instruction {
             | Instruction::ConvertInt32
             | Instruction::ConvertInt64
             | Instruction::LoadLength
-            | Instruction::LoadElementInt32
-            | Instruction::LoadElementInt64
-            | Instruction::LoadElementReference
-            | Instruction::StoreElementInt32
-            | Instruction::StoreElementInt64
-            | Instruction::StoreElementReference
+            | Instruction::LoadElement(_)
+            | Instruction::StoreElement(_)
             | Instruction::Return => (),
         }
     }

@@ -4,6 +4,7 @@ ghost use Rattle.std.specs.Prelude.{◌≡◌};
 
 use crate::sequences::Sequence;
 use crate::texts::Text;
+use crate::values::ValueKind;
 
 /// A class by its name, and the assembly that is written before it in brackets (ECMA-335 II.7.3).
 #[derive(PartialEq, Eq, Hash)]
@@ -85,12 +86,27 @@ impl Drop for DeclaredType {
 
 impl DeclaredType {
     ghost use Rattle.cil_model.specs.Same.{same_type};
+    ghost use Rattle.cil_model.specs.ValueKinds.{kind_of_type};
 
     /// Whether both have the same element and the same number of pairs of brackets (ECMA-335 I.8.6.1).
     pub fn is_same(&self, other: &DeclaredType) -> bool
         ensures { result ≡ same_type self.now other.now }
     {
         self.element.is_same(&other.element) && self.brackets == other.brackets
+    }
+
+    /// What a location of the type holds: an integer of its size, else a reference (ECMA-335 I.8.2.1).
+    pub fn kind(&self) -> ValueKind
+        ensures { result ≡ kind_of_type self.now }
+    {
+        if self.brackets > 0 {
+            return ValueKind::Ref;
+        }
+        match &self.element {
+            Element::Int32 => ValueKind::Int32,
+            Element::Int64 => ValueKind::Int64,
+            Element::Object | Element::String | Element::Class(_) => ValueKind::Ref,
+        }
     }
 }
 

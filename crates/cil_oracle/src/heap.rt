@@ -3,6 +3,7 @@
 use crate::classes::Classes;
 use crate::effects::Halt;
 use crate::values::{OracleElement, OracleType, Value};
+use cil_model::instructions::ElementKind;
 use cil_model::reports::Fault;
 use cil_model::texts::Text;
 use name_tables::lookups::MemberNumber;
@@ -129,7 +130,12 @@ impl<'a> Heap<'a> {
     }
 
     /// The index of an element of an array whose elements are of the kind of a value.
-    pub fn element_index(&self, array: usize, index: Value, kind: Value) -> Result<usize, Halt> {
+    pub fn element_index(
+        &self,
+        array: usize,
+        index: Value,
+        kind: ElementKind,
+    ) -> Result<usize, Halt> {
         let index = usize::try_from(index.as_index()?);
         let (element, elements) = self.array(array)?;
         match index {

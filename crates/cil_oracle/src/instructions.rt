@@ -6,7 +6,7 @@ use crate::effects::{Done, Effect, Halt};
 use crate::frames::{Frame, next_stored, value_at};
 use crate::state::State;
 use crate::values::Value;
-use cil_model::instructions::Instruction;
+use cil_model::instructions::{BranchCondition, Instruction};
 
 impl<'a> State<'a> {
     /// Does the instruction at which a frame is.
@@ -48,12 +48,8 @@ impl<'a> State<'a> {
             Instruction::StoreField(field) => self.store_field(frame, field),
             Instruction::LoadStaticField(field) => self.load_static(frame, field),
             Instruction::StoreStaticField(field) => self.store_static(frame, field),
-            Instruction::LoadElementInt32 => self.load_element(frame, Value::Int32(0)),
-            Instruction::LoadElementInt64 => self.load_element(frame, Value::Int64(0)),
-            Instruction::LoadElementReference => self.load_element(frame, Value::Null),
-            Instruction::StoreElementInt32 => self.store_element(frame, Value::Int32(0)),
-            Instruction::StoreElementInt64 => self.store_element(frame, Value::Int64(0)),
-            Instruction::StoreElementReference => self.store_element(frame, Value::Null),
+            Instruction::LoadElement(kind) => self.load_element(frame, *kind),
+            Instruction::StoreElement(kind) => self.store_element(frame, *kind),
             _ => execute_in_frame(frame, instruction),
         }
     }
@@ -97,7 +93,7 @@ fn execute_in_frame(frame: &mut Frame<'_>, instruction: &Instruction) -> Done {
 
 /// Operations on the topmost values, and branches.
 fn execute_on_operands(frame: &mut Frame<'_>, instruction: &Instruction) -> Done {
-    if let Instruction::Branch(label) = instruction {
+    if let Instruction::Branch(BranchCondition::Always, label) = instruction {
         return frame.jump(label);
     }
     let last = frame.pop()?;
@@ -105,8 +101,11 @@ fn execute_on_operands(frame: &mut Frame<'_>, instruction: &Instruction) -> Done
         Instruction::Unary(op) => frame.next_with(unary(*op, last)?),
         Instruction::ConvertInt32 => frame.next_with(to_int32(last)?),
         Instruction::ConvertInt64 => frame.next_with(to_int64(last)?),
-        Instruction::BranchTrue(label) => frame.jump_if(is_set(last)?, label),
-        Instruction::BranchFalse(label) => frame.jump_if(!is_set(last)?, label),
+        Instruction::Branch(BranchCondition::IfTrue, label) => frame.jump_if(is_set(last)?, label),
+        Instruction::Branch(BranchCondition::IfFalse, label) => frame.jump_if(
+            !is_set(last)?,
+            label,
+        ),
         Instruction::Switch(labels) => match last {
             Value::Int32(number) => match labels.as_slice().get(number.cast_unsigned() as usize) {
                 None => Ok(Effect::Next),
@@ -128,7 +127,7 @@ fn execute_on_two(frame: &mut Frame<'_>, instruction: &Instruction, last: Value)
             let holds = compare(*op, first, last)?;
             frame.next_with(Value::Int32(i32::from(holds)))
         }
-        Instruction::BranchCompare(op, label) => {
+        Instruction::Branch(BranchCondition::Compare(op), label) => {
             frame.jump_if(is_taken(*op, first, last)?, label)
         }
         _ => Err(Halt::Sticks),

@@ -5,7 +5,7 @@ use crate::frames::Frame;
 use crate::heap::{Contents, field_in, set_field_in, set_value};
 use crate::state::State;
 use crate::values::Value;
-use cil_model::instructions::FieldReference;
+use cil_model::instructions::{ElementKind, FieldReference};
 use cil_model::reports::Fault;
 use cil_model::types::DeclaredType;
 
@@ -89,7 +89,7 @@ impl<'a> State<'a> {
     }
 
     /// `ldelem.i4`, `ldelem.i8` and `ldelem.ref` (ECMA-335 III.4.8).
-    pub fn load_element(&mut self, frame: &mut Frame<'a>, kind: Value) -> Done {
+    pub fn load_element(&mut self, frame: &mut Frame<'a>, kind: ElementKind) -> Done {
         let index = frame.pop()?;
         let name = frame.pop()?.not_null(Fault::NullReference)?;
         let index = self.heap.element_index(name, index, kind)?;
@@ -101,7 +101,7 @@ impl<'a> State<'a> {
     }
 
     /// `stelem.i4`, `stelem.i8` and `stelem.ref` (ECMA-335 III.4.27). The index is looked at before the object's class.
-    pub fn store_element(&mut self, frame: &mut Frame<'a>, kind: Value) -> Done {
+    pub fn store_element(&mut self, frame: &mut Frame<'a>, kind: ElementKind) -> Done {
         let value = frame.pop()?;
         let index = frame.pop()?;
         let name = frame.pop()?.not_null(Fault::NullReference)?;

@@ -1,6 +1,7 @@
 //! Types, and what a location holds (ECMA-335 I.8.2.1, I.12.1 and II.7.1).
 
 use crate::effects::Halt;
+use cil_model::instructions::ElementKind;
 use cil_model::reports::Fault;
 use cil_model::types::{DeclaredType, Element};
 
@@ -99,12 +100,12 @@ impl OracleType {
         }
     }
 
-    /// Whether it is of the kind of a value: integers of that size, or references.
-    pub fn is_of_kind(self, kind: Value) -> bool {
+    /// Whether elements of it are of a kind: integers of that size, or references.
+    pub fn is_of_kind(self, kind: ElementKind) -> bool {
         match kind {
-            Value::Int32(_) => self == OracleType::plain(OracleElement::Int32),
-            Value::Int64(_) => self == OracleType::plain(OracleElement::Int64),
-            _ => self.is_reference(),
+            ElementKind::Int32 => self == OracleType::plain(OracleElement::Int32),
+            ElementKind::Int64 => self == OracleType::plain(OracleElement::Int64),
+            ElementKind::Reference => self.is_reference(),
         }
     }
 

@@ -1,5 +1,5 @@
 -- What objects hold, by the numbers of a chain.
-use Rattle.std.proofs.Common.{◌≡◌, ℕ, zero, suc, Bool, true, false, List, [], ◌∷◌, ◌++◌, length, map, reverse, slice_get, unwrap_or, Option, Some, None, option_map, if◌then◌else◌, cond, refl, sym, ap, ◌∙◌}
+use Rattle.std.proofs.Common.{◌≡◌, ℕ, Bool, true, false, List, [], ◌∷◌, ◌++◌, length, map, reverse, slice_get, unwrap_or, Option, Some, None, option_map, if◌then◌else◌, cond, refl, sym, ap, ◌∙◌}
 use Rattle.std.specs.Prelude.{filter, filter_map, flat_map}
 use Rattle.std.specs.List.{cons_option}
 use Rattle.std.specs.Option.{option_map_or}
@@ -7,22 +7,20 @@ use Rattle.std.proofs.lemmas.List.{map-append, append-nil, reverse-append, lengt
 use Rattle.std.proofs.lemmas.Option.{slice_get-map}
 use Rattle.std.proofs.lemmas.Grind.{flat_map-append}
 use Rattle.cil_model.specs.declared.types.ClassName.{ClassName}
-use Rattle.cil_model.specs.declared.types.Element.{Element}
-use Rattle.cil_model.specs.declared.types.Element.TheVariants.{Int32, Int64, Object, String, Class}
 use Rattle.cil_model.specs.declared.types.DeclaredType.{DeclaredType}
 use Rattle.cil_model.specs.declared.trees.Tree.{Tree}
 use Rattle.cil_model.specs.declared.trees.Field.{Field}
 use Rattle.cil_model.specs.Same.{same_flag}
 use Rattle.cil_model.specs.Declarations.{Declaration, thread_name}
 use Rattle.cil_model.specs.Chains.{chain_of, is_thread_class, fields_declared, listed_by}
-use Rattle.cil_model.specs.Assignable.{is_reference, is_reference_element}
+use Rattle.cil_model.specs.Assignable.{is_reference}
 use Rattle.cil_model.specs.Fields.{FieldKey, keyed_fields, instance_fields, hidden_slots, slot_types, is_reference_slot}
 use Rattle.name_tables.specs.Numbers.{class_number, chain_numbers}
 use Rattle.name_tables.proofs.Lists.{map_of_map}
 use Rattle.class_layout.specs.declared.kinds.SlotKind.{SlotKind}
-use Rattle.class_layout.specs.declared.kinds.SlotKind.TheVariants as Kind
+use Rattle.class_layout.specs.declared.kinds.SlotKind.TheVariants.{Hidden}
 use Rattle.class_layout.specs.ByClass.{by_class}
-use Rattle.class_layout.specs.Kinds.{kind_at, kind_of, instance_kind, own_kinds, slot_kinds, chain_kinds, is_reference_kind}
+use Rattle.class_layout.specs.Kinds.{kind_of, instance_kind, own_kinds, slot_kinds, chain_kinds, holds_reference}
 use Rattle.resolved_code.specs.ById.{class_name}
 use Rattle.resolved_code.proofs.Numbers.Classes.{not_declared, among_numbers}
 use Rattle.class_layout.proofs.AncestorLaws.{answer_at, row_by_id}
@@ -45,18 +43,10 @@ filtered (f ∷ fs) = by_flag f.is_static (filtered fs)
     by_flag true e = e
     by_flag false e = ap (λ z. kind_of (Some f.field_type) ∷ z) e
 
-reference_kind : (e : Element) (n : ℕ) → is_reference_kind (kind_at e n) ≡ is_reference_element e n
-reference_kind e (suc n) = refl
-reference_kind Int32 zero = refl
-reference_kind Int64 zero = refl
-reference_kind Object zero = refl
-reference_kind String zero = refl
-reference_kind (Class c) zero = refl
-
 module _ (tree : Tree) where
   -- ---- the slots of a class's objects
 
-  hidden_alike : (b : Bool) → (if b then Kind.Hidden ∷ [] else []) ≡ map kind_of (if b then None ∷ [] else [])
+  hidden_alike : (b : Bool) → (if b then Hidden ∷ [] else []) ≡ map kind_of (if b then None ∷ [] else [])
   hidden_alike true = refl
   hidden_alike false = refl
 
@@ -95,7 +85,7 @@ module _ (tree : Tree) where
 
   pub kinds_along : (c : ClassName) → chain_kinds own_table (chain_numbers tree c) ≡ slot_kinds tree c
   kinds_along c =
-      ap (λ b. (if b then Kind.Hidden ∷ [] else []) ++ flat_map (λ n. unwrap_or (slice_get own_table n) []) (reverse (chain_numbers tree c))) (among_numbers tree thread_name 4 refl (chain_of tree c)) ∙
+      ap (λ b. (if b then Hidden ∷ [] else []) ++ flat_map (λ n. unwrap_or (slice_get own_table n) []) (reverse (chain_numbers tree c))) (among_numbers tree thread_name 4 refl (chain_of tree c)) ∙
       ap (λ z. z ++ flat_map (λ n. unwrap_or (slice_get own_table n) []) (reverse (chain_numbers tree c))) (hidden_alike (is_thread_class tree c)) ∙
       ap (λ z. map kind_of (hidden_slots tree c) ++ z) (along (chain_of tree c)) ∙
       sym (map-append kind_of (hidden_slots tree c) (map (λ (f : FieldKey × DeclaredType). Some f.1) (instance_fields tree c)))
@@ -108,21 +98,21 @@ module _ (tree : Tree) where
   pub kind_found : (c : ClassName) (slot : ℕ) → slice_get (slot_kinds tree c) slot ≡ option_map kind_of (slice_get (slot_types tree c) slot)
   kind_found c slot = slice_get-map kind_of (slot_types tree c) slot
 
-  pub reference_found : (c : ClassName) (slot : ℕ) → option_map_or is_reference_kind (slice_get (slot_kinds tree c) slot) false ≡ is_reference_slot tree c slot
-  reference_found c slot = ap (λ o. option_map_or is_reference_kind o false) (kind_found c slot) ∙ by_slot (slice_get (slot_types tree c) slot)
+  pub reference_found : (c : ClassName) (slot : ℕ) → option_map_or holds_reference (slice_get (slot_kinds tree c) slot) false ≡ is_reference_slot tree c slot
+  reference_found c slot = ap (λ o. option_map_or holds_reference o false) (kind_found c slot) ∙ by_slot (slice_get (slot_types tree c) slot)
     where
-      by_slot : (o : Option (Option DeclaredType)) → option_map_or is_reference_kind (option_map kind_of o) false ≡ option_map_or (λ s. option_map_or is_reference s false) o false
+      by_slot : (o : Option (Option DeclaredType)) → option_map_or holds_reference (option_map kind_of o) false ≡ option_map_or (λ s. option_map_or is_reference s false) o false
       by_slot None = refl
       by_slot (Some None) = refl
-      by_slot (Some (Some t)) = reference_kind t.element t.brackets
+      by_slot (Some (Some t)) = refl
 
   -- whether a row has the kind of references at a slot; an absent row has no slots
   abbrev is_reference_in : ℕ → Option (List SlotKind) → Bool
-  is_reference_in slot row = option_map_or is_reference_kind (slice_get (unwrap_or row []) slot) false
+  is_reference_in slot row = option_map_or holds_reference (slice_get (unwrap_or row []) slot) false
 
   -- by the number of the class; no slot holds a reference where no class has it
   pub reference_by_id : (rows : List (List SlotKind)) (n slot : ℕ) → rows ≡ by_class tree (slot_kinds tree)
-      → option_map_or is_reference_kind (slice_get (unwrap_or (slice_get rows n) []) slot) false ≡ option_map_or (λ c. is_reference_slot tree c slot) (class_name tree n) false
+      → option_map_or holds_reference (slice_get (unwrap_or (slice_get rows n) []) slot) false ≡ option_map_or (λ c. is_reference_slot tree c slot) (class_name tree n) false
   reference_by_id rows n slot is =
       ap (λ (xs : List (List SlotKind)). is_reference_in slot (slice_get xs n)) is ∙ ap (is_reference_in slot) (row_by_id tree (slot_kinds tree) n) ∙ by_name (class_name tree n)
     where

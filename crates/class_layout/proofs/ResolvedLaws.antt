@@ -6,9 +6,6 @@ use Rattle.std.specs.Option.{option_map_or}
 use Rattle.std.proofs.Math.Seq.{take-length}
 use Rattle.std.proofs.lemmas.Option.{none-some, slice_get-map, slice_get_cases}
 use Rattle.cil_model.specs.declared.types.ClassName.{ClassName}
-use Rattle.cil_model.specs.declared.types.Element.{Element}
-use Rattle.cil_model.specs.declared.types.Element.TheVariants.{Int32 as Int32Element, Int64 as Int64Element, Object as ObjectElement, String as StringElement, Class as ClassElement}
-use Rattle.cil_model.specs.declared.types.DeclaredType.{DeclaredType}
 use Rattle.cil_model.specs.declared.trees.Tree.{Tree}
 use Rattle.cil_model.specs.declared.trees.Field.{Field}
 use Rattle.cil_model.specs.Declarations.{Declaration, declaration_of}
@@ -16,21 +13,18 @@ use Rattle.cil_model.specs.Chains.{base_of, listed_by, is_interface}
 use Rattle.cil_model.specs.Legality.{IsLegal}
 use Rattle.name_tables.specs.Numbers.{class_number, declarations}
 use Rattle.name_tables.proofs.NumberLaws.{numbers_within, numbers_of_unknown}
-use Rattle.resolved_code.specs.ById.{class_name, element_at, type_at}
+use Rattle.resolved_code.specs.ById.{class_name, type_named}
 use Rattle.resolved_code.specs.Resolved.{AllAlike, AreResolved, IsResolvedField, IsResolvedClass}
 use Rattle.resolved_code.proofs.ListLaws.RelatedLists.{AlikeTo, alike_to}
-use Rattle.resolved_code.specs.declared.types.ResolvedElement.{ResolvedElement}
-use Rattle.resolved_code.specs.declared.types.ResolvedElement.TheVariants.{Int32, Int64, Object, String, Class}
-use Rattle.resolved_code.specs.declared.types.ResolvedType.{ResolvedType}
 use Rattle.resolved_code.specs.declared.classes.ResolvedClass.{ResolvedClass}
 use Rattle.resolved_code.specs.declared.classes.ResolvedField.{ResolvedField}
 use Rattle.class_layout.specs.ByClass.{by_class, base_number, interface_numbers, base_at, chain_by}
 use Rattle.class_layout.specs.FieldSlots.{number_after, fields_by_id, statics_after, static_by_id, statics_by_flag, following_slot, first_slot}
 use Rattle.class_layout.specs.declared.kinds.SlotKind.{SlotKind}
-use Rattle.class_layout.specs.Kinds.{kind_at, kind_of, instance_kind, own_kinds, slot_kinds}
-use Rattle.class_layout.specs.ResolvedKinds.{resolved_kind_at, kind_of_resolved, resolved_kind}
+use Rattle.class_layout.specs.Kinds.{kind_of, instance_kind, own_kinds, slot_kinds, resolved_kind}
 use Rattle.class_layout.proofs.AncestorLaws.{answer_at}
 use Rattle.resolved_code.proofs.Numbers.Classes.{FoundAt, found_at, number_of_index}
+use Rattle.resolved_code.proofs.Numbers.Types.{type_is_named}
 use Rattle.class_layout.proofs.Indices.{push_takes}
 
 -- ---- resolved fields, by whether each is static
@@ -105,45 +99,14 @@ module _ (tree : Tree) where
 
   -- ---- fields
 
-  element_kind : (e : ResolvedElement) (f : Element) (n : ℕ) → element_at tree e ≡ Some f → resolved_kind_at e n ≡ kind_at f n
-  element_kind e f (suc n) h = refl
-  element_kind Int32 f zero h =
-      let same : Int32Element ≡ f = cc in
-      ap (λ x. kind_at x 0) same
-  element_kind Int64 f zero h =
-      let same : Int64Element ≡ f = cc in
-      ap (λ x. kind_at x 0) same
-  element_kind Object f zero h =
-      let same : ObjectElement ≡ f = cc in
-      ap (λ x. kind_at x 0) same
-  element_kind String f zero h =
-      let same : StringElement ≡ f = cc in
-      ap (λ x. kind_at x 0) same
-  element_kind (Class n) f zero h = by_name (class_name tree n) h
-    where
-      by_name : (o : Option ClassName) → option_map ClassElement o ≡ Some f → resolved_kind_at (Class n) 0 ≡ kind_at f 0
-      by_name None k = absurd (none-some f k)
-      by_name (Some c) k =
-          let same : ClassElement c ≡ f = cc in
-          ap (λ x. kind_at x 0) same
-
-  type_kind : (n : ResolvedType) (t : DeclaredType) → type_at tree n ≡ Some t → kind_of_resolved n ≡ kind_of (Some t)
-  type_kind n t h = by_element (element_at tree n.element) refl h
-    where
-      by_element : (o : Option Element) → element_at tree n.element ≡ o → option_map {U = DeclaredType} (λ (e : Element). record { element = e; brackets = n.brackets }) o ≡ Some t → kind_of_resolved n ≡ kind_of (Some t)
-      by_element None e k = absurd (none-some t k)
-      by_element (Some f) e k =
-          let typed : DeclaredType = record { element = f; brackets = n.brackets } in
-          let same : typed ≡ t = cc in
-          element_kind n.element f n.brackets e ∙ ap (λ x. kind_of (Some x)) same
-
-  field_kind : (f : Field) (r : ResolvedField) → IsResolvedField tree f r → resolved_kind r ≡ instance_kind f
+  field_kind : (f : Field) (r : ResolvedField) → IsResolvedField tree f r → resolved_kind tree r ≡ instance_kind f
   field_kind f r h =
-      ap (λ b. if b then None else Some (kind_of_resolved r.field_type)) h.is_static ∙ ap (λ k. if f.is_static then None else Some k) (type_kind r.field_type f.field_type h.field_type)
+      ap (λ b. if b then None else Some (kind_of (Some (type_named tree r.field_type)))) h.is_static ∙
+      ap (λ t. if f.is_static then None else Some (kind_of (Some t))) (type_is_named tree r.field_type f.field_type h.field_type)
 
-  field_kinds : (fs : List Field) (rs : List ResolvedField) → AllAlike (IsResolvedField tree) fs rs → filter_map resolved_kind rs ≡ filter_map instance_kind fs
+  field_kinds : (fs : List Field) (rs : List ResolvedField) → AllAlike (IsResolvedField tree) fs rs → filter_map (resolved_kind tree) rs ≡ filter_map instance_kind fs
   field_kinds [] [] h = refl
-  field_kinds (f ∷ fs) (r ∷ rs) h = ap (λ k. cons_option k (filter_map resolved_kind rs)) (field_kind f r h.0) ∙ ap (cons_option (instance_kind f)) (field_kinds fs rs h.1)
+  field_kinds (f ∷ fs) (r ∷ rs) h = ap (λ k. cons_option k (filter_map (resolved_kind tree) rs)) (field_kind f r h.0) ∙ ap (cons_option (instance_kind f)) (field_kinds fs rs h.1)
   field_kinds [] (r ∷ rs) h = absurd h
   field_kinds (f ∷ fs) [] h = absurd h
 
@@ -220,8 +183,8 @@ module _ (tree : Tree) where
           each : (e : ClassName × Declaration) (r : ResolvedClass) → declaration_of tree e.0 ≡ Some e.1 → IsClass e r → r.interfaces ≡ interface_numbers tree e.0
           each e r known h = numbers_named r.interfaces e.1.interfaces h.interfaces ∙ ap (λ o. filter_map (class_number tree) (listed_by (λ (d : Declaration). d.interfaces) o)) (sym known)
 
-      pub own_alike : map (λ (r : ResolvedClass). filter_map resolved_kind r.fields) rs ≡ by_class tree (own_kinds tree)
-      own_alike = alike_by (own_kinds tree) (λ r. filter_map resolved_kind r.fields) each (declarations tree) rs declared_at are
+      pub own_alike : map (λ (r : ResolvedClass). filter_map (resolved_kind tree) r.fields) rs ≡ by_class tree (own_kinds tree)
+      own_alike = alike_by (own_kinds tree) (λ r. filter_map (resolved_kind tree) r.fields) each (declarations tree) rs declared_at are
         where
-          each : (e : ClassName × Declaration) (r : ResolvedClass) → declaration_of tree e.0 ≡ Some e.1 → IsClass e r → filter_map resolved_kind r.fields ≡ own_kinds tree e.0
+          each : (e : ClassName × Declaration) (r : ResolvedClass) → declaration_of tree e.0 ≡ Some e.1 → IsClass e r → filter_map (resolved_kind tree) r.fields ≡ own_kinds tree e.0
           each e r known h = field_kinds e.1.fields r.fields h.fields ∙ ap (λ o. filter_map instance_kind (listed_by (λ (d : Declaration). d.fields) o)) (sym known)

@@ -1,41 +1,35 @@
 -- What the slots of an object hold, by kinds.
-use Rattle.std.specs.Prelude.{ℕ, zero, suc, ◌==◌, Bool, true, false, if◌then◌else◌, List, [], ◌∷◌, ◌++◌, map, filter_map, flat_map, reverse, slice_get, unwrap_or, Option, Some, None}
+use Rattle.std.specs.Prelude.{ℕ, ◌==◌, Bool, false, if◌then◌else◌, List, [], ◌∷◌, ◌++◌, map, filter_map, flat_map, reverse, slice_get, unwrap_or, Option, Some, None}
 use Rattle.std.specs.List.{list_any}
 use Rattle.cil_model.specs.declared.types.ClassName.{ClassName}
-use Rattle.cil_model.specs.declared.types.Element.{Element}
-use Rattle.cil_model.specs.declared.types.Element.TheVariants.{Int32, Int64, Object, String, Class}
 use Rattle.cil_model.specs.declared.types.DeclaredType.{DeclaredType}
 use Rattle.cil_model.specs.declared.trees.Tree.{Tree}
 use Rattle.cil_model.specs.declared.trees.Field.{Field}
 use Rattle.cil_model.specs.Chains.{fields_declared}
 use Rattle.cil_model.specs.Fields.{slot_types}
+use Rattle.cil_model.specs.ValueKinds.{is_reference_kind, kind_of_type}
+use Rattle.resolved_code.specs.ById.{type_named}
+use Rattle.resolved_code.specs.declared.classes.ResolvedField.{ResolvedField}
 use Rattle.class_layout.specs.declared.kinds.SlotKind.{SlotKind}
-use Rattle.class_layout.specs.declared.kinds.SlotKind.TheVariants as Kind
+use Rattle.class_layout.specs.declared.kinds.SlotKind.TheVariants.{Hidden, Declared}
 
--- the kind of a type
-abbrev pub kind_at : Element → ℕ → SlotKind
-kind_at e (suc n) = Kind.Reference
-kind_at Int32 zero = Kind.Int32
-kind_at Int64 zero = Kind.Int64
-kind_at Object zero = Kind.Reference
-kind_at String zero = Kind.Reference
-kind_at (Class c) zero = Kind.Reference
-
--- the kind of what a slot holds; no declared type is the hidden field's (this profile)
+-- what a slot holds, by its declared type; the hidden field has none (this profile)
 abbrev pub kind_of : Option DeclaredType → SlotKind
-kind_of None = Kind.Hidden
-kind_of (Some t) = kind_at t.element t.brackets
+kind_of None = Hidden
+kind_of (Some t) = Declared (kind_of_type t)
 
--- whether a kind is of references
-abbrev pub is_reference_kind : SlotKind → Bool
-is_reference_kind Kind.Hidden = false
-is_reference_kind Kind.Int32 = false
-is_reference_kind Kind.Int64 = false
-is_reference_kind Kind.Reference = true
+-- whether a slot of a kind holds a reference
+abbrev pub holds_reference : SlotKind → Bool
+holds_reference Hidden = false
+holds_reference (Declared kind) = is_reference_kind kind
 
 -- the kind of a field of objects
 abbrev pub instance_kind : Field → Option SlotKind
 instance_kind f = if f.is_static then None else Some (kind_of (Some f.field_type))
+
+-- the same, of a field whose type is given by number
+abbrev pub resolved_kind : Tree → ResolvedField → Option SlotKind
+resolved_kind tree f = if f.is_static then None else Some (kind_of (Some (type_named tree f.field_type)))
 
 -- the kinds of the instance fields that a class itself declares
 abbrev pub own_kinds : Tree → ClassName → List SlotKind
@@ -47,7 +41,7 @@ slot_kinds tree c = map kind_of (slot_types tree c)
 
 -- the hidden field of a chain of threads' classes, by its numbers: Cilvm.Thread has number 4 (this profile)
 abbrev pub hidden_kinds : List ℕ → List SlotKind
-hidden_kinds chain = if list_any (λ n. n == 4) chain then Kind.Hidden ∷ [] else []
+hidden_kinds chain = if list_any (λ n. n == 4) chain then Hidden ∷ [] else []
 
 -- the kinds of an object's slots, by the numbers of its class's chain and a table of what each class declares itself
 abbrev pub chain_kinds : List (List SlotKind) → List ℕ → List SlotKind

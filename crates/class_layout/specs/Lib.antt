@@ -1,6 +1,5 @@
 pub mod ByClass
 pub mod Kinds
-pub mod ResolvedKinds
 pub mod FieldSlots
 pub mod Roles
 pub mod Targets

@@ -3,46 +3,31 @@
 ghost use Rattle.std.specs.Prelude.{◌≡◌, ◌==◌, IfOk, false, map, filter_map, reverse, slice_get};
 ghost use Rattle.std.specs.List.{list_any};
 ghost use Rattle.std.specs.Option.{option_map_or};
+ghost use Rattle.cil_model.specs.declared.trees.Tree.{Tree};
 ghost use Rattle.class_layout.specs.ByClass.{by_class};
-ghost use Rattle.class_layout.specs.Kinds.{own_kinds, hidden_kinds, chain_kinds, slot_kinds, is_reference_kind};
-ghost use Rattle.class_layout.specs.ResolvedKinds.{kind_of_resolved, resolved_kind};
+ghost use Rattle.class_layout.specs.Kinds.{own_kinds, hidden_kinds, chain_kinds, slot_kinds, holds_reference, resolved_kind};
 
 use crate::classes::Classes;
 use crate::kinds::SlotKind;
 use crate::rows::row_at;
 use cil_model::memory::NoMemory;
+use cil_model::values::ValueKind;
 use name_tables::numbers::THREAD;
 use resolved_code::classes::{ResolvedClass, ResolvedField};
-use resolved_code::types::{ResolvedElement, ResolvedType};
 use std::alloc::Global;
 
-fn kind_of(field_type: ResolvedType) -> SlotKind
-    ensures { result ≡ kind_of_resolved field_type }
-{
-    if field_type.brackets > 0 {
-        return SlotKind::Reference;
-    }
-    match field_type.element {
-        ResolvedElement::Int32 => SlotKind::Int32,
-        ResolvedElement::Int64 => SlotKind::Int64,
-        ResolvedElement::Object | ResolvedElement::String | ResolvedElement::Class(_) => {
-            SlotKind::Reference
-        }
-    }
-}
-
 fn instance_kind(field: ResolvedField) -> Option<SlotKind>
-    ensures { result ≡ resolved_kind field }
+    ensures { (tree : Tree) → result ≡ resolved_kind tree field }
 {
     if field.is_static {
         None
     } else {
-        Some(kind_of(field.field_type))
+        Some(SlotKind::Declared(field.field_type.kind()))
     }
 }
 
 fn instance_kinds(alloc: Global, fields: &[ResolvedField]) -> Result<Vec<SlotKind>, NoMemory>
-    ensures { IfOk result (λ v. v.items ≡ filter_map resolved_kind fields.now) }
+    ensures { IfOk result (λ v. (tree : Tree) → v.items ≡ filter_map (resolved_kind tree) fields.now) }
 {
     let mut kinds = Vec::new(alloc);
     for field in fields {
@@ -59,7 +44,7 @@ pub fn all_own_kinds(
     alloc: Global,
     classes: &[ResolvedClass],
 ) -> Result<Vec<Vec<SlotKind>>, NoMemory>
-    ensures { IfOk result (λ v. map (λ row. row.items) v.items ≡ map (λ r. filter_map resolved_kind r.fields) classes.now) }
+    ensures { IfOk result (λ v. (tree : Tree) → map (λ row. row.items) v.items ≡ map (λ r. filter_map (resolved_kind tree) r.fields) classes.now) }
 {
     let mut rows = Vec::new(alloc);
     for class in classes {
@@ -137,7 +122,10 @@ pub fn kind_at(kinds: &[SlotKind], slot: usize) -> Option<SlotKind>
 
 /// Whether a slot holds a reference.
 pub fn is_reference_at(kinds: &[SlotKind], slot: usize) -> bool
-    ensures { result ≡ option_map_or is_reference_kind (slice_get kinds.now slot) false }
+    ensures { result ≡ option_map_or holds_reference (slice_get kinds.now slot) false }
 {
-    matches!(kind_at(kinds, slot), Some(SlotKind::Reference))
+    matches!(
+        kind_at(kinds, slot),
+        Some(SlotKind::Declared(ValueKind::Ref))
+    )
 }

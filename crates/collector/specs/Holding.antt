@@ -3,6 +3,7 @@
 use Rattle.std.specs.Prelude.{◌≡◌, ◌≢◌, ℕ, nat_lt, not, ◌&&◌, if◌then◌else◌, Bool, true, false}
 use Rattle.cil_model.specs.declared.phases.Phase.{Phase}
 use Rattle.cil_model.specs.declared.phases.Phase.TheVariants.{Idle, Mark, Allocate, Copy, PreFlip, HeapFlip, ThreadFlip, Reclaim}
+use Rattle.cil_model.specs.PhaseOrder.{is_between, is_phase}
 use Rattle.object_memory.specs.declared.addresses.Addr.{Addr}
 use Rattle.object_memory.specs.Spaces.{Spaces}
 use Rattle.phase_handshake.specs.Handshakes.{Handshakes}
@@ -29,24 +30,11 @@ passes NewOnly posted_phase m a = is_new_address m a
 
 -- from ThreadFlip on, once its frames are flipped
 abbrev pub is_flipping : Phase → Bool
-is_flipping Idle = false
-is_flipping Mark = false
-is_flipping Allocate = false
-is_flipping Copy = false
-is_flipping PreFlip = false
-is_flipping HeapFlip = false
-is_flipping ThreadFlip = true
-is_flipping Reclaim = true
+is_flipping p = is_between ThreadFlip Reclaim p
 
+-- in Mark
 abbrev pub is_marking : Phase → Bool
-is_marking Idle = false
-is_marking Mark = true
-is_marking Allocate = false
-is_marking Copy = false
-is_marking PreFlip = false
-is_marking HeapFlip = false
-is_marking ThreadFlip = false
-is_marking Reclaim = false
+is_marking p = is_phase p Mark
 
 -- A thread holds nothing old after its own flip, and nothing unmarked where it answered a round since whose post nothing was marked.
 abbrev pub hold_of : Handshakes → Bool → Seat → Hold

@@ -3,6 +3,7 @@
 use Rattle.std.specs.Prelude.{◌≡◌, ◌<◌, ◌⊎◌, ◌+◌, ℕ, ◌||◌, Bool, true, false, is_some, Option, Some, None}
 use Rattle.cil_model.specs.declared.phases.Phase.{Phase}
 use Rattle.cil_model.specs.declared.phases.Phase.TheVariants.{Idle, Mark, Allocate, Copy, PreFlip, HeapFlip, ThreadFlip, Reclaim}
+use Rattle.cil_model.specs.PhaseOrder.{is_between}
 use Rattle.object_memory.specs.declared.addresses.Addr.{Addr}
 use Rattle.object_memory.specs.Cells.{Cell, cell_in}
 use Rattle.object_memory.specs.Spaces.{Spaces, is_old}
@@ -18,25 +19,11 @@ no_progress = record { scanned_statics = false; scanned_slots = 0; cursor = 0; c
 
 -- whether a cycle is open while a phase is posted
 abbrev pub is_of_cycle : Phase → Bool
-is_of_cycle Idle = false
-is_of_cycle Mark = true
-is_of_cycle Allocate = true
-is_of_cycle Copy = true
-is_of_cycle PreFlip = true
-is_of_cycle HeapFlip = true
-is_of_cycle ThreadFlip = true
-is_of_cycle Reclaim = true
+is_of_cycle p = is_between Mark Reclaim p
 
 -- until Allocate is posted no object has a copy
 abbrev pub is_before_copies : Phase → Bool
-is_before_copies Idle = true
-is_before_copies Mark = true
-is_before_copies Allocate = false
-is_before_copies Copy = false
-is_before_copies PreFlip = false
-is_before_copies HeapFlip = false
-is_before_copies ThreadFlip = false
-is_before_copies Reclaim = false
+is_before_copies p = is_between Idle Mark p
 
 -- ---- what is marked, and what is new
 

@@ -1,12 +1,10 @@
 -- What a reference finds, by its number.
-use Rattle.std.proofs.Common.{◌≡◌, ℕ, Bool, true, false, ◌&&◌, not, IsTrue, List, [], ◌∷◌, map, Option, Some, None, option_map, option_and_then, slice_get, refl, sym, ap, ◌∙◌}
+use Rattle.std.proofs.Common.{◌≡◌, ℕ, Bool, true, false, ◌&&◌, not, IsTrue, List, [], ◌∷◌, Option, Some, None, option_map, option_and_then, slice_get, refl, sym, ap, ◌∙◌}
 use Rattle.std.specs.Prelude.{find}
 use Rattle.std.specs.Option.{option_map_or}
 use Rattle.std.proofs.lemmas.Option.{same_Some}
 use Rattle.cil_model.specs.declared.types.ClassName.{ClassName}
 use Rattle.cil_model.specs.declared.types.DeclaredType.{DeclaredType}
-use Rattle.cil_model.specs.declared.types.Element.{Element}
-use Rattle.cil_model.specs.declared.types.Element.TheVariants.{Class as ClassElement}
 use Rattle.cil_model.specs.declared.trees.Tree.{Tree}
 use Rattle.cil_model.specs.declared.trees.Field.{Field}
 use Rattle.cil_model.specs.declared.trees.Method.{Method}
@@ -18,11 +16,9 @@ use Rattle.cil_model.specs.Declarations.{Declaration}
 use Rattle.cil_model.proofs.Lists.{none_is_some, find_passes}
 use Rattle.cil_model.proofs.SameLaws.{both_first, both_second, same_type_equal, same_signature_equal}
 use Rattle.name_tables.specs.Numbers.{declarations, member_at, method_at}
-use Rattle.resolved_code.specs.ById.{class_name, element_at, type_at, AreTypes}
-use Rattle.resolved_code.specs.declared.types.ResolvedElement.{ResolvedElement}
-use Rattle.resolved_code.specs.declared.types.ResolvedElement.TheVariants.{Int32, Int64, Object, String, Class}
+use Rattle.resolved_code.specs.ById.{class_name, type_at}
 use Rattle.resolved_code.specs.declared.types.ResolvedType.{ResolvedType}
-use Rattle.flow_rules.specs.Named.{element_named, type_named, types_named}
+use Rattle.flow_rules.specs.Named.{type_named}
 use Rattle.flow_rules.specs.Merging.{IsClassAt}
 use Rattle.cil_model.specs.declared.types.Signature.{Signature}
 use Rattle.cil_model.specs.declared.trees.MethodKind.{MethodKind}
@@ -42,7 +38,8 @@ use Rattle.resolved_code.specs.declared.classes.ResolvedMethod.{ResolvedMethod}
 use Rattle.resolved_code.specs.declared.classes.ResolvedClass.{ResolvedClass}
 use Rattle.flow_rules.specs.Members.{IsCallable, is_abstract_kind}
 use Rattle.resolved_code.proofs.ListLaws.RelatedLists.{AlikeTo, alike_to, alike_beyond}
-use Rattle.flow_rules.proofs.Classes.{element_at_number, own_declaration}
+pub use Rattle.resolved_code.proofs.Numbers.Types.{type_is_named, types_are_named}
+use Rattle.flow_rules.proofs.Classes.{own_declaration}
 
 nearest_passes : {X : Type 0} (test : X → Bool) (held : ClassName → List X) (cs : List ClassName) (c : ClassName) (x : X) → nearest (λ k. find test (held k)) cs ≡ Some (c, x) → IsTrue (test x)
 nearest_passes test held [] c x e = none_is_some (c, x) e
@@ -66,41 +63,9 @@ module _ (tree : Tree) where
 
   -- ---- types that numbers represent
 
-  pub element_is_named : (e : ResolvedElement) (d : Element) → element_at tree e ≡ Some d → element_named tree e ≡ d
-  element_is_named Int32 d h = same_Some _ d h
-  element_is_named Int64 d h = same_Some _ d h
-  element_is_named Object d h = same_Some _ d h
-  element_is_named String d h = same_Some _ d h
-  element_is_named (Class n) d h = by_name (class_name tree n) refl h
-    where
-      by_name : (o : Option ClassName) → class_name tree n ≡ o → option_map ClassElement o ≡ Some d → element_named tree (Class n) ≡ d
-      by_name None e f = none_is_some d f
-      by_name (Some c) e f = ap ClassElement (element_at_number tree n c e) ∙ same_Some (ClassElement c) d f
-
-  pub type_is_named : (t : ResolvedType) (d : DeclaredType) → type_at tree t ≡ Some d → type_named tree t ≡ d
-  type_is_named t d h = by_element (element_at tree t.element) refl h
-    where
-      with_brackets : Element → DeclaredType
-      with_brackets e = record { element = e; brackets = t.brackets }
-
-      by_element : (o : Option Element) → element_at tree t.element ≡ o → option_map (λ (e : Element). let s : DeclaredType = record { element = e; brackets = t.brackets } in s) o ≡ Some d → type_named tree t ≡ d
-      by_element None e f = none_is_some d f
-      by_element (Some x) e f =
-          let s : DeclaredType = record { element = x; brackets = t.brackets } in
-          ap (λ (y : Element). let s : DeclaredType = record { element = y; brackets = t.brackets } in s) (element_is_named t.element x e) ∙ same_Some s d f
-
-  pub types_are_named : (ts : List ResolvedType) (ds : List DeclaredType) → AreTypes tree ts ds → types_named tree ts ≡ ds
-  types_are_named [] [] h = refl
-  types_are_named (t ∷ ts) (d ∷ ds) h =
-      let first : type_at tree t ≡ Some d = cc in
-      let others : map (type_at tree) ts ≡ map Some ds = cc in
-      λ i. type_is_named t d first i ∷ types_are_named ts ds others i
-  types_are_named [] (d ∷ ds) h = absurd (cc h)
-  types_are_named (t ∷ ts) [] h = absurd (cc h)
-
   pub return_is_named : (o : Option ResolvedType) (d : Option DeclaredType) → option_map (type_at tree) o ≡ option_map Some d → option_map (type_named tree) o ≡ d
   return_is_named None None h = refl
-  return_is_named (Some t) (Some d) h = ap Some (type_is_named t d (same_Some (type_at tree t) (Some d) h))
+  return_is_named (Some t) (Some d) h = ap Some (type_is_named tree t d (same_Some (type_at tree t) (Some d) h))
   return_is_named None (Some d) h = none_is_some (Some d) h
   return_is_named (Some t) None h = none_is_some (type_at tree t) (sym h)
 
@@ -128,7 +93,7 @@ module _ (tree : Tree) where
       let member : (slice_get d.fields f.index ≡ Some is.found) × (name ≡ is.declared_in) = member_of_class (λ y. y.fields) f.class f.index is.declared_in name d is.found at is.has_id in
       let field : AlikeTo (IsResolvedField tree) d.fields f.index x = alike_to (IsResolvedField tree) d.fields k.fields f.index x alike.fields e in
       let same : field.item ≡ is.found = same_Some field.item is.found (sym field.there ∙ member.0) in
-      type_is_named x.field_type field.item.field_type field.alike.field_type ∙ ap (λ (y : Field). y.field_type) same ∙ field_has_type b r is.declared_in is.found is.finds
+      type_is_named tree x.field_type field.item.field_type field.alike.field_type ∙ ap (λ (y : Field). y.field_type) same ∙ field_has_type b r is.declared_in is.found is.finds
 
   pub field_lacks : (b : Bool) (r : FieldReference) (f : MemberNumber) (k : ResolvedClass) → IsField tree b r f → IsClassAt tree f.class k → slice_get k.fields f.index ≡ None → ⊥
   field_lacks b r f k is (name, d, at, alike) e =
@@ -163,7 +128,7 @@ module _ (tree : Tree) where
       let same : method.item ≡ is.found = same_Some method.item is.found (sym method.there ∙ member.0) in
       let signature : method.item.signature ≡ r.signature = ap (λ (y : Method). y.signature) same ∙ method_has_signature b r is.declared_in is.found is.finds in
       record {
-        parameters = types_are_named x.parameters method.item.signature.parameters method.alike.parameters ∙ ap (λ (y : Signature). y.parameters) signature;
+        parameters = types_are_named tree x.parameters method.item.signature.parameters method.alike.parameters ∙ ap (λ (y : Signature). y.parameters) signature;
         return_type = return_is_named x.return_type method.item.signature.return_type method.alike.return_type ∙ ap (λ (y : Signature). y.return_type) signature;
         is_abstract = is_abstract_too method.item.kind x.kind method.alike.kind ∙ ap (λ (y : Method). is_abstract_method y.kind) same;
       }

@@ -6,14 +6,15 @@ ghost use Rattle.cil_model.specs.declared.types.DeclaredType.{DeclaredType};
 ghost use Rattle.flow_rules.specs.Flow.{IsAfter, flow_of};
 ghost use Rattle.flow_rules.specs.Named.{stack_type, stack_types, type_named};
 ghost use Rattle.flow_rules.specs.declared.method_types.MethodTypes.{MethodTypes};
-ghost use Rattle.cil_model.specs.Assignable.{is_reference, element_of};
-ghost use Rattle.cil_model.specs.FlowRules.{is_array_of, any_type, is_int32_type, is_int64_type, element_on_stack};
+ghost use Rattle.cil_model.specs.Assignable.{element_of};
+ghost use Rattle.cil_model.specs.FlowRules.{is_array_of, any_type, element_on_stack, is_of_element_kind, loaded_type, may_store};
 ghost use Rattle.cil_model.specs.declared.instructions.Instruction.TheVariants as Named;
 
 use crate::entries::{StackEntry, is_int32_type, is_int64_type, is_reference};
 use crate::mismatches::{FlowError, Mismatch};
 use crate::operators::{INT32, INT64, keep_where, put_where};
 use crate::type_stack::TypeStack;
+use cil_model::instructions::ElementKind;
 use resolved_code::types::ResolvedType;
 
 /// What an array holds; none where the type is no array's.
@@ -43,44 +44,27 @@ fn is_array(entry: StackEntry) -> bool
     }
 }
 
-/// An array of `int32`, or null.
-fn is_array_of_int32(entry: StackEntry) -> bool
-    ensures { (tree : Tree) → result ≡ is_array_of is_int32_type (stack_type tree entry) }
+/// Whether `ldelem` and `stelem` of a kind take elements of this type (ECMA-335 III.4.8, III.4.27).
+fn is_of_element_kind(kind: ElementKind, t: ResolvedType) -> bool
+    ensures { (tree : Tree) → result ≡ is_of_element_kind kind (type_named tree t) }
 {
-    match entry {
-        StackEntry::Null => true,
-        StackEntry::NativeInt => false,
-        StackEntry::Declared(t) => match element_of(t) {
-            None => false,
-            Some(element) => is_int32_type(element),
-        },
+    match kind {
+        ElementKind::Int32 => is_int32_type(t),
+        ElementKind::Int64 => is_int64_type(t),
+        ElementKind::Reference => is_reference(t),
     }
 }
 
-/// An array of `int64`, or null.
-fn is_array_of_int64(entry: StackEntry) -> bool
-    ensures { (tree : Tree) → result ≡ is_array_of is_int64_type (stack_type tree entry) }
+/// An array of such elements, or null.
+fn is_array_of(kind: ElementKind, entry: StackEntry) -> bool
+    ensures { (tree : Tree) → result ≡ is_array_of (is_of_element_kind kind) (stack_type tree entry) }
 {
     match entry {
         StackEntry::Null => true,
         StackEntry::NativeInt => false,
         StackEntry::Declared(t) => match element_of(t) {
             None => false,
-            Some(element) => is_int64_type(element),
-        },
-    }
-}
-
-/// An array of references, or null.
-fn is_array_of_references(entry: StackEntry) -> bool
-    ensures { (tree : Tree) → result ≡ is_array_of is_reference (stack_type tree entry) }
-{
-    match entry {
-        StackEntry::Null => true,
-        StackEntry::NativeInt => false,
-        StackEntry::Declared(t) => match element_of(t) {
-            None => false,
-            Some(element) => is_reference(element),
+            Some(element) => is_of_element_kind(kind, element),
         },
     }
 }
@@ -107,60 +91,44 @@ pub fn load_length(stack: &mut TypeStack) -> Result<(), FlowError>
     put_where(is_array(array), reason, StackEntry::NativeInt, stack)
 }
 
-/// `ldelem.i4`: an array, and above it the index.
-pub fn load_element_int32(stack: &mut TypeStack) -> Result<(), FlowError>
-    ensures { (m : MethodTypes) → IsAfter m.types.now result stack.new (flow_of m Named.LoadElementInt32 stack.old) }
+/// What `ldelem` gives of an array.
+fn loaded_entry(kind: ElementKind, array: StackEntry) -> StackEntry
+    ensures { (tree : Tree) → stack_type tree result ≡ loaded_type kind (stack_type tree array) }
+{
+    match kind {
+        ElementKind::Int32 => INT32,
+        ElementKind::Int64 => INT64,
+        ElementKind::Reference => element_entry(array),
+    }
+}
+
+/// What `stelem` may store. Whether an array takes a reference is found out when it runs.
+fn may_store(kind: ElementKind, value: StackEntry) -> bool
+    ensures { (tree : Tree) → result ≡ may_store kind (stack_type tree value) }
+{
+    match kind {
+        ElementKind::Int32 => value.is_int32(),
+        ElementKind::Int64 => value.is_int64(),
+        ElementKind::Reference => value.is_reference(),
+    }
+}
+
+/// `ldelem.i4`, `ldelem.i8`, `ldelem.ref`: an array, and above it the index.
+pub fn load_element(kind: ElementKind, stack: &mut TypeStack) -> Result<(), FlowError>
+    ensures { (m : MethodTypes) → IsAfter m.types.now result stack.new (flow_of m (Named.LoadElement kind) stack.old) }
 {
     let (array, index) = stack.take_two()?;
-    let is_allowed = is_array_of_int32(array) && index.is_index();
+    let is_allowed = is_array_of(kind, array) && index.is_index();
     let reason = Mismatch::OperandTypes(array, index);
-    put_where(is_allowed, reason, INT32, stack)
+    put_where(is_allowed, reason, loaded_entry(kind, array), stack)
 }
 
-/// `ldelem.i8`: an array, and above it the index.
-pub fn load_element_int64(stack: &mut TypeStack) -> Result<(), FlowError>
-    ensures { (m : MethodTypes) → IsAfter m.types.now result stack.new (flow_of m Named.LoadElementInt64 stack.old) }
-{
-    let (array, index) = stack.take_two()?;
-    let is_allowed = is_array_of_int64(array) && index.is_index();
-    let reason = Mismatch::OperandTypes(array, index);
-    put_where(is_allowed, reason, INT64, stack)
-}
-
-/// `ldelem.ref`: an array, and above it the index.
-pub fn load_element_reference(stack: &mut TypeStack) -> Result<(), FlowError>
-    ensures { (m : MethodTypes) → IsAfter m.types.now result stack.new (flow_of m Named.LoadElementReference stack.old) }
-{
-    let (array, index) = stack.take_two()?;
-    let is_allowed = is_array_of_references(array) && index.is_index();
-    let reason = Mismatch::OperandTypes(array, index);
-    put_where(is_allowed, reason, element_entry(array), stack)
-}
-
-/// `stelem.i4`: an array, the index, and topmost the value.
-pub fn store_element_int32(stack: &mut TypeStack) -> Result<(), FlowError>
-    ensures { (m : MethodTypes) → IsAfter m.types.now result stack.new (flow_of m Named.StoreElementInt32 stack.old) }
+/// `stelem.i4`, `stelem.i8`, `stelem.ref`: an array, the index, and topmost the value.
+pub fn store_element(kind: ElementKind, stack: &mut TypeStack) -> Result<(), FlowError>
+    ensures { (m : MethodTypes) → IsAfter m.types.now result stack.new (flow_of m (Named.StoreElement kind) stack.old) }
 {
     let (array, index, value) = stack.take_three()?;
-    let is_allowed = is_array_of_int32(array) && index.is_index() && value.is_int32();
-    keep_where(is_allowed, Mismatch::OperandTypes(array, value), stack)
-}
-
-/// `stelem.i8`: an array, the index, and topmost the value.
-pub fn store_element_int64(stack: &mut TypeStack) -> Result<(), FlowError>
-    ensures { (m : MethodTypes) → IsAfter m.types.now result stack.new (flow_of m Named.StoreElementInt64 stack.old) }
-{
-    let (array, index, value) = stack.take_three()?;
-    let is_allowed = is_array_of_int64(array) && index.is_index() && value.is_int64();
-    keep_where(is_allowed, Mismatch::OperandTypes(array, value), stack)
-}
-
-/// `stelem.ref`: an array, the index, and topmost the value. Whether the array takes the value is found out when it runs.
-pub fn store_element_reference(stack: &mut TypeStack) -> Result<(), FlowError>
-    ensures { (m : MethodTypes) → IsAfter m.types.now result stack.new (flow_of m Named.StoreElementReference stack.old) }
-{
-    let (array, index, value) = stack.take_three()?;
-    let is_allowed = is_array_of_references(array) && index.is_index() && value.is_reference();
+    let is_allowed = is_array_of(kind, array) && index.is_index() && may_store(kind, value);
     keep_where(is_allowed, Mismatch::OperandTypes(array, value), stack)
 }
 

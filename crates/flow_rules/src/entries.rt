@@ -6,6 +6,7 @@ ghost use Rattle.cil_model.specs.Assignable.{is_reference};
 ghost use Rattle.cil_model.specs.FlowRules.{is_int32_type, is_int64_type, is_int32, is_int64, is_integer, is_any_reference, is_index, are_integers, are_comparable};
 ghost use Rattle.flow_rules.specs.Named.{type_named, stack_type};
 
+use cil_model::values::ValueKind;
 use resolved_code::types::{ResolvedElement, ResolvedType};
 
 /// What a verifier knows of a value on the stack (ECMA-335 III.1.8.1.2.1): the type that it was declared with, that it is a native
@@ -41,10 +42,7 @@ pub fn is_int64_type(t: ResolvedType) -> bool
 pub fn is_reference(t: ResolvedType) -> bool
     ensures { (tree : Tree) → result ≡ is_reference (type_named tree t) }
 {
-    match t.element {
-        ResolvedElement::Int32 | ResolvedElement::Int64 => t.brackets != 0,
-        _ => true,
-    }
+    matches!(t.kind(), ValueKind::Ref)
 }
 
 impl StackEntry {

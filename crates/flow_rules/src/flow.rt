@@ -7,10 +7,7 @@ ghost use Rattle.resolved_code.specs.Resolved.{IsOperation};
 ghost use Rattle.flow_rules.specs.Flow.{IsAfter, flow_of};
 ghost use Rattle.flow_rules.specs.Operations.{OfEach};
 
-use crate::arrays::{
-    cast, load_element_int32, load_element_int64, load_element_reference, load_length, new_array,
-    store_element_int32, store_element_int64, store_element_reference,
-};
+use crate::arrays::{cast, load_element, load_length, new_array, store_element};
 use crate::entries::StackEntry;
 use crate::members::{
     call, call_virtual, load_field, load_static_field, new_object, store_field, store_static_field,
@@ -18,8 +15,8 @@ use crate::members::{
 use crate::method_types::MethodTypes;
 use crate::mismatches::FlowError;
 use crate::operators::{
-    INT32, INT64, binary, branch_compare, branch_false, branch_true, compare, convert_to_int32,
-    convert_to_int64, duplicate, pop, put, shift, switch, unary,
+    INT32, INT64, binary, branch_on_condition, compare, convert_to_int32, convert_to_int64,
+    duplicate, pop, put, shift, switch, unary,
 };
 use crate::type_stack::TypeStack;
 use crate::variables::{load_argument, load_local, return_value, store_argument, store_local};
@@ -36,7 +33,7 @@ fn step(method: &MethodTypes, operation: &Operation, stack: &mut TypeStack) -> R
     ensures { OfEach method.now.types.now (λ i. IsAfter method.now.types.now result stack.new (flow_of method.now i stack.old)) operation.now }
 {
     match operation {
-        Operation::NoOperation | Operation::Branch(_) => Ok(()),
+        Operation::NoOperation => Ok(()),
         Operation::LoadInt32(_) => put(INT32, stack),
         Operation::LoadInt64(_) => put(INT64, stack),
         Operation::LoadNull => put(StackEntry::Null, stack),
@@ -53,9 +50,7 @@ fn step(method: &MethodTypes, operation: &Operation, stack: &mut TypeStack) -> R
         Operation::Compare(comparison) => compare(*comparison, stack),
         Operation::ConvertInt32 => convert_to_int32(stack),
         Operation::ConvertInt64 => convert_to_int64(stack),
-        Operation::BranchTrue(_) => branch_true(stack),
-        Operation::BranchFalse(_) => branch_false(stack),
-        Operation::BranchCompare(comparison, _) => branch_compare(*comparison, stack),
+        Operation::Branch(condition, _) => branch_on_condition(*condition, stack),
         Operation::Switch(_) => switch(stack),
         Operation::LoadField { owner, field } => load_field(method, *owner, *field, stack),
         Operation::StoreField { owner, field } => store_field(method, *owner, *field, stack),
@@ -63,12 +58,8 @@ fn step(method: &MethodTypes, operation: &Operation, stack: &mut TypeStack) -> R
         Operation::StoreStaticField(field) => store_static_field(method, *field, stack),
         Operation::NewArray(element) => new_array(*element, stack),
         Operation::LoadLength => load_length(stack),
-        Operation::LoadElementInt32 => load_element_int32(stack),
-        Operation::LoadElementInt64 => load_element_int64(stack),
-        Operation::LoadElementReference => load_element_reference(stack),
-        Operation::StoreElementInt32 => store_element_int32(stack),
-        Operation::StoreElementInt64 => store_element_int64(stack),
-        Operation::StoreElementReference => store_element_reference(stack),
+        Operation::LoadElement(kind) => load_element(*kind, stack),
+        Operation::StoreElement(kind) => store_element(*kind, stack),
         Operation::CastClass(t) | Operation::IsInstance(t) => cast(*t, stack),
         Operation::Call {
             is_instance,

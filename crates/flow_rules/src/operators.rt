@@ -7,6 +7,7 @@ ghost use Rattle.flow_rules.specs.Named.{stack_type, stack_types, type_named};
 ghost use Rattle.flow_rules.specs.declared.method_types.MethodTypes.{MethodTypes};
 ghost use Rattle.cil_model.specs.FlowRules.{if_allowed};
 ghost use Rattle.cil_model.specs.declared.instructions.BinaryOperation.{BinaryOperation};
+ghost use Rattle.cil_model.specs.declared.instructions.BranchCondition.TheVariants as conditions;
 ghost use Rattle.cil_model.specs.declared.instructions.UnaryOperation.{UnaryOperation};
 ghost use Rattle.cil_model.specs.declared.instructions.ShiftOperation.{ShiftOperation};
 ghost use Rattle.cil_model.specs.declared.instructions.Instruction.TheVariants as Named;
@@ -16,7 +17,7 @@ ghost use Rattle.std.specs.Prelude.{List, ℕ};
 use crate::entries::{StackEntry, are_comparable, are_integers};
 use crate::mismatches::{FlowError, Mismatch};
 use crate::type_stack::TypeStack;
-use cil_model::instructions::{BranchComparison, Comparison};
+use cil_model::instructions::{BranchComparison, BranchCondition, Comparison};
 use resolved_code::types::{ResolvedElement, ResolvedType};
 
 /// `int32` on the stack.
@@ -160,29 +161,40 @@ pub fn convert_to_int64(stack: &mut TypeStack) -> Result<(), FlowError>
     put_where(is_allowed, Mismatch::OperandType(operand), INT64, stack)
 }
 
-/// `brtrue`, of an integer or a reference.
-pub fn branch_true(stack: &mut TypeStack) -> Result<(), FlowError>
-    ensures { (m : MethodTypes) (label : List ℕ) → IsAfter m.types.now result stack.new (flow_of m (Named.BranchTrue label) stack.old) }
+/// `brtrue` and `brfalse`, of an integer or a reference.
+fn branch_on_value(stack: &mut TypeStack) -> Result<(), FlowError>
+    ensures { (m : MethodTypes) (label : List ℕ) → IsAfter m.types.now result stack.new (flow_of m (Named.Branch conditions.IfTrue label) stack.old) }
 {
     let operand = stack.take_one()?;
     let is_allowed = operand.is_integer() || operand.is_reference();
     keep_where(is_allowed, Mismatch::OperandType(operand), stack)
 }
 
-/// `brfalse`, of an integer or a reference.
-pub fn branch_false(stack: &mut TypeStack) -> Result<(), FlowError>
-    ensures { (m : MethodTypes) (label : List ℕ) → IsAfter m.types.now result stack.new (flow_of m (Named.BranchFalse label) stack.old) }
-{
-    branch_true(stack)
-}
-
 /// `beq`, `bne.un`, `bge`, `bgt`, `ble`, `blt`
-pub fn branch_compare(comparison: BranchComparison, stack: &mut TypeStack) -> Result<(), FlowError>
-    ensures { (m : MethodTypes) (label : List ℕ) → IsAfter m.types.now result stack.new (flow_of m (Named.BranchCompare comparison label) stack.old) }
+fn branch_on_comparison(
+    comparison: BranchComparison,
+    stack: &mut TypeStack,
+) -> Result<(), FlowError>
+    ensures { (m : MethodTypes) (label : List ℕ) → IsAfter m.types.now result stack.new (flow_of m (Named.Branch (conditions.Compare comparison) label) stack.old) }
 {
     let (first, second) = stack.take_two()?;
     let reason = Mismatch::OperandTypes(first, second);
     keep_where(may_branch(comparison, first, second), reason, stack)
+}
+
+/// A branch, whether it goes to its label or on to the next instruction.
+pub fn branch_on_condition(
+    condition: BranchCondition,
+    stack: &mut TypeStack,
+) -> Result<(), FlowError>
+    ensures { (m : MethodTypes) (label : List ℕ) → IsAfter m.types.now result stack.new (flow_of m (Named.Branch condition label) stack.old) }
+{
+    match condition {
+        BranchCondition::Always => Ok(()),
+        BranchCondition::IfTrue => branch_on_value(stack),
+        BranchCondition::IfFalse => branch_on_value(stack),
+        BranchCondition::Compare(comparison) => branch_on_comparison(comparison, stack),
+    }
 }
 
 /// `switch`

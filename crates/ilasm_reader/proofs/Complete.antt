@@ -20,8 +20,11 @@ use Rattle.cil_model.specs.declared.instructions.ShiftOperation.{ShiftOperation}
 use Rattle.cil_model.specs.declared.instructions.ShiftOperation.TheVariants as shift
 use Rattle.cil_model.specs.declared.instructions.Comparison.{Comparison}
 use Rattle.cil_model.specs.declared.instructions.Comparison.TheVariants as comparison
-use Rattle.cil_model.specs.declared.instructions.BranchComparison.{BranchComparison}
 use Rattle.cil_model.specs.declared.instructions.BranchComparison.TheVariants as branch
+use Rattle.cil_model.specs.declared.instructions.BranchCondition.{BranchCondition}
+use Rattle.cil_model.specs.declared.instructions.BranchCondition.TheVariants as conditions
+use Rattle.cil_model.specs.declared.instructions.ElementKind.{ElementKind}
+use Rattle.cil_model.specs.declared.instructions.ElementKind.TheVariants as kinds
 use Rattle.cil_model.specs.declared.instructions.MethodName.{MethodName}
 use Rattle.cil_model.specs.declared.instructions.MethodReference.{MethodReference}
 use Rattle.cil_model.specs.declared.instructions.MethodName.TheVariants.{Constructor as ConstructorName, Named}
@@ -30,13 +33,12 @@ use Rattle.cil_model.specs.declared.instructions.Instruction.TheVariants as inst
 use Rattle.cil_model.specs.Bodies.{constructor_reference, virtual_reference}
 use Rattle.cil_model.specs.Spans.{◌▸◌, item, maybe, present}
 use Rattle.cil_model.specs.Words.{short_constants, short_argument_loads, short_local_loads, short_local_stores}
-use Rattle.cil_model.specs.Grammar.{Span, word, sign, name, commas, parentheses, in_assembly, ref, elem, brackets, type_of, ret, parameter, method_name, field_reference, method_reference, binary_word, unary_word, shift_word, comparison_word, branch_word, instr}
+use Rattle.cil_model.specs.Grammar.{Span, word, sign, name, commas, parentheses, in_assembly, ref, elem, brackets, type_of, ret, parameter, method_name, field_reference, method_reference, binary_word, unary_word, shift_word, comparison_word, branch_word, load_element_word, store_element_word, instr}
 use Rattle.ilasm_tokens.specs.declared.words.Form.{Form}
 use Rattle.ilasm_tokens.specs.declared.words.Form.TheVariants as forms
 use Rattle.ilasm_tokens.specs.declared.words.Bare as bare_type
 use Rattle.ilasm_tokens.specs.declared.words.Bare.TheVariants as bares
 use Rattle.ilasm_tokens.specs.declared.words.WithInteger.TheVariants as integers
-use Rattle.ilasm_tokens.specs.declared.words.Jump.TheVariants as jumps
 use Rattle.ilasm_tokens.specs.declared.words.FieldAccess.TheVariants as accesses
 use Rattle.ilasm_tokens.specs.declared.words.WithType.TheVariants as with_types
 use Rattle.ilasm_tokens.specs.Steps.{bind, choice, with_front, bind_at, choice_at, choice_past, Sound}
@@ -360,7 +362,7 @@ operands_complete (forms.Bare which) x ts rest e (i, p) = rw (i, p) refl
 operands_complete forms.Int32 x ts rest e (z, i, f, p) = bind_at _ (integer_complete z p) (rw (fits_32 z f, i) refl)
 operands_complete (forms.Integer which) x ts rest e (z, i, p) = bind_at _ (integer_complete z p) (rw i refl)
 operands_complete forms.Quoted x ts rest e (t, i, p) = bind_at _ (quoted_complete t p) (rw i refl)
-operands_complete (forms.Jump which) x ts rest e (l, i, p) = bind_at _ (name_complete l p) (rw i refl)
+operands_complete (forms.Branch condition) x ts rest e (l, i, p) = bind_at _ (name_complete l p) (rw i refl)
 operands_complete forms.Switch x ts rest e (ls, i, p) =
     bind_at _ (parentheses_complete name_at name name_sound (λ n us vs _ q. name_complete n q) (λ n us vs q. name_no_sign CloseParenthesis n q) ls ts rest p) (rw i refl)
 operands_complete (forms.Field which) x ts rest e (r, i, p) = bind_at _ (field_reference_complete r ts rest p) (rw i refl)
@@ -440,14 +442,29 @@ comparison_form comparison.Equal = refl
 comparison_form comparison.Greater = refl
 comparison_form comparison.Less = refl
 
-branch_form : (op : BranchComparison) → form_of (use_of (branch_word op)) ≡ Some (forms.Jump (jumps.Compare op))
+branch_form : (condition : BranchCondition) → form_of (use_of (branch_word condition)) ≡ Some (forms.Branch condition)
 unfolding use_of form_of
-branch_form branch.Equal = refl
-branch_form branch.NotEqual = refl
-branch_form branch.GreaterOrEqual = refl
-branch_form branch.Greater = refl
-branch_form branch.LessOrEqual = refl
-branch_form branch.Less = refl
+branch_form conditions.Always = refl
+branch_form conditions.IfTrue = refl
+branch_form conditions.IfFalse = refl
+branch_form (conditions.Compare branch.Equal) = refl
+branch_form (conditions.Compare branch.NotEqual) = refl
+branch_form (conditions.Compare branch.GreaterOrEqual) = refl
+branch_form (conditions.Compare branch.Greater) = refl
+branch_form (conditions.Compare branch.LessOrEqual) = refl
+branch_form (conditions.Compare branch.Less) = refl
+
+load_element_form : (kind : ElementKind) → form_of (use_of (load_element_word kind)) ≡ Some (forms.Bare (bares.LoadElement kind))
+unfolding use_of form_of
+load_element_form kinds.Int32 = refl
+load_element_form kinds.Int64 = refl
+load_element_form kinds.Reference = refl
+
+store_element_form : (kind : ElementKind) → form_of (use_of (store_element_word kind)) ≡ Some (forms.Bare (bares.StoreElement kind))
+unfolding use_of form_of
+store_element_form kinds.Int32 = refl
+store_element_form kinds.Int64 = refl
+store_element_form kinds.Reference = refl
 
 spelled_bare : (i : Instruction) (w : List ℕ) (which : bare_type.Bare) (ts rest : List Token) → form_of (use_of w) ≡ Some (forms.Bare which) → i ≡ bare which → word w ts rest → Spelled i ts rest
 spelled_bare i w which ts rest h e p = record { word_is = w; form = forms.Bare which; has = h; mid = rest; first = p; following = (e, refl) }
@@ -461,12 +478,8 @@ spelled instructions.Pop ts rest p = spelled_bare instructions.Pop (codes "pop")
 spelled instructions.ConvertInt32 ts rest p = spelled_bare instructions.ConvertInt32 (codes "conv.i4") bares.ConvertInt32 ts rest refl refl p
 spelled instructions.ConvertInt64 ts rest p = spelled_bare instructions.ConvertInt64 (codes "conv.i8") bares.ConvertInt64 ts rest refl refl p
 spelled instructions.LoadLength ts rest p = spelled_bare instructions.LoadLength (codes "ldlen") bares.LoadLength ts rest refl refl p
-spelled instructions.LoadElementInt32 ts rest p = spelled_bare instructions.LoadElementInt32 (codes "ldelem.i4") bares.LoadElementInt32 ts rest refl refl p
-spelled instructions.LoadElementInt64 ts rest p = spelled_bare instructions.LoadElementInt64 (codes "ldelem.i8") bares.LoadElementInt64 ts rest refl refl p
-spelled instructions.LoadElementReference ts rest p = spelled_bare instructions.LoadElementReference (codes "ldelem.ref") bares.LoadElementReference ts rest refl refl p
-spelled instructions.StoreElementInt32 ts rest p = spelled_bare instructions.StoreElementInt32 (codes "stelem.i4") bares.StoreElementInt32 ts rest refl refl p
-spelled instructions.StoreElementInt64 ts rest p = spelled_bare instructions.StoreElementInt64 (codes "stelem.i8") bares.StoreElementInt64 ts rest refl refl p
-spelled instructions.StoreElementReference ts rest p = spelled_bare instructions.StoreElementReference (codes "stelem.ref") bares.StoreElementReference ts rest refl refl p
+spelled (instructions.LoadElement kind) ts rest p = spelled_bare (instructions.LoadElement kind) (load_element_word kind) (bares.LoadElement kind) ts rest (load_element_form kind) refl p
+spelled (instructions.StoreElement kind) ts rest p = spelled_bare (instructions.StoreElement kind) (store_element_word kind) (bares.StoreElement kind) ts rest (store_element_form kind) refl p
 spelled instructions.Return ts rest p = spelled_bare instructions.Return (codes "ret") bares.Return ts rest refl refl p
 spelled (instructions.Binary op) ts rest p = spelled_bare (instructions.Binary op) (binary_word op) (bares.Binary op) ts rest (binary_form op) refl p
 spelled (instructions.Unary op) ts rest p = spelled_bare (instructions.Unary op) (unary_word op) (bares.Unary op) ts rest (unary_form op) refl p
@@ -483,10 +496,7 @@ spelled (instructions.StoreLocal z) ts rest (inr (w, c, p)) = spelled_bare (inst
 spelled (instructions.LoadInt64 z) ts rest (a, p, q) = record { word_is = codes "ldc.i8"; form = forms.Integer integers.LoadInt64; has = refl; mid = a; first = p; following = (z, refl, q) }
 spelled (instructions.StoreArgument z) ts rest (a, p, q) = record { word_is = codes "starg"; form = forms.Integer integers.StoreArgument; has = refl; mid = a; first = p; following = (z, refl, q) }
 spelled (instructions.LoadString t) ts rest (a, p, q) = record { word_is = codes "ldstr"; form = forms.Quoted; has = refl; mid = a; first = p; following = (t, refl, q) }
-spelled (instructions.Branch l) ts rest (a, p, q) = record { word_is = codes "br"; form = forms.Jump jumps.Always; has = refl; mid = a; first = p; following = (l, refl, q) }
-spelled (instructions.BranchTrue l) ts rest (a, p, q) = record { word_is = codes "brtrue"; form = forms.Jump jumps.IfTrue; has = refl; mid = a; first = p; following = (l, refl, q) }
-spelled (instructions.BranchFalse l) ts rest (a, p, q) = record { word_is = codes "brfalse"; form = forms.Jump jumps.IfFalse; has = refl; mid = a; first = p; following = (l, refl, q) }
-spelled (instructions.BranchCompare op l) ts rest (a, p, q) = record { word_is = branch_word op; form = forms.Jump (jumps.Compare op); has = branch_form op; mid = a; first = p; following = (l, refl, q) }
+spelled (instructions.Branch condition l) ts rest (a, p, q) = record { word_is = branch_word condition; form = forms.Branch condition; has = branch_form condition; mid = a; first = p; following = (l, refl, q) }
 spelled (instructions.Switch ls) ts rest (a, p, q) = record { word_is = codes "switch"; form = forms.Switch; has = refl; mid = a; first = p; following = (ls, refl, q) }
 spelled (instructions.LoadField r) ts rest (a, p, q) = record { word_is = codes "ldfld"; form = forms.Field accesses.Load; has = refl; mid = a; first = p; following = (r, refl, q) }
 spelled (instructions.StoreField r) ts rest (a, p, q) = record { word_is = codes "stfld"; form = forms.Field accesses.Store; has = refl; mid = a; first = p; following = (r, refl, q) }

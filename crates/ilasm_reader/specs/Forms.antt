@@ -18,20 +18,19 @@ use Rattle.cil_model.specs.declared.instructions.Instruction.TheVariants as inst
 use Rattle.cil_model.specs.Bodies.{constructor_reference, virtual_reference}
 use Rattle.cil_model.specs.Spans.{◌▸◌, present}
 use Rattle.cil_model.specs.Words.{short_constants, short_argument_loads, short_local_loads, short_local_stores}
-use Rattle.cil_model.specs.Grammar.{Span, word, name, parentheses, type_of, field_reference, method_reference, binary_word, unary_word, shift_word, comparison_word, branch_word, instr}
+use Rattle.cil_model.specs.Grammar.{Span, word, name, parentheses, type_of, field_reference, method_reference, binary_word, unary_word, shift_word, comparison_word, branch_word, load_element_word, store_element_word, instr}
 use Rattle.ilasm_tokens.specs.declared.words.WordUse.{WordUse}
 use Rattle.ilasm_tokens.specs.declared.words.WordUse.TheVariants.{Grammar as OfGrammar, Instruction as OfInstruction}
 use Rattle.ilasm_tokens.specs.declared.words.Form.{Form}
-use Rattle.ilasm_tokens.specs.declared.words.Form.TheVariants.{Bare, Int32, Integer as WithInteger, Quoted, Jump, Switch, Field, «Type» as OfType, Call, CallVirtual, NewObject}
+use Rattle.ilasm_tokens.specs.declared.words.Form.TheVariants.{Bare, Int32, Integer as WithInteger, Quoted, Branch, Switch, Field, «Type» as OfType, Call, CallVirtual, NewObject}
 use Rattle.ilasm_tokens.specs.declared.words.Bare as bare_type
 use Rattle.ilasm_tokens.specs.declared.words.Bare.TheVariants as bares
 use Rattle.ilasm_tokens.specs.declared.words.WithInteger.TheVariants as integers
-use Rattle.ilasm_tokens.specs.declared.words.Jump.TheVariants as jumps
 use Rattle.ilasm_tokens.specs.declared.words.FieldAccess.TheVariants as accesses
 use Rattle.ilasm_tokens.specs.declared.words.WithType.TheVariants as with_types
 use Rattle.ilasm_tokens.specs.Vocabulary.{use_of}
 use Rattle.ilasm_tokens.proofs.Reserved.{both, of_entries}
-use Rattle.ilasm_reader.specs.Parsing.{bare, with_integer, jump, with_field, with_type, form_of}
+use Rattle.ilasm_reader.specs.Parsing.{bare, with_integer, with_field, with_type, form_of}
 
 -- what follows the name of an instruction
 abbrev pub operands : Form → Instruction → Span
@@ -39,7 +38,7 @@ operands (Bare which) i ts rest = (i ≡ bare which) × (ts ≡ rest)
 operands Int32 i ts rest = (z : ℤ) × (i ≡ instructions.LoadInt32 z) × FitsSigned w32 z × (ts ≡ Integer z ∷ rest)
 operands (WithInteger which) i ts rest = (z : ℤ) × (i ≡ with_integer which z) × (ts ≡ Integer z ∷ rest)
 operands Quoted i ts rest = (t : List ℕ) × (i ≡ instructions.LoadString t) × (ts ≡ QuotedToken t ∷ rest)
-operands (Jump which) i ts rest = (l : List ℕ) × (i ≡ jump which l) × name l ts rest
+operands (Branch condition) i ts rest = (l : List ℕ) × (i ≡ instructions.Branch condition l) × name l ts rest
 operands Switch i ts rest = (ls : List (List ℕ)) × (i ≡ instructions.Switch ls) × parentheses name ls ts rest
 operands (Field which) i ts rest = (r : FieldReference) × (i ≡ with_field which r) × field_reference r ts rest
 operands (OfType which) i ts rest = (t : DeclaredType) × (i ≡ with_type which t) × type_of t ts rest
@@ -58,12 +57,8 @@ long_name (Bare bares.Pop) = codes "pop"
 long_name (Bare bares.ConvertInt32) = codes "conv.i4"
 long_name (Bare bares.ConvertInt64) = codes "conv.i8"
 long_name (Bare bares.LoadLength) = codes "ldlen"
-long_name (Bare bares.LoadElementInt32) = codes "ldelem.i4"
-long_name (Bare bares.LoadElementInt64) = codes "ldelem.i8"
-long_name (Bare bares.LoadElementReference) = codes "ldelem.ref"
-long_name (Bare bares.StoreElementInt32) = codes "stelem.i4"
-long_name (Bare bares.StoreElementInt64) = codes "stelem.i8"
-long_name (Bare bares.StoreElementReference) = codes "stelem.ref"
+long_name (Bare (bares.LoadElement kind)) = load_element_word kind
+long_name (Bare (bares.StoreElement kind)) = store_element_word kind
 long_name (Bare bares.Return) = codes "ret"
 long_name (Bare (bares.Int32 z)) = codes "ldc.i4"
 long_name (Bare (bares.Argument n)) = codes "ldarg"
@@ -80,10 +75,7 @@ long_name (WithInteger integers.StoreArgument) = codes "starg"
 long_name (WithInteger integers.LoadLocal) = codes "ldloc"
 long_name (WithInteger integers.StoreLocal) = codes "stloc"
 long_name Quoted = codes "ldstr"
-long_name (Jump jumps.Always) = codes "br"
-long_name (Jump jumps.IfTrue) = codes "brtrue"
-long_name (Jump jumps.IfFalse) = codes "brfalse"
-long_name (Jump (jumps.Compare op)) = branch_word op
+long_name (Branch condition) = branch_word condition
 long_name Switch = codes "switch"
 long_name (Field accesses.Load) = codes "ldfld"
 long_name (Field accesses.Store) = codes "stfld"
@@ -147,12 +139,8 @@ bare_from bares.Pop w s ts rest p = same_word (codes "pop") s p
 bare_from bares.ConvertInt32 w s ts rest p = same_word (codes "conv.i4") s p
 bare_from bares.ConvertInt64 w s ts rest p = same_word (codes "conv.i8") s p
 bare_from bares.LoadLength w s ts rest p = same_word (codes "ldlen") s p
-bare_from bares.LoadElementInt32 w s ts rest p = same_word (codes "ldelem.i4") s p
-bare_from bares.LoadElementInt64 w s ts rest p = same_word (codes "ldelem.i8") s p
-bare_from bares.LoadElementReference w s ts rest p = same_word (codes "ldelem.ref") s p
-bare_from bares.StoreElementInt32 w s ts rest p = same_word (codes "stelem.i4") s p
-bare_from bares.StoreElementInt64 w s ts rest p = same_word (codes "stelem.i8") s p
-bare_from bares.StoreElementReference w s ts rest p = same_word (codes "stelem.ref") s p
+bare_from (bares.LoadElement kind) w s ts rest p = same_word (load_element_word kind) s p
+bare_from (bares.StoreElement kind) w s ts rest p = same_word (store_element_word kind) s p
 bare_from bares.Return w s ts rest p = same_word (codes "ret") s p
 bare_from (bares.Int32 z) w s ts rest p = inr (w, among short_constants w z s, p)
 bare_from (bares.Argument z) w s ts rest p = inr (w, among short_argument_loads w z s, p)
@@ -172,10 +160,7 @@ instr_from (WithInteger integers.StoreArgument) w s i ts mid rest p (z, e, q) = 
 instr_from (WithInteger integers.LoadLocal) w s i ts mid rest p (z, e, q) = rw e (inl (mid, same_word (codes "ldloc") s p, q))
 instr_from (WithInteger integers.StoreLocal) w s i ts mid rest p (z, e, q) = rw e (inl (mid, same_word (codes "stloc") s p, q))
 instr_from Quoted w s i ts mid rest p (t, e, q) = rw e (mid, same_word (codes "ldstr") s p, q)
-instr_from (Jump jumps.Always) w s i ts mid rest p (l, e, q) = rw e (mid, same_word (codes "br") s p, q)
-instr_from (Jump jumps.IfTrue) w s i ts mid rest p (l, e, q) = rw e (mid, same_word (codes "brtrue") s p, q)
-instr_from (Jump jumps.IfFalse) w s i ts mid rest p (l, e, q) = rw e (mid, same_word (codes "brfalse") s p, q)
-instr_from (Jump (jumps.Compare op)) w s i ts mid rest p (l, e, q) = rw e (mid, same_word (branch_word op) s p, q)
+instr_from (Branch condition) w s i ts mid rest p (l, e, q) = rw e (mid, same_word (branch_word condition) s p, q)
 instr_from Switch w s i ts mid rest p (ls, e, q) = rw e (mid, same_word (codes "switch") s p, q)
 instr_from (Field accesses.Load) w s i ts mid rest p (r, e, q) = rw e (mid, same_word (codes "ldfld") s p, q)
 instr_from (Field accesses.Store) w s i ts mid rest p (r, e, q) = rw e (mid, same_word (codes "stfld") s p, q)

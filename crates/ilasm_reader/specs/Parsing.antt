@@ -34,8 +34,6 @@ use Rattle.ilasm_tokens.specs.declared.words.Bare.{Bare}
 use Rattle.ilasm_tokens.specs.declared.words.Bare.TheVariants as bares
 use Rattle.ilasm_tokens.specs.declared.words.WithInteger.{WithInteger}
 use Rattle.ilasm_tokens.specs.declared.words.WithInteger.TheVariants as integers
-use Rattle.ilasm_tokens.specs.declared.words.Jump.{Jump}
-use Rattle.ilasm_tokens.specs.declared.words.Jump.TheVariants as jumps
 use Rattle.ilasm_tokens.specs.declared.words.FieldAccess.{FieldAccess}
 use Rattle.ilasm_tokens.specs.declared.words.FieldAccess.TheVariants as accesses
 use Rattle.ilasm_tokens.specs.declared.words.WithType.{WithType}
@@ -254,12 +252,8 @@ bare bares.Pop = instructions.Pop
 bare bares.ConvertInt32 = instructions.ConvertInt32
 bare bares.ConvertInt64 = instructions.ConvertInt64
 bare bares.LoadLength = instructions.LoadLength
-bare bares.LoadElementInt32 = instructions.LoadElementInt32
-bare bares.LoadElementInt64 = instructions.LoadElementInt64
-bare bares.LoadElementReference = instructions.LoadElementReference
-bare bares.StoreElementInt32 = instructions.StoreElementInt32
-bare bares.StoreElementInt64 = instructions.StoreElementInt64
-bare bares.StoreElementReference = instructions.StoreElementReference
+bare (bares.LoadElement kind) = instructions.LoadElement kind
+bare (bares.StoreElement kind) = instructions.StoreElement kind
 bare bares.Return = instructions.Return
 bare (bares.Int32 z) = instructions.LoadInt32 z
 bare (bares.Argument n) = instructions.LoadArgument n
@@ -276,12 +270,6 @@ with_integer integers.LoadArgument z = instructions.LoadArgument z
 with_integer integers.StoreArgument z = instructions.StoreArgument z
 with_integer integers.LoadLocal z = instructions.LoadLocal z
 with_integer integers.StoreLocal z = instructions.StoreLocal z
-
-abbrev pub jump : Jump → List ℕ → Instruction
-jump jumps.Always label = instructions.Branch label
-jump jumps.IfTrue label = instructions.BranchTrue label
-jump jumps.IfFalse label = instructions.BranchFalse label
-jump (jumps.Compare op) label = instructions.BranchCompare op label
 
 abbrev pub with_field : FieldAccess → FieldReference → Instruction
 with_field accesses.Load r = instructions.LoadField r
@@ -320,9 +308,9 @@ operands_at (forms.Integer which) ts = do
 operands_at forms.Quoted ts = do
   characters ← quoted_at ts
   Some (instructions.LoadString characters.0, characters.1)
-operands_at (forms.Jump which) ts = do
+operands_at (forms.Branch condition) ts = do
   label ← name_at ts
-  Some (jump which label.0, label.1)
+  Some (instructions.Branch condition label.0, label.1)
 operands_at forms.Switch ts = do
   labels ← parentheses_at name_at ts
   Some (instructions.Switch labels.0, labels.1)

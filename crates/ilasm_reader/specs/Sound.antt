@@ -273,7 +273,7 @@ operands_sound forms.Int32 ts =
     yields_bind (integer_sound ts) (λ a p. yields_if (has_32_bits a.0) (λ e. yields_some ((a.0, refl, fits a.0 e, p.0), omega (arith, p.1))))
 operands_sound (forms.Integer which) ts = yields_bind (integer_sound ts) (λ a p. yields_some ((a.0, refl, p.0), omega (arith, p.1)))
 operands_sound forms.Quoted ts = yields_bind (quoted_sound ts) (λ a p. yields_some ((a.0, refl, p.0), omega (arith, p.1)))
-operands_sound (forms.Jump which) ts = yields_bind (name_sound ts) (λ a p. yields_some ((a.0, refl, p.0), omega (arith, p.1)))
+operands_sound (forms.Branch condition) ts = yields_bind (name_sound ts) (λ a p. yields_some ((a.0, refl, p.0), omega (arith, p.1)))
 operands_sound forms.Switch ts = yields_bind (parentheses_sound name_at name name_sound ts) (λ a p. yields_some ((a.0, refl, p.0), omega (arith, p.1)))
 operands_sound (forms.Field which) ts = yields_bind (field_reference_sound ts) (λ a p. yields_some ((a.0, refl, p.0), omega (arith, p.1)))
 operands_sound (forms.Type which) ts = yields_bind (type_sound ts) (λ a p. yields_some ((a.0, refl, p.0), omega (arith, p.1)))

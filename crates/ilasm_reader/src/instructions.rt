@@ -3,19 +3,18 @@
 ghost use Rattle.std.specs.Prelude.{◌≡◌};
 ghost use Rattle.ilasm_tokens.specs.declared.words.Form.TheVariants.{Int32, Call, CallVirtual, NewObject};
 ghost use Rattle.ilasm_tokens.specs.Steps.{Gives};
-ghost use Rattle.ilasm_reader.specs.Parsing.{bare, creation, virtual_call, with_integer, jump, with_field, with_type, instruction_at, operands_at};
+ghost use Rattle.ilasm_reader.specs.Parsing.{bare, creation, virtual_call, with_integer, with_field, with_type, instruction_at, operands_at};
 
 use crate::lists::{Parse, parentheses};
 use crate::operands::{Target, field_reference, instance_method, method_reference};
 use crate::single::{any_word, integer, name, quoted_text, take_word};
 use crate::types::AnyType;
 use cil_model::instructions::{FieldReference, Instruction, MethodName, MethodReference};
-use cil_model::texts::Text;
 use cil_model::types::{DeclaredType, Signature};
 use ilasm_tokens::expected::Expected;
 use ilasm_tokens::failure::Failure;
 use ilasm_tokens::source_tokens::Tokens;
-use ilasm_tokens::words::{Bare, FieldAccess, Form, Jump, WithInteger, WithType, WordUse, use_of};
+use ilasm_tokens::words::{Bare, FieldAccess, Form, WithInteger, WithType, WordUse, use_of};
 use std::alloc::Global;
 
 fn bare(which: Bare) -> Instruction
@@ -29,12 +28,8 @@ fn bare(which: Bare) -> Instruction
         Bare::ConvertInt32 => Instruction::ConvertInt32,
         Bare::ConvertInt64 => Instruction::ConvertInt64,
         Bare::LoadLength => Instruction::LoadLength,
-        Bare::LoadElementInt32 => Instruction::LoadElementInt32,
-        Bare::LoadElementInt64 => Instruction::LoadElementInt64,
-        Bare::LoadElementReference => Instruction::LoadElementReference,
-        Bare::StoreElementInt32 => Instruction::StoreElementInt32,
-        Bare::StoreElementInt64 => Instruction::StoreElementInt64,
-        Bare::StoreElementReference => Instruction::StoreElementReference,
+        Bare::LoadElement(kind) => Instruction::LoadElement(kind),
+        Bare::StoreElement(kind) => Instruction::StoreElement(kind),
         Bare::Return => Instruction::Return,
         Bare::Int32(value) => Instruction::LoadInt32(value),
         Bare::Argument(number) => Instruction::LoadArgument(number),
@@ -56,17 +51,6 @@ fn with_integer(which: WithInteger, value: i64) -> Instruction
         WithInteger::StoreArgument => Instruction::StoreArgument(value),
         WithInteger::LoadLocal => Instruction::LoadLocal(value),
         WithInteger::StoreLocal => Instruction::StoreLocal(value),
-    }
-}
-
-fn jump(which: Jump, label: Text) -> Instruction
-    ensures { result ≡ jump which label }
-{
-    match which {
-        Jump::Always => Instruction::Branch(label),
-        Jump::IfTrue => Instruction::BranchTrue(label),
-        Jump::IfFalse => Instruction::BranchFalse(label),
-        Jump::Compare(comparison) => Instruction::BranchCompare(comparison, label),
     }
 }
 
@@ -221,9 +205,9 @@ fn instruction_of(
             let characters = quoted_text(alloc, tokens)?;
             Ok(Instruction::LoadString(characters))
         }
-        Form::Jump(which) => {
+        Form::Branch(condition) => {
             let label = name(alloc, tokens, Expected::LabelName)?;
-            Ok(jump(which, label))
+            Ok(Instruction::Branch(condition, label))
         }
         Form::Switch => {
             let labels = parentheses::<Target>(alloc, tokens)?;

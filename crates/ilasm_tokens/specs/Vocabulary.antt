@@ -5,12 +5,13 @@ use Rattle.cil_model.specs.declared.instructions.UnaryOperation.TheVariants as u
 use Rattle.cil_model.specs.declared.instructions.ShiftOperation.TheVariants as shift
 use Rattle.cil_model.specs.declared.instructions.Comparison.TheVariants as comparison
 use Rattle.cil_model.specs.declared.instructions.BranchComparison.TheVariants as branch
+use Rattle.cil_model.specs.declared.instructions.BranchCondition.TheVariants as conditions
+use Rattle.cil_model.specs.declared.instructions.ElementKind.TheVariants as kinds
 use Rattle.ilasm_tokens.specs.declared.words.WordUse.{WordUse}
 use Rattle.ilasm_tokens.specs.declared.words.WordUse.TheVariants.{Grammar as OfGrammar, Instruction as OfInstruction}
 use Rattle.ilasm_tokens.specs.declared.words.Form.TheVariants as forms
 use Rattle.ilasm_tokens.specs.declared.words.Bare.TheVariants as bares
 use Rattle.ilasm_tokens.specs.declared.words.WithInteger.TheVariants as with_integers
-use Rattle.ilasm_tokens.specs.declared.words.Jump.TheVariants as jumps
 use Rattle.ilasm_tokens.specs.declared.words.FieldAccess.TheVariants as accesses
 use Rattle.ilasm_tokens.specs.declared.words.WithType.TheVariants as with_types
 
@@ -27,11 +28,11 @@ abbrev pub groups : List (List (List Entry))
 groups =
     (([]) ∷
     ((codes "conv.i4", OfInstruction (forms.Bare bares.ConvertInt32)) ∷ (codes "castclass", OfInstruction (forms.Type with_types.Cast)) ∷ []) ∷
-    ((codes "specialname", OfGrammar) ∷ (codes "ldc.i8", OfInstruction (forms.Integer with_integers.LoadInt64)) ∷ (codes "blt", OfInstruction (forms.Jump (jumps.Compare branch.Less))) ∷ (codes "ldelem.i8", OfInstruction (forms.Bare bares.LoadElementInt64)) ∷ []) ∷
+    ((codes "specialname", OfGrammar) ∷ (codes "ldc.i8", OfInstruction (forms.Integer with_integers.LoadInt64)) ∷ (codes "blt", OfInstruction (forms.Branch (conditions.Compare branch.Less))) ∷ (codes "ldelem.i8", OfInstruction (forms.Bare (bares.LoadElement kinds.Int64))) ∷ []) ∷
     ((codes "sub.ovf", OfInstruction (forms.Bare (bares.Binary binary.SubtractOverflow))) ∷ (codes "div", OfInstruction (forms.Bare (bares.Binary binary.Divide))) ∷ (codes "clt", OfInstruction (forms.Bare (bares.Compare comparison.Less))) ∷ (codes "stloc.0", OfInstruction (forms.Bare (bares.SetLocal (pos 0)))) ∷ []) ∷
     ((codes ".class", OfGrammar) ∷ (codes "rem", OfInstruction (forms.Bare (bares.Binary binary.Remainder))) ∷ (codes "stloc.1", OfInstruction (forms.Bare (bares.SetLocal (pos 1)))) ∷ []) ∷
     ((codes "conv.i8", OfInstruction (forms.Bare bares.ConvertInt64)) ∷ (codes "newobj", OfInstruction forms.NewObject) ∷ (codes "stloc.2", OfInstruction (forms.Bare (bares.SetLocal (pos 2)))) ∷ []) ∷
-    ((codes "bne.un", OfInstruction (forms.Jump (jumps.Compare branch.NotEqual))) ∷ (codes "ldfld", OfInstruction (forms.Field accesses.Load)) ∷ (codes "stloc.3", OfInstruction (forms.Bare (bares.SetLocal (pos 3)))) ∷ []) ∷
+    ((codes "bne.un", OfInstruction (forms.Branch (conditions.Compare branch.NotEqual))) ∷ (codes "ldfld", OfInstruction (forms.Field accesses.Load)) ∷ (codes "stloc.3", OfInstruction (forms.Bare (bares.SetLocal (pos 3)))) ∷ []) ∷
     ((codes "virtual", OfGrammar) ∷ (codes "mul.ovf", OfInstruction (forms.Bare (bares.Binary binary.MultiplyOverflow))) ∷ (codes "shl", OfInstruction (forms.Bare (bares.Shift shift.Left))) ∷ []) ∷ []) ∷
     (((codes "static", OfGrammar) ∷ []) ∷
     ((codes "dup", OfInstruction (forms.Bare bares.Duplicate)) ∷ []) ∷
@@ -45,18 +46,18 @@ groups =
     ((codes "not", OfInstruction (forms.Bare (bares.Unary unary.Complement))) ∷ []) ∷
     ((codes "switch", OfInstruction forms.Switch) ∷ []) ∷
     ([]) ∷
-    ((codes "abstract", OfGrammar) ∷ (codes "br", OfInstruction (forms.Jump jumps.Always)) ∷ (codes "brtrue", OfInstruction (forms.Jump jumps.IfTrue)) ∷ []) ∷
-    ((codes "instance", OfGrammar) ∷ (codes "stelem.i4", OfInstruction (forms.Bare bares.StoreElementInt32)) ∷ []) ∷
+    ((codes "abstract", OfGrammar) ∷ (codes "br", OfInstruction (forms.Branch conditions.Always)) ∷ (codes "brtrue", OfInstruction (forms.Branch conditions.IfTrue)) ∷ []) ∷
+    ((codes "instance", OfGrammar) ∷ (codes "stelem.i4", OfInstruction (forms.Bare (bares.StoreElement kinds.Int32))) ∷ []) ∷
     ((codes "extern", OfGrammar) ∷ (codes "class", OfGrammar) ∷ []) ∷
     ((codes "string", OfGrammar) ∷ []) ∷ []) ∷
     (([]) ∷
-    ((codes "xor", OfInstruction (forms.Bare (bares.Binary binary.ExclusiveOr))) ∷ (codes "stelem.i8", OfInstruction (forms.Bare bares.StoreElementInt64)) ∷ []) ∷
+    ((codes "xor", OfInstruction (forms.Bare (bares.Binary binary.ExclusiveOr))) ∷ (codes "stelem.i8", OfInstruction (forms.Bare (bares.StoreElement kinds.Int64))) ∷ []) ∷
     ((codes "isinst", OfInstruction (forms.Type with_types.IsInstance)) ∷ []) ∷
     ([]) ∷
     ((codes "call", OfInstruction forms.Call) ∷ (codes "ldc.i4.0", OfInstruction (forms.Bare (bares.Int32 (pos 0)))) ∷ []) ∷
     ((codes "stfld", OfInstruction (forms.Field accesses.Store)) ∷ (codes "ldc.i4.1", OfInstruction (forms.Bare (bares.Int32 (pos 1)))) ∷ []) ∷
-    ((codes "shr.un", OfInstruction (forms.Bare (bares.Shift shift.RightUnsigned))) ∷ (codes "ldelem.ref", OfInstruction (forms.Bare bares.LoadElementReference)) ∷ (codes "ldc.i4.2", OfInstruction (forms.Bare (bares.Int32 (pos 2)))) ∷ []) ∷
-    ((codes "brfalse", OfInstruction (forms.Jump jumps.IfFalse)) ∷ (codes "ldc.i4.3", OfInstruction (forms.Bare (bares.Int32 (pos 3)))) ∷ []) ∷ []) ∷
+    ((codes "shr.un", OfInstruction (forms.Bare (bares.Shift shift.RightUnsigned))) ∷ (codes "ldelem.ref", OfInstruction (forms.Bare (bares.LoadElement kinds.Reference))) ∷ (codes "ldc.i4.2", OfInstruction (forms.Bare (bares.Int32 (pos 2)))) ∷ []) ∷
+    ((codes "brfalse", OfInstruction (forms.Branch conditions.IfFalse)) ∷ (codes "ldc.i4.3", OfInstruction (forms.Bare (bares.Int32 (pos 3)))) ∷ []) ∷ []) ∷
     (((codes "ldc.i4.4", OfInstruction (forms.Bare (bares.Int32 (pos 4)))) ∷ []) ∷
     ((codes "starg", OfInstruction (forms.Integer with_integers.StoreArgument)) ∷ (codes "or", OfInstruction (forms.Bare (bares.Binary binary.Or))) ∷ (codes "callvirt", OfInstruction forms.CallVirtual) ∷ (codes "ldc.i4.5", OfInstruction (forms.Bare (bares.Int32 (pos 5)))) ∷ []) ∷
     ((codes "add.ovf", OfInstruction (forms.Bare (bares.Binary binary.AddOverflow))) ∷ (codes "ldc.i4.6", OfInstruction (forms.Bare (bares.Int32 (pos 6)))) ∷ []) ∷
@@ -71,23 +72,23 @@ groups =
     ((codes "ansi", OfGrammar) ∷ (codes "ldarg.3", OfInstruction (forms.Bare (bares.Argument (pos 3)))) ∷ []) ∷
     ((codes ".locals", OfGrammar) ∷ (codes "ldloc.0", OfInstruction (forms.Bare (bares.Local (pos 0)))) ∷ []) ∷
     ((codes "ldloc.1", OfInstruction (forms.Bare (bares.Local (pos 1)))) ∷ []) ∷
-    ((codes "bge", OfInstruction (forms.Jump (jumps.Compare branch.GreaterOrEqual))) ∷ (codes "ldloc.2", OfInstruction (forms.Bare (bares.Local (pos 2)))) ∷ []) ∷
+    ((codes "bge", OfInstruction (forms.Branch (conditions.Compare branch.GreaterOrEqual))) ∷ (codes "ldloc.2", OfInstruction (forms.Bare (bares.Local (pos 2)))) ∷ []) ∷
     ((codes ".method", OfGrammar) ∷ (codes "ldloc.3", OfInstruction (forms.Bare (bares.Local (pos 3)))) ∷ []) ∷ []) ∷
     (((codes "int32", OfGrammar) ∷ []) ∷
     ((codes "interface", OfGrammar) ∷ []) ∷
     ((codes "void", OfGrammar) ∷ (codes ".field", OfGrammar) ∷ []) ∷
-    ((codes "and", OfInstruction (forms.Bare (bares.Binary binary.And))) ∷ (codes "ble", OfInstruction (forms.Jump (jumps.Compare branch.LessOrEqual))) ∷ []) ∷
+    ((codes "and", OfInstruction (forms.Bare (bares.Binary binary.And))) ∷ (codes "ble", OfInstruction (forms.Branch (conditions.Compare branch.LessOrEqual))) ∷ []) ∷
     ((codes "init", OfGrammar) ∷ []) ∷
-    ((codes "int64", OfGrammar) ∷ (codes "stelem.ref", OfInstruction (forms.Bare bares.StoreElementReference)) ∷ []) ∷
+    ((codes "int64", OfGrammar) ∷ (codes "stelem.ref", OfInstruction (forms.Bare (bares.StoreElement kinds.Reference))) ∷ []) ∷
     ([]) ∷
     ((codes "object", OfGrammar) ∷ []) ∷ []) ∷
-    (((codes "hidebysig", OfGrammar) ∷ (codes "cil", OfGrammar) ∷ (codes "beq", OfInstruction (forms.Jump (jumps.Compare branch.Equal))) ∷ []) ∷
+    (((codes "hidebysig", OfGrammar) ∷ (codes "cil", OfGrammar) ∷ (codes "beq", OfInstruction (forms.Branch (conditions.Compare branch.Equal))) ∷ []) ∷
     ((codes "auto", OfGrammar) ∷ (codes "ceq", OfInstruction (forms.Bare (bares.Compare comparison.Equal))) ∷ (codes "ldsfld", OfInstruction (forms.Field accesses.LoadStatic)) ∷ []) ∷
     ((codes "neg", OfInstruction (forms.Bare (bares.Unary unary.Negate))) ∷ []) ∷
     ((codes "extends", OfGrammar) ∷ []) ∷
     ([]) ∷
-    ((codes "bgt", OfInstruction (forms.Jump (jumps.Compare branch.Greater))) ∷ []) ∷
-    ((codes "implements", OfGrammar) ∷ (codes "ldc.i4", OfInstruction forms.Int32) ∷ (codes "cgt", OfInstruction (forms.Bare (bares.Compare comparison.Greater))) ∷ (codes "ldelem.i4", OfInstruction (forms.Bare bares.LoadElementInt32)) ∷ []) ∷
+    ((codes "bgt", OfInstruction (forms.Branch (conditions.Compare branch.Greater))) ∷ []) ∷
+    ((codes "implements", OfGrammar) ∷ (codes "ldc.i4", OfInstruction forms.Int32) ∷ (codes "cgt", OfInstruction (forms.Bare (bares.Compare comparison.Greater))) ∷ (codes "ldelem.i4", OfInstruction (forms.Bare (bares.LoadElement kinds.Int32))) ∷ []) ∷
     ((codes "public", OfGrammar) ∷ []) ∷ []) ∷ []
 
 abbrev pub look_up : List Entry → List ℕ → Option WordUse

@@ -4,7 +4,8 @@ ghost use Rattle.std.specs.Prelude.{◌≡◌, ◌<◌, [], length, get_or, map}
 ghost use Rattle.ilasm_tokens.specs.Vocabulary.{Entry, bucket_from, groups, look_up, use_of};
 
 use cil_model::instructions::{
-    BinaryOperation, BranchComparison, Comparison, ShiftOperation, UnaryOperation,
+    BinaryOperation, BranchComparison, BranchCondition, Comparison, ElementKind, ShiftOperation,
+    UnaryOperation,
 };
 
 /// What a reserved word is for.
@@ -28,7 +29,7 @@ pub enum Form {
     /// A string literal, of `ldstr`.
     Quoted,
     /// A label.
-    Jump(Jump),
+    Branch(BranchCondition),
     /// Labels, of `switch`.
     Switch,
     /// A field.
@@ -53,12 +54,8 @@ pub enum Bare {
     ConvertInt32,
     ConvertInt64,
     LoadLength,
-    LoadElementInt32,
-    LoadElementInt64,
-    LoadElementReference,
-    StoreElementInt32,
-    StoreElementInt64,
-    StoreElementReference,
+    LoadElement(ElementKind),
+    StoreElement(ElementKind),
     Return,
     /// `ldc.i4.3` and its like
     Int32(i32),
@@ -82,15 +79,6 @@ pub enum WithInteger {
     StoreArgument,
     LoadLocal,
     StoreLocal,
-}
-
-/// Instructions with one label.
-#[derive(Clone, Copy)]
-pub enum Jump {
-    Always,
-    IfTrue,
-    IfFalse,
-    Compare(BranchComparison),
 }
 
 /// Instructions with a field.
@@ -140,11 +128,11 @@ static BUCKETS_0_TO_7: Group = [
         ),
         (
             b"blt",
-            WordUse::Instruction(Form::Jump(Jump::Compare(BranchComparison::Less))),
+            WordUse::Instruction(Form::Branch(BranchCondition::Compare(BranchComparison::Less))),
         ),
         (
             b"ldelem.i8",
-            WordUse::Instruction(Form::Bare(Bare::LoadElementInt64)),
+            WordUse::Instruction(Form::Bare(Bare::LoadElement(ElementKind::Int64))),
         ),
     ],
     &[
@@ -190,7 +178,9 @@ static BUCKETS_0_TO_7: Group = [
     &[
         (
             b"bne.un",
-            WordUse::Instruction(Form::Jump(Jump::Compare(BranchComparison::NotEqual))),
+            WordUse::Instruction(Form::Branch(BranchCondition::Compare(
+                BranchComparison::NotEqual,
+            ))),
         ),
         (
             b"ldfld",
@@ -282,14 +272,20 @@ static BUCKETS_16_TO_23: Group = [
     &[],
     &[
         (b"abstract", WordUse::Grammar),
-        (b"br", WordUse::Instruction(Form::Jump(Jump::Always))),
-        (b"brtrue", WordUse::Instruction(Form::Jump(Jump::IfTrue))),
+        (
+            b"br",
+            WordUse::Instruction(Form::Branch(BranchCondition::Always)),
+        ),
+        (
+            b"brtrue",
+            WordUse::Instruction(Form::Branch(BranchCondition::IfTrue)),
+        ),
     ],
     &[
         (b"instance", WordUse::Grammar),
         (
             b"stelem.i4",
-            WordUse::Instruction(Form::Bare(Bare::StoreElementInt32)),
+            WordUse::Instruction(Form::Bare(Bare::StoreElement(ElementKind::Int32))),
         ),
     ],
     &[(b"extern", WordUse::Grammar), (b"class", WordUse::Grammar)],
@@ -306,7 +302,7 @@ static BUCKETS_24_TO_31: Group = [
         ),
         (
             b"stelem.i8",
-            WordUse::Instruction(Form::Bare(Bare::StoreElementInt64)),
+            WordUse::Instruction(Form::Bare(Bare::StoreElement(ElementKind::Int64))),
         ),
     ],
     &[(
@@ -338,7 +334,7 @@ static BUCKETS_24_TO_31: Group = [
         ),
         (
             b"ldelem.ref",
-            WordUse::Instruction(Form::Bare(Bare::LoadElementReference)),
+            WordUse::Instruction(Form::Bare(Bare::LoadElement(ElementKind::Reference))),
         ),
         (
             b"ldc.i4.2",
@@ -346,7 +342,10 @@ static BUCKETS_24_TO_31: Group = [
         ),
     ],
     &[
-        (b"brfalse", WordUse::Instruction(Form::Jump(Jump::IfFalse))),
+        (
+            b"brfalse",
+            WordUse::Instruction(Form::Branch(BranchCondition::IfFalse)),
+        ),
         (
             b"ldc.i4.3",
             WordUse::Instruction(Form::Bare(Bare::Int32(3))),
@@ -440,7 +439,9 @@ static BUCKETS_40_TO_47: Group = [
     &[
         (
             b"bge",
-            WordUse::Instruction(Form::Jump(Jump::Compare(BranchComparison::GreaterOrEqual))),
+            WordUse::Instruction(Form::Branch(BranchCondition::Compare(
+                BranchComparison::GreaterOrEqual,
+            ))),
         ),
         (b"ldloc.2", WordUse::Instruction(Form::Bare(Bare::Local(2)))),
     ],
@@ -462,7 +463,9 @@ static BUCKETS_48_TO_55: Group = [
         ),
         (
             b"ble",
-            WordUse::Instruction(Form::Jump(Jump::Compare(BranchComparison::LessOrEqual))),
+            WordUse::Instruction(Form::Branch(BranchCondition::Compare(
+                BranchComparison::LessOrEqual,
+            ))),
         ),
     ],
     &[(b"init", WordUse::Grammar)],
@@ -470,7 +473,7 @@ static BUCKETS_48_TO_55: Group = [
         (b"int64", WordUse::Grammar),
         (
             b"stelem.ref",
-            WordUse::Instruction(Form::Bare(Bare::StoreElementReference)),
+            WordUse::Instruction(Form::Bare(Bare::StoreElement(ElementKind::Reference))),
         ),
     ],
     &[],
@@ -484,7 +487,7 @@ static BUCKETS_56_TO_63: Group = [
         (b"cil", WordUse::Grammar),
         (
             b"beq",
-            WordUse::Instruction(Form::Jump(Jump::Compare(BranchComparison::Equal))),
+            WordUse::Instruction(Form::Branch(BranchCondition::Compare(BranchComparison::Equal))),
         ),
     ],
     &[
@@ -506,7 +509,7 @@ static BUCKETS_56_TO_63: Group = [
     &[],
     &[(
         b"bgt",
-        WordUse::Instruction(Form::Jump(Jump::Compare(BranchComparison::Greater))),
+        WordUse::Instruction(Form::Branch(BranchCondition::Compare(BranchComparison::Greater))),
     )],
     &[
         (b"implements", WordUse::Grammar),
@@ -517,7 +520,7 @@ static BUCKETS_56_TO_63: Group = [
         ),
         (
             b"ldelem.i4",
-            WordUse::Instruction(Form::Bare(Bare::LoadElementInt32)),
+            WordUse::Instruction(Form::Bare(Bare::LoadElement(ElementKind::Int32))),
         ),
     ],
     &[(b"public", WordUse::Grammar)],

@@ -6,7 +6,7 @@ use Rattle.std.specs.Fmt.{digit_glyph, digits, digits_onto, signed_decimal}
 use Rattle.std.specs.List.{list_all}
 use Rattle.std.proofs.lemmas.Bool.Decides.{nat_tests}
 use Rattle.std.proofs.lemmas.List.Folds.{list_all-append}
-use Rattle.cil_model.specs.Grammar.{binary_word, branch_word, comparison_word, shift_word, unary_word}
+use Rattle.cil_model.specs.Grammar.{binary_word, branch_word, load_element_word, store_element_word, comparison_word, shift_word, unary_word}
 use Rattle.cil_model.specs.declared.types.ClassName.{ClassName}
 use Rattle.cil_model.specs.declared.types.DeclaredType.{DeclaredType}
 use Rattle.cil_model.specs.declared.types.Element.{Element}
@@ -14,7 +14,10 @@ use Rattle.cil_model.specs.declared.types.Element.TheVariants as element
 use Rattle.cil_model.specs.declared.types.Signature.{Signature}
 use Rattle.cil_model.specs.declared.instructions.BinaryOperation.{BinaryOperation}
 use Rattle.cil_model.specs.declared.instructions.BinaryOperation.TheVariants as binary
-use Rattle.cil_model.specs.declared.instructions.BranchComparison.{BranchComparison}
+use Rattle.cil_model.specs.declared.instructions.BranchCondition.{BranchCondition}
+use Rattle.cil_model.specs.declared.instructions.BranchCondition.TheVariants as conditions
+use Rattle.cil_model.specs.declared.instructions.ElementKind.{ElementKind}
+use Rattle.cil_model.specs.declared.instructions.ElementKind.TheVariants as kinds
 use Rattle.cil_model.specs.declared.instructions.BranchComparison.TheVariants as branch
 use Rattle.cil_model.specs.declared.instructions.Comparison.{Comparison}
 use Rattle.cil_model.specs.declared.instructions.Comparison.TheVariants as comparison
@@ -172,16 +175,26 @@ printable_comparison : (op : Comparison) → Printable (comparison_word op)
 printable_comparison comparison.Equal = word (comparison_word comparison.Equal) refl
 printable_comparison op = word (comparison_word op) refl
 
-printable_branch : (op : BranchComparison) → Printable (branch_word op)
-printable_branch branch.Equal = word (branch_word branch.Equal) refl
-printable_branch op = word (branch_word op) refl
+printable_branch : (condition : BranchCondition) → Printable (branch_word condition)
+printable_branch (conditions.Compare branch.Equal) = word (branch_word (conditions.Compare branch.Equal)) refl
+printable_branch condition = word (branch_word condition) refl
+
+printable_load : (kind : ElementKind) → Printable (load_element_word kind)
+printable_load kinds.Int32 = word (load_element_word kinds.Int32) refl
+printable_load kind = word (load_element_word kind) refl
+
+printable_store : (kind : ElementKind) → Printable (store_element_word kind)
+printable_store kinds.Int32 = word (store_element_word kinds.Int32) refl
+printable_store kind = word (store_element_word kind) refl
 
 printable_word : (i : Instruction) → Printable (word_text i)
 printable_word (named.Binary op) = printable_binary op
 printable_word (named.Unary op) = printable_unary op
 printable_word (named.Shift op) = printable_shift op
 printable_word (named.Compare op) = printable_comparison op
-printable_word (named.BranchCompare op label) = printable_branch op
+printable_word (named.Branch condition label) = printable_branch condition
+printable_word (named.LoadElement kind) = printable_load kind
+printable_word (named.StoreElement kind) = printable_store kind
 printable_word (named.Call true r) = word (codes "call instance") refl
 printable_word (named.Call false r) = word (codes "call") refl
 printable_word i = word (word_text i) refl
@@ -199,10 +212,7 @@ printable_operand (named.LoadArgument n) = printable_signed n
 printable_operand (named.StoreArgument n) = printable_signed n
 printable_operand (named.LoadLocal n) = printable_signed n
 printable_operand (named.StoreLocal n) = printable_signed n
-printable_operand (named.Branch l) = printable_characters l
-printable_operand (named.BranchTrue l) = printable_characters l
-printable_operand (named.BranchFalse l) = printable_characters l
-printable_operand (named.BranchCompare op l) = printable_characters l
+printable_operand (named.Branch condition l) = printable_characters l
 printable_operand (named.Switch ls) = printable_labels ls
 printable_operand (named.LoadField r) = printable_field r
 printable_operand (named.StoreField r) = printable_field r

@@ -2,7 +2,7 @@
 use Rattle.std.specs.Prelude.{◌++◌, ℕ, zero, suc, false, true, List, [], ◌∷◌, Option, Some, None, codes, flat_map}
 use Rattle.std.specs.Option.{option_map_or}
 use Rattle.std.specs.Fmt.{signed_decimal}
-use Rattle.cil_model.specs.Grammar.{binary_word, unary_word, shift_word, comparison_word, branch_word}
+use Rattle.cil_model.specs.Grammar.{binary_word, unary_word, shift_word, comparison_word, branch_word, load_element_word, store_element_word}
 use Rattle.cil_model.specs.declared.types.ClassName.{ClassName}
 use Rattle.cil_model.specs.declared.types.Element.{Element}
 use Rattle.cil_model.specs.declared.types.Element.TheVariants.{Int32, Int64, Object, String, Class}
@@ -13,7 +13,7 @@ use Rattle.cil_model.specs.declared.instructions.MethodName.TheVariants.{Constru
 use Rattle.cil_model.specs.declared.instructions.FieldReference.{FieldReference}
 use Rattle.cil_model.specs.declared.instructions.MethodReference.{MethodReference}
 use Rattle.cil_model.specs.declared.instructions.Instruction.{Instruction}
-use Rattle.cil_model.specs.declared.instructions.Instruction.TheVariants.{NoOperation, LoadInt32, LoadInt64, LoadNull, LoadString, LoadArgument, StoreArgument, LoadLocal, StoreLocal, Duplicate, Pop, Binary, Unary, Shift, Compare, ConvertInt32, ConvertInt64, Branch, BranchTrue, BranchFalse, BranchCompare, Switch, LoadField, StoreField, LoadStaticField, StoreStaticField, NewArray, LoadLength, LoadElementInt32, LoadElementInt64, LoadElementReference, StoreElementInt32, StoreElementInt64, StoreElementReference, CastClass, IsInstance, Call, CallVirtual, NewObject, Return}
+use Rattle.cil_model.specs.declared.instructions.Instruction.TheVariants.{NoOperation, LoadInt32, LoadInt64, LoadNull, LoadString, LoadArgument, StoreArgument, LoadLocal, StoreLocal, Duplicate, Pop, Binary, Unary, Shift, Compare, ConvertInt32, ConvertInt64, Branch, Switch, LoadField, StoreField, LoadStaticField, StoreStaticField, NewArray, LoadLength, LoadElement, StoreElement, CastClass, IsInstance, Call, CallVirtual, NewObject, Return}
 use Rattle.instruction_text.specs.Characters.{characters_text}
 
 -- texts with a comma and a space between them
@@ -97,10 +97,7 @@ word_text (Shift op) = shift_word op
 word_text (Compare op) = comparison_word op
 word_text ConvertInt32 = codes "conv.i4"
 word_text ConvertInt64 = codes "conv.i8"
-word_text (Branch label) = codes "br"
-word_text (BranchTrue label) = codes "brtrue"
-word_text (BranchFalse label) = codes "brfalse"
-word_text (BranchCompare op label) = branch_word op
+word_text (Branch condition label) = branch_word condition
 word_text (Switch labels) = codes "switch"
 word_text (LoadField r) = codes "ldfld"
 word_text (StoreField r) = codes "stfld"
@@ -108,12 +105,8 @@ word_text (LoadStaticField r) = codes "ldsfld"
 word_text (StoreStaticField r) = codes "stsfld"
 word_text (NewArray t) = codes "newarr"
 word_text LoadLength = codes "ldlen"
-word_text LoadElementInt32 = codes "ldelem.i4"
-word_text LoadElementInt64 = codes "ldelem.i8"
-word_text LoadElementReference = codes "ldelem.ref"
-word_text StoreElementInt32 = codes "stelem.i4"
-word_text StoreElementInt64 = codes "stelem.i8"
-word_text StoreElementReference = codes "stelem.ref"
+word_text (LoadElement kind) = load_element_word kind
+word_text (StoreElement kind) = store_element_word kind
 word_text (CastClass t) = codes "castclass"
 word_text (IsInstance t) = codes "isinst"
 word_text (Call true r) = codes "call instance"
@@ -135,10 +128,7 @@ operand_text (LoadArgument n) = Some (signed_decimal n)
 operand_text (StoreArgument n) = Some (signed_decimal n)
 operand_text (LoadLocal n) = Some (signed_decimal n)
 operand_text (StoreLocal n) = Some (signed_decimal n)
-operand_text (Branch label) = Some (characters_text label)
-operand_text (BranchTrue label) = Some (characters_text label)
-operand_text (BranchFalse label) = Some (characters_text label)
-operand_text (BranchCompare op label) = Some (characters_text label)
+operand_text (Branch condition label) = Some (characters_text label)
 operand_text (Switch labels) = Some (labels_text labels)
 operand_text (LoadField r) = Some (field_text r)
 operand_text (StoreField r) = Some (field_text r)

@@ -2,7 +2,7 @@
 
 ghost use Rattle.std.specs.Prelude.{◌≡◌};
 ghost use Rattle.std.specs.Option.{option_map};
-ghost use Rattle.cil_model.specs.Grammar.{binary_word, branch_word, comparison_word, shift_word, unary_word};
+ghost use Rattle.cil_model.specs.Grammar.{binary_word, branch_word, comparison_word, load_element_word, shift_word, store_element_word, unary_word};
 ghost use Rattle.instruction_text.specs.Operands.{text_of};
 ghost use Rattle.instruction_text.specs.Texts.{operand_text, word_text};
 
@@ -10,7 +10,8 @@ use crate::characters::CharactersText;
 use crate::references::{ConstructorText, FieldText, MethodText, VirtualText};
 use crate::types::TypeText;
 use cil_model::instructions::{
-    BinaryOperation, BranchComparison, Comparison, Instruction, ShiftOperation, UnaryOperation,
+    BinaryOperation, BranchComparison, BranchCondition, Comparison, ElementKind, Instruction,
+    ShiftOperation, UnaryOperation,
 };
 use cil_model::texts::Text;
 use std::fmt;
@@ -108,10 +109,7 @@ fn operand_of(instruction: &Instruction) -> Option<Operand<'_>>
         | Instruction::LoadLocal(number)
         | Instruction::StoreLocal(number) => Operand::Number(*number),
         Instruction::LoadString(text) => Operand::Quoted(CharactersText(text)),
-        Instruction::Branch(label)
-        | Instruction::BranchTrue(label)
-        | Instruction::BranchFalse(label)
-        | Instruction::BranchCompare(_, label) => Operand::Label(CharactersText(label)),
+        Instruction::Branch(_, label) => Operand::Label(CharactersText(label)),
         Instruction::Switch(labels) => Operand::Labels(LabelsText(labels.as_slice())),
         Instruction::LoadField(field)
         | Instruction::StoreField(field)
@@ -156,10 +154,7 @@ fn word_of(instruction: &Instruction) -> &'static str
         Instruction::Compare(comparison) => comparison_word(*comparison),
         Instruction::ConvertInt32 => "conv.i4",
         Instruction::ConvertInt64 => "conv.i8",
-        Instruction::Branch(_) => "br",
-        Instruction::BranchTrue(_) => "brtrue",
-        Instruction::BranchFalse(_) => "brfalse",
-        Instruction::BranchCompare(comparison, _) => branch_word(*comparison),
+        Instruction::Branch(condition, _) => branch_word(*condition),
         Instruction::Switch(_) => "switch",
         Instruction::LoadField(_) => "ldfld",
         Instruction::StoreField(_) => "stfld",
@@ -167,12 +162,8 @@ fn word_of(instruction: &Instruction) -> &'static str
         Instruction::StoreStaticField(_) => "stsfld",
         Instruction::NewArray(_) => "newarr",
         Instruction::LoadLength => "ldlen",
-        Instruction::LoadElementInt32 => "ldelem.i4",
-        Instruction::LoadElementInt64 => "ldelem.i8",
-        Instruction::LoadElementReference => "ldelem.ref",
-        Instruction::StoreElementInt32 => "stelem.i4",
-        Instruction::StoreElementInt64 => "stelem.i8",
-        Instruction::StoreElementReference => "stelem.ref",
+        Instruction::LoadElement(kind) => load_element_word(*kind),
+        Instruction::StoreElement(kind) => store_element_word(*kind),
         Instruction::CastClass(_) => "castclass",
         Instruction::IsInstance(_) => "isinst",
         Instruction::Call {
@@ -233,15 +224,38 @@ fn comparison_word(comparison: Comparison) -> &'static str
     }
 }
 
-fn branch_word(comparison: BranchComparison) -> &'static str
-    ensures { result.now ≡ branch_word comparison }
+fn branch_word(condition: BranchCondition) -> &'static str
+    ensures { result.now ≡ branch_word condition }
 {
-    match comparison {
-        BranchComparison::Equal => "beq",
-        BranchComparison::NotEqual => "bne.un",
-        BranchComparison::GreaterOrEqual => "bge",
-        BranchComparison::Greater => "bgt",
-        BranchComparison::LessOrEqual => "ble",
-        BranchComparison::Less => "blt",
+    match condition {
+        BranchCondition::Always => "br",
+        BranchCondition::IfTrue => "brtrue",
+        BranchCondition::IfFalse => "brfalse",
+        BranchCondition::Compare(BranchComparison::Equal) => "beq",
+        BranchCondition::Compare(BranchComparison::NotEqual) => "bne.un",
+        BranchCondition::Compare(BranchComparison::GreaterOrEqual) => "bge",
+        BranchCondition::Compare(BranchComparison::Greater) => "bgt",
+        BranchCondition::Compare(BranchComparison::LessOrEqual) => "ble",
+        BranchCondition::Compare(BranchComparison::Less) => "blt",
+    }
+}
+
+fn load_element_word(kind: ElementKind) -> &'static str
+    ensures { result.now ≡ load_element_word kind }
+{
+    match kind {
+        ElementKind::Int32 => "ldelem.i4",
+        ElementKind::Int64 => "ldelem.i8",
+        ElementKind::Reference => "ldelem.ref",
+    }
+}
+
+fn store_element_word(kind: ElementKind) -> &'static str
+    ensures { result.now ≡ store_element_word kind }
+{
+    match kind {
+        ElementKind::Int32 => "stelem.i4",
+        ElementKind::Int64 => "stelem.i8",
+        ElementKind::Reference => "stelem.ref",
     }
 }

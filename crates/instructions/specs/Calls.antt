@@ -6,7 +6,7 @@ use Rattle.cil_model.specs.declared.reports.Fault.TheVariants.{OutOfMemory, Stac
 use Rattle.cil_model.specs.declared.phases.Phase.{Phase}
 use Rattle.object_memory.specs.declared.addresses.Addr.{Addr}
 use Rattle.object_memory.specs.declared.values.Value.{Value}
-use Rattle.object_memory.specs.declared.values.ValueKind.{ValueKind}
+use Rattle.cil_model.specs.declared.values.ValueKind.{ValueKind}
 use Rattle.object_memory.specs.declared.values.Value.TheVariants.{Ref}
 use Rattle.threads_monitors.specs.Frames.{Frames, size, with_pc, with_stack, with_inserted, with_call, return_frames}
 use Rattle.threads_monitors.specs.declared.effects.Effect.TheVariants.{Continues, Returns, Raises}

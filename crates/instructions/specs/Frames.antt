@@ -9,6 +9,8 @@ use Rattle.cil_model.specs.declared.instructions.Comparison.{Comparison}
 use Rattle.cil_model.specs.declared.instructions.Comparison.TheVariants.{Equal}
 use Rattle.cil_model.specs.declared.instructions.BranchComparison.{BranchComparison}
 use Rattle.cil_model.specs.declared.instructions.BranchComparison.TheVariants.{Equal as BranchEqual, NotEqual}
+use Rattle.cil_model.specs.declared.instructions.BranchCondition.{BranchCondition}
+use Rattle.cil_model.specs.declared.instructions.BranchCondition.TheVariants as conditions
 use Rattle.cil_model.specs.declared.limits.TheConstants.{MOST_INSTRUCTIONS}
 use Rattle.cil_model.specs.declared.reports.Fault.{Fault}
 use Rattle.cil_model.specs.Bodies.{at_index}
@@ -161,15 +163,15 @@ convert_32_transition m = with_top m (λ v n. when_some (in_32_bits v) (λ u. va
 abbrev pub convert_64_transition : Frames → Transition
 convert_64_transition m = with_top m (λ v n. when_some (in_64_bits v) (λ u. value_pushed u n))
 
--- brtrue (III.3.18), and brfalse (III.3.17)
-abbrev pub branch_true_transition : ℕ → Frames → Transition
-branch_true_transition pc m = with_top m (λ v n. when_some (is_set v) (λ holds. branch_if holds pc n))
+-- a branch, by how it compares two operands (III.3.5 to III.3.18)
+abbrev pub branch_by : (BranchComparison → Value → Value → Option Bool) → BranchCondition → ℕ → Frames → Transition
+branch_by compared conditions.Always pc m = jump pc m
+branch_by compared conditions.IfTrue pc m = with_top m (λ v n. when_some (is_set v) (λ holds. branch_if holds pc n))
+branch_by compared conditions.IfFalse pc m = with_top m (λ v n. when_some (is_set v) (λ holds. branch_if (not holds) pc n))
+branch_by compared (conditions.Compare op) pc m = with_top m (λ w n. with_top n (λ v k. when_some (compared op v w) (λ holds. branch_if holds pc k)))
 
-abbrev pub branch_false_transition : ℕ → Frames → Transition
-branch_false_transition pc m = with_top m (λ v n. when_some (is_set v) (λ holds. branch_if (not holds) pc n))
-
-abbrev pub branch_compare_transition : Phase → BranchComparison → ℕ → Frames → Objects → Transition
-branch_compare_transition phase op pc m o = with_top m (λ w n. with_top n (λ v k. when_some (branch_test phase o op v w) (λ holds. branch_if holds pc k)))
+abbrev pub branch_transition : Phase → BranchCondition → ℕ → Frames → Objects → Transition
+branch_transition phase condition pc m o = branch_by (branch_test phase o) condition pc m
 
 -- to the pc at that index of the table, read as unsigned, or on to the next instruction (III.3.66)
 abbrev pub to_pc : Option ℕ → Frames → Transition

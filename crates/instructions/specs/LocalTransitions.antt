@@ -2,6 +2,8 @@
 use Rattle.std.specs.Prelude.{◌≡◌, ℕ, Bool, true, false, Option, Some, None}
 use Rattle.cil_model.specs.declared.instructions.BranchComparison.{BranchComparison}
 use Rattle.cil_model.specs.declared.instructions.BranchComparison.TheVariants as Branch
+use Rattle.cil_model.specs.declared.instructions.BranchCondition.{BranchCondition}
+use Rattle.cil_model.specs.declared.instructions.BranchCondition.TheVariants as conditions
 use Rattle.cil_model.specs.declared.instructions.Comparison.{Comparison}
 use Rattle.cil_model.specs.declared.instructions.Comparison.TheVariants as Compare
 use Rattle.cil_model.specs.declared.reports.Fault.{Fault}
@@ -11,7 +13,7 @@ use Rattle.reference_machine.specs.Values.{Int32 as Int32Value, Int64 as Int64Va
 use Rattle.reference_machine.specs.Arithmetic.{branch_values, comparison_holds}
 use Rattle.threads_monitors.specs.Frames.{Frames}
 use Rattle.threads_monitors.specs.declared.effects.Effect.TheVariants.{Raises}
-use Rattle.instructions.specs.Frames.{Transition, branch_if, when_some, value_pushed, one_or_zero, with_top}
+use Rattle.instructions.specs.Frames.{Transition, branch_by, when_some, value_pushed, one_or_zero, with_top}
 
 -- a comparison that has a meaning for integers alone
 abbrev pub is_ordered : Comparison → Bool
@@ -26,6 +28,11 @@ is_ordered_branch Branch.GreaterOrEqual = true
 is_ordered_branch Branch.Greater = true
 is_ordered_branch Branch.LessOrEqual = true
 is_ordered_branch Branch.Less = true
+
+-- a branch that compares no references
+abbrev pub is_local_branch : BranchCondition → Bool
+is_local_branch (conditions.Compare op) = is_ordered_branch op
+is_local_branch _ = true
 
 -- two integers of one size
 abbrev pub integers_compared : Comparison → Value → Value → Option Bool
@@ -42,9 +49,9 @@ integers_branch op _ _ = None
 abbrev pub compare_integers_transition : Comparison → Frames → Transition
 compare_integers_transition op m = with_top m (λ w n. with_top n (λ v k. when_some (integers_compared op v w) (λ holds. value_pushed (one_or_zero holds) k)))
 
--- bge, bgt, ble and blt (III.3.6 to III.3.13)
-abbrev pub branch_integers_transition : BranchComparison → ℕ → Frames → Transition
-branch_integers_transition op pc m = with_top m (λ w n. with_top n (λ v k. when_some (integers_branch op v w) (λ holds. branch_if holds pc k)))
+-- a branch that compares integers (III.3.5 to III.3.18)
+abbrev pub local_branch_transition : BranchCondition → ℕ → Frames → Transition
+local_branch_transition condition pc m = branch_by integers_branch condition pc m
 
 -- a rule raises a fault
 abbrev pub IsFaulty : Transition → Type 0

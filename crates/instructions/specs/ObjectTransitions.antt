@@ -9,7 +9,7 @@ use Rattle.object_memory.specs.declared.kinds.Kind.{Kind}
 use Rattle.object_memory.specs.declared.kinds.Kind.TheVariants.{Array}
 use Rattle.object_memory.specs.declared.values.Value.{Value}
 use Rattle.object_memory.specs.declared.values.Value.TheVariants.{Int32, Native, Ref}
-use Rattle.object_memory.specs.declared.values.ValueKind.{ValueKind}
+use Rattle.cil_model.specs.declared.values.ValueKind.{ValueKind}
 use Rattle.object_memory.specs.Cells.{Cell}
 use Rattle.object_memory.specs.Objects.{Objects, object_cell}
 use Rattle.object_memory.specs.Values.{value_in}

@@ -4,6 +4,8 @@ use Rattle.std.specs.Prelude.{ℕ, ◌==◌, Bool, true, if◌then◌else◌, le
 use Rattle.std.specs.Option.{option_map_or}
 use Rattle.cil_model.specs.declared.types.DeclaredType.{DeclaredType}
 use Rattle.cil_model.specs.declared.types.Element.TheVariants.{String as StringElement}
+use Rattle.cil_model.specs.declared.instructions.ElementKind.{ElementKind}
+use Rattle.cil_model.specs.declared.instructions.ElementKind.TheVariants as kinds
 use Rattle.cil_model.specs.declared.phases.Phase.{Phase}
 use Rattle.cil_model.specs.declared.trees.Tree.{Tree}
 use Rattle.cil_model.specs.declared.reports.Fault.TheVariants.{InvalidCast, ArrayTypeMismatch}
@@ -26,7 +28,7 @@ use Rattle.object_memory.specs.Objects.{Objects, object_cell}
 use Rattle.threads_monitors.specs.Frames.{Frames}
 use Rattle.threads_monitors.specs.declared.effects.Effect.TheVariants.{Raises}
 use Rattle.instructions.specs.Frames.{when_some, with_top, value_pushed}
-use Rattle.instructions.specs.ObjectTransitions.{ObjectTransition, beside, object_of, index_of, slots_of, checked_index, in_range, store_slot}
+use Rattle.instructions.specs.ObjectTransitions.{ObjectTransition, beside, object_of, index_of, slots_of, checked_index, in_range, store_slot, store_element_transition}
 
 -- ---- the types of objects
 
@@ -94,3 +96,8 @@ store_admitted phase tree v slot a m o = when_some (element_at o a) (λ e. when_
 abbrev pub store_reference_transition : Phase → Tree → Frames → Objects → ObjectTransition
 store_reference_transition phase tree m o = with_top m (λ v n. with_top n (λ index k. with_top k (λ array j. object_of array j o (λ a. index_of index (λ i. when_some (slots_of o a) (λ slots.
     in_range (checked_index i (length slots)) j o (λ slot. store_admitted phase tree v slot a j o)))))))
+
+-- a store to an element, by what the elements are
+abbrev pub element_store_transition : Phase → Tree → ElementKind → Frames → Objects → ObjectTransition
+element_store_transition phase tree kinds.Reference m o = store_reference_transition phase tree m o
+element_store_transition phase tree kind m o = store_element_transition phase m o

@@ -2,29 +2,30 @@
 
 ghost use Rattle.std.specs.Prelude.{◌≡◌, IsSome, Some, slice_get};
 ghost use Rattle.std.specs.Int.{w32, cast_unsigned};
-ghost use Rattle.instructions.specs.Frames.{branch_true_transition, branch_false_transition, branch_compare_transition, branch_test, switch_transition, is_set};
-ghost use Rattle.instructions.specs.LocalTransitions.{branch_integers_transition, integers_branch};
+ghost use Rattle.cil_model.specs.declared.instructions.BranchCondition.TheVariants as conditions;
+ghost use Rattle.instructions.specs.Frames.{branch_transition, branch_test, switch_transition, is_set};
+ghost use Rattle.instructions.specs.LocalTransitions.{local_branch_transition, integers_branch};
 
 use crate::control::{advance, branch_if, jump};
 use crate::integers::Integer;
-use cil_model::instructions::BranchComparison;
+use cil_model::instructions::{BranchComparison, BranchCondition};
 use cil_model::phases::Phase;
 use object_memory::{Heap, Value};
 use threads_monitors::{Effect, FrameMemory};
 
 /// `brtrue` (ECMA-335 III.3.18).
-pub fn branch_true(frames: &mut FrameMemory, pc: usize) -> Effect
-    requires { IsSome (branch_true_transition pc frames.old) }
-    ensures { Some (frames.new, result) ≡ branch_true_transition pc frames.old }
+fn branch_true(frames: &mut FrameMemory, pc: usize) -> Effect
+    requires { IsSome (local_branch_transition conditions.IfTrue pc frames.old) }
+    ensures { Some (frames.new, result) ≡ local_branch_transition conditions.IfTrue pc frames.old }
 {
     let value = frames.pop();
     branch_if(frames, is_set(value), pc)
 }
 
 /// `brfalse` (ECMA-335 III.3.17).
-pub fn branch_false(frames: &mut FrameMemory, pc: usize) -> Effect
-    requires { IsSome (branch_false_transition pc frames.old) }
-    ensures { Some (frames.new, result) ≡ branch_false_transition pc frames.old }
+fn branch_false(frames: &mut FrameMemory, pc: usize) -> Effect
+    requires { IsSome (local_branch_transition conditions.IfFalse pc frames.old) }
+    ensures { Some (frames.new, result) ≡ local_branch_transition conditions.IfFalse pc frames.old }
 {
     let value = frames.pop();
     branch_if(frames, !is_set(value), pc)
@@ -44,15 +45,15 @@ fn is_set(value: Value) -> bool
 }
 
 /// `beq`, `bne.un`, `bge`, `bgt`, `ble` and `blt` (ECMA-335 III.3.5 to III.3.14). Of references the heap determines whether they are equal.
-pub fn branch_compare(
+fn branch_compare(
     frames: &mut FrameMemory,
     heap: &Heap,
     phase: Phase,
     operation: BranchComparison,
     pc: usize,
 ) -> Effect
-    requires { IsSome (branch_compare_transition phase operation pc frames.old heap.now) }
-    ensures { Some (frames.new, result) ≡ branch_compare_transition phase operation pc frames.old heap.now }
+    requires { IsSome (branch_transition phase (conditions.Compare operation) pc frames.old heap.now) }
+    ensures { Some (frames.new, result) ≡ branch_transition phase (conditions.Compare operation) pc frames.old heap.now }
 {
     let second = frames.pop();
     let first = frames.pop();
@@ -83,9 +84,9 @@ fn is_taken(
 }
 
 /// `bge`, `bgt`, `ble` and `blt` (ECMA-335 III.3.6 to III.3.13), of two integers of one size. It asks no heap.
-pub fn branch_integers(frames: &mut FrameMemory, operation: BranchComparison, pc: usize) -> Effect
-    requires { IsSome (branch_integers_transition operation pc frames.old) }
-    ensures { Some (frames.new, result) ≡ branch_integers_transition operation pc frames.old }
+fn branch_integers(frames: &mut FrameMemory, operation: BranchComparison, pc: usize) -> Effect
+    requires { IsSome (local_branch_transition (conditions.Compare operation) pc frames.old) }
+    ensures { Some (frames.new, result) ≡ local_branch_transition (conditions.Compare operation) pc frames.old }
 {
     let second = frames.pop();
     let first = frames.pop();
@@ -101,6 +102,38 @@ fn integers_branch(operation: BranchComparison, first: Value, second: Value) -> 
         (Value::Int32(x), Value::Int32(y)) => Integer::branches(operation, x, y),
         (Value::Int64(x), Value::Int64(y)) => Integer::branches(operation, x, y),
         _ => unreachable!(),
+    }
+}
+
+/// A branch (ECMA-335 III.3.5 to III.3.18).
+pub fn branch(
+    frames: &mut FrameMemory,
+    heap: &Heap,
+    phase: Phase,
+    condition: BranchCondition,
+    pc: usize,
+) -> Effect
+    requires { IsSome (branch_transition phase condition pc frames.old heap.now) }
+    ensures { Some (frames.new, result) ≡ branch_transition phase condition pc frames.old heap.now }
+{
+    match condition {
+        BranchCondition::Always => jump(frames, pc),
+        BranchCondition::IfTrue => branch_true(frames, pc),
+        BranchCondition::IfFalse => branch_false(frames, pc),
+        BranchCondition::Compare(operation) => branch_compare(frames, heap, phase, operation, pc),
+    }
+}
+
+/// A branch that compares no references. It asks no heap.
+pub fn local_branch(frames: &mut FrameMemory, condition: BranchCondition, pc: usize) -> Effect
+    requires { IsSome (local_branch_transition condition pc frames.old) }
+    ensures { Some (frames.new, result) ≡ local_branch_transition condition pc frames.old }
+{
+    match condition {
+        BranchCondition::Always => jump(frames, pc),
+        BranchCondition::IfTrue => branch_true(frames, pc),
+        BranchCondition::IfFalse => branch_false(frames, pc),
+        BranchCondition::Compare(operation) => branch_integers(frames, operation, pc),
     }
 }
 

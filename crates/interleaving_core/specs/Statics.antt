@@ -4,7 +4,7 @@ use Rattle.cil_model.specs.declared.trees.Class.{Class}
 use Rattle.cil_model.specs.declared.trees.Field.{Field}
 use Rattle.cil_model.specs.Declarations.{field_members, fields_unless_interface}
 use Rattle.object_memory.specs.declared.values.Value.{Value}
-use Rattle.simulation.specs.loaded_program.Prepared.{kind_of_type}
+use Rattle.cil_model.specs.ValueKinds.{kind_of_type}
 use Rattle.threads_monitors.specs.Frames.{zero_value}
 
 -- the fields that a class declares; an interface declares none (II.12)

@@ -21,7 +21,7 @@ use name_tables::classes::field_members;
 use object_memory::{Heap, Value};
 use phase_handshake::Posts;
 use simulation::collector_code::Progress;
-use simulation::interpreter_code::loaded_code::{LoadedProgram, value_kind};
+use simulation::interpreter_code::loaded_code::LoadedProgram;
 use simulation::interpreter_code::stores::Store;
 use space_block::Block;
 use std::alloc::Global;
@@ -34,7 +34,7 @@ fn push_zeros(statics: &mut Vec<Value>, fields: &[&Field]) -> Result<(), NoMemor
 {
     for field in fields {
         if field.is_static {
-            statics.push(zero_value(value_kind(&field.field_type)))?;
+            statics.push(zero_value(field.field_type.kind()))?;
         }
     }
     Ok(())

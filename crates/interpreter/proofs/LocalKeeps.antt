@@ -10,6 +10,7 @@ use Rattle.cil_model.specs.declared.reports.Fault.{Fault}
 use Rattle.cil_model.specs.Bodies.{at_index}
 use Rattle.object_memory.specs.declared.values.Value.{Value}
 use Rattle.object_memory.specs.declared.values.Value.TheVariants.{Int32, Int64, Native, Ref}
+use Rattle.cil_model.specs.declared.instructions.BranchCondition.TheVariants as conditions
 use Rattle.loaded_program.specs.declared.instructions.LinkedInstruction.{LinkedInstruction}
 use Rattle.loaded_program.specs.declared.instructions.LinkedInstruction.TheVariants as Linked
 use Rattle.threads_monitors.specs.declared.effects.Effect.{Effect}
@@ -126,10 +127,10 @@ local_keeps (Linked.Shift op) m = two_keeps true (shift_result op) value_pushed 
 local_keeps (Linked.Compare op) m = two_keeps true (integers_compared op) (λ holds k. value_pushed (one_or_zero holds) k) (λ holds k. leaves_keeps true (one_or_zero holds) k) m
 local_keeps Linked.ConvertInt32 m = one_keeps true in_32_bits value_pushed (leaves_keeps true) m
 local_keeps Linked.ConvertInt64 m = one_keeps true in_64_bits value_pushed (leaves_keeps true) m
-local_keeps (Linked.Branch pc) m = jump_keeps true pc m
-local_keeps (Linked.BranchTrue pc) m = one_keeps true is_set (λ holds k. branch_if holds pc k) (λ holds k. branch_keeps true holds pc k) m
-local_keeps (Linked.BranchFalse pc) m = one_keeps true is_set (λ holds k. branch_if (not holds) pc k) (λ holds k. branch_keeps true (not holds) pc k) m
-local_keeps (Linked.BranchCompare op pc) m = two_keeps true (integers_branch op) (λ holds k. branch_if holds pc k) (λ holds k. branch_keeps true holds pc k) m
+local_keeps (Linked.Branch conditions.Always pc) m = jump_keeps true pc m
+local_keeps (Linked.Branch conditions.IfTrue pc) m = one_keeps true is_set (λ holds k. branch_if holds pc k) (λ holds k. branch_keeps true holds pc k) m
+local_keeps (Linked.Branch conditions.IfFalse pc) m = one_keeps true is_set (λ holds k. branch_if (not holds) pc k) (λ holds k. branch_keeps true (not holds) pc k) m
+local_keeps (Linked.Branch (conditions.Compare op) pc) m = two_keeps true (integers_branch op) (λ holds k. branch_if holds pc k) (λ holds k. branch_keeps true holds pc k) m
 local_keeps (Linked.Switch pcs) m = top_keeps true m (switch_on pcs) (λ v rest. switch_keeps true pcs v (with_stack m rest))
 local_keeps _ m = none_keeps true m
 

@@ -16,14 +16,15 @@ use Rattle.object_memory.specs.declared.values.Value.{Value}
 use Rattle.object_memory.specs.declared.values.Value.TheVariants.{Int32, Int64, Native, Ref}
 use Rattle.object_memory.specs.Objects.{Objects}
 use Rattle.instructions.specs.barriers.Barriers.{are_comparable}
+use Rattle.cil_model.specs.declared.instructions.BranchCondition.TheVariants as conditions
 use Rattle.loaded_program.specs.declared.instructions.LinkedInstruction.{LinkedInstruction}
 use Rattle.loaded_program.specs.declared.instructions.LinkedInstruction.TheVariants as Linked
 use Rattle.threads_monitors.specs.declared.mutators.Mutator.{Mutator}
 use Rattle.threads_monitors.specs.declared.effects.Effect.{Effect}
 use Rattle.threads_monitors.specs.declared.effects.Effect.TheVariants.{Continues}
 use Rattle.threads_monitors.specs.Frames.{Frame, Frames, size, with_argument, with_local, with_pc, with_stack}
-use Rattle.instructions.specs.Frames.{Transition, binary_result, branch_if, branch_test, compare_transition, comparison, branch_compare_transition, when_some, in_32_bits, in_64_bits, is_set, jump, value_pushed, result_pushed, one_or_zero, onward, shift_result, store_in, switch_on, to_pc, top_of, unary_result, with_top}
-use Rattle.instructions.specs.LocalTransitions.{branch_integers_transition, compare_integers_transition, integers_branch, integers_compared, is_ordered, is_ordered_branch}
+use Rattle.instructions.specs.Frames.{Transition, binary_result, branch_if, branch_test, compare_transition, comparison, branch_transition, when_some, in_32_bits, in_64_bits, is_set, jump, value_pushed, result_pushed, one_or_zero, onward, shift_result, store_in, switch_on, to_pc, top_of, unary_result, with_top}
+use Rattle.instructions.specs.LocalTransitions.{compare_integers_transition, integers_branch, integers_compared, is_ordered, is_ordered_branch, local_branch_transition}
 use Rattle.interpreter.specs.Instructions.{linked_transition, of_frames}
 use Rattle.interpreter.specs.Local.{is_local_link, local_link_transition}
 
@@ -126,10 +127,10 @@ module _ (below : List Frame) (depth : ℕ) where
   local_moves (Linked.Compare op) m = two_moves (integers_compared op) (λ holds k. value_pushed (one_or_zero holds) k) (λ holds k. leaves_moves (one_or_zero holds) k) m
   local_moves Linked.ConvertInt32 m = one_moves in_32_bits value_pushed leaves_moves m
   local_moves Linked.ConvertInt64 m = one_moves in_64_bits value_pushed leaves_moves m
-  local_moves (Linked.Branch pc) m = jump_moves pc m
-  local_moves (Linked.BranchTrue pc) m = one_moves is_set (λ holds k. branch_if holds pc k) (λ holds k. branch_moves holds pc k) m
-  local_moves (Linked.BranchFalse pc) m = one_moves is_set (λ holds k. branch_if (not holds) pc k) (λ holds k. branch_moves (not holds) pc k) m
-  local_moves (Linked.BranchCompare op pc) m = two_moves (integers_branch op) (λ holds k. branch_if holds pc k) (λ holds k. branch_moves holds pc k) m
+  local_moves (Linked.Branch conditions.Always pc) m = jump_moves pc m
+  local_moves (Linked.Branch conditions.IfTrue pc) m = one_moves is_set (λ holds k. branch_if holds pc k) (λ holds k. branch_moves holds pc k) m
+  local_moves (Linked.Branch conditions.IfFalse pc) m = one_moves is_set (λ holds k. branch_if (not holds) pc k) (λ holds k. branch_moves (not holds) pc k) m
+  local_moves (Linked.Branch (conditions.Compare op) pc) m = two_moves (integers_branch op) (λ holds k. branch_if holds pc k) (λ holds k. branch_moves holds pc k) m
   local_moves (Linked.Switch pcs) m = top_moves m (switch_on pcs) (switch_on pcs) (λ v k. switch_moves pcs v k)
   local_moves _ m = refl
 
@@ -205,7 +206,7 @@ module _ (phase : Phase) (o : Objects) where
   compare_is : (op : Comparison) → is_ordered op ≡ true → (m : Frames) → compare_transition phase op m o ≡ compare_integers_transition op m
   compare_is op e m = two_alike (comparison phase o op) (integers_compared op) (λ holds k. value_pushed (one_or_zero holds) k) (compared_is op e) m
 
-  branch_is : (op : BranchComparison) → is_ordered_branch op ≡ true → (pc : ℕ) (m : Frames) → branch_compare_transition phase op pc m o ≡ branch_integers_transition op pc m
+  branch_is : (op : BranchComparison) → is_ordered_branch op ≡ true → (pc : ℕ) (m : Frames) → branch_transition phase (conditions.Compare op) pc m o ≡ local_branch_transition (conditions.Compare op) pc m
   branch_is op e pc m = two_alike (branch_test phase o op) (integers_branch op) (λ holds k. branch_if holds pc k) (tested_is op e) m
 
 module _ (tree : Tree) (mutator : Mutator) (m : Frames) (o : Objects) (ss : List Value) (c : List ℕ) where
@@ -227,9 +228,9 @@ module _ (tree : Tree) (mutator : Mutator) (m : Frames) (o : Objects) (ss : List
   local_is (Linked.Compare op) e = ap (of_frames o ss c) (compare_is mutator.phase o op e m)
   local_is Linked.ConvertInt32 e = refl
   local_is Linked.ConvertInt64 e = refl
-  local_is (Linked.Branch pc) e = refl
-  local_is (Linked.BranchTrue pc) e = refl
-  local_is (Linked.BranchFalse pc) e = refl
-  local_is (Linked.BranchCompare op pc) e = ap (of_frames o ss c) (branch_is mutator.phase o op e pc m)
+  local_is (Linked.Branch conditions.Always pc) e = refl
+  local_is (Linked.Branch conditions.IfTrue pc) e = refl
+  local_is (Linked.Branch conditions.IfFalse pc) e = refl
+  local_is (Linked.Branch (conditions.Compare op) pc) e = ap (of_frames o ss c) (branch_is mutator.phase o op e pc m)
   local_is (Linked.Switch pcs) e = refl
   local_is _ e = absurd cc

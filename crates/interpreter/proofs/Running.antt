@@ -1,10 +1,10 @@
--- What runs for a method of a number, by what the method table knows of it.
+-- What runs for a method of a number, by what a loaded program has of it.
 use Rattle.std.proofs.Common.{◌≡◌, ℕ, List, Option, Some, None, option_map, refl, ap, ◌∙◌}
 use Rattle.std.specs.Prelude.{IsSome, length, slice_get}
 use Rattle.cil_model.specs.Bodies.{argument_types}
-use Rattle.object_memory.specs.declared.values.ValueKind.{ValueKind}
-use Rattle.loaded_program.specs.Prepared.{IsTableMethod}
-use Rattle.loaded_program.specs.declared.methods.TableMethod.{TableMethod}
+use Rattle.cil_model.specs.declared.values.ValueKind.{ValueKind}
+use Rattle.loaded_program.specs.Loaded.{IsLoadedMethod}
+use Rattle.loaded_program.specs.declared.loaded_methods.LoadedMethod.{LoadedMethod}
 use Rattle.std.specs.Option.{option_map_or}
 use Rattle.cil_model.specs.declared.types.ClassName.{ClassName}
 use Rattle.cil_model.specs.declared.trees.Tree.{Tree}
@@ -42,10 +42,10 @@ given_there None go there = there
 
 -- ---- a method that runs
 
--- a method as the table has it is called as the rule says
-pub called_alike : (tree : Tree) (found : ClassName × Method) (entry : TableMethod) (k : ℕ) (locals : List ValueKind) → IsTableMethod tree found entry → locals ≡ entry.locals.items
-    → record { method = k; arguments = entry.arguments; locals = locals } ≡ called_as found k
-called_alike tree found entry k locals known same =
+-- a loaded method is called as the rule says
+pub called_alike : (tree : Tree) (found : ClassName × Method) (loaded : LoadedMethod) (k : ℕ) (locals : List ValueKind) → IsLoadedMethod tree found loaded → locals ≡ loaded.locals.items
+    → record { method = k; arguments = loaded.arguments; locals = locals } ≡ called_as found k
+called_alike tree found loaded k locals known same =
     ap (λ (x : ℕ). record { method = k; arguments = x; locals = locals }) known.arguments
     ∙ ap (λ (x : List ValueKind). record { method = k; arguments = length (argument_types found.1 found.0); locals = x }) (same ∙ known.locals)
 

@@ -7,6 +7,7 @@ use Rattle.cil_model.specs.declared.trees.Line.{Line}
 use Rattle.cil_model.specs.declared.trees.Method.{Method}
 use Rattle.cil_model.specs.declared.trees.Tree.{Tree}
 use Rattle.cil_model.specs.Bodies.{lines_of}
+use Rattle.cil_model.specs.ValueKinds.{kind_of_elements}
 use Rattle.resolved_code.specs.Resolved.{IsOperation}
 use Rattle.resolved_code.specs.declared.operations.Operation.{Operation}
 use Rattle.object_memory.specs.declared.values.Value.{Value}
@@ -15,16 +16,16 @@ use Rattle.object_memory.specs.Cells.{null}
 use Rattle.object_memory.specs.Objects.{Objects}
 use Rattle.loaded_program.specs.AllMethods.{all_methods}
 use Rattle.loaded_program.specs.declared.instructions.LinkedInstruction.{LinkedInstruction}
-use Rattle.loaded_program.specs.declared.instructions.LinkedInstruction.TheVariants.{NoOperation, LoadInt32, LoadInt64, LoadNull, LoadString, LoadArgument, StoreArgument, LoadLocal, StoreLocal, Duplicate, Pop, Binary, Unary, Shift, Compare, ConvertInt32, ConvertInt64, Branch, BranchTrue, BranchFalse, BranchCompare, Switch, LoadField, StoreField, LoadStaticField, StoreStaticField, NewArray, LoadLength, LoadElement, StoreElement, StoreElementReference, CastClass, IsInstance, Call, CallVirtual, NewObject, Return}
+use Rattle.loaded_program.specs.declared.instructions.LinkedInstruction.TheVariants.{NoOperation, LoadInt32, LoadInt64, LoadNull, LoadString, LoadArgument, StoreArgument, LoadLocal, StoreLocal, Duplicate, Pop, Binary, Unary, Shift, Compare, ConvertInt32, ConvertInt64, Branch, Switch, LoadField, StoreField, LoadStaticField, StoreStaticField, NewArray, LoadLength, LoadElement, StoreElement, CastClass, IsInstance, Call, CallVirtual, NewObject, Return}
 use Rattle.loaded_program.specs.Links.{link}
 use Rattle.loaded_program.specs.Loaded.{has_value}
 pub use Rattle.loaded_program.specs.Operands.{HasSmallConstant}
 use Rattle.threads_monitors.specs.declared.mutators.Mutator.{Mutator}
 use Rattle.threads_monitors.specs.declared.effects.Effect.{Effect}
 use Rattle.threads_monitors.specs.Frames.{Frames}
-use Rattle.instructions.specs.Frames.{Transition, when_some, jump, onward, value_pushed, argument_transition, local_transition, store_argument_transition, store_local_transition, duplicate_transition, pop_transition, binary_transition, unary_transition, shift_transition, compare_transition, convert_32_transition, convert_64_transition, branch_true_transition, branch_false_transition, branch_compare_transition, switch_transition}
-use Rattle.instructions.specs.ObjectTransitions.{ObjectTransition, StaticTransition, load_field_transition, store_field_transition, load_length_transition, load_element_transition, store_element_transition, new_array_transition, load_static_transition, store_static_transition}
-use Rattle.instructions.specs.TypeTransitions.{cast_class_transition, is_instance_transition, store_reference_transition}
+use Rattle.instructions.specs.Frames.{Transition, when_some, onward, value_pushed, argument_transition, local_transition, store_argument_transition, store_local_transition, duplicate_transition, pop_transition, binary_transition, unary_transition, shift_transition, compare_transition, convert_32_transition, convert_64_transition, branch_transition, switch_transition}
+use Rattle.instructions.specs.ObjectTransitions.{ObjectTransition, StaticTransition, load_field_transition, store_field_transition, load_length_transition, load_element_transition, new_array_transition, load_static_transition, store_static_transition}
+use Rattle.instructions.specs.TypeTransitions.{cast_class_transition, is_instance_transition, element_store_transition}
 use Rattle.instructions.specs.Calls.{return_transition}
 use Rattle.interpreter.specs.declared.outcomes.InstructionOutcome.{InstructionOutcome}
 use Rattle.interpreter.specs.declared.outcomes.InstructionOutcome.TheVariants.{OwnEffect}
@@ -83,10 +84,7 @@ linked_transition tree mutator (Shift op) m o ss c = of_frames o ss c (shift_tra
 linked_transition tree mutator (Compare op) m o ss c = of_frames o ss c (compare_transition mutator.phase op m o)
 linked_transition tree mutator ConvertInt32 m o ss c = of_frames o ss c (convert_32_transition m)
 linked_transition tree mutator ConvertInt64 m o ss c = of_frames o ss c (convert_64_transition m)
-linked_transition tree mutator (Branch pc) m o ss c = of_frames o ss c (jump pc m)
-linked_transition tree mutator (BranchTrue pc) m o ss c = of_frames o ss c (branch_true_transition pc m)
-linked_transition tree mutator (BranchFalse pc) m o ss c = of_frames o ss c (branch_false_transition pc m)
-linked_transition tree mutator (BranchCompare op pc) m o ss c = of_frames o ss c (branch_compare_transition mutator.phase op pc m o)
+linked_transition tree mutator (Branch condition pc) m o ss c = of_frames o ss c (branch_transition mutator.phase condition pc m o)
 linked_transition tree mutator (Switch pcs) m o ss c = of_frames o ss c (switch_transition pcs m)
 linked_transition tree mutator (LoadField slot kind) m o ss c = of_objects o ss c (load_field_transition kind slot m o)
 linked_transition tree mutator (StoreField slot) m o ss c = of_objects o ss c (store_field_transition mutator.phase slot m o)
@@ -94,9 +92,8 @@ linked_transition tree mutator (LoadStaticField number) m o ss c = of_frames o s
 linked_transition tree mutator (StoreStaticField number) m o ss c = of_statics o ss c (store_static_transition mutator.phase number m o ss)
 linked_transition tree mutator (NewArray element) m o ss c = of_objects o ss c (new_array_transition mutator.phase element m o)
 linked_transition tree mutator LoadLength m o ss c = of_objects o ss c (load_length_transition m o)
-linked_transition tree mutator (LoadElement kind) m o ss c = of_objects o ss c (load_element_transition kind m o)
-linked_transition tree mutator StoreElement m o ss c = of_objects o ss c (store_element_transition mutator.phase m o)
-linked_transition tree mutator StoreElementReference m o ss c = of_objects o ss c (store_reference_transition mutator.phase tree m o)
+linked_transition tree mutator (LoadElement kind) m o ss c = of_objects o ss c (load_element_transition (kind_of_elements kind) m o)
+linked_transition tree mutator (StoreElement kind) m o ss c = of_objects o ss c (element_store_transition mutator.phase tree kind m o)
 linked_transition tree mutator (CastClass t) m o ss c = of_objects o ss c (cast_class_transition tree t m o)
 linked_transition tree mutator (IsInstance t) m o ss c = of_objects o ss c (is_instance_transition tree t m o)
 linked_transition tree mutator (Call number) m o ss c = of_calls o ss c (call_by_id tree mutator number m o c)

@@ -14,8 +14,8 @@ use Rattle.loaded_program.specs.declared.instructions.LinkedInstruction.TheVaria
 use Rattle.threads_monitors.specs.declared.mutators.Mutator.{Mutator}
 use Rattle.threads_monitors.specs.declared.effects.Effect.TheVariants.{Continues, Raises}
 use Rattle.threads_monitors.specs.Frames.{Frame, Frames}
-use Rattle.instructions.specs.Frames.{Transition, jump, onward, value_pushed, argument_transition, local_transition, store_argument_transition, store_local_transition, duplicate_transition, pop_transition, binary_transition, unary_transition, shift_transition, convert_32_transition, convert_64_transition, branch_true_transition, branch_false_transition, switch_transition}
-use Rattle.instructions.specs.LocalTransitions.{branch_integers_transition, compare_integers_transition, is_ordered, is_ordered_branch}
+use Rattle.instructions.specs.Frames.{Transition, onward, value_pushed, argument_transition, local_transition, store_argument_transition, store_local_transition, duplicate_transition, pop_transition, binary_transition, unary_transition, shift_transition, convert_32_transition, convert_64_transition, switch_transition}
+use Rattle.instructions.specs.LocalTransitions.{compare_integers_transition, is_local_branch, is_ordered, local_branch_transition}
 use Rattle.interpreter.specs.declared.outcomes.InstructionOutcome.TheVariants.{OwnEffect}
 use Rattle.interpreter.specs.Instructions.{HasSmallConstant, IsAt, IsDone, answer_of, line_at, link_of, operation_transition}
 
@@ -40,10 +40,7 @@ is_local_link (Linked.Shift op) = true
 is_local_link (Linked.Compare op) = is_ordered op
 is_local_link Linked.ConvertInt32 = true
 is_local_link Linked.ConvertInt64 = true
-is_local_link (Linked.Branch pc) = true
-is_local_link (Linked.BranchTrue pc) = true
-is_local_link (Linked.BranchFalse pc) = true
-is_local_link (Linked.BranchCompare op pc) = is_ordered_branch op
+is_local_link (Linked.Branch condition pc) = is_local_branch condition
 is_local_link (Linked.Switch pcs) = true
 is_local_link _ = false
 
@@ -127,9 +124,6 @@ local_link_transition (Linked.Shift op) m = shift_transition op m
 local_link_transition (Linked.Compare op) m = compare_integers_transition op m
 local_link_transition Linked.ConvertInt32 m = convert_32_transition m
 local_link_transition Linked.ConvertInt64 m = convert_64_transition m
-local_link_transition (Linked.Branch pc) m = jump pc m
-local_link_transition (Linked.BranchTrue pc) m = branch_true_transition pc m
-local_link_transition (Linked.BranchFalse pc) m = branch_false_transition pc m
-local_link_transition (Linked.BranchCompare op pc) m = branch_integers_transition op pc m
+local_link_transition (Linked.Branch condition pc) m = local_branch_transition condition pc m
 local_link_transition (Linked.Switch pcs) m = switch_transition pcs m
 local_link_transition _ m = None

@@ -80,14 +80,14 @@ pub(crate) fn run(
     ensures refused { OnErr result ((frames.new ≡ frames.old) × HoldSame store.old store.new) }
     ensures prints { OnErr result (prints store.old.console.items (call_by_id program.now mutator number frames.old store.old.heap store.old.console.items) ≡ true) }
 {
-    let entry = program.method(number);
-    match entry.action {
+    let loaded = program.method(number);
+    match loaded.action {
         Some(action) => act(program, mutator, action, frames, store),
         None => {
             let callee = Callee {
                 method: number,
-                arguments: entry.arguments,
-                locals: entry.locals.as_slice(),
+                arguments: loaded.arguments,
+                locals: loaded.locals.as_slice(),
             };
             Ok(InstructionOutcome::OwnEffect(call(frames, callee)))
         }
@@ -156,14 +156,14 @@ pub(crate) fn create(
     requires { IsSome (made_by_id program.now mutator class slots number frames.old heap.old) }
     ensures { Some (frames.new, heap.new, result) ≡ made_by_id program.now mutator class slots number frames.old heap.old }
 {
-    let entry = program.method(number);
-    match entry.action {
+    let loaded = program.method(number);
+    match loaded.action {
         Some(_) => new_plain_object(frames, heap, mutator.phase, class, slots),
         None => {
             let callee = Callee {
                 method: number,
-                arguments: entry.arguments,
-                locals: entry.locals.as_slice(),
+                arguments: loaded.arguments,
+                locals: loaded.locals.as_slice(),
             };
             new_object(frames, heap, mutator.phase, class, slots, callee)
         }

@@ -7,10 +7,11 @@ ghost use Rattle.interpreter.specs.Stores.{HoldSame};
 use crate::calls::{create, run, run_virtual};
 use crate::outcomes::InstructionOutcome;
 use crate::stores::Store;
+use cil_model::instructions::ElementKind;
 use cil_model::memory::NoMemory;
 use instructions::{arithmetic, arrays, branches, casts, control, fields, returns, stack, statics};
 use loaded_program::{LinkedInstruction, LoadedProgram};
-use object_memory::{Addr, Value};
+use object_memory::{Addr, Value, ValueKind};
 use threads_monitors::{FrameMemory, Mutator};
 
 /// Does a linked instruction of a thread (ECMA-335 III.3, III.4). `NoMemory` of a print alone, where nothing is changed; no other
@@ -59,14 +60,11 @@ pub(crate) fn execute(
         ),
         LinkedInstruction::ConvertInt32 => arithmetic::convert_to_32(frames),
         LinkedInstruction::ConvertInt64 => arithmetic::convert_to_64(frames),
-        LinkedInstruction::Branch(pc) => control::jump(frames, *pc),
-        LinkedInstruction::BranchTrue(pc) => branches::branch_true(frames, *pc),
-        LinkedInstruction::BranchFalse(pc) => branches::branch_false(frames, *pc),
-        LinkedInstruction::BranchCompare(comparison, pc) => branches::branch_compare(
+        LinkedInstruction::Branch(condition, pc) => branches::branch(
             frames,
             &store.heap,
             mutator.phase,
-            *comparison,
+            *condition,
             *pc,
         ),
         LinkedInstruction::Switch(pcs) => branches::switch(frames, pcs.as_slice()),
@@ -104,20 +102,18 @@ pub(crate) fn execute(
         LinkedInstruction::LoadElement(kind) => arrays::load_element(
             frames,
             &mut store.heap,
-            *kind,
+            ValueKind::of_elements(*kind),
         ),
-        LinkedInstruction::StoreElement => arrays::store_element(
-            frames,
-            &mut store.heap,
-            mutator.phase,
-        ),
-        LinkedInstruction::StoreElementReference => casts::store_reference(
+        LinkedInstruction::StoreElement(ElementKind::Reference) => casts::store_reference(
             program.program(),
             program.layout(),
             frames,
             &mut store.heap,
             mutator.phase,
         ),
+        LinkedInstruction::StoreElement(ElementKind::Int32 | ElementKind::Int64) => {
+            arrays::store_element(frames, &mut store.heap, mutator.phase)
+        }
         LinkedInstruction::CastClass(to) => casts::cast_class(
             program.program(),
             program.layout(),

@@ -5,10 +5,10 @@ ghost use Rattle.cil_model.specs.declared.trees.Tree.{Tree};
 ghost use Rattle.loaded_program.specs.Loaded.{IsCode, IsLinkedAt, line_in};
 ghost use Rattle.threads_monitors.specs.Frames.{Frame, with_running};
 ghost use Rattle.threads_monitors.specs.declared.effects.Effect.TheVariants.{Continues};
-ghost use Rattle.instructions.specs.LocalTransitions.{IsFaulty, is_ordered, is_ordered_branch};
+ghost use Rattle.instructions.specs.LocalTransitions.{IsFaulty, is_local_branch, is_ordered, is_ordered_branch};
 ghost use Rattle.interpreter.specs.Local.{AreLocalSteps, EndsLocal, IsNextLocal, IsReadySomewhere, is_local_link, local_link_transition};
 
-use cil_model::instructions::{BranchComparison, Comparison};
+use cil_model::instructions::{BranchComparison, BranchCondition, Comparison};
 use instructions::{arithmetic, branches, control, stack};
 use loaded_program::{LinkedInstruction, LoadedProgram};
 use object_memory::{Addr, Value};
@@ -37,6 +37,16 @@ fn is_ordered_branch(comparison: BranchComparison) -> bool
     }
 }
 
+/// Whether a branch compares no references.
+fn is_local_branch(condition: BranchCondition) -> bool
+    ensures { result ≡ is_local_branch condition }
+{
+    match condition {
+        BranchCondition::Compare(comparison) => is_ordered_branch(comparison),
+        BranchCondition::Always | BranchCondition::IfTrue | BranchCondition::IfFalse => true,
+    }
+}
+
 /// Whether an instruction needs nothing but the frame that runs.
 fn is_local(instruction: &LinkedInstruction) -> bool
     ensures { result ≡ is_local_link instruction.now }
@@ -57,12 +67,9 @@ fn is_local(instruction: &LinkedInstruction) -> bool
         | LinkedInstruction::Shift(_)
         | LinkedInstruction::ConvertInt32
         | LinkedInstruction::ConvertInt64
-        | LinkedInstruction::Branch(_)
-        | LinkedInstruction::BranchTrue(_)
-        | LinkedInstruction::BranchFalse(_)
         | LinkedInstruction::Switch(_) => true,
         LinkedInstruction::Compare(comparison) => is_ordered(*comparison),
-        LinkedInstruction::BranchCompare(comparison, _) => is_ordered_branch(*comparison),
+        LinkedInstruction::Branch(condition, _) => is_local_branch(*condition),
         _ => false,
     }
 }
@@ -98,12 +105,7 @@ fn execute_local(instruction: &LinkedInstruction, frames: &mut FrameMemory) -> E
         }
         LinkedInstruction::ConvertInt32 => arithmetic::convert_to_32(frames),
         LinkedInstruction::ConvertInt64 => arithmetic::convert_to_64(frames),
-        LinkedInstruction::Branch(pc) => control::jump(frames, *pc),
-        LinkedInstruction::BranchTrue(pc) => branches::branch_true(frames, *pc),
-        LinkedInstruction::BranchFalse(pc) => branches::branch_false(frames, *pc),
-        LinkedInstruction::BranchCompare(comparison, pc) => {
-            branches::branch_integers(frames, *comparison, *pc)
-        }
+        LinkedInstruction::Branch(condition, pc) => branches::local_branch(frames, *condition, *pc),
         LinkedInstruction::Switch(pcs) => branches::switch(frames, pcs.as_slice()),
         _ => unreachable!(),
     }

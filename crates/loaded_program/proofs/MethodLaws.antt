@@ -1,6 +1,6 @@
--- Linked methods.
+-- Loaded methods.
 use Rattle.std.proofs.Common.{◌≡◌, ◌<◌, ℕ, zero, suc, if◌then◌else◌, List, [], ◌∷◌, length, Option, Some, None, slice_get, refl, sym, ap, subst, ◌∙◌, arith}
-use Rattle.std.specs.Prelude.{IsSome}
+use Rattle.std.specs.Prelude.{IsSome, is_some, option_and_then}
 use Rattle.cil_model.specs.declared.types.ClassName.{ClassName}
 use Rattle.cil_model.specs.declared.trees.Tree.{Tree}
 use Rattle.cil_model.specs.declared.trees.Line.{Line}
@@ -23,10 +23,9 @@ use Rattle.cil_model.specs.Slots.{target, class_target, interface_target}
 use Rattle.name_tables.specs.Numbers.{declarations}
 use Rattle.resolved_code.specs.ById.{class_name}
 use Rattle.loaded_program.specs.AllMethods.{all_methods}
-use Rattle.loaded_program.specs.declared.linked_methods.LinkedMethod.{LinkedMethod}
-use Rattle.loaded_program.specs.declared.linked_methods.Targets.{Targets}
-use Rattle.loaded_program.specs.declared.linked_methods.Targets.TheVariants.{Itself, ByClass}
-use Rattle.loaded_program.specs.Loaded.{AreTargets, IsLinkedAt, IsLinkedMethod, IsLinkedOperation, IsLinkedLine, IsTarget, chosen_by, has_value, line_in, operations_of, target_in, target_number}
+use Rattle.loaded_program.specs.declared.loaded_methods.Targets.{Targets}
+use Rattle.loaded_program.specs.declared.loaded_methods.Targets.TheVariants.{Itself, ByClass}
+use Rattle.loaded_program.specs.Loaded.{AreTargets, IsCode, IsLinkedAt, IsLinkedOperation, IsLinkedLine, IsTarget, chosen_by, has_value, line_in, operations_of, target_in, target_number}
 use Rattle.loaded_program.proofs.OperandLaws.{map_some, then_some}
 
 -- the item of the second list at an index of the first
@@ -84,45 +83,34 @@ there_at [] n within = absurd (omega arith)
 there_at (x ∷ xs) zero within = (x, refl)
 there_at (x ∷ xs) (suc n) within = there_at xs n (omega arith)
 
--- the line at a pc of a method, linked
-module _ (tree : Tree) (methods : List LinkedMethod) (linked : AllAlike (IsLinkedMethod tree) (all_methods tree) methods) (number : ℕ) where
-  pub method_found : (found : ClassName × Method) → slice_get (all_methods tree) number ≡ Some found → (method : LinkedMethod) × (slice_get methods number ≡ Some method) × IsLinkedMethod tree found method
-  method_found found at = alike_from (IsLinkedMethod tree) (all_methods tree) methods number found linked at
+-- the line at a pc of the method of a flat number, linked
+module _ (tree : Tree) (number index : ℕ) (there : IsSome (line_in tree number index)) where
+  lined : (line : Line) × (line_in tree number index ≡ Some line)
+  lined = some_of (line_in tree number index) there
 
-  -- a method and its line
-  pub record Lined (index : ℕ) : Type 0 where
-    pub found : ClassName × Method
-    pub line : Line
-    pub found_is : slice_get (all_methods tree) number ≡ Some found
-    pub line_is : slice_get (lines_of found.1) index ≡ Some line
+  -- there is such a method
+  pub has_code : IsSome (slice_get (all_methods tree) number)
+  has_code = ap is_some (then_some (λ (found : ClassName × Method). slice_get (lines_of found.1) index) (slice_get (all_methods tree) number) lined.0 lined.1).1
 
-  pub lined : (index : ℕ) → IsSome (line_in tree number index) → Lined index
-  lined index there =
-      let line = some_of (line_in tree number index) there in
-      let found = then_some (λ (found : ClassName × Method). slice_get (lines_of found.1) index) (slice_get (all_methods tree) number) line.0 line.1 in
-      record { found = found.0; line = line.0; found_is = found.1; line_is = found.2 }
+  module _ (code : List LinkedInstruction) (is : IsCode tree number code) where
+    line_at : slice_get (lines_of is.found.1) index ≡ Some lined.0
+    line_at = sym (ap (option_and_then (λ (found : ClassName × Method). slice_get (lines_of found.1) index)) is.found_is) ∙ lined.1
 
-  pub is_linked_at : (index : ℕ) (here : Lined index) (method : LinkedMethod) (l : LinkedInstruction) → slice_get methods number ≡ Some method → slice_get method.code.items index ≡ Some l → IsLinkedAt tree number index l
-  is_linked_at index here method l method_is l_is =
-      let known = method_found here.found here.found_is in
-      let same : known.0 ≡ method = same_Some known.0 method (sym known.1 ∙ method_is) in
-      let code : AllAlike (IsLinkedLine tree here.found) (lines_of here.found.1) method.code.items = subst (λ (m : LinkedMethod). AllAlike (IsLinkedLine tree here.found) (lines_of here.found.1) m.code.items) same known.2.code in
-      let line = alike_from (IsLinkedLine tree here.found) (lines_of here.found.1) method.code.items index here.line code here.line_is in
-      record { found = here.found; line = here.line; found_is = here.found_is; line_is = here.line_is; linked = subst (IsLinkedLine tree here.found here.line) (same_Some line.0 l (sym line.1 ∙ l_is)) line.2 }
+    here : (l : LinkedInstruction) × (slice_get code index ≡ Some l) × IsLinkedLine tree is.found lined.0 l
+    here = alike_from (IsLinkedLine tree is.found) (lines_of is.found.1) code index lined.0 is.lines line_at
 
-  -- the pc is within the code
-  pub within_code : (index : ℕ) (here : Lined index) (method : LinkedMethod) → slice_get methods number ≡ Some method → index < length method.code.items
-  within_code index here method method_is =
-      let known = method_found here.found here.found_is in
-      let same : known.0 ≡ method = same_Some known.0 method (sym known.1 ∙ method_is) in
-      let code : AllAlike (IsLinkedLine tree here.found) (lines_of here.found.1) method.code.items = subst (λ (m : LinkedMethod). AllAlike (IsLinkedLine tree here.found) (lines_of here.found.1) m.code.items) same known.2.code in
-      let line = alike_from (IsLinkedLine tree here.found) (lines_of here.found.1) method.code.items index here.line code here.line_is in
-      slice_get_within method.code.items index line.0 line.1
+    -- the pc is within the code
+    pub within_code : index < length code
+    within_code = slice_get_within code index here.0 here.1
 
-  -- ---- targets
+    pub is_linked_at : (l : LinkedInstruction) → slice_get code index ≡ Some l → IsLinkedAt tree number index l
+    is_linked_at l l_is = record { found = is.found; line = lined.0; found_is = is.found_is; line_is = line_at; linked = subst (IsLinkedLine tree is.found lined.0) (same_Some here.0 l (sym here.1 ∙ l_is)) here.2 }
 
+-- ---- targets
+
+module _ (tree : Tree) (number : ℕ) where
   -- what is found runs
-  by_targets : (found : ClassName × Method) (class : Option ℕ) (targets : Targets) → slice_get (all_methods tree) number ≡ Some found → AreTargets tree found targets → (run : ClassName × Method) → chosen_by tree found class ≡ Some run
+  pub by_targets : (found : ClassName × Method) (class : Option ℕ) (targets : Targets) → slice_get (all_methods tree) number ≡ Some found → AreTargets tree found targets → (run : ClassName × Method) → chosen_by tree found class ≡ Some run
       → (target : ℕ) × (target_number targets number class ≡ Some target) × (slice_get (all_methods tree) target ≡ Some run)
   by_targets found None Itself at plain run e =
       let same : found ≡ run = same_Some found run (sym (ap (λ b. if b then None else Some found) plain) ∙ e) in
@@ -138,17 +126,16 @@ module _ (tree : Tree) (methods : List LinkedMethod) (linked : AllAlike (IsLinke
       let known = alike_from (λ (e : ClassName × Declaration) number. IsTarget tree found e.0 number) (declarations tree) row.items n entry.0 targets.1 entry.1 in
       (known.0, known.1, known.2 run (ap (λ d. target tree d found.0 found.1) entry.2 ∙ class.2))
 
-  pub record Targeted (class : Option ℕ) : Type 0 where
-    pub method : LinkedMethod
-    pub target : ℕ
-    pub method_is : slice_get methods number ≡ Some method
-    pub target_is : target_number method.targets number class ≡ Some target
-    pub runs : slice_get (all_methods tree) target ≡ target_in tree number class
+  -- a method, and what runs in its place
+  pub record Chosen (class : Option ℕ) : Type 0 where
+    pub found : ClassName × Method
+    pub run : ClassName × Method
+    pub found_is : slice_get (all_methods tree) number ≡ Some found
+    pub run_is : chosen_by tree found class ≡ Some run
+    pub target_is : target_in tree number class ≡ Some run
 
-  pub targeted : (class : Option ℕ) → IsSome (target_in tree number class) → Targeted class
-  targeted class there =
+  pub chosen : (class : Option ℕ) → IsSome (target_in tree number class) → Chosen class
+  chosen class there =
       let run = some_of (target_in tree number class) there in
       let found = then_some (λ (found : ClassName × Method). chosen_by tree found class) (slice_get (all_methods tree) number) run.0 run.1 in
-      let method = method_found found.0 found.1 in
-      let target = by_targets found.0 class method.0.targets found.1 method.2.targets run.0 found.2 in
-      record { method = method.0; target = target.0; method_is = method.1; target_is = target.1; runs = target.2 ∙ sym run.1 }
+      record { found = found.0; run = run.0; found_is = found.1; run_is = found.2; target_is = run.1 }

@@ -9,7 +9,6 @@ use Rattle.name_tables.specs.Numbers.{method_at}
 use Rattle.resolved_code.specs.declared.operations.Operation.{Operation}
 use Rattle.resolved_code.specs.declared.operations.Operation.TheVariants as Resolved
 use Rattle.object_memory.specs.declared.addresses.TheConstants.{FIRST_LITERAL}
-use Rattle.object_memory.specs.declared.values.ValueKind.TheVariants as Kind
 use Rattle.object_memory.specs.Cells.{literal}
 use Rattle.loaded_program.specs.AllMethods.{flat_number}
 use Rattle.loaded_program.specs.declared.instructions.LinkedInstruction.{LinkedInstruction}
@@ -51,10 +50,7 @@ link tree has_value (Resolved.Shift op) = Some (Linked.Shift op)
 link tree has_value (Resolved.Compare op) = Some (Linked.Compare op)
 link tree has_value Resolved.ConvertInt32 = Some Linked.ConvertInt32
 link tree has_value Resolved.ConvertInt64 = Some Linked.ConvertInt64
-link tree has_value (Resolved.Branch index) = Some (Linked.Branch index)
-link tree has_value (Resolved.BranchTrue index) = Some (Linked.BranchTrue index)
-link tree has_value (Resolved.BranchFalse index) = Some (Linked.BranchFalse index)
-link tree has_value (Resolved.BranchCompare op index) = Some (Linked.BranchCompare op index)
+link tree has_value (Resolved.Branch condition index) = Some (Linked.Branch condition index)
 link tree has_value (Resolved.Switch indices) = Some (Linked.Switch indices)
 link tree has_value (Resolved.LoadField owner field) = field_link tree field
 link tree has_value (Resolved.StoreField owner field) = option_map (λ slot. Linked.StoreField slot) (slot_at tree field)
@@ -62,12 +58,8 @@ link tree has_value (Resolved.LoadStaticField field) = option_map (λ number. Li
 link tree has_value (Resolved.StoreStaticField field) = option_map (λ number. Linked.StoreStaticField number) (static_at tree field)
 link tree has_value (Resolved.NewArray t) = option_map (λ element. Linked.NewArray element) (array_held t)
 link tree has_value Resolved.LoadLength = Some Linked.LoadLength
-link tree has_value Resolved.LoadElementInt32 = Some (Linked.LoadElement Kind.Int32)
-link tree has_value Resolved.LoadElementInt64 = Some (Linked.LoadElement Kind.Int64)
-link tree has_value Resolved.LoadElementReference = Some (Linked.LoadElement Kind.Ref)
-link tree has_value Resolved.StoreElementInt32 = Some Linked.StoreElement
-link tree has_value Resolved.StoreElementInt64 = Some Linked.StoreElement
-link tree has_value Resolved.StoreElementReference = Some Linked.StoreElementReference
+link tree has_value (Resolved.LoadElement kind) = Some (Linked.LoadElement kind)
+link tree has_value (Resolved.StoreElement kind) = Some (Linked.StoreElement kind)
 link tree has_value (Resolved.CastClass t) = Some (Linked.CastClass t)
 link tree has_value (Resolved.IsInstance t) = Some (Linked.IsInstance t)
 link tree has_value (Resolved.Call is_instance owner method) = option_map (λ number. Linked.Call number) (number_at tree method)

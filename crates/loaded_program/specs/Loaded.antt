@@ -1,14 +1,15 @@
 -- What a loaded program holds.
-use Rattle.std.specs.Prelude.{◌≡◌, ℕ, Bool, true, false, if◌then◌else◌, List, [], is_some, Option, Some, None, option_and_then, slice_get}
+use Rattle.std.specs.Prelude.{◌≡◌, ◌<◌, ◌^◌, ℕ, Bool, true, false, if◌then◌else◌, List, [], length, is_some, Option, Some, None, option_map, option_and_then, slice_get}
 use Rattle.cil_model.specs.declared.types.ClassName.{ClassName}
 use Rattle.cil_model.specs.declared.trees.Tree.{Tree}
 use Rattle.cil_model.specs.declared.trees.Line.{Line}
 use Rattle.cil_model.specs.declared.trees.Method.{Method}
-use Rattle.cil_model.specs.Bodies.{lines_of}
+use Rattle.cil_model.specs.Bodies.{argument_types, lines_of}
 use Rattle.cil_model.specs.Chains.{is_virtual}
 use Rattle.cil_model.specs.Declarations.{Declaration}
 use Rattle.cil_model.specs.Slots.{target}
-use Rattle.name_tables.specs.Numbers.{declarations}
+use Rattle.name_tables.specs.Numbers.{declarations, method_at}
+use Rattle.reference_machine.specs.BuiltIn.{action_of}
 use Rattle.resolved_code.specs.Resolved.{AllAlike, IsOperation}
 use Rattle.resolved_code.specs.ById.{class_name}
 use Rattle.resolved_code.specs.declared.classes.ResolvedKind.{ResolvedKind}
@@ -16,21 +17,26 @@ use Rattle.resolved_code.specs.declared.classes.ResolvedKind.TheVariants.{Static
 use Rattle.resolved_code.specs.declared.operations.Operation.{Operation}
 use Rattle.class_layout.specs.declared.layout.Layout.{Layout}
 use Rattle.class_layout.specs.Laid.{IsLayout}
-use Rattle.loaded_program.specs.AllMethods.{all_methods}
-use Rattle.loaded_program.specs.declared.table.MethodTable.{MethodTable}
-use Rattle.loaded_program.specs.Prepared.{IsMethodTable}
+use Rattle.loaded_program.specs.AllMethods.{all_methods, first_numbers}
+use Rattle.loaded_program.specs.Prepared.{action_named, local_kinds}
+use Rattle.loaded_program.specs.declared.numbers.MethodNumbers.{MethodNumbers}
 use Rattle.loaded_program.specs.declared.instructions.LinkedInstruction.{LinkedInstruction}
 use Rattle.loaded_program.specs.declared.linker.Linker.{Linker}
-use Rattle.loaded_program.specs.declared.linked_methods.LinkedMethod.{LinkedMethod}
-use Rattle.loaded_program.specs.declared.linked_methods.Targets.{Targets}
-use Rattle.loaded_program.specs.declared.linked_methods.Targets.TheVariants.{Itself, ByClass}
+use Rattle.loaded_program.specs.declared.loaded_methods.LoadedMethod.{LoadedMethod}
+use Rattle.loaded_program.specs.declared.loaded_methods.Targets.{Targets}
+use Rattle.loaded_program.specs.declared.loaded_methods.Targets.TheVariants.{Itself, ByClass}
 use Rattle.loaded_program.specs.Operands.{HasSmallConstant}
 use Rattle.loaded_program.specs.Links.{IsLinked}
+
+-- the flat numbers of a tree's methods, which have 32 bits, by those of each class's first one
+pub record AreMethodNumbers (tree : Tree) (numbers : MethodNumbers) : Type 0 where
+  pub first : numbers.first.items ≡ first_numbers 0 (declarations tree)
+  pub few : length (all_methods tree) < 2 ^ 32
 
 -- what instructions are linked by is of one program
 pub record CanLink (linker : Linker) : Type 0 where
   pub laid_out : IsLayout linker.program.now linker.layout.now
-  pub has_id : IsMethodTable linker.program.now linker.table.now
+  pub numbered : AreMethodNumbers linker.program.now linker.numbers.now
 
 -- the resolved instructions of a method; none where it has no code (II.15.4.2)
 abbrev pub operations_of : ResolvedKind → List Operation
@@ -69,16 +75,21 @@ target_number Itself method class = Some method
 target_number (ByClass row) method None = Some method
 target_number (ByClass row) method (Some n) = slice_get row.items n
 
--- a method, linked
-pub record IsLinkedMethod (tree : Tree) (found : ClassName × Method) (method : LinkedMethod) : Type 0 where
-  pub code : AllAlike (IsLinkedLine tree found) (lines_of found.1) method.code.items
-  pub targets : AreTargets tree found method.targets
+-- a method of a class, loaded
+pub record IsLoadedMethod (tree : Tree) (found : ClassName × Method) (loaded : LoadedMethod) : Type 0 where
+  pub member : method_at tree (loaded.member.class, loaded.member.index) ≡ Some found
+  pub arguments : loaded.arguments ≡ length (argument_types found.1 found.0)
+  pub locals : loaded.locals.items ≡ local_kinds found.1
+  pub has_value : loaded.has_value ≡ is_some found.1.signature.return_type
+  pub action : option_map action_named loaded.action ≡ action_of found.0 found.1
+  pub code : AllAlike (IsLinkedLine tree found) (lines_of found.1) loaded.code.items
+  pub targets : AreTargets tree found loaded.targets
 
 -- a loaded program
-pub record IsLoaded (tree : Tree) (layout : Layout) (table : MethodTable) (methods : List LinkedMethod) : Type 0 where
+pub record IsLoaded (tree : Tree) (layout : Layout) (numbers : MethodNumbers) (methods : List LoadedMethod) : Type 0 where
   pub laid_out : IsLayout tree layout
-  pub has_id : IsMethodTable tree table
-  pub linked : AllAlike (IsLinkedMethod tree) (all_methods tree) methods
+  pub numbered : AreMethodNumbers tree numbers
+  pub loaded : AllAlike (IsLoadedMethod tree) (all_methods tree) methods
 
 -- ---- what is found
 

@@ -6,6 +6,7 @@ use Rattle.cil_model.specs.declared.types.ClassName.{ClassName}
 use Rattle.cil_model.specs.declared.trees.Tree.{Tree}
 use Rattle.cil_model.specs.declared.trees.Field.{Field}
 use Rattle.cil_model.specs.Fields.{FieldKey, instance_slot, static_slot, slot_types}
+use Rattle.cil_model.specs.ValueKinds.{kind_of_type}
 use Rattle.name_tables.specs.declared.lookups.MemberNumber.{MemberNumber}
 use Rattle.name_tables.specs.Numbers.{field_at}
 use Rattle.resolved_code.specs.ById.{class_name}
@@ -17,8 +18,7 @@ use Rattle.resolved_code.specs.declared.types.ResolvedType.{ResolvedType}
 use Rattle.object_memory.specs.declared.kinds.ArrayElement.{ArrayElement}
 use Rattle.object_memory.specs.declared.kinds.ElementType.{ElementType}
 use Rattle.object_memory.specs.declared.kinds.ElementType.TheVariants.{Int32 as HeldInt32, Int64 as HeldInt64, Object as HeldObject, String as HeldString, Class as HeldClass}
-use Rattle.object_memory.specs.declared.values.ValueKind.{ValueKind}
-use Rattle.loaded_program.specs.Prepared.{kind_of_type}
+use Rattle.cil_model.specs.declared.values.ValueKind.{ValueKind}
 
 -- the integer of a constant has the bits of its size (III.3.40)
 abbrev pub HasSmallConstant : Operation → Type 0

@@ -1,26 +1,9 @@
--- What the table takes from classes and methods whose types are given by number.
-use Rattle.std.specs.Prelude.{ℕ, zero, suc, ◌+◌, List, [], ◌∷◌, length}
-use Rattle.resolved_code.specs.declared.types.ResolvedElement.{ResolvedElement}
-use Rattle.resolved_code.specs.declared.types.ResolvedElement.TheVariants.{Int32, Int64, Object, String, Class}
+-- What loaded methods take from classes and methods whose types are given by number.
+use Rattle.std.specs.Prelude.{ℕ, ◌+◌, List, [], ◌∷◌, length}
 use Rattle.resolved_code.specs.declared.types.ResolvedType.{ResolvedType}
 use Rattle.resolved_code.specs.declared.classes.ResolvedKind.{ResolvedKind}
 use Rattle.resolved_code.specs.declared.classes.ResolvedKind.TheVariants.{Static, Instance, Virtual, Abstract}
 use Rattle.resolved_code.specs.declared.classes.ResolvedMethod.{ResolvedMethod}
-use Rattle.object_memory.specs.declared.values.ValueKind.{ValueKind}
-use Rattle.object_memory.specs.declared.values.ValueKind.TheVariants as Kind
-
--- what a variable of a type holds: every type but the two integers is a reference (I.8.2.1)
-abbrev pub resolved_kind_at : ResolvedElement → ℕ → ValueKind
-resolved_kind_at e (suc n) = Kind.Ref
-resolved_kind_at Int32 zero = Kind.Int32
-resolved_kind_at Int64 zero = Kind.Int64
-resolved_kind_at Object zero = Kind.Ref
-resolved_kind_at String zero = Kind.Ref
-resolved_kind_at (Class n) zero = Kind.Ref
-
--- the same, of a type
-abbrev pub kind_of_resolved : ResolvedType → ValueKind
-kind_of_resolved t = resolved_kind_at t.element t.brackets
 
 -- the types of the locals of a method; none where it has no code (II.15.4.1.3)
 abbrev pub resolved_locals : ResolvedKind → List ResolvedType

@@ -1,7 +1,7 @@
 //! Linked instructions (ECMA-335 III.3 and III.4).
 
 use cil_model::instructions::{
-    BinaryOperation, BranchComparison, Comparison, ShiftOperation, UnaryOperation,
+    BinaryOperation, BranchCondition, Comparison, ElementKind, ShiftOperation, UnaryOperation,
 };
 use cil_model::sequences::Sequence;
 use object_memory::{Addr, ArrayElement, ValueKind};
@@ -44,14 +44,8 @@ pub enum LinkedInstruction {
     ConvertInt32,
     /// `conv.i8`
     ConvertInt64,
-    /// `br`
-    Branch(usize),
-    /// `brtrue`
-    BranchTrue(usize),
-    /// `brfalse`
-    BranchFalse(usize),
-    /// `beq`, `bne.un`, `bge`, `bgt`, `ble`, `blt`
-    BranchCompare(BranchComparison, usize),
+    /// `br`, `brtrue`, `brfalse`, `beq`, `bne.un`, `bge`, `bgt`, `ble`, `blt`
+    Branch(BranchCondition, usize),
     /// `switch`
     Switch(Sequence<usize>),
     /// `ldfld`
@@ -67,11 +61,9 @@ pub enum LinkedInstruction {
     /// `ldlen`
     LoadLength,
     /// `ldelem.i4`, `ldelem.i8`, `ldelem.ref`
-    LoadElement(ValueKind),
-    /// `stelem.i4`, `stelem.i8`
-    StoreElement,
-    /// `stelem.ref`
-    StoreElementReference,
+    LoadElement(ElementKind),
+    /// `stelem.i4`, `stelem.i8`, `stelem.ref`
+    StoreElement(ElementKind),
     /// `castclass`
     CastClass(ResolvedType),
     /// `isinst`

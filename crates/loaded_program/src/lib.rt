@@ -7,15 +7,15 @@
 mod actions;
 mod instructions;
 pub mod laws;
-mod linked_methods;
 mod linker;
 mod loaded;
+mod loaded_methods;
 mod methods;
+mod numbers;
 mod operands;
 mod parts;
-mod table;
 
 pub use actions::Action;
 pub use instructions::LinkedInstruction;
 pub use loaded::LoadedProgram;
-pub use methods::{TableMethod, value_kind};
+pub use loaded_methods::LoadedMethod;

@@ -1,21 +1,21 @@
 //! Instructions are linked one by one.
 
-ghost use Rattle.std.specs.Prelude.{◌≡◌, ℕ, Some, FitsSigned, IfOk, length, slice_get};
+ghost use Rattle.std.specs.Prelude.{◌≡◌, ℕ, Some, FitsSigned, IfOk, length};
 ghost use Rattle.std.specs.Int.{w32, w64};
 ghost use Rattle.cil_model.specs.declared.types.ClassName.{ClassName};
 ghost use Rattle.cil_model.specs.declared.trees.Method.{Method};
 ghost use Rattle.cil_model.specs.Bodies.{argument_types};
-ghost use Rattle.object_memory.specs.declared.values.ValueKind.{ValueKind as AnyKind};
-ghost use Rattle.loaded_program.specs.AllMethods.{all_methods};
+ghost use Rattle.cil_model.specs.declared.values.ValueKind.{ValueKind as AnyKind};
+ghost use Rattle.name_tables.specs.Numbers.{method_at};
 ghost use Rattle.loaded_program.specs.declared.instructions.LinkedInstruction.{LinkedInstruction as AnyLinked};
 ghost use Rattle.loaded_program.specs.Operands.{HasSmallConstant, held_at, slot_at, slots_at, static_at};
 ghost use Rattle.loaded_program.specs.Links.{IsLinked, number_at, virtual_link};
 ghost use Rattle.loaded_program.specs.Loaded.{CanLink};
 
 use crate::instructions::LinkedInstruction;
-use crate::methods::resolved_kind;
+use crate::methods::argument_count;
+use crate::numbers::MethodNumbers;
 use crate::operands::{array_element, class_of, in_32_bits, literal_address};
-use crate::table::MethodTable;
 use cil_model::memory::NoMemory;
 use cil_model::sequences::Sequence;
 use class_layout::Layout;
@@ -30,7 +30,7 @@ use std::alloc::Global;
 pub(crate) struct Linker<'a> {
     pub program: &'a Program,
     pub layout: &'a Layout,
-    pub table: &'a MethodTable,
+    pub numbers: &'a MethodNumbers,
 }
 
 /// A number of 32 bits is one.
@@ -81,7 +81,7 @@ impl Linker<'_> {
         ensures { (kind : AnyKind) → held_at self.now.program.now field ≡ Some kind → result ≡ kind }
     {
         match self.program.field(field) {
-            Some(field) => resolved_kind(field.field_type),
+            Some(field) => field.field_type.kind(),
             None => ValueKind::Ref,
         }
     }
@@ -99,16 +99,15 @@ impl Linker<'_> {
         requires { CanLink self.now }
         ensures { (n : ℕ) → number_at self.now.program.now member ≡ Some n → result ≡ n }
     {
-        self.table.number(member)
+        self.numbers.number(member)
     }
 
-    /// How many operands a call of a method takes, the object counted. Any where no method has the number.
-    fn operands(&self, number: u32) -> usize
-        requires { CanLink self.now }
-        ensures { (found : ClassName × Method) → slice_get (all_methods self.now.program.now) number ≡ Some found → result ≡ length (argument_types found.1 found.0) }
+    /// How many operands a call of a method takes, the object counted. Any where no method is there.
+    fn operands(&self, member: MemberNumber) -> usize
+        ensures { (found : ClassName × Method) → method_at self.now.program.now (member.class, member.index) ≡ Some found → result ≡ length (argument_types found.1 found.0) }
     {
-        match self.table.method(number) {
-            Some(entry) => entry.arguments,
+        match self.program.method(member) {
+            Some(method) => argument_count(method),
             None => 0,
         }
     }
@@ -118,10 +117,9 @@ impl Linker<'_> {
         requires { CanLink self.now }
         ensures { (required : AnyLinked) → virtual_link self.now.program.now member ≡ Some required → result ≡ required }
     {
-        let method = self.table.number(member);
         LinkedInstruction::CallVirtual {
-            method,
-            operands: self.operands(method),
+            method: self.number(member),
+            operands: self.operands(member),
         }
     }
 
@@ -156,12 +154,8 @@ impl Linker<'_> {
             Operation::Compare(comparison) => Ok(LinkedInstruction::Compare(*comparison)),
             Operation::ConvertInt32 => Ok(LinkedInstruction::ConvertInt32),
             Operation::ConvertInt64 => Ok(LinkedInstruction::ConvertInt64),
-            Operation::Branch(index) => Ok(LinkedInstruction::Branch(*index)),
-            Operation::BranchTrue(index) => Ok(LinkedInstruction::BranchTrue(*index)),
-            Operation::BranchFalse(index) => Ok(LinkedInstruction::BranchFalse(*index)),
-            Operation::BranchCompare(comparison, index) => Ok(LinkedInstruction::BranchCompare(
-                *comparison,
-                *index,
+            Operation::Branch(condition, index) => Ok(LinkedInstruction::Branch(
+                *condition, *index,
             )),
             Operation::Switch(indices) => Ok(LinkedInstruction::Switch(copy_of(
                 alloc,
@@ -182,12 +176,8 @@ impl Linker<'_> {
             ))),
             Operation::NewArray(held) => Ok(LinkedInstruction::NewArray(array_element(*held))),
             Operation::LoadLength => Ok(LinkedInstruction::LoadLength),
-            Operation::LoadElementInt32 => Ok(LinkedInstruction::LoadElement(ValueKind::Int32)),
-            Operation::LoadElementInt64 => Ok(LinkedInstruction::LoadElement(ValueKind::Int64)),
-            Operation::LoadElementReference => Ok(LinkedInstruction::LoadElement(ValueKind::Ref)),
-            Operation::StoreElementInt32 => Ok(LinkedInstruction::StoreElement),
-            Operation::StoreElementInt64 => Ok(LinkedInstruction::StoreElement),
-            Operation::StoreElementReference => Ok(LinkedInstruction::StoreElementReference),
+            Operation::LoadElement(kind) => Ok(LinkedInstruction::LoadElement(*kind)),
+            Operation::StoreElement(kind) => Ok(LinkedInstruction::StoreElement(*kind)),
             Operation::CastClass(to) => Ok(LinkedInstruction::CastClass(*to)),
             Operation::IsInstance(to) => Ok(LinkedInstruction::IsInstance(*to)),
             Operation::Call { method, .. } => Ok(LinkedInstruction::Call(self.number(*method))),

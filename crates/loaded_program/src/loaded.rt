@@ -7,12 +7,11 @@ ghost use Rattle.name_tables.specs.Numbers.{method_at};
 ghost use Rattle.class_layout.specs.Laid.{IsLayout};
 ghost use Rattle.loaded_program.specs.AllMethods.{all_methods};
 ghost use Rattle.loaded_program.specs.MethodNumbers.{number_of};
-ghost use Rattle.loaded_program.specs.Prepared.{IsTableMethod};
-ghost use Rattle.loaded_program.specs.Loaded.{IsCode, IsLinkedAt, line_in, target_in};
+ghost use Rattle.loaded_program.specs.Loaded.{IsCode, IsLinkedAt, IsLoadedMethod, line_in, target_in};
 
 use crate::instructions::LinkedInstruction;
-use crate::methods::TableMethod;
-use crate::parts::Parts;
+use crate::loaded_methods::LoadedMethod;
+use crate::parts::{Parts, item};
 use cil_model::memory::NoMemory;
 use class_layout::Layout;
 use name_tables::lookups::MemberNumber;
@@ -89,10 +88,10 @@ impl LoadedProgram {
         self.parts.number(member)
     }
 
-    /// What a call needs to know of the method with this flat number.
-    pub fn method(&self, number: u32) -> &TableMethod
+    /// The method with this flat number.
+    pub fn method(&self, number: u32) -> &LoadedMethod
         requires { IsSome (slice_get (all_methods self.now) number) }
-        ensures entry { (found : ClassName × Method) → slice_get (all_methods self.now) number ≡ Some found → IsTableMethod self.now found result.now }
+        ensures loaded { (found : ClassName × Method) → slice_get (all_methods self.now) number ≡ Some found → IsLoadedMethod self.now found result.now }
         ensures number { (found : ClassName × Method) → slice_get (all_methods self.now) number ≡ Some found → number_of self.now found ≡ Some number }
     {
         self.parts.method(number)
@@ -103,7 +102,7 @@ impl LoadedProgram {
         requires { IsSome (slice_get (all_methods self.now) method) }
         ensures { IsCode self.now method result.now }
     {
-        self.parts.code(method)
+        self.method(method).code.as_slice()
     }
 
     /// The instruction at a pc of the method with this flat number.
@@ -111,7 +110,7 @@ impl LoadedProgram {
         requires { IsSome (line_in self.now method index) }
         ensures { IsLinkedAt self.now method index result.now }
     {
-        self.parts.instruction(method, index)
+        item(self.code(method), index)
     }
 
     /// The flat number of the method that runs where the method with this one is called on an object of a class, or on an array, which has
@@ -120,6 +119,6 @@ impl LoadedProgram {
         requires { IsSome (target_in self.now method class) }
         ensures { slice_get (all_methods self.now) result ≡ target_in self.now method class }
     {
-        self.parts.target(method, class)
+        self.method(method).targets.number(method, class)
     }
 }

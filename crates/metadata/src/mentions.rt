@@ -121,10 +121,7 @@ pub fn labels_of(instruction: &Instruction) -> &[Text]
     ensures { result.now ≡ labels_of instruction.now }
 {
     match instruction {
-        Instruction::Branch(label)
-        | Instruction::BranchTrue(label)
-        | Instruction::BranchFalse(label)
-        | Instruction::BranchCompare(_, label) => from_ref(label),
+        Instruction::Branch(_, label) => from_ref(label),
         Instruction::Switch(labels) => labels.as_slice(),
         _ => &[],
     }

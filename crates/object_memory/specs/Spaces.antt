@@ -3,6 +3,7 @@ use Rattle.std.specs.Prelude.{◌≡◌, ◌⊎◌, ◌≤◌, ◌==◌, ◌||�
 use Rattle.cil_model.specs.declared.limits.TheConstants.{MOST_WORDS}
 use Rattle.cil_model.specs.declared.phases.Phase.{Phase}
 use Rattle.cil_model.specs.declared.phases.Phase.TheVariants.{Idle, Mark, Allocate, Copy, PreFlip, HeapFlip, ThreadFlip, Reclaim}
+use Rattle.cil_model.specs.PhaseOrder.{is_between}
 use Rattle.object_memory.specs.declared.addresses.Addr.{Addr}
 use Rattle.object_memory.specs.declared.addresses.TheConstants.{ADDRESSES}
 use Rattle.object_memory.specs.declared.kinds.Kind.{Kind}
@@ -94,14 +95,7 @@ birth_space_of Reclaim false = InOld
 
 -- whether a thread is in the phase only while a cycle is open
 abbrev pub is_within_cycle : Phase → Bool
-is_within_cycle Idle = false
-is_within_cycle Mark = true
-is_within_cycle Allocate = true
-is_within_cycle Copy = true
-is_within_cycle PreFlip = true
-is_within_cycle HeapFlip = true
-is_within_cycle ThreadFlip = true
-is_within_cycle Reclaim = false
+is_within_cycle p = is_between Mark ThreadFlip p
 
 abbrev pub room_at : BirthSpace → Spaces → ℕ
 room_at InOld m = free_words m.old

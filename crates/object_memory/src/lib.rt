@@ -20,8 +20,9 @@ mod values;
 
 pub use addresses::Addr;
 pub use birth_spaces::BirthSpace;
+pub use cil_model::values::ValueKind;
 pub use digests::Digest;
 pub use heap::Heap;
 pub use kinds::{ArrayElement, ElementType, Kind};
 pub use monitors::Monitor;
-pub use values::{Value, ValueKind};
+pub use values::Value;

@@ -1,11 +1,12 @@
 -- What a collector has posted, and what each live thread has acknowledged of it (Hudson and Moss, "Sapphire"; the rounds are this
 -- profile's).
-use Rattle.std.specs.Prelude.{◌≡◌, ◌⊎◌, ℕ, ◌-◌, ◌==◌, Bool, true, false, not, ◌||◌, ◌&&◌, if◌then◌else◌, List, ◌∷◌, map, length, replicate, Option, Some, None, option_map, option_and_then, slice_get, slice_set}
+use Rattle.std.specs.Prelude.{◌≡◌, ◌⊎◌, ℕ, ◌-◌, Bool, true, false, not, ◌||◌, ◌&&◌, if◌then◌else◌, List, ◌∷◌, map, length, replicate, Option, Some, None, option_map, option_and_then, slice_get, slice_set}
 use Rattle.std.specs.List.{list_all}
 use Rattle.std.specs.Option.{option_map_or}
 use Rattle.cil_model.specs.declared.limits.TheConstants.{MOST_THREADS}
 use Rattle.cil_model.specs.declared.phases.Phase.{Phase}
-use Rattle.cil_model.specs.declared.phases.Phase.TheVariants.{Idle, Mark, Allocate, Copy, PreFlip, HeapFlip, ThreadFlip, Reclaim}
+use Rattle.cil_model.specs.declared.phases.Phase.TheVariants.{Idle, Mark}
+pub use Rattle.cil_model.specs.PhaseOrder.{is_phase, phase_number}
 use Rattle.reference_machine.specs.Cycles.{phase_after}
 use Rattle.phase_handshake.specs.declared.posts.Seat.{Seat}
 
@@ -28,21 +29,6 @@ abbrev pub seat_of : Handshakes → ℕ → Option Seat
 seat_of h t = option_and_then (λ (s : Option Seat). s) (slice_get h.seats t)
 
 -- ---- phases
-
--- the number of each phase, in the order in which they are posted
-abbrev pub phase_number : Phase → ℕ
-phase_number Idle = 0
-phase_number Mark = 1
-phase_number Allocate = 2
-phase_number Copy = 3
-phase_number PreFlip = 4
-phase_number HeapFlip = 5
-phase_number ThreadFlip = 6
-phase_number Reclaim = 7
-
--- two phases are one
-abbrev pub is_phase : Phase → Phase → Bool
-is_phase p q = phase_number p == phase_number q
 
 -- the phase that a thread has acknowledged; a thread without a seat is between cycles
 abbrev pub own_phase : Handshakes → ℕ → Phase

@@ -2,8 +2,9 @@
 use Rattle.std.specs.Prelude.{◌≡◌, ◌⊎◌, true, List, [], ◌∷◌, Some, Contains}
 use Rattle.cil_model.specs.declared.instructions.BinaryOperation.{BinaryOperation}
 use Rattle.cil_model.specs.declared.instructions.BinaryOperation.TheVariants.{AddOverflow, SubtractOverflow, MultiplyOverflow, Divide, Remainder}
+use Rattle.cil_model.specs.declared.instructions.ElementKind.TheVariants as kinds
 use Rattle.cil_model.specs.declared.instructions.Instruction.{Instruction}
-use Rattle.cil_model.specs.declared.instructions.Instruction.TheVariants.{Binary, LoadField, StoreField, NewArray, LoadLength, LoadElementInt32, LoadElementInt64, LoadElementReference, StoreElementInt32, StoreElementInt64, StoreElementReference, CastClass, Call, CallVirtual, NewObject}
+use Rattle.cil_model.specs.declared.instructions.Instruction.TheVariants.{Binary, LoadField, StoreField, NewArray, LoadLength, LoadElement, StoreElement, CastClass, Call, CallVirtual, NewObject}
 use Rattle.cil_model.specs.declared.types.ClassName.{ClassName}
 use Rattle.cil_model.specs.declared.trees.Method.{Method}
 use Rattle.cil_model.specs.declared.trees.Tree.{Tree}
@@ -30,12 +31,9 @@ faults_of (LoadField r) = NullReference ∷ []
 faults_of (StoreField r) = NullReference ∷ []
 faults_of (NewArray t) = Overflow ∷ OutOfMemory ∷ []
 faults_of LoadLength = NullReference ∷ []
-faults_of LoadElementInt32 = NullReference ∷ IndexOutOfRange ∷ []
-faults_of LoadElementInt64 = NullReference ∷ IndexOutOfRange ∷ []
-faults_of LoadElementReference = NullReference ∷ IndexOutOfRange ∷ []
-faults_of StoreElementInt32 = NullReference ∷ IndexOutOfRange ∷ []
-faults_of StoreElementInt64 = NullReference ∷ IndexOutOfRange ∷ []
-faults_of StoreElementReference = NullReference ∷ IndexOutOfRange ∷ ArrayTypeMismatch ∷ []
+faults_of (LoadElement kind) = NullReference ∷ IndexOutOfRange ∷ []
+faults_of (StoreElement kinds.Reference) = NullReference ∷ IndexOutOfRange ∷ ArrayTypeMismatch ∷ []
+faults_of (StoreElement kind) = NullReference ∷ IndexOutOfRange ∷ []
 faults_of (CastClass t) = InvalidCast ∷ []
 faults_of (Call is_instance r) = StackOverflow ∷ []
 faults_of (CallVirtual owner name signature) = NullReference ∷ StackOverflow ∷ []

@@ -6,9 +6,10 @@ use Rattle.std.specs.Int.{w32, cast_unsigned}
 use Rattle.std.specs.Option.{option_map_or}
 use Rattle.cil_model.specs.declared.types.ClassName.{ClassName}
 use Rattle.cil_model.specs.declared.types.DeclaredType.{DeclaredType}
-use Rattle.cil_model.specs.declared.types.Element.TheVariants.{Int32 as Int32Element, Int64 as Int64Element}
+use Rattle.cil_model.specs.declared.instructions.BranchCondition.TheVariants as conditions
+use Rattle.cil_model.specs.declared.instructions.ElementKind.TheVariants as kinds
 use Rattle.cil_model.specs.declared.instructions.Instruction.{Instruction}
-use Rattle.cil_model.specs.declared.instructions.Instruction.TheVariants.{NoOperation, LoadInt32, LoadInt64, LoadNull, LoadString, LoadArgument, StoreArgument, LoadLocal, StoreLocal, Duplicate, Pop, Binary, Unary, Shift, Compare, ConvertInt32, ConvertInt64, Branch, BranchTrue, BranchFalse, BranchCompare, Switch, LoadField, StoreField, LoadStaticField, StoreStaticField, NewArray, LoadLength, LoadElementInt32, LoadElementInt64, LoadElementReference, StoreElementInt32, StoreElementInt64, StoreElementReference, CastClass, IsInstance, Call, CallVirtual, NewObject, Return}
+use Rattle.cil_model.specs.declared.instructions.Instruction.TheVariants.{NoOperation, LoadInt32, LoadInt64, LoadNull, LoadString, LoadArgument, StoreArgument, LoadLocal, StoreLocal, Duplicate, Pop, Binary, Unary, Shift, Compare, ConvertInt32, ConvertInt64, Branch, Switch, LoadField, StoreField, LoadStaticField, StoreStaticField, NewArray, LoadLength, LoadElement, StoreElement, CastClass, IsInstance, Call, CallVirtual, NewObject, Return}
 use Rattle.cil_model.specs.declared.trees.Tree.{Tree}
 use Rattle.cil_model.specs.declared.trees.Field.{Field}
 use Rattle.cil_model.specs.declared.trees.Method.{Method}
@@ -19,11 +20,10 @@ use Rattle.cil_model.specs.declared.reports.End.{End}
 use Rattle.cil_model.specs.declared.reports.End.TheVariants.{Done, Budget, Fault as ByFault}
 use Rattle.cil_model.specs.declared.reports.Report.{Report}
 use Rattle.cil_model.specs.declared.reports.Report.TheVariants.{Ran, Blocked, Ended, Absent}
-use Rattle.cil_model.specs.Same.{same_type}
-use Rattle.cil_model.specs.Declarations.{plain}
 use Rattle.cil_model.specs.Chains.{find_field, find_method, is_virtual}
 use Rattle.cil_model.specs.Slots.{target}
 use Rattle.cil_model.specs.Assignable.{is_reference, is_assignable}
+use Rattle.cil_model.specs.FlowRules.{is_of_element_kind}
 use Rattle.reference_machine.specs.Values.{ObjectName, Literal, Value, Int32, Int64, Native, Null, Reference, zero_of, is_of_kind}
 use Rattle.reference_machine.specs.Arithmetic.{binary_value, unary_value, shift_value, compare_values, branch_values, is_set, convert_32, convert_64, as_index, one_or_zero, not_option}
 use Rattle.reference_machine.specs.States.{Contents, Array, Frame, Thread, State, is_live_thread, entry_at, replaced_entry, replaced_at, field_value, with_field, array_at, with_element, type_of, class_of, next_name, with_birth, new_instance}
@@ -182,10 +182,10 @@ module _ (here : Setting) (s : State) (f : Frame) (below : List Frame) where
   execute (Compare op) = take_two Sticks f.stack (λ v w rest. when_some (compare_values op v w) (λ holds. next (one_or_zero holds ∷ rest)))
   execute ConvertInt32 = take_one Sticks f.stack (λ v rest. when_some (convert_32 v) (λ u. next (u ∷ rest)))
   execute ConvertInt64 = take_one Sticks f.stack (λ v rest. when_some (convert_64 v) (λ u. next (u ∷ rest)))
-  execute (Branch label) = jump label f.stack
-  execute (BranchTrue label) = take_one Sticks f.stack (λ v rest. when_some (is_set v) (λ holds. branch_if holds label rest))
-  execute (BranchFalse label) = take_one Sticks f.stack (λ v rest. when_some (not_option (is_set v)) (λ holds. branch_if holds label rest))
-  execute (BranchCompare op label) = take_two Sticks f.stack (λ v w rest. when_some (branch_values op v w) (λ holds. branch_if holds label rest))
+  execute (Branch conditions.Always label) = jump label f.stack
+  execute (Branch conditions.IfTrue label) = take_one Sticks f.stack (λ v rest. when_some (is_set v) (λ holds. branch_if holds label rest))
+  execute (Branch conditions.IfFalse label) = take_one Sticks f.stack (λ v rest. when_some (not_option (is_set v)) (λ holds. branch_if holds label rest))
+  execute (Branch (conditions.Compare op) label) = take_two Sticks f.stack (λ v w rest. when_some (branch_values op v w) (λ holds. branch_if holds label rest))
   execute (Switch labels) = take_one Sticks f.stack (switch_on labels)
   execute (LoadField r) = take_one Sticks f.stack (λ object rest. when_some (find_field here.tree false r) (λ found.
       not_null object NullReference (λ n. when_some (field_value s n (key_of found)) (λ v. next (v ∷ rest)))))
@@ -196,12 +196,9 @@ module _ (here : Setting) (s : State) (f : Frame) (below : List Frame) where
       when_some (replaced_entry (key_of found) v s.statics) (λ statics. onward f below (record s { statics = statics }) rest)))
   execute (NewArray t) = take_one Sticks f.stack (λ v rest. when_some (as_index v) (λ z. new_array t z rest))
   execute LoadLength = take_one Sticks f.stack (λ array rest. not_null array NullReference (λ n. when_some (array_at s n) (λ held. next (Native (pos (length held.1)) ∷ rest))))
-  execute LoadElementInt32 = load_element (same_type (plain Int32Element))
-  execute LoadElementInt64 = load_element (same_type (plain Int64Element))
-  execute LoadElementReference = load_element is_reference
-  execute StoreElementInt32 = store_element (same_type (plain Int32Element))
-  execute StoreElementInt64 = store_element (same_type (plain Int64Element))
-  execute StoreElementReference = store_reference
+  execute (LoadElement kind) = load_element (is_of_element_kind kind)
+  execute (StoreElement kinds.Reference) = store_reference
+  execute (StoreElement kind) = store_element (is_of_element_kind kind)
   execute (CastClass t) = cast t (λ rest. Raises InvalidCast)
   execute (IsInstance t) = cast t (λ rest. next (Null ∷ rest))
   execute (Call is_instance r) = when_some (find_method here.tree is_instance r) (λ found. operands (reference_operands is_instance r) (run_method found))

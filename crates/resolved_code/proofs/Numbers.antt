@@ -1,5 +1,6 @@
 -- Classes, fields, methods, slots and literals have numbers, which represent them.
 pub mod Classes
+pub mod Types
 pub mod Declarations
 pub mod Methods
 pub mod Slots

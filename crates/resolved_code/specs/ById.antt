@@ -1,11 +1,12 @@
 -- What the numbers of classes and types represent.
 use Rattle.std.specs.Prelude.{◌≡◌, ℕ, List, map, Option, Some, option_map, slice_get}
+use Rattle.std.specs.Option.{option_map_or}
 use Rattle.cil_model.specs.declared.types.ClassName.{ClassName}
 use Rattle.cil_model.specs.declared.types.Element.{Element}
 use Rattle.cil_model.specs.declared.types.Element.TheVariants.{Int32 as Int32Element, Int64 as Int64Element, Object as ObjectElement, String as StringElement, Class as ClassElement}
 use Rattle.cil_model.specs.declared.types.DeclaredType.{DeclaredType}
 use Rattle.cil_model.specs.declared.trees.Tree.{Tree}
-use Rattle.cil_model.specs.Declarations.{Declaration}
+use Rattle.cil_model.specs.Declarations.{Declaration, object_name}
 use Rattle.name_tables.specs.Numbers.{declarations}
 use Rattle.resolved_code.specs.declared.types.ResolvedElement.{ResolvedElement}
 use Rattle.resolved_code.specs.declared.types.ResolvedElement.TheVariants.{Int32, Int64, Object, String, Class}
@@ -30,3 +31,25 @@ type_at tree t = option_map (λ e. record { element = e; brackets = t.brackets }
 -- the types that a list represents
 abbrev pub AreTypes : Tree → List ResolvedType → List DeclaredType → Type 0
 AreTypes tree has_id types = map (type_at tree) has_id ≡ map Some types
+
+-- ---- the same of each number: one that is no class's, which no resolved code has, represents System.Object
+
+-- the class with this number
+abbrev pub class_named : Tree → ℕ → ClassName
+class_named tree n = option_map_or (λ (c : ClassName). c) (class_name tree n) object_name
+
+-- the type without brackets (II.7.1)
+abbrev pub element_named : Tree → ResolvedElement → Element
+element_named tree Int32 = Int32Element
+element_named tree Int64 = Int64Element
+element_named tree Object = ObjectElement
+element_named tree String = StringElement
+element_named tree (Class n) = ClassElement (class_named tree n)
+
+-- the type (II.7.1)
+abbrev pub type_named : Tree → ResolvedType → DeclaredType
+type_named tree t = record { element = element_named tree t.element; brackets = t.brackets }
+
+-- the types of a list
+abbrev pub types_named : Tree → List ResolvedType → List DeclaredType
+types_named tree types = map (type_named tree) types

@@ -7,7 +7,8 @@ use Rattle.cil_model.specs.declared.instructions.BinaryOperation.{BinaryOperatio
 use Rattle.cil_model.specs.declared.instructions.UnaryOperation.{UnaryOperation}
 use Rattle.cil_model.specs.declared.instructions.ShiftOperation.{ShiftOperation}
 use Rattle.cil_model.specs.declared.instructions.Comparison.{Comparison}
-use Rattle.cil_model.specs.declared.instructions.BranchComparison.{BranchComparison}
+use Rattle.cil_model.specs.declared.instructions.BranchCondition.{BranchCondition}
+use Rattle.cil_model.specs.declared.instructions.ElementKind.{ElementKind}
 use Rattle.cil_model.specs.declared.instructions.FieldReference.{FieldReference}
 use Rattle.cil_model.specs.declared.instructions.MethodReference.{MethodReference}
 use Rattle.cil_model.specs.declared.instructions.Instruction.{Instruction}
@@ -90,11 +91,8 @@ pub data IsOperation (tree : Tree) (lines : List Line) : Instruction → Operati
   convert_int32 : IsOperation tree lines Named.ConvertInt32 Resolved.ConvertInt32
   convert_int64 : IsOperation tree lines Named.ConvertInt64 Resolved.ConvertInt64
   -- a label by the index of the instruction that it is before (II.5.4)
-  branch : (label : List ℕ) (index : ℕ) → pc_of label lines ≡ Some index → IsOperation tree lines (Named.Branch label) (Resolved.Branch index)
-  branch_true : (label : List ℕ) (index : ℕ) → pc_of label lines ≡ Some index → IsOperation tree lines (Named.BranchTrue label) (Resolved.BranchTrue index)
-  branch_false : (label : List ℕ) (index : ℕ) → pc_of label lines ≡ Some index → IsOperation tree lines (Named.BranchFalse label) (Resolved.BranchFalse index)
-  branch_compare : (op : BranchComparison) (label : List ℕ) (index : ℕ) → pc_of label lines ≡ Some index →
-      IsOperation tree lines (Named.BranchCompare op label) (Resolved.BranchCompare op index)
+  branch : (condition : BranchCondition) (label : List ℕ) (index : ℕ) → pc_of label lines ≡ Some index →
+      IsOperation tree lines (Named.Branch condition label) (Resolved.Branch condition index)
   switch : (labels : List (List ℕ)) (indices : List ℕ) → map (λ label. pc_of label lines) labels ≡ map Some indices →
       IsOperation tree lines (Named.Switch labels) (Resolved.Switch indices)
   load_field : (r : FieldReference) (owner : ℕ) (field : MemberNumber) → class_name tree owner ≡ Some r.owner → IsField tree false r field →
@@ -107,12 +105,8 @@ pub data IsOperation (tree : Tree) (lines : List Line) : Instruction → Operati
       IsOperation tree lines (Named.StoreStaticField r) (Resolved.StoreStaticField field)
   new_array : (t : DeclaredType) (n : ResolvedType) → type_at tree n ≡ Some t → IsOperation tree lines (Named.NewArray t) (Resolved.NewArray n)
   load_length : IsOperation tree lines Named.LoadLength Resolved.LoadLength
-  load_element_int32 : IsOperation tree lines Named.LoadElementInt32 Resolved.LoadElementInt32
-  load_element_int64 : IsOperation tree lines Named.LoadElementInt64 Resolved.LoadElementInt64
-  load_element_reference : IsOperation tree lines Named.LoadElementReference Resolved.LoadElementReference
-  store_element_int32 : IsOperation tree lines Named.StoreElementInt32 Resolved.StoreElementInt32
-  store_element_int64 : IsOperation tree lines Named.StoreElementInt64 Resolved.StoreElementInt64
-  store_element_reference : IsOperation tree lines Named.StoreElementReference Resolved.StoreElementReference
+  load_element : (kind : ElementKind) → IsOperation tree lines (Named.LoadElement kind) (Resolved.LoadElement kind)
+  store_element : (kind : ElementKind) → IsOperation tree lines (Named.StoreElement kind) (Resolved.StoreElement kind)
   cast_class : (t : DeclaredType) (n : ResolvedType) → type_at tree n ≡ Some t → IsOperation tree lines (Named.CastClass t) (Resolved.CastClass n)
   is_instance : (t : DeclaredType) (n : ResolvedType) → type_at tree n ≡ Some t → IsOperation tree lines (Named.IsInstance t) (Resolved.IsInstance n)
   call : (is_instance : Bool) (r : MethodReference) (owner : ℕ) (method : MemberNumber) → class_name tree owner ≡ Some r.owner → IsMethod tree is_instance r method →

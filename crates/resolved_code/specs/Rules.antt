@@ -85,14 +85,6 @@ with_owner tree c make member = option_and_then (λ owner. option_map (make owne
 
 -- ---- instructions
 
--- a branch to one label (III.1.7.2)
-abbrev pub branch_rule : List Line → Instruction → Option Operation
-branch_rule lines (Named.Branch label) = option_map Resolved.Branch (pc_of label lines)
-branch_rule lines (Named.BranchTrue label) = option_map Resolved.BranchTrue (pc_of label lines)
-branch_rule lines (Named.BranchFalse label) = option_map Resolved.BranchFalse (pc_of label lines)
-branch_rule lines (Named.BranchCompare op label) = option_map (Resolved.BranchCompare op) (pc_of label lines)
-branch_rule lines _ = None
-
 -- an instruction on a type (III.4)
 abbrev pub type_operand_rule : Tree → Instruction → Option Operation
 type_operand_rule tree (Named.NewArray t) = option_map Resolved.NewArray (type_rule tree t)
@@ -134,12 +126,8 @@ plain_rule (Named.Compare op) = Some (Resolved.Compare op)
 plain_rule Named.ConvertInt32 = Some Resolved.ConvertInt32
 plain_rule Named.ConvertInt64 = Some Resolved.ConvertInt64
 plain_rule Named.LoadLength = Some Resolved.LoadLength
-plain_rule Named.LoadElementInt32 = Some Resolved.LoadElementInt32
-plain_rule Named.LoadElementInt64 = Some Resolved.LoadElementInt64
-plain_rule Named.LoadElementReference = Some Resolved.LoadElementReference
-plain_rule Named.StoreElementInt32 = Some Resolved.StoreElementInt32
-plain_rule Named.StoreElementInt64 = Some Resolved.StoreElementInt64
-plain_rule Named.StoreElementReference = Some Resolved.StoreElementReference
+plain_rule (Named.LoadElement kind) = Some (Resolved.LoadElement kind)
+plain_rule (Named.StoreElement kind) = Some (Resolved.StoreElement kind)
 plain_rule Named.Return = Some Resolved.Return
 plain_rule _ = None
 
@@ -147,10 +135,7 @@ plain_rule _ = None
 abbrev pub operation_rule : Tree → List Line → Instruction → Option Operation
 operation_rule tree lines (Named.LoadString characters) = option_map Resolved.LoadString (position_from (same_text characters) 0 (literals_of tree))
 operation_rule tree lines (Named.Switch labels) = option_map Resolved.Switch (all_some (map (λ label. pc_of label lines) labels))
-operation_rule tree lines (Named.Branch label) = branch_rule lines (Named.Branch label)
-operation_rule tree lines (Named.BranchTrue label) = branch_rule lines (Named.BranchTrue label)
-operation_rule tree lines (Named.BranchFalse label) = branch_rule lines (Named.BranchFalse label)
-operation_rule tree lines (Named.BranchCompare op label) = branch_rule lines (Named.BranchCompare op label)
+operation_rule tree lines (Named.Branch condition label) = option_map (Resolved.Branch condition) (pc_of label lines)
 operation_rule tree lines (Named.NewArray t) = type_operand_rule tree (Named.NewArray t)
 operation_rule tree lines (Named.CastClass t) = type_operand_rule tree (Named.CastClass t)
 operation_rule tree lines (Named.IsInstance t) = type_operand_rule tree (Named.IsInstance t)

@@ -5,8 +5,8 @@ ghost use Rattle.std.specs.List.{position_from};
 ghost use Rattle.cil_model.specs.Bodies.{pc_of, virtual_reference, constructor_reference};
 ghost use Rattle.cil_model.specs.Mentions.{literals_of};
 ghost use Rattle.cil_model.specs.Same.{same_text};
-ghost use Rattle.resolved_code.specs.declared.operations.Operation.TheVariants.{LoadString, Call, CallVirtual, NewObject};
-ghost use Rattle.resolved_code.specs.Rules.{field_rule, method_rule, with_owner, branch_rule, type_operand_rule, field_operand_rule, call_rule, plain_rule, operation_rule};
+ghost use Rattle.resolved_code.specs.declared.operations.Operation.TheVariants.{LoadString, Branch, Call, CallVirtual, NewObject};
+ghost use Rattle.resolved_code.specs.Rules.{field_rule, method_rule, with_owner, type_operand_rule, field_operand_rule, call_rule, plain_rule, operation_rule};
 
 use crate::errors::ResolveError;
 use crate::identities::Identities;
@@ -15,7 +15,7 @@ use crate::labels::Labels;
 use crate::literals::Literals;
 use crate::numbering::{class_number, resolved_type};
 use crate::operations::Operation;
-use cil_model::instructions::{FieldReference, Instruction, MethodReference};
+use cil_model::instructions::{BranchCondition, FieldReference, Instruction, MethodReference};
 use cil_model::texts::Text;
 use cil_model::trees::Line;
 use cil_model::types::{ClassName, DeclaredType, Signature};
@@ -56,12 +56,8 @@ fn plain_operation(instruction: &Instruction) -> Option<Operation>
         Instruction::ConvertInt32 => Operation::ConvertInt32,
         Instruction::ConvertInt64 => Operation::ConvertInt64,
         Instruction::LoadLength => Operation::LoadLength,
-        Instruction::LoadElementInt32 => Operation::LoadElementInt32,
-        Instruction::LoadElementInt64 => Operation::LoadElementInt64,
-        Instruction::LoadElementReference => Operation::LoadElementReference,
-        Instruction::StoreElementInt32 => Operation::StoreElementInt32,
-        Instruction::StoreElementInt64 => Operation::StoreElementInt64,
-        Instruction::StoreElementReference => Operation::StoreElementReference,
+        Instruction::LoadElement(kind) => Operation::LoadElement(*kind),
+        Instruction::StoreElement(kind) => Operation::StoreElement(*kind),
         Instruction::Return => Operation::Return,
         _ => return None,
     };
@@ -70,20 +66,11 @@ fn plain_operation(instruction: &Instruction) -> Option<Operation>
 
 // ---- branches
 
-/// A branch to one label, by the label's index (ECMA-335 III.3.5 to III.3.17). None where no line has the label.
-fn branch(labels: &Labels, instruction: &Instruction) -> Option<Operation>
-    ensures { result ≡ branch_rule labels.now.lines.now instruction.now }
+/// A branch, by the index of its label (ECMA-335 III.3.5 to III.3.18). None where no line has the label.
+fn branch(labels: &Labels, condition: BranchCondition, label: &Text) -> Option<Operation>
+    ensures { result ≡ option_map (Branch condition) (pc_of label.now labels.now.lines.now) }
 {
-    let operation = match instruction {
-        Instruction::Branch(label) => Operation::Branch(labels.index(label)?),
-        Instruction::BranchTrue(label) => Operation::BranchTrue(labels.index(label)?),
-        Instruction::BranchFalse(label) => Operation::BranchFalse(labels.index(label)?),
-        Instruction::BranchCompare(comparison, label) => {
-            Operation::BranchCompare(*comparison, labels.index(label)?)
-        }
-        _ => return None,
-    };
-    Some(operation)
+    Some(Operation::Branch(condition, labels.index(label)?))
 }
 
 /// A label is resolved to its index.
@@ -241,10 +228,7 @@ impl<'a> Resolve<Line> for BodyResolver<'a> {
                 let indices = resolve_all(alloc, self.labels, targets.as_slice())?;
                 Some(Operation::Switch(indices))
             }
-            Instruction::Branch(_)
-            | Instruction::BranchTrue(_)
-            | Instruction::BranchFalse(_)
-            | Instruction::BranchCompare(_, _) => branch(self.labels, instruction),
+            Instruction::Branch(condition, label) => branch(self.labels, *condition, label),
             Instruction::NewArray(_) | Instruction::CastClass(_) | Instruction::IsInstance(_) => {
                 self.resolver.type_operation(instruction)
             }

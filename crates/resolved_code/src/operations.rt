@@ -2,7 +2,7 @@
 
 use crate::types::ResolvedType;
 use cil_model::instructions::{
-    BinaryOperation, BranchComparison, Comparison, ShiftOperation, UnaryOperation,
+    BinaryOperation, BranchCondition, Comparison, ElementKind, ShiftOperation, UnaryOperation,
 };
 use cil_model::sequences::Sequence;
 use name_tables::lookups::MemberNumber;
@@ -45,14 +45,8 @@ pub enum Operation {
     ConvertInt32,
     /// `conv.i8`
     ConvertInt64,
-    /// `br`
-    Branch(usize),
-    /// `brtrue`
-    BranchTrue(usize),
-    /// `brfalse`
-    BranchFalse(usize),
-    /// `beq`, `bne.un`, `bge`, `bgt`, `ble`, `blt`
-    BranchCompare(BranchComparison, usize),
+    /// `br`, `brtrue`, `brfalse`, `beq`, `bne.un`, `bge`, `bgt`, `ble`, `blt`
+    Branch(BranchCondition, usize),
     /// `switch`
     Switch(Sequence<usize>),
     /// `ldfld`: the class that the text names, and the field that is found
@@ -73,18 +67,10 @@ pub enum Operation {
     NewArray(ResolvedType),
     /// `ldlen`
     LoadLength,
-    /// `ldelem.i4`
-    LoadElementInt32,
-    /// `ldelem.i8`
-    LoadElementInt64,
-    /// `ldelem.ref`
-    LoadElementReference,
-    /// `stelem.i4`
-    StoreElementInt32,
-    /// `stelem.i8`
-    StoreElementInt64,
-    /// `stelem.ref`
-    StoreElementReference,
+    /// `ldelem.i4`, `ldelem.i8`, `ldelem.ref`
+    LoadElement(ElementKind),
+    /// `stelem.i4`, `stelem.i8`, `stelem.ref`
+    StoreElement(ElementKind),
     /// `castclass`
     CastClass(ResolvedType),
     /// `isinst`

@@ -23,7 +23,8 @@ use Rattle.interpreter.specs.object_memory.declared.values.Value.{Value}
 use Rattle.interpreter.specs.object_memory.declared.values.Value.TheVariants.{Ref}
 use Rattle.interpreter.specs.object_memory.Objects.{Objects, no_objects}
 use Rattle.interpreter.specs.loaded_program.MethodNumbers.{number_of}
-use Rattle.interpreter.specs.loaded_program.Prepared.{kind_of_type, local_kinds}
+use Rattle.interpreter.specs.cil_model.ValueKinds.{kind_of_type}
+use Rattle.interpreter.specs.loaded_program.Prepared.{local_kinds}
 use Rattle.interpreter.specs.threads_monitors.Frames.{Frames, new_frame, with_pc, with_stack, zero_value}
 use Rattle.interpreter.specs.threads_monitors.Threads.{join_effect, charge, start_fault, with_start}
 use Rattle.interpreter.specs.threads_monitors.declared.effects.Effect.{Effect}

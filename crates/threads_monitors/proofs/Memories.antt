@@ -11,7 +11,7 @@ use Rattle.std.proofs.lemmas.Option.{slice_get_read}
 use Rattle.cil_model.proofs.Lists.{get_before, last_is_there}
 use Rattle.object_memory.specs.declared.addresses.Addr.{Addr}
 use Rattle.object_memory.specs.declared.values.Value.{Value}
-use Rattle.object_memory.specs.declared.values.ValueKind.{ValueKind}
+use Rattle.cil_model.specs.declared.values.ValueKind.{ValueKind}
 use Rattle.threads_monitors.specs.declared.frames.Activation.{Activation}
 use Rattle.threads_monitors.specs.Frames.{Frame, Frames, size, zero_value, new_frame, with_pc, with_stack, with_argument, with_local, with_call, with_running, return_frames}
 use Rattle.threads_monitors.specs.Activations.{Lays, Fit, IsSoundStack, visible_frames, activation, activations, frame_of, row, lowest, moved_to, with_constructed}

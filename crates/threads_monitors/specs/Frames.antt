@@ -3,8 +3,8 @@ use Rattle.std.specs.Prelude.{ℕ, ◌+◌, pos, List, [], ◌∷◌, ◌++◌, 
 use Rattle.object_memory.specs.declared.addresses.Addr.{Addr}
 use Rattle.object_memory.specs.declared.values.Value.{Value}
 use Rattle.object_memory.specs.declared.values.Value.TheVariants.{Int32, Int64, Native, Ref}
-use Rattle.object_memory.specs.declared.values.ValueKind.{ValueKind}
-use Rattle.object_memory.specs.declared.values.ValueKind.TheVariants.{Int32 as Int32Kind, Int64 as Int64Kind, Native as NativeKind, Ref as RefKind}
+use Rattle.cil_model.specs.declared.values.ValueKind.{ValueKind}
+use Rattle.cil_model.specs.declared.values.ValueKind.TheVariants.{Int32 as Int32Kind, Int64 as Int64Kind, Native as NativeKind, Ref as RefKind}
 use Rattle.object_memory.specs.Cells.{null}
 
 -- A method state: the number of the method, the pc of the next instruction, and the values; the stack's topmost comes

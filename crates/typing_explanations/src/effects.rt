@@ -4,6 +4,7 @@ ghost use Rattle.std.specs.Prelude.{◌<◌, IfSome};
 
 use crate::expected::Scene;
 use resolved_code::operations::Operation;
+use source_positions::cil_model::instructions::BranchCondition;
 use source_positions::name_tables::lookups::MemberNumber;
 
 /// The number of values that an instruction pops whose operands are not declared types.
@@ -14,8 +15,7 @@ fn count_popped(operation: &Operation) -> usize {
         | Operation::Unary(_)
         | Operation::ConvertInt32
         | Operation::ConvertInt64
-        | Operation::BranchTrue(_)
-        | Operation::BranchFalse(_)
+        | Operation::Branch(BranchCondition::IfTrue | BranchCondition::IfFalse, _)
         | Operation::Switch(_)
         | Operation::NewArray(_)
         | Operation::LoadLength
@@ -24,13 +24,9 @@ fn count_popped(operation: &Operation) -> usize {
         Operation::Binary(_)
         | Operation::Shift(_)
         | Operation::Compare(_)
-        | Operation::BranchCompare(..)
-        | Operation::LoadElementInt32
-        | Operation::LoadElementInt64
-        | Operation::LoadElementReference => 2,
-        Operation::StoreElementInt32
-        | Operation::StoreElementInt64
-        | Operation::StoreElementReference => 3,
+        | Operation::Branch(BranchCondition::Compare(_), _)
+        | Operation::LoadElement(_) => 2,
+        Operation::StoreElement(_) => 3,
         _ => 0,
     }
 }
@@ -42,7 +38,10 @@ fn count_returned(returns: bool) -> usize {
 
 /// Whether control never continues with the next instruction.
 fn is_jump(operation: &Operation) -> bool {
-    matches!(operation, Operation::Branch(_) | Operation::Return)
+    matches!(
+        operation,
+        Operation::Branch(BranchCondition::Always, _) | Operation::Return
+    )
 }
 
 impl Scene<'_> {
@@ -76,21 +75,9 @@ impl Scene<'_> {
             | Operation::StoreLocal(_)
             | Operation::StoreField { .. }
             | Operation::StoreStaticField(_)
-            | Operation::StoreElementInt32
-            | Operation::StoreElementInt64
-            | Operation::StoreElementReference
-            | Operation::Switch(_) => 0,
-            _ => self.pushes_of_branch(operation),
-        }
-    }
-
-    /// The number of values that a branch or `ret` pushes, which is none; every other instruction that is left pushes one.
-    fn pushes_of_branch(self, operation: &Operation) -> usize {
-        match operation {
-            Operation::Branch(_)
-            | Operation::BranchTrue(_)
-            | Operation::BranchFalse(_)
-            | Operation::BranchCompare(..)
+            | Operation::StoreElement(_)
+            | Operation::Branch(..)
+            | Operation::Switch(_)
             | Operation::Return => 0,
             _ => 1,
         }

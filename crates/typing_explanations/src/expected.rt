@@ -7,7 +7,9 @@ use flow_rules::type_tree::type_of_class;
 use resolved_code::Program;
 use resolved_code::operations::Operation;
 use resolved_code::types::ResolvedType;
-use source_positions::cil_model::instructions::{BranchComparison, Comparison};
+use source_positions::cil_model::instructions::{
+    BranchComparison, BranchCondition, Comparison, ElementKind,
+};
 use source_positions::name_tables::lookups::MemberNumber;
 use std::fmt;
 use std::fmt::Display;
@@ -132,20 +134,23 @@ fn kinds_expected(operation: &Operation) -> &'static str {
         Operation::Duplicate | Operation::Pop => "a value",
         Operation::Binary(_) | Operation::Compare(Comparison::Greater | Comparison::Less) =>
             "two integers of one size",
-        Operation::BranchCompare(
-            BranchComparison::GreaterOrEqual
-            | BranchComparison::Greater
-            | BranchComparison::LessOrEqual
-            | BranchComparison::Less,
+        Operation::Branch(
+            BranchCondition::Compare(
+                BranchComparison::GreaterOrEqual
+                | BranchComparison::Greater
+                | BranchComparison::LessOrEqual
+                | BranchComparison::Less,
+            ),
             _,
         ) => "two integers of one size",
-        Operation::Compare(_) | Operation::BranchCompare(..) => {
+        Operation::Compare(_) | Operation::Branch(BranchCondition::Compare(_), _) => {
             "two integers of one size, or two references"
         }
         Operation::Unary(_) => "int32 or int64",
         Operation::ConvertInt32 | Operation::ConvertInt64 => "int32, int64 or native int",
         Operation::Shift(_) => "int32 or int64, and int32",
-        Operation::BranchTrue(_) | Operation::BranchFalse(_) => "int32, int64 or a reference",
+        Operation::Branch(BranchCondition::IfTrue | BranchCondition::IfFalse, _) =>
+            "int32, int64 or a reference",
         Operation::Switch(_) => "int32",
         Operation::NewArray(_) => "int32 or native int",
         Operation::CastClass(_) | Operation::IsInstance(_) => "a reference",
@@ -157,12 +162,13 @@ fn kinds_expected(operation: &Operation) -> &'static str {
 fn elements_expected(operation: &Operation) -> &'static str {
     match operation {
         Operation::LoadLength => "an array",
-        Operation::LoadElementInt32 => "int32[], and int32 or native int",
-        Operation::LoadElementInt64 => "int64[], and int32 or native int",
-        Operation::LoadElementReference => "an array of references, and int32 or native int",
-        Operation::StoreElementInt32 => "int32[], int32 or native int, and int32",
-        Operation::StoreElementInt64 => "int64[], int32 or native int, and int64",
-        Operation::StoreElementReference => {
+        Operation::LoadElement(ElementKind::Int32) => "int32[], and int32 or native int",
+        Operation::LoadElement(ElementKind::Int64) => "int64[], and int32 or native int",
+        Operation::LoadElement(ElementKind::Reference) =>
+            "an array of references, and int32 or native int",
+        Operation::StoreElement(ElementKind::Int32) => "int32[], int32 or native int, and int32",
+        Operation::StoreElement(ElementKind::Int64) => "int64[], int32 or native int, and int64",
+        Operation::StoreElement(ElementKind::Reference) => {
             "an array of references, int32 or native int, and a reference"
         }
         _ => "nothing",

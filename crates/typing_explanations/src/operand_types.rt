@@ -4,7 +4,9 @@ use crate::expected::Scene;
 use flow_rules::entries::{StackEntry, is_int32_type, is_int64_type};
 use resolved_code::operations::Operation;
 use resolved_code::types::{ResolvedElement, ResolvedType};
-use source_positions::cil_model::instructions::{BranchComparison, Comparison};
+use source_positions::cil_model::instructions::{
+    BranchComparison, BranchCondition, Comparison, ElementKind,
+};
 
 /// The instructions that make an integer of an operand.
 pub(crate) fn conversion(found: StackEntry, expected: ResolvedType) -> Option<&'static str> {
@@ -165,12 +167,10 @@ impl Scene<'_> {
 /// Whether the operands of an instruction on an array, or of a shift, are in another order.
 pub(crate) fn is_reversed(operation: &Operation, top: StackEntry, next: StackEntry) -> bool {
     match operation {
-        Operation::StoreElementReference | Operation::StoreElementInt64 => {
+        Operation::StoreElement(ElementKind::Reference | ElementKind::Int64) => {
             top.is_index() && !next.is_index()
         }
-        Operation::LoadElementInt32
-        | Operation::LoadElementInt64
-        | Operation::LoadElementReference => is_array(top) && next.is_index(),
+        Operation::LoadElement(_) => is_array(top) && next.is_index(),
         Operation::Shift(_) => top.is_int64() && next.is_int32(),
         _ => false,
     }
@@ -180,7 +180,9 @@ pub(crate) fn is_reversed(operation: &Operation, top: StackEntry, next: StackEnt
 pub(crate) fn takes_alike(operation: &Operation) -> bool {
     matches!(
         operation,
-        Operation::Binary(_) | Operation::Compare(_) | Operation::BranchCompare(..)
+        Operation::Binary(_)
+            | Operation::Compare(_)
+            | Operation::Branch(BranchCondition::Compare(_), _)
     )
 }
 
@@ -226,8 +228,10 @@ fn on_comparison(
 ) -> Option<&'static str> {
     match operation {
         Operation::Compare(Comparison::Equal)
-        | Operation::BranchCompare(BranchComparison::Equal | BranchComparison::NotEqual, _)
-            if one.is_reference() != other.is_reference() => {
+        | Operation::Branch(
+            BranchCondition::Compare(BranchComparison::Equal | BranchComparison::NotEqual),
+            _,
+        ) if one.is_reference() != other.is_reference() => {
             Some("compare a reference with a reference or `ldnull`, and an integer with an integer")
         }
         _ => None,

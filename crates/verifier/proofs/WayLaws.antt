@@ -2,12 +2,13 @@
 use Rattle.std.proofs.Common.{◌≡◌, ◌+◌, ◌⊎◌, ℕ, Bool, true, false, if◌then◌else◌, IsTrue, List, [], ◌∷◌, ◌++◌, map, Option, Some, refl, inl, inr, sym, ap, ◌∙◌, subst}
 use Rattle.std.specs.Prelude.{Contains}
 use Rattle.std.proofs.lemmas.List.Elements.{Contains-push, Contains-append_left, Contains-append_right, Contains-append_cases}
+use Rattle.cil_model.specs.declared.instructions.BranchCondition.TheVariants as conditions
 use Rattle.cil_model.specs.declared.instructions.Instruction.{Instruction}
 use Rattle.cil_model.specs.declared.trees.Tree.{Tree}
 use Rattle.cil_model.specs.declared.trees.Code.{Code}
 use Rattle.cil_model.specs.declared.trees.Line.{Line}
 use Rattle.cil_model.specs.Bodies.{pc_of, falls_through, labels_of}
-use Rattle.resolved_code.specs.Resolved.{IsOperation, no_operation, load_int32, load_int64, load_null, load_string, load_argument, store_argument, load_local, store_local, duplicate, pop, binary, unary, shift, compare, convert_int32, convert_int64, branch, branch_true, branch_false, branch_compare, switch, load_field, store_field, load_static_field, store_static_field, new_array, load_length, load_element_int32, load_element_int64, load_element_reference, store_element_int32, store_element_int64, store_element_reference, cast_class, is_instance, call, call_virtual, new_object, return}
+use Rattle.resolved_code.specs.Resolved.{IsOperation, no_operation, load_int32, load_int64, load_null, load_string, load_argument, store_argument, load_local, store_local, duplicate, pop, binary, unary, shift, compare, convert_int32, convert_int64, branch, switch, load_field, store_field, load_static_field, store_static_field, new_array, load_length, load_element, store_element, cast_class, is_instance, call, call_virtual, new_object, return}
 use Rattle.resolved_code.specs.declared.operations.Operation.{Operation}
 use Rattle.verifier.specs.Ways.{falls, targets, ways_on}
 use Rattle.verifier.specs.Tables.{AreWays}
@@ -34,10 +35,10 @@ same tree lines _ _ (shift op) = (refl, refl)
 same tree lines _ _ (compare op) = (refl, refl)
 same tree lines _ _ convert_int32 = (refl, refl)
 same tree lines _ _ convert_int64 = (refl, refl)
-same tree lines _ _ (branch label pc at) = (refl, ap (λ o. o ∷ []) at)
-same tree lines _ _ (branch_true label pc at) = (refl, ap (λ o. o ∷ []) at)
-same tree lines _ _ (branch_false label pc at) = (refl, ap (λ o. o ∷ []) at)
-same tree lines _ _ (branch_compare op label pc at) = (refl, ap (λ o. o ∷ []) at)
+same tree lines _ _ (branch conditions.Always label pc at) = (refl, ap (λ o. o ∷ []) at)
+same tree lines _ _ (branch conditions.IfTrue label pc at) = (refl, ap (λ o. o ∷ []) at)
+same tree lines _ _ (branch conditions.IfFalse label pc at) = (refl, ap (λ o. o ∷ []) at)
+same tree lines _ _ (branch (conditions.Compare op) label pc at) = (refl, ap (λ o. o ∷ []) at)
 same tree lines _ _ (switch labels pcs at) = (refl, at)
 same tree lines _ _ (load_field r owner field at is) = (refl, refl)
 same tree lines _ _ (store_field r owner field at is) = (refl, refl)
@@ -45,12 +46,8 @@ same tree lines _ _ (load_static_field r field is) = (refl, refl)
 same tree lines _ _ (store_static_field r field is) = (refl, refl)
 same tree lines _ _ (new_array t n at) = (refl, refl)
 same tree lines _ _ load_length = (refl, refl)
-same tree lines _ _ load_element_int32 = (refl, refl)
-same tree lines _ _ load_element_int64 = (refl, refl)
-same tree lines _ _ load_element_reference = (refl, refl)
-same tree lines _ _ store_element_int32 = (refl, refl)
-same tree lines _ _ store_element_int64 = (refl, refl)
-same tree lines _ _ store_element_reference = (refl, refl)
+same tree lines _ _ (load_element kind) = (refl, refl)
+same tree lines _ _ (store_element kind) = (refl, refl)
 same tree lines _ _ (cast_class t n at) = (refl, refl)
 same tree lines _ _ (is_instance t n at) = (refl, refl)
 same tree lines _ _ (call b r owner method at is) = (refl, refl)

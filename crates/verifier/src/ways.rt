@@ -3,6 +3,7 @@
 ghost use Rattle.std.specs.Prelude.{◌≡◌, ◌+◌, ◌++◌, ◌∷◌, [], IfOk, OnOk};
 ghost use Rattle.verifier.specs.Ways.{targets, falls, ways_on};
 
+use cil_model::instructions::BranchCondition;
 use cil_model::memory::NoMemory;
 use resolved_code::operations::Operation;
 use std::alloc::Global;
@@ -11,7 +12,10 @@ use std::alloc::Global;
 fn falls(operation: &Operation) -> bool
     ensures { result ≡ falls operation.now }
 {
-    !matches!(operation, Operation::Branch(_) | Operation::Return)
+    !matches!(
+        operation,
+        Operation::Branch(BranchCondition::Always, _) | Operation::Return
+    )
 }
 
 /// Appends the pcs that an operation names.
@@ -19,10 +23,7 @@ fn add_targets(operation: &Operation, ways: &mut Vec<usize>) -> Result<(), NoMem
     ensures { OnOk result (ways.new.items ≡ ways.old.items ++ targets operation.now) }
 {
     match operation {
-        Operation::Branch(pc)
-        | Operation::BranchTrue(pc)
-        | Operation::BranchFalse(pc)
-        | Operation::BranchCompare(_, pc) => ways.push(*pc)?,
+        Operation::Branch(_, pc) => ways.push(*pc)?,
         Operation::Switch(pcs) => ways.extend_from_slice(pcs.as_slice())?,
         _ => {}
     }

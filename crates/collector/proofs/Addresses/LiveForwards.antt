@@ -4,6 +4,7 @@ use Rattle.std.specs.Prelude.{◌==◌, ◌||◌, nat_lt, is_some, Option, Some,
 use Rattle.std.proofs.lemmas.Bool.Decides.{nat_tests}
 use Rattle.cil_model.specs.declared.phases.Phase.{Phase}
 use Rattle.cil_model.specs.declared.phases.Phase.TheVariants.{Idle, Mark, Allocate, Copy, PreFlip, HeapFlip, ThreadFlip, Reclaim}
+use Rattle.cil_model.specs.PhaseOrder.{is_between, is_phase}
 use Rattle.cil_model.specs.declared.trees.Tree.{Tree}
 use Rattle.object_memory.specs.declared.addresses.Addr.{Addr}
 use Rattle.object_memory.specs.declared.addresses.TheConstants.{ADDRESSES, FIRST_LITERAL}
@@ -21,29 +22,14 @@ use Rattle.collector.proofs.Addresses.Disjunctions.{false_is_true, either_true, 
 
 -- no new object is live
 abbrev pub is_old_alone : Phase → Bool
-is_old_alone Idle = true
-is_old_alone Mark = true
-is_old_alone Allocate = true
-is_old_alone Copy = true
-is_old_alone PreFlip = false
-is_old_alone HeapFlip = false
-is_old_alone ThreadFlip = false
-is_old_alone Reclaim = false
+is_old_alone p = is_between Idle Copy p
 
 -- each marked object has its copy
 abbrev pub has_copies : Phase → Bool
-has_copies Idle = false
-has_copies Mark = false
-has_copies Allocate = false
-has_copies Copy = true
-has_copies PreFlip = true
-has_copies HeapFlip = true
-has_copies ThreadFlip = true
-has_copies Reclaim = true
+has_copies p = is_between Copy Reclaim p
 
 abbrev is_reclaim : Phase → Bool
-is_reclaim Reclaim = true
-is_reclaim _ = false
+is_reclaim p = is_phase p Reclaim
 
 -- Reclaim is posted, or another phase
 pub reclaim_or : (q : Phase) → (q ≡ Reclaim) ⊎ (q ≢ Reclaim)

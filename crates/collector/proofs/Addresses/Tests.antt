@@ -5,6 +5,7 @@ use Rattle.std.proofs.lemmas.Bool.{and_parts, not-true, or_cases, or_left, or_ri
 use Rattle.std.proofs.lemmas.Bool.Decides.{nat_tests}
 use Rattle.cil_model.specs.declared.phases.Phase.{Phase}
 use Rattle.cil_model.specs.declared.phases.Phase.TheVariants.{Idle, Mark, Allocate, Copy, PreFlip, HeapFlip, ThreadFlip, Reclaim}
+use Rattle.cil_model.specs.PhaseOrder.{is_between}
 use Rattle.cil_model.specs.declared.trees.Tree.{Tree}
 use Rattle.object_memory.specs.declared.addresses.Addr.{Addr}
 use Rattle.object_memory.specs.declared.addresses.TheConstants.{FIRST_LITERAL}
@@ -109,14 +110,7 @@ module _ (m : Spaces) (spaces : AreSpaces m) (a : Addr) where
 
 -- from PreFlip on a new object is live
 abbrev pub is_new_live : Phase → Bool
-is_new_live Idle = false
-is_new_live Mark = false
-is_new_live Allocate = false
-is_new_live Copy = false
-is_new_live PreFlip = true
-is_new_live HeapFlip = true
-is_new_live ThreadFlip = true
-is_new_live Reclaim = true
+is_new_live p = is_between PreFlip Reclaim p
 
 new_object_is_live : (posted_phase : Phase) (m : Spaces) (a : Addr) → is_new_live posted_phase ≡ true → is_new m a ≡ true → is_live_object posted_phase m a ≡ true
 new_object_is_live PreFlip m a late h = or_right (is_marked_old m a) (is_new m a) h

@@ -3,7 +3,8 @@ use Rattle.std.proofs.Common.{◌≡◌, ◌≢◌, ◌⊎◌, inl, inr, ℕ, �
 use Rattle.std.specs.Prelude.{Option, Some, None}
 use Rattle.std.proofs.lemmas.Option.{none-some, same_Some}
 use Rattle.cil_model.specs.declared.phases.Phase.{Phase}
-use Rattle.cil_model.specs.declared.phases.Phase.TheVariants.{Idle, Mark, Allocate, Copy, PreFlip, HeapFlip, ThreadFlip, Reclaim}
+use Rattle.cil_model.specs.declared.phases.Phase.TheVariants.{Allocate, Copy, PreFlip, HeapFlip, Reclaim}
+use Rattle.cil_model.specs.PhaseOrder.{is_between}
 use Rattle.object_memory.specs.declared.addresses.Addr.{Addr}
 use Rattle.object_memory.specs.declared.kinds.Kind.{Kind}
 use Rattle.object_memory.specs.declared.monitors.Monitor.TheVariants.{Free}
@@ -28,14 +29,7 @@ pub record IsEmpty (k : Kind) (n : ℕ) (c : Cell) : Type 0 where
 
 -- whether what a thread bears in a phase has two copies
 abbrev pub bears_two : Phase → Bool
-bears_two Idle = false
-bears_two Mark = false
-bears_two Allocate = true
-bears_two Copy = true
-bears_two PreFlip = true
-bears_two HeapFlip = true
-bears_two ThreadFlip = false
-bears_two Reclaim = false
+bears_two p = is_between Allocate HeapFlip p
 
 -- the other copy of what is born, at an address where nothing lay
 pub record IsOtherBorn (own : Phase) (k : Kind) (n : ℕ) (o o' : Objects) (a b : Addr) (c : Cell) : Type 0 where

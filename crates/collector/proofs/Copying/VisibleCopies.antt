@@ -1,5 +1,5 @@
 -- What readers see of objects with two copies: from Copy on each marked object has one, and from PreFlip on both show the same.
-use Rattle.std.proofs.Common.{◌≡◌, ◌≢◌, ◌⊎◌, inl, inr, ℕ, suc, ◌<◌, Bool, true, false, length, refl, sym, ap, subst, ◌∙◌, arith}
+use Rattle.std.proofs.Common.{◌≡◌, ◌≢◌, ◌⊎◌, inl, inr, ℕ, suc, ◌<◌, Bool, true, length, refl, sym, ap, subst, ◌∙◌, arith}
 use Rattle.std.specs.Prelude.{Option, Some, None, is_some, slice_get}
 use Rattle.std.proofs.Math.Nat.{mod-eq_of_lt}
 use Rattle.std.proofs.lemmas.Bool.{or_cases, or_left, or_right}
@@ -7,6 +7,7 @@ use Rattle.std.proofs.lemmas.Nat.{mod_below}
 use Rattle.std.proofs.lemmas.Option.{same_Some, slice_get-get_or, slice_get_within}
 use Rattle.cil_model.specs.declared.phases.Phase.{Phase}
 use Rattle.cil_model.specs.declared.phases.Phase.TheVariants.{Idle, Mark, Allocate, Copy, PreFlip, HeapFlip, ThreadFlip, Reclaim}
+use Rattle.cil_model.specs.PhaseOrder.{is_between}
 use Rattle.cil_model.specs.declared.trees.Tree.{Tree}
 use Rattle.object_memory.specs.declared.addresses.Addr.{Addr}
 use Rattle.object_memory.specs.declared.addresses.TheConstants.{ADDRESSES}
@@ -17,31 +18,14 @@ use Rattle.collector.specs.References.{is_permanent, reference_in}
 use Rattle.collector.specs.Phases.{HasCopied, HasLooked, is_live, is_live_object, is_marked_old, is_new, is_new_address}
 use Rattle.collector.specs.Soundness.{AreCopies, AreCopied, IsCopiedSlot, copied_word}
 use Rattle.collector.specs.declared.progress.Progress.{Progress}
+pub use Rattle.collector.proofs.Addresses.LiveForwards.{has_copies}
 use Rattle.collector.proofs.Copying.CopyTests.{marked_there, other_there, permanent_no_cell, some_there}
 
 -- ---- phases
 
--- from Copy on each marked object has another copy
-abbrev pub has_copies : Phase → Bool
-has_copies Idle = false
-has_copies Mark = false
-has_copies Allocate = false
-has_copies Copy = true
-has_copies PreFlip = true
-has_copies HeapFlip = true
-has_copies ThreadFlip = true
-has_copies Reclaim = true
-
 -- from PreFlip on, until the old copies go, the new ones have all words
 abbrev pub has_words : Phase → Bool
-has_words Idle = false
-has_words Mark = false
-has_words Allocate = false
-has_words Copy = false
-has_words PreFlip = true
-has_words HeapFlip = true
-has_words ThreadFlip = true
-has_words Reclaim = false
+has_words p = is_between PreFlip ThreadFlip p
 
 -- an old object and its new copy show the same but for forwards
 pub record ShowSame (tree : Tree) (m : Spaces) (c d : Cell) : Type 0 where

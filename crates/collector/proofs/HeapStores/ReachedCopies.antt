@@ -3,7 +3,8 @@ use Rattle.std.proofs.Common.{◌≡◌, ◌≢◌, ◌⊎◌, inl, inr, ℕ, Bo
 use Rattle.std.specs.Prelude.{◌==◌, if◌then◌else◌, is_some, Option, Some, None}
 use Rattle.std.proofs.lemmas.Option.{same_Some}
 use Rattle.cil_model.specs.declared.phases.Phase.{Phase}
-use Rattle.cil_model.specs.declared.phases.Phase.TheVariants.{Idle, Mark, Allocate, Copy, PreFlip, HeapFlip, ThreadFlip, Reclaim}
+use Rattle.cil_model.specs.declared.phases.Phase.TheVariants.{Idle, Mark, Allocate, Copy, HeapFlip, Reclaim}
+use Rattle.cil_model.specs.PhaseOrder.{is_phase}
 use Rattle.cil_model.specs.declared.trees.Tree.{Tree}
 use Rattle.cil_model.proofs.Lists.{none_is_some}
 use Rattle.reference_machine.specs.Cycles.{phase_after}
@@ -43,14 +44,7 @@ close_is_beside h seat (inr late) = inr late.0
 
 -- whether Copy is posted
 abbrev pub is_copy : Phase → Bool
-is_copy Idle = false
-is_copy Mark = false
-is_copy Allocate = false
-is_copy Copy = true
-is_copy PreFlip = false
-is_copy HeapFlip = false
-is_copy ThreadFlip = false
-is_copy Reclaim = false
+is_copy p = is_phase p Copy
 
 -- a store reaches an old object alone, whose words are not copied yet; a new one alone; or both copies
 pub data Way (own posted_phase : Phase) (p : Progress) : Type 0 where

@@ -4,6 +4,7 @@ use Rattle.std.specs.Prelude.{if◌then◌else◌, Option, Some, None}
 use Rattle.std.specs.Option.{option_map_or}
 use Rattle.cil_model.specs.declared.phases.Phase.{Phase}
 use Rattle.cil_model.specs.declared.phases.Phase.TheVariants.{Idle, Mark, Allocate, Copy, PreFlip, HeapFlip, ThreadFlip, Reclaim}
+use Rattle.cil_model.specs.PhaseOrder.{is_between}
 use Rattle.cil_model.specs.declared.trees.Tree.{Tree}
 use Rattle.object_memory.specs.declared.addresses.Addr.{Addr}
 use Rattle.object_memory.specs.declared.kinds.Kind.{Kind}
@@ -53,10 +54,7 @@ pub record IsHeldValue (tree : Tree) (own posted_phase : Phase) (o : Objects) (k
 
 -- whether the new copy gets the forward of a value
 abbrev is_forwarding : Phase → Bool
-is_forwarding Copy = true
-is_forwarding PreFlip = true
-is_forwarding HeapFlip = true
-is_forwarding _ = false
+is_forwarding p = is_between Copy HeapFlip p
 
 -- what the new copy gets
 abbrev pub value_for_new : Phase → Objects → Value → Value

@@ -3,7 +3,8 @@ use Rattle.std.proofs.Common.{◌≡◌, ◌≢◌, inl, inr, ℕ, ◌≤◌, �
 use Rattle.std.specs.Prelude.{if◌then◌else◌, is_some, Option, Some, None}
 use Rattle.std.proofs.lemmas.Bool.{or_left, or_right}
 use Rattle.cil_model.specs.declared.phases.Phase.{Phase}
-use Rattle.cil_model.specs.declared.phases.Phase.TheVariants.{Idle, Mark, Allocate, Copy, PreFlip, HeapFlip, ThreadFlip, Reclaim}
+use Rattle.cil_model.specs.declared.phases.Phase.TheVariants.{Mark, Allocate, Copy, PreFlip, HeapFlip, ThreadFlip, Reclaim}
+use Rattle.cil_model.specs.PhaseOrder.{is_between}
 use Rattle.cil_model.specs.declared.trees.Tree.{Tree}
 use Rattle.reference_machine.specs.Cycles.{phase_after}
 use Rattle.object_memory.specs.declared.addresses.Addr.{Addr}
@@ -76,14 +77,7 @@ module _ (tree : Tree) (posted_phase next : Phase) (has_round : Bool) (words : �
 
 -- whether the phase after one comes with the same heap, whose copies are made
 abbrev pub is_flip : Phase → Bool
-is_flip Idle = false
-is_flip Mark = false
-is_flip Allocate = false
-is_flip Copy = false
-is_flip PreFlip = true
-is_flip HeapFlip = true
-is_flip ThreadFlip = true
-is_flip Reclaim = false
+is_flip p = is_between PreFlip ThreadFlip p
 
 -- nothing is before the first object
 none_cleared : (m : Spaces) → IsCleared no_progress m
@@ -128,14 +122,7 @@ module _ (tree : Tree) (has_round : Bool) (words : ℕ) (p : Progress) (m : Spac
 
 -- from Copy to ThreadFlip each live object has a copy in the new block, or lies there itself
 abbrev pub are_all_copied : Phase → Bool
-are_all_copied Idle = false
-are_all_copied Mark = false
-are_all_copied Allocate = false
-are_all_copied Copy = true
-are_all_copied PreFlip = true
-are_all_copied HeapFlip = true
-are_all_copied ThreadFlip = true
-are_all_copied Reclaim = false
+are_all_copied p = is_between Copy ThreadFlip p
 
 -- the collector has looked for the copy of each old object
 all_looked : (posted_phase : Phase) (p : Progress) (m : Spaces) (a : Addr) → are_all_copied posted_phase ≡ true → HasLooked posted_phase p m a

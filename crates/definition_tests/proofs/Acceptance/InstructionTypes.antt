@@ -8,8 +8,10 @@ use Rattle.cil_model.specs.declared.instructions.ShiftOperation.TheVariants.{Lef
 use Rattle.cil_model.specs.declared.instructions.Comparison.TheVariants.{Equal, Greater}
 use Rattle.cil_model.specs.declared.instructions.BranchComparison.TheVariants.{NotEqual, Less}
 use Rattle.cil_model.specs.declared.instructions.MethodName.TheVariants.{Named}
+use Rattle.cil_model.specs.declared.instructions.BranchCondition.TheVariants as conditions
+use Rattle.cil_model.specs.declared.instructions.ElementKind.TheVariants as kinds
 use Rattle.cil_model.specs.declared.instructions.Instruction.{Instruction}
-use Rattle.cil_model.specs.declared.instructions.Instruction.TheVariants.{NoOperation, LoadInt32, LoadInt64, LoadNull, LoadString, LoadArgument, StoreArgument, LoadLocal, StoreLocal, Duplicate, Pop, Binary, Unary, Shift, Compare, ConvertInt32, ConvertInt64, Branch, BranchTrue, BranchFalse, BranchCompare, Switch, LoadField, StoreField, LoadStaticField, StoreStaticField, NewArray, LoadLength, LoadElementInt32, LoadElementInt64, LoadElementReference, StoreElementInt32, StoreElementInt64, StoreElementReference, CastClass, IsInstance, Call, CallVirtual, NewObject, Return}
+use Rattle.cil_model.specs.declared.instructions.Instruction.TheVariants.{NoOperation, LoadInt32, LoadInt64, LoadNull, LoadString, LoadArgument, StoreArgument, LoadLocal, StoreLocal, Duplicate, Pop, Binary, Unary, Shift, Compare, ConvertInt32, ConvertInt64, Branch, Switch, LoadField, StoreField, LoadStaticField, StoreStaticField, NewArray, LoadLength, LoadElement, StoreElement, CastClass, IsInstance, Call, CallVirtual, NewObject, Return}
 use Rattle.cil_model.specs.Declarations.{object_name, plain}
 use Rattle.cil_model.specs.TypeTree.{StackType, Declared, NativeInt, Null, i4, i8}
 use Rattle.cil_model.specs.FlowRules.{flow}
@@ -165,31 +167,31 @@ null_converted = refl
 
 -- ---- branches
 
-branch : gives (Branch (codes "A")) (i4 ∷ []) ≡ Some (i4 ∷ [])
+branch : gives (Branch conditions.Always (codes "A")) (i4 ∷ []) ≡ Some (i4 ∷ [])
 branch = refl
 
-true_integer : gives (BranchTrue (codes "A")) (i8 ∷ []) ≡ Some []
+true_integer : gives (Branch conditions.IfTrue (codes "A")) (i8 ∷ []) ≡ Some []
 true_integer = refl
 
-true_reference : gives (BranchTrue (codes "A")) (Null ∷ []) ≡ Some []
+true_reference : gives (Branch conditions.IfTrue (codes "A")) (Null ∷ []) ≡ Some []
 true_reference = refl
 
-true_native : gives (BranchTrue (codes "A")) (NativeInt ∷ []) ≡ None
+true_native : gives (Branch conditions.IfTrue (codes "A")) (NativeInt ∷ []) ≡ None
 true_native = refl
 
-false_reference : gives (BranchFalse (codes "A")) (ints ∷ []) ≡ Some []
+false_reference : gives (Branch conditions.IfFalse (codes "A")) (ints ∷ []) ≡ Some []
 false_reference = refl
 
-false_native : gives (BranchFalse (codes "A")) (NativeInt ∷ []) ≡ None
+false_native : gives (Branch conditions.IfFalse (codes "A")) (NativeInt ∷ []) ≡ None
 false_native = refl
 
-unequal_references : gives (BranchCompare NotEqual (codes "A")) (a_dog ∷ ints ∷ []) ≡ Some []
+unequal_references : gives (Branch (conditions.Compare NotEqual) (codes "A")) (a_dog ∷ ints ∷ []) ≡ Some []
 unequal_references = refl
 
-less_integers : gives (BranchCompare Less (codes "A")) (i4 ∷ i4 ∷ i4 ∷ []) ≡ Some (i4 ∷ [])
+less_integers : gives (Branch (conditions.Compare Less) (codes "A")) (i4 ∷ i4 ∷ i4 ∷ []) ≡ Some (i4 ∷ [])
 less_integers = refl
 
-less_references : gives (BranchCompare Less (codes "A")) (a_dog ∷ a_dog ∷ []) ≡ None
+less_references : gives (Branch (conditions.Compare Less) (codes "A")) (a_dog ∷ a_dog ∷ []) ≡ None
 less_references = refl
 
 switch : gives (Switch (codes "A" ∷ [])) (i4 ∷ []) ≡ Some []
@@ -244,49 +246,49 @@ length_of_null = refl
 length_of_string : gives LoadLength (a_string ∷ []) ≡ None
 length_of_string = refl
 
-int_element : gives LoadElementInt32 (ints ∷ i4 ∷ []) ≡ Some (i4 ∷ [])
+int_element : gives (LoadElement kinds.Int32) (ints ∷ i4 ∷ []) ≡ Some (i4 ∷ [])
 int_element = refl
 
-int_element_of_null : gives LoadElementInt32 (Null ∷ NativeInt ∷ []) ≡ Some (i4 ∷ [])
+int_element_of_null : gives (LoadElement kinds.Int32) (Null ∷ NativeInt ∷ []) ≡ Some (i4 ∷ [])
 int_element_of_null = refl
 
-int_element_of_longs : gives LoadElementInt32 (longs ∷ i4 ∷ []) ≡ None
+int_element_of_longs : gives (LoadElement kinds.Int32) (longs ∷ i4 ∷ []) ≡ None
 int_element_of_longs = refl
 
-long_element : gives LoadElementInt64 (longs ∷ i4 ∷ []) ≡ Some (i8 ∷ [])
+long_element : gives (LoadElement kinds.Int64) (longs ∷ i4 ∷ []) ≡ Some (i8 ∷ [])
 long_element = refl
 
-long_element_by_long : gives LoadElementInt64 (longs ∷ i8 ∷ []) ≡ None
+long_element_by_long : gives (LoadElement kinds.Int64) (longs ∷ i8 ∷ []) ≡ None
 long_element_by_long = refl
 
-reference_element : gives LoadElementReference (dogs ∷ i4 ∷ []) ≡ Some (a_dog ∷ [])
+reference_element : gives (LoadElement kinds.Reference) (dogs ∷ i4 ∷ []) ≡ Some (a_dog ∷ [])
 reference_element = refl
 
-reference_element_of_null : gives LoadElementReference (Null ∷ i4 ∷ []) ≡ Some (Null ∷ [])
+reference_element_of_null : gives (LoadElement kinds.Reference) (Null ∷ i4 ∷ []) ≡ Some (Null ∷ [])
 reference_element_of_null = refl
 
-reference_element_of_integers : gives LoadElementReference (ints ∷ i4 ∷ []) ≡ None
+reference_element_of_integers : gives (LoadElement kinds.Reference) (ints ∷ i4 ∷ []) ≡ None
 reference_element_of_integers = refl
 
-store_int : gives StoreElementInt32 (ints ∷ i4 ∷ i4 ∷ []) ≡ Some []
+store_int : gives (StoreElement kinds.Int32) (ints ∷ i4 ∷ i4 ∷ []) ≡ Some []
 store_int = refl
 
-store_long_as_int : gives StoreElementInt32 (ints ∷ i4 ∷ i8 ∷ []) ≡ None
+store_long_as_int : gives (StoreElement kinds.Int32) (ints ∷ i4 ∷ i8 ∷ []) ≡ None
 store_long_as_int = refl
 
-store_long : gives StoreElementInt64 (Null ∷ NativeInt ∷ i8 ∷ []) ≡ Some []
+store_long : gives (StoreElement kinds.Int64) (Null ∷ NativeInt ∷ i8 ∷ []) ≡ Some []
 store_long = refl
 
-store_long_among_ints : gives StoreElementInt64 (ints ∷ i4 ∷ i8 ∷ []) ≡ None
+store_long_among_ints : gives (StoreElement kinds.Int64) (ints ∷ i4 ∷ i8 ∷ []) ≡ None
 store_long_among_ints = refl
 
-store_any_reference : gives StoreElementReference (dogs ∷ i4 ∷ a_string ∷ []) ≡ Some []
+store_any_reference : gives (StoreElement kinds.Reference) (dogs ∷ i4 ∷ a_string ∷ []) ≡ Some []
 store_any_reference = refl
 
-store_integer : gives StoreElementReference (dogs ∷ i4 ∷ i4 ∷ []) ≡ None
+store_integer : gives (StoreElement kinds.Reference) (dogs ∷ i4 ∷ i4 ∷ []) ≡ None
 store_integer = refl
 
-store_among_integers : gives StoreElementReference (ints ∷ i4 ∷ Null ∷ []) ≡ None
+store_among_integers : gives (StoreElement kinds.Reference) (ints ∷ i4 ∷ Null ∷ []) ≡ None
 store_among_integers = refl
 
 -- ---- casts

@@ -6,6 +6,7 @@ use Rattle.cil_model.specs.declared.types.Element.TheVariants.{Int32, Int64, Obj
 use Rattle.cil_model.specs.declared.types.Signature.{Signature}
 use Rattle.cil_model.specs.declared.instructions.FieldReference.{FieldReference}
 use Rattle.cil_model.specs.declared.instructions.MethodName.TheVariants.{Named}
+use Rattle.cil_model.specs.declared.instructions.BranchCondition.TheVariants as conditions
 use Rattle.cil_model.specs.declared.instructions.Instruction.{Instruction}
 use Rattle.cil_model.specs.declared.instructions.Instruction.TheVariants.{NoOperation, Branch, Switch, LoadField, LoadStaticField, StoreField, Call, CallVirtual, NewObject, NewArray, CastClass, IsInstance, Return}
 use Rattle.cil_model.specs.declared.trees.Class.{Class}
@@ -168,7 +169,7 @@ type_unknown = refl
 type_unknown_in_signature : least_broken (a_with (void (Static plain_code) (codes "m") (of_class (codes "Z") ∷ []) ∷ [])) ≡ Some 202
 type_unknown_in_signature = refl
 
-no_label : least_broken (main_does (Branch (codes "L"))) ≡ Some 202
+no_label : least_broken (main_does (Branch conditions.Always (codes "L"))) ≡ Some 202
 no_label = refl
 
 no_label_of_switch : least_broken (main_lines (record { labels = codes "L" ∷ []; instruction = Switch (codes "L" ∷ codes "K" ∷ []) } ∷ returns)) ≡ Some 202

@@ -5,7 +5,8 @@ use Rattle.std.proofs.lemmas.Option.{same_Some}
 use Rattle.std.proofs.lemmas.List.Elements.{Contains-push_cases}
 use Rattle.cil_model.specs.declared.types.Element.TheVariants.{Int32, Int64, Object, String}
 use Rattle.cil_model.specs.declared.types.DeclaredType.{DeclaredType}
-use Rattle.cil_model.specs.declared.instructions.Instruction.TheVariants.{LoadInt32, LoadArgument, Pop, Branch, BranchTrue, Return}
+use Rattle.cil_model.specs.declared.instructions.BranchCondition.TheVariants as conditions
+use Rattle.cil_model.specs.declared.instructions.Instruction.TheVariants.{LoadInt32, LoadArgument, Pop, Branch, Return}
 use Rattle.cil_model.specs.declared.trees.Tree.{Tree}
 use Rattle.cil_model.specs.declared.trees.Code.{Code}
 use Rattle.cil_model.specs.declared.trees.Line.{Line}
@@ -255,7 +256,7 @@ one_slot_apart (a ∷ NativeInt ∷ bs) h k = null_is_native h.1.0
 
 -- each time round the loop there is one more on the stack: `A: ldc.i4 0` and `br A`
 abbrev growing : Code
-growing = record { is_entry_point = false; max_stack = pos 8; locals = []; lines = record { labels = codes "A" ∷ []; instruction = LoadInt32 (pos 0) } ∷ unlabelled_line (Branch (codes "A")) ∷ [] }
+growing = record { is_entry_point = false; max_stack = pos 8; locals = []; lines = record { labels = codes "A" ∷ []; instruction = LoadInt32 (pos 0) } ∷ unlabelled_line (Branch conditions.Always (codes "A")) ∷ [] }
 
 growing_has_no_typing : (typing : Typing) → IsCodeTyping zoo [] None growing typing → ⊥
 growing_has_no_typing typing t = first (t.each 0 _ [] refl t.start)
@@ -266,7 +267,7 @@ growing_has_no_typing typing t = first (t.each 0 _ [] refl t.start)
         let following : AreBelow zoo (a ∷ rest) stack = subst (λ x. AreBelow zoo x stack) (sym (same_Some (a ∷ rest) after e)) below in
         subst (λ x. AreBelow zoo (a ∷ rest) x) (sym empty) following
 
-    third : (stack : List StackType) → AreBelow zoo (i4 ∷ []) stack → ((after : List StackType) × (Some stack ≡ Some after) × FlowsOn zoo growing typing 1 (unlabelled_line (Branch (codes "A"))) after) → ⊥
+    third : (stack : List StackType) → AreBelow zoo (i4 ∷ []) stack → ((after : List StackType) × (Some stack ≡ Some after) × FlowsOn zoo growing typing 1 (unlabelled_line (Branch conditions.Always (codes "A"))) after) → ⊥
     third [] below x = below
     third (a ∷ rest) below (after, e, on) = back a rest after e (on.branches (codes "A") (0, lit< tt, refl))
 
@@ -278,7 +279,7 @@ growing_has_no_typing typing t = first (t.each 0 _ [] refl t.start)
 
 -- the loop that takes what it puts has one: `A: ldc.i4 0`, `pop` and `br A`
 abbrev steady : Code
-steady = record { is_entry_point = false; max_stack = pos 1; locals = []; lines = record { labels = codes "A" ∷ []; instruction = LoadInt32 (pos 0) } ∷ unlabelled_line Pop ∷ unlabelled_line (Branch (codes "A")) ∷ [] }
+steady = record { is_entry_point = false; max_stack = pos 1; locals = []; lines = record { labels = codes "A" ∷ []; instruction = LoadInt32 (pos 0) } ∷ unlabelled_line Pop ∷ unlabelled_line (Branch conditions.Always (codes "A")) ∷ [] }
 
 abbrev steady_typing : Typing
 steady_typing = Some [] ∷ Some (i4 ∷ []) ∷ Some [] ∷ []
@@ -290,7 +291,7 @@ two_ways = record {
   max_stack = pos 1;
   locals = [];
   lines =
-      unlabelled_line (LoadArgument (pos 2)) ∷ unlabelled_line (BranchTrue (codes "K")) ∷ unlabelled_line (LoadArgument (pos 0)) ∷ unlabelled_line (Branch (codes "L")) ∷
+      unlabelled_line (LoadArgument (pos 2)) ∷ unlabelled_line (Branch conditions.IfTrue (codes "K")) ∷ unlabelled_line (LoadArgument (pos 0)) ∷ unlabelled_line (Branch conditions.Always (codes "L")) ∷
       record { labels = codes "K" ∷ []; instruction = LoadArgument (pos 1) } ∷ record { labels = codes "L" ∷ []; instruction = Return } ∷ [];
 }
 

@@ -2,8 +2,9 @@
 use Rattle.std.proofs.Common.{◌≡◌, pos, [], ◌∷◌, Some, None, refl, codes}
 use Rattle.cil_model.specs.declared.types.DeclaredType.{DeclaredType}
 use Rattle.cil_model.specs.declared.types.Element.TheVariants.{Int32 as Int32Element, Int64 as Int64Element, Object, String}
+use Rattle.cil_model.specs.declared.instructions.ElementKind.TheVariants as kinds
 use Rattle.cil_model.specs.declared.instructions.Instruction.{Instruction}
-use Rattle.cil_model.specs.declared.instructions.Instruction.TheVariants.{LoadField, StoreField, LoadStaticField, StoreStaticField, NewArray, LoadLength, LoadElementInt32, LoadElementInt64, LoadElementReference, StoreElementInt32, StoreElementInt64, StoreElementReference, CastClass, IsInstance}
+use Rattle.cil_model.specs.declared.instructions.Instruction.TheVariants.{LoadField, StoreField, LoadStaticField, StoreStaticField, NewArray, LoadLength, LoadElement, StoreElement, CastClass, IsInstance}
 use Rattle.cil_model.specs.declared.reports.Fault.TheVariants.{NullReference, IndexOutOfRange, ArrayTypeMismatch, InvalidCast, Overflow, OutOfMemory}
 use Rattle.cil_model.specs.Declarations.{plain}
 use Rattle.reference_machine.specs.Values.{Born, Native, Null}
@@ -125,82 +126,82 @@ length_of_null = refl
 length_of_object : does LoadLength (object 0 ∷ []) ≡ NoMeaning
 length_of_object = refl
 
-int_element : does LoadElementInt32 (object 1 ∷ int 1 ∷ []) ≡ Leaves (int 6 ∷ [])
+int_element : does (LoadElement kinds.Int32) (object 1 ∷ int 1 ∷ []) ≡ Leaves (int 6 ∷ [])
 int_element = refl
 
-int_element_by_native : does LoadElementInt32 (object 1 ∷ Native (pos 0) ∷ []) ≡ Leaves (int 5 ∷ [])
+int_element_by_native : does (LoadElement kinds.Int32) (object 1 ∷ Native (pos 0) ∷ []) ≡ Leaves (int 5 ∷ [])
 int_element_by_native = refl
 
-int_element_of_null : does LoadElementInt32 (Null ∷ minus 1 ∷ []) ≡ Faults NullReference
+int_element_of_null : does (LoadElement kinds.Int32) (Null ∷ minus 1 ∷ []) ≡ Faults NullReference
 int_element_of_null = refl
 
-int_element_past : does LoadElementInt32 (object 1 ∷ int 2 ∷ []) ≡ Faults IndexOutOfRange
+int_element_past : does (LoadElement kinds.Int32) (object 1 ∷ int 2 ∷ []) ≡ Faults IndexOutOfRange
 int_element_past = refl
 
-int_element_before : does LoadElementInt32 (object 1 ∷ minus 1 ∷ []) ≡ Faults IndexOutOfRange
+int_element_before : does (LoadElement kinds.Int32) (object 1 ∷ minus 1 ∷ []) ≡ Faults IndexOutOfRange
 int_element_before = refl
 
-int_element_of_longs : does LoadElementInt32 (object 7 ∷ int 0 ∷ []) ≡ NoMeaning
+int_element_of_longs : does (LoadElement kinds.Int32) (object 7 ∷ int 0 ∷ []) ≡ NoMeaning
 int_element_of_longs = refl
 
-long_element : does LoadElementInt64 (object 7 ∷ int 0 ∷ []) ≡ Leaves (long 7 ∷ [])
+long_element : does (LoadElement kinds.Int64) (object 7 ∷ int 0 ∷ []) ≡ Leaves (long 7 ∷ [])
 long_element = refl
 
-long_element_of_null : does LoadElementInt64 (Null ∷ int 0 ∷ []) ≡ Faults NullReference
+long_element_of_null : does (LoadElement kinds.Int64) (Null ∷ int 0 ∷ []) ≡ Faults NullReference
 long_element_of_null = refl
 
-long_element_past : does LoadElementInt64 (object 7 ∷ int 1 ∷ []) ≡ Faults IndexOutOfRange
+long_element_past : does (LoadElement kinds.Int64) (object 7 ∷ int 1 ∷ []) ≡ Faults IndexOutOfRange
 long_element_past = refl
 
-reference_element : does LoadElementReference (object 2 ∷ int 1 ∷ []) ≡ Leaves (object 0 ∷ [])
+reference_element : does (LoadElement kinds.Reference) (object 2 ∷ int 1 ∷ []) ≡ Leaves (object 0 ∷ [])
 reference_element = refl
 
-reference_element_of_null : does LoadElementReference (Null ∷ int 0 ∷ []) ≡ Faults NullReference
+reference_element_of_null : does (LoadElement kinds.Reference) (Null ∷ int 0 ∷ []) ≡ Faults NullReference
 reference_element_of_null = refl
 
-reference_element_past : does LoadElementReference (object 2 ∷ int 2 ∷ []) ≡ Faults IndexOutOfRange
+reference_element_past : does (LoadElement kinds.Reference) (object 2 ∷ int 2 ∷ []) ≡ Faults IndexOutOfRange
 reference_element_past = refl
 
-reference_element_of_integers : does LoadElementReference (object 1 ∷ int 0 ∷ []) ≡ NoMeaning
+reference_element_of_integers : does (LoadElement kinds.Reference) (object 1 ∷ int 0 ∷ []) ≡ NoMeaning
 reference_element_of_integers = refl
 
-stored_int : elements_after (Born 1) StoreElementInt32 (object 1 ∷ int 0 ∷ int 8 ∷ []) ≡ Some (integers, int 8 ∷ int 6 ∷ [])
+stored_int : elements_after (Born 1) (StoreElement kinds.Int32) (object 1 ∷ int 0 ∷ int 8 ∷ []) ≡ Some (integers, int 8 ∷ int 6 ∷ [])
 stored_int = refl
 
-store_int_to_null : does StoreElementInt32 (Null ∷ int 5 ∷ int 8 ∷ []) ≡ Faults NullReference
+store_int_to_null : does (StoreElement kinds.Int32) (Null ∷ int 5 ∷ int 8 ∷ []) ≡ Faults NullReference
 store_int_to_null = refl
 
-store_int_past : does StoreElementInt32 (object 1 ∷ int 2 ∷ int 8 ∷ []) ≡ Faults IndexOutOfRange
+store_int_past : does (StoreElement kinds.Int32) (object 1 ∷ int 2 ∷ int 8 ∷ []) ≡ Faults IndexOutOfRange
 store_int_past = refl
 
-store_int_of_long : does StoreElementInt32 (object 1 ∷ int 0 ∷ long 8 ∷ []) ≡ NoMeaning
+store_int_of_long : does (StoreElement kinds.Int32) (object 1 ∷ int 0 ∷ long 8 ∷ []) ≡ NoMeaning
 store_int_of_long = refl
 
-stored_long : elements_after (Born 7) StoreElementInt64 (object 7 ∷ int 0 ∷ long 8 ∷ []) ≡ Some (plain Int64Element, long 8 ∷ [])
+stored_long : elements_after (Born 7) (StoreElement kinds.Int64) (object 7 ∷ int 0 ∷ long 8 ∷ []) ≡ Some (plain Int64Element, long 8 ∷ [])
 stored_long = refl
 
-store_long_to_null : does StoreElementInt64 (Null ∷ int 0 ∷ long 8 ∷ []) ≡ Faults NullReference
+store_long_to_null : does (StoreElement kinds.Int64) (Null ∷ int 0 ∷ long 8 ∷ []) ≡ Faults NullReference
 store_long_to_null = refl
 
-store_long_past : does StoreElementInt64 (object 7 ∷ minus 1 ∷ long 8 ∷ []) ≡ Faults IndexOutOfRange
+store_long_past : does (StoreElement kinds.Int64) (object 7 ∷ minus 1 ∷ long 8 ∷ []) ≡ Faults IndexOutOfRange
 store_long_past = refl
 
-stored_reference : elements_after (Born 2) StoreElementReference (object 2 ∷ int 0 ∷ object 0 ∷ []) ≡ Some (of_class (codes "Dog"), object 0 ∷ object 0 ∷ [])
+stored_reference : elements_after (Born 2) (StoreElement kinds.Reference) (object 2 ∷ int 0 ∷ object 0 ∷ []) ≡ Some (of_class (codes "Dog"), object 0 ∷ object 0 ∷ [])
 stored_reference = refl
 
-stored_null : elements_after (Born 2) StoreElementReference (object 2 ∷ int 1 ∷ Null ∷ []) ≡ Some (of_class (codes "Dog"), Null ∷ Null ∷ [])
+stored_null : elements_after (Born 2) (StoreElement kinds.Reference) (object 2 ∷ int 1 ∷ Null ∷ []) ≡ Some (of_class (codes "Dog"), Null ∷ Null ∷ [])
 stored_null = refl
 
-store_reference_to_null : does StoreElementReference (Null ∷ int 9 ∷ object 3 ∷ []) ≡ Faults NullReference
+store_reference_to_null : does (StoreElement kinds.Reference) (Null ∷ int 9 ∷ object 3 ∷ []) ≡ Faults NullReference
 store_reference_to_null = refl
 
-store_reference_past : does StoreElementReference (object 2 ∷ int 2 ∷ object 3 ∷ []) ≡ Faults IndexOutOfRange
+store_reference_past : does (StoreElement kinds.Reference) (object 2 ∷ int 2 ∷ object 3 ∷ []) ≡ Faults IndexOutOfRange
 store_reference_past = refl
 
-store_cat_among_dogs : does StoreElementReference (object 2 ∷ int 0 ∷ object 3 ∷ []) ≡ Faults ArrayTypeMismatch
+store_cat_among_dogs : does (StoreElement kinds.Reference) (object 2 ∷ int 0 ∷ object 3 ∷ []) ≡ Faults ArrayTypeMismatch
 store_cat_among_dogs = refl
 
-store_integer_among_dogs : does StoreElementReference (object 2 ∷ int 0 ∷ int 3 ∷ []) ≡ NoMeaning
+store_integer_among_dogs : does (StoreElement kinds.Reference) (object 2 ∷ int 0 ∷ int 3 ∷ []) ≡ NoMeaning
 store_integer_among_dogs = refl
 
 -- ---- types at run time

@@ -3,8 +3,9 @@ use Rattle.std.proofs.Common.{◌≡◌, ℕ, ℤ, pos, negsuc, true, false, Lis
 use Rattle.std.specs.Fmt.{digits}
 use Rattle.cil_model.specs.declared.types.Element.TheVariants.{Int32}
 use Rattle.cil_model.specs.declared.instructions.BinaryOperation.TheVariants.{Add}
+use Rattle.cil_model.specs.declared.instructions.ElementKind.TheVariants as kinds
 use Rattle.cil_model.specs.declared.instructions.Instruction.{Instruction}
-use Rattle.cil_model.specs.declared.instructions.Instruction.TheVariants.{LoadInt32, LoadNull, LoadArgument, Duplicate, Pop, Binary, Switch, LoadStaticField, StoreStaticField, NewArray, LoadLength, ConvertInt32, LoadElementReference, StoreElementReference, NewObject, Return}
+use Rattle.cil_model.specs.declared.instructions.Instruction.TheVariants.{LoadInt32, LoadNull, LoadArgument, Duplicate, Pop, Binary, Switch, LoadStaticField, StoreStaticField, NewArray, LoadLength, ConvertInt32, LoadElement, StoreElement, NewObject, Return}
 use Rattle.cil_model.specs.declared.limits.Limits.{Limits}
 use Rattle.cil_model.specs.declared.trees.Tree.{Tree}
 use Rattle.cil_model.specs.declared.reports.Fault.TheVariants.{ArrayTypeMismatch, NullReference, OutOfMemory, StackOverflow, SynchronizationLock, ThreadState}
@@ -54,17 +55,17 @@ birth_refused : outputs_of (main (int (pos 1) ∷ NewArray (plain Int32) ∷ Pop
 birth_refused = refl
 
 -- an array of arrays of integers
-nested_arrays : outputs_of (main (int (pos 2) ∷ NewArray (arrays_of (plain Int32) 1) ∷ Duplicate ∷ int (pos 0) ∷ int (pos 3) ∷ NewArray (plain Int32) ∷ StoreElementReference ∷ int (pos 0) ∷ LoadElementReference ∷ LoadLength ∷ ConvertInt32 ∷ write_line ∷ Return ∷ [])) usual_limits (transitions 13)
+nested_arrays : outputs_of (main (int (pos 2) ∷ NewArray (arrays_of (plain Int32) 1) ∷ Duplicate ∷ int (pos 0) ∷ int (pos 3) ∷ NewArray (plain Int32) ∷ StoreElement kinds.Reference ∷ int (pos 0) ∷ LoadElement kinds.Reference ∷ LoadLength ∷ ConvertInt32 ∷ write_line ∷ Return ∷ [])) usual_limits (transitions 13)
     ≡ Shows (replicate 12 Ran ++ Ended Done ∷ []) (codes "3\n")
 unfolding digits
 nested_arrays = refl
 
 -- a Cat into a `Dog[]`, and null
-store_cat : outputs_of (with_main animals [] (map unlabelled_line (int (pos 1) ∷ NewArray (of_class (codes "Dog")) ∷ int (pos 0) ∷ NewObject (named (codes "Cat")) [] ∷ StoreElementReference ∷ Return ∷ []))) usual_limits (transitions 11)
+store_cat : outputs_of (with_main animals [] (map unlabelled_line (int (pos 1) ∷ NewArray (of_class (codes "Dog")) ∷ int (pos 0) ∷ NewObject (named (codes "Cat")) [] ∷ StoreElement kinds.Reference ∷ Return ∷ []))) usual_limits (transitions 11)
     ≡ Shows (replicate 10 Ran ++ Ended (Fault ArrayTypeMismatch) ∷ []) []
 store_cat = refl
 
-store_null : outputs_of (with_main animals [] (map unlabelled_line (int (pos 1) ∷ NewArray (of_class (codes "Dog")) ∷ int (pos 0) ∷ LoadNull ∷ StoreElementReference ∷ Return ∷ []))) usual_limits (transitions 6)
+store_null : outputs_of (with_main animals [] (map unlabelled_line (int (pos 1) ∷ NewArray (of_class (codes "Dog")) ∷ int (pos 0) ∷ LoadNull ∷ StoreElement kinds.Reference ∷ Return ∷ []))) usual_limits (transitions 6)
     ≡ Shows (replicate 5 Ran ++ Ended Done ∷ []) []
 store_null = refl
 

@@ -5,8 +5,9 @@ use Rattle.cil_model.specs.declared.types.Element.TheVariants.{Int32, Object, St
 use Rattle.cil_model.specs.declared.instructions.Comparison.TheVariants.{Equal}
 use Rattle.cil_model.specs.declared.instructions.FieldReference.{FieldReference}
 use Rattle.cil_model.specs.declared.instructions.MethodName.TheVariants.{Named}
+use Rattle.cil_model.specs.declared.instructions.ElementKind.TheVariants as kinds
 use Rattle.cil_model.specs.declared.instructions.Instruction.{Instruction}
-use Rattle.cil_model.specs.declared.instructions.Instruction.TheVariants.{LoadInt32, LoadNull, LoadString, Duplicate, Pop, Compare, LoadField, StoreField, NewArray, StoreElementReference, CastClass, IsInstance, Call, CallVirtual, NewObject, Return}
+use Rattle.cil_model.specs.declared.instructions.Instruction.TheVariants.{LoadInt32, LoadNull, LoadString, Duplicate, Pop, Compare, LoadField, StoreField, NewArray, StoreElement, CastClass, IsInstance, Call, CallVirtual, NewObject, Return}
 use Rattle.cil_model.specs.declared.trees.Class.{Class}
 use Rattle.cil_model.specs.declared.trees.Member.{Member}
 use Rattle.cil_model.specs.declared.trees.Member.TheVariants.{Field as FieldMember, Method as MethodMember}
@@ -101,11 +102,11 @@ texts = refl
 -- ---- arrays of arrays
 
 -- an `int32[]` into an `object[][]`, and into an `object[]`
-into_nested : outputs_of (program_of (map unlabelled_line (LoadInt32 (pos 1) ∷ NewArray (arrays_of (plain Object) 1) ∷ LoadInt32 (pos 0) ∷ LoadInt32 (pos 0) ∷ NewArray (plain Int32) ∷ StoreElementReference ∷ Return ∷ []))) usual_limits (transitions 6)
+into_nested : outputs_of (program_of (map unlabelled_line (LoadInt32 (pos 1) ∷ NewArray (arrays_of (plain Object) 1) ∷ LoadInt32 (pos 0) ∷ LoadInt32 (pos 0) ∷ NewArray (plain Int32) ∷ StoreElement kinds.Reference ∷ Return ∷ []))) usual_limits (transitions 6)
     ≡ Shows (replicate 5 Ran ++ Ended (Fault ArrayTypeMismatch) ∷ []) []
 into_nested = refl
 
-into_objects : outputs_of (program_of (map unlabelled_line (LoadInt32 (pos 1) ∷ NewArray (plain Object) ∷ LoadInt32 (pos 0) ∷ LoadInt32 (pos 0) ∷ NewArray (plain Int32) ∷ StoreElementReference ∷ Return ∷ []))) usual_limits (transitions 7)
+into_objects : outputs_of (program_of (map unlabelled_line (LoadInt32 (pos 1) ∷ NewArray (plain Object) ∷ LoadInt32 (pos 0) ∷ LoadInt32 (pos 0) ∷ NewArray (plain Int32) ∷ StoreElement kinds.Reference ∷ Return ∷ []))) usual_limits (transitions 7)
     ≡ Shows (replicate 6 Ran ++ Ended Done ∷ []) []
 into_objects = refl
 

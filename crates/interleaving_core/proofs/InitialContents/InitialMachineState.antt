@@ -34,7 +34,7 @@ use Rattle.object_memory.specs.declared.values.Value.TheVariants.{Ref}
 use Rattle.object_memory.specs.Objects.{Objects, no_objects}
 use Rattle.simulation.specs.loaded_program.AllMethods.{all_methods}
 use Rattle.simulation.specs.loaded_program.MethodNumbers.{number_of}
-use Rattle.simulation.specs.loaded_program.Prepared.{kind_of_type}
+use Rattle.cil_model.specs.ValueKinds.{kind_of_type}
 use Rattle.simulation.proofs.loaded_program.NumberLaws.{number_of_index}
 use Rattle.threads_monitors.specs.Frames.{zero_value}
 use Rattle.threads_monitors.specs.declared.threads.Thread.{Thread}

@@ -5,7 +5,7 @@ use Rattle.std.proofs.lemmas.List.{append-nil, map-append}
 use Rattle.std.proofs.lemmas.List.Elements.{filter-append}
 use Rattle.cil_model.specs.declared.trees.Field.{Field}
 use Rattle.object_memory.specs.declared.values.Value.{Value}
-use Rattle.simulation.specs.loaded_program.Prepared.{kind_of_type}
+use Rattle.cil_model.specs.ValueKinds.{kind_of_type}
 use Rattle.simulation.proofs.name_tables.Lists.{map-take_more}
 use Rattle.threads_monitors.specs.Frames.{zero_value}
 use Rattle.interleaving_core.specs.Statics.{zeros_of}

@@ -26,7 +26,7 @@ use Rattle.name_tables.specs.declared.lookups.MemberNumber.{MemberNumber}
 use Rattle.name_tables.specs.Numbers.{method_at}
 use Rattle.resolved_code.specs.ById.{class_name}
 use Rattle.resolved_code.specs.declared.operations.Operation.{Operation}
-use Rattle.resolved_code.specs.declared.operations.Operation.TheVariants.{LoadString, LoadField, StoreField, LoadStaticField, StoreStaticField, NewArray, LoadLength, LoadElementInt32, LoadElementInt64, LoadElementReference, StoreElementInt32, StoreElementInt64, StoreElementReference, CastClass, IsInstance, Call, CallVirtual, NewObject}
+use Rattle.resolved_code.specs.declared.operations.Operation.TheVariants.{LoadString, LoadField, StoreField, LoadStaticField, StoreStaticField, NewArray, LoadLength, LoadElement, StoreElement, CastClass, IsInstance, Call, CallVirtual, NewObject}
 use Rattle.object_memory.specs.declared.addresses.Addr.{Addr}
 use Rattle.object_memory.specs.declared.values.Value.{Value}
 use Rattle.object_memory.specs.Objects.{Objects}
@@ -145,12 +145,8 @@ module _ (tree : Tree) (mutator : Mutator) (m : Frames) (o : Objects) (ss : List
   quiet (StoreStaticField field) h e = mapped_keep (λ number. Linked.StoreStaticField number) (λ number. statics_keep _) (static_at tree field) e
   quiet (NewArray t) h e = mapped_keep (λ element. Linked.NewArray element) (λ element. objects_keep _) (array_held t) e
   quiet LoadLength h e = objects_keep _ e
-  quiet LoadElementInt32 h e = objects_keep _ e
-  quiet LoadElementInt64 h e = objects_keep _ e
-  quiet LoadElementReference h e = objects_keep _ e
-  quiet StoreElementInt32 h e = objects_keep _ e
-  quiet StoreElementInt64 h e = objects_keep _ e
-  quiet StoreElementReference h e = objects_keep _ e
+  quiet (LoadElement kind) h e = objects_keep _ e
+  quiet (StoreElement kind) h e = objects_keep _ e
   quiet (CastClass t) h e = objects_keep _ e
   quiet (IsInstance t) h e = objects_keep _ e
   quiet (Call is_instance owner method) h e = none_is_some method (sym h)

@@ -148,8 +148,7 @@ module _ (m : Frames) (o : Objects) (statics : List Value) (printed : List ℕ) 
     link_keeps (Linked.NewArray element) = objects_keep _
     link_keeps Linked.LoadLength = objects_keep _
     link_keeps (Linked.LoadElement kind) = objects_keep _
-    link_keeps Linked.StoreElement = objects_keep _
-    link_keeps Linked.StoreElementReference = objects_keep _
+    link_keeps (Linked.StoreElement kind) = objects_keep _
     link_keeps (Linked.CastClass t) = objects_keep _
     link_keeps (Linked.IsInstance t) = objects_keep _
     link_keeps (Linked.Call number) = calls_keep (call_by_id tree mutator number m o printed) (given_keeps (slice_get (all_methods tree) number) (λ found. run_transition tree mutator found m o printed) run_keeps)

@@ -5,8 +5,10 @@ use Rattle.std.specs.Int.{w32, cast_unsigned}
 use Rattle.cil_model.specs.declared.types.ClassName.{ClassName}
 use Rattle.cil_model.specs.declared.types.DeclaredType.{DeclaredType}
 use Rattle.cil_model.specs.declared.instructions.FieldReference.{FieldReference}
+use Rattle.cil_model.specs.declared.instructions.BranchCondition.TheVariants as conditions
+use Rattle.cil_model.specs.declared.instructions.ElementKind.TheVariants as kinds
 use Rattle.cil_model.specs.declared.instructions.Instruction.{Instruction}
-use Rattle.cil_model.specs.declared.instructions.Instruction.TheVariants.{NoOperation, LoadArgument, StoreArgument, LoadLocal, StoreLocal, Duplicate, Pop, Binary, Unary, Shift, Compare, ConvertInt32, ConvertInt64, Branch, BranchTrue, BranchFalse, BranchCompare, Switch, LoadField, StoreField, LoadStaticField, StoreStaticField, NewArray, LoadLength, LoadElementInt32, LoadElementInt64, LoadElementReference, StoreElementInt32, StoreElementInt64, StoreElementReference, CastClass, IsInstance, Call, CallVirtual, NewObject, Return}
+use Rattle.cil_model.specs.declared.instructions.Instruction.TheVariants.{NoOperation, LoadArgument, StoreArgument, LoadLocal, StoreLocal, Duplicate, Pop, Binary, Unary, Shift, Compare, ConvertInt32, ConvertInt64, Branch, Switch, LoadField, StoreField, LoadStaticField, StoreStaticField, NewArray, LoadLength, LoadElement, StoreElement, CastClass, IsInstance, Call, CallVirtual, NewObject, Return}
 use Rattle.cil_model.specs.declared.trees.Method.{Method}
 use Rattle.cil_model.specs.declared.limits.TheConstants.{MOST_THREADS}
 use Rattle.cil_model.specs.declared.reports.Fault.{Fault}
@@ -283,10 +285,10 @@ module _ (Inside : ℕ → Type 0) (here : Setting) (s : State) (f : Frame) (bel
   instruction_within (Compare op) = two_within Inside f.stack running.frame.stack (λ v w rest h h' k. given_within Inside (compare_values op v w) (λ holds e. next_within _ (one_or_zero_within Inside holds, k)))
   instruction_within ConvertInt32 = one_within Inside f.stack running.frame.stack (λ v rest h k. given_within Inside (convert_32 v) (λ u e. next_within (u ∷ rest) (convert_32_within Inside v u e, k)))
   instruction_within ConvertInt64 = one_within Inside f.stack running.frame.stack (λ v rest h k. given_within Inside (convert_64 v) (λ u e. next_within (u ∷ rest) (convert_64_within Inside v u e, k)))
-  instruction_within (Branch label) = jump_within label f.stack running.frame.stack
-  instruction_within (BranchTrue label) = one_within Inside f.stack running.frame.stack (λ v rest h k. given_within Inside (is_set v) (λ holds e. branch_within holds label rest k))
-  instruction_within (BranchFalse label) = one_within Inside f.stack running.frame.stack (λ v rest h k. given_within Inside (not_option (is_set v)) (λ holds e. branch_within holds label rest k))
-  instruction_within (BranchCompare op label) = two_within Inside f.stack running.frame.stack (λ v w rest h h' k. given_within Inside (branch_values op v w) (λ holds e. branch_within holds label rest k))
+  instruction_within (Branch conditions.Always label) = jump_within label f.stack running.frame.stack
+  instruction_within (Branch conditions.IfTrue label) = one_within Inside f.stack running.frame.stack (λ v rest h k. given_within Inside (is_set v) (λ holds e. branch_within holds label rest k))
+  instruction_within (Branch conditions.IfFalse label) = one_within Inside f.stack running.frame.stack (λ v rest h k. given_within Inside (not_option (is_set v)) (λ holds e. branch_within holds label rest k))
+  instruction_within (Branch (conditions.Compare op) label) = two_within Inside f.stack running.frame.stack (λ v w rest h h' k. given_within Inside (branch_values op v w) (λ holds e. branch_within holds label rest k))
   instruction_within (Switch labels) = one_within Inside f.stack running.frame.stack (λ v rest h k. switch_within labels v rest k)
   instruction_within (LoadField r) = load_field_within r
   instruction_within (StoreField r) = store_field_within r
@@ -294,12 +296,9 @@ module _ (Inside : ℕ → Type 0) (here : Setting) (s : State) (f : Frame) (bel
   instruction_within (StoreStaticField r) = store_static_within r
   instruction_within (NewArray t) = one_within Inside f.stack running.frame.stack (λ v rest h k. given_within Inside (as_index v) (λ z e. new_array_within t z rest k))
   instruction_within LoadLength = one_within Inside f.stack running.frame.stack (λ array rest h k. null_within Inside array NullReference h (λ n is. given_within Inside (array_at s n) (λ held e. next_within _ (tt, k))))
-  instruction_within LoadElementInt32 = load_element_within _
-  instruction_within LoadElementInt64 = load_element_within _
-  instruction_within LoadElementReference = load_element_within _
-  instruction_within StoreElementInt32 = store_element_within _
-  instruction_within StoreElementInt64 = store_element_within _
-  instruction_within StoreElementReference = store_reference_within
+  instruction_within (LoadElement _) = load_element_within _
+  instruction_within (StoreElement kinds.Reference) = store_reference_within
+  instruction_within (StoreElement _) = store_element_within _
   instruction_within (CastClass t) = cast_within t (λ rest k. raises InvalidCast)
   instruction_within (IsInstance t) = cast_within t (λ rest k. next_within (Null ∷ rest) (tt, k))
   instruction_within (Call is_instance r) = given_within Inside (find_method here.tree is_instance r) (λ found e. operands_within (reference_operands is_instance r) (λ arguments rest h k. run_within found arguments rest h k))

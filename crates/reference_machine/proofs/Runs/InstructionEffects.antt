@@ -7,8 +7,10 @@ use Rattle.std.proofs.lemmas.List.{length-reverse, length-take-le}
 use Rattle.std.proofs.lemmas.Option.{option_and_then_some, same_Some}
 use Rattle.cil_model.specs.declared.types.ClassName.{ClassName}
 use Rattle.cil_model.specs.declared.types.DeclaredType.{DeclaredType}
+use Rattle.cil_model.specs.declared.instructions.BranchCondition.TheVariants as conditions
+use Rattle.cil_model.specs.declared.instructions.ElementKind.TheVariants as kinds
 use Rattle.cil_model.specs.declared.instructions.Instruction.{Instruction}
-use Rattle.cil_model.specs.declared.instructions.Instruction.TheVariants.{NoOperation, LoadArgument, StoreArgument, LoadLocal, StoreLocal, Duplicate, Pop, Binary, Unary, Shift, Compare, ConvertInt32, ConvertInt64, Branch, BranchTrue, BranchFalse, BranchCompare, Switch, LoadField, StoreField, LoadStaticField, StoreStaticField, NewArray, LoadLength, LoadElementInt32, LoadElementInt64, LoadElementReference, StoreElementInt32, StoreElementInt64, StoreElementReference, CastClass, IsInstance, Call, CallVirtual, NewObject, Return}
+use Rattle.cil_model.specs.declared.instructions.Instruction.TheVariants.{NoOperation, LoadArgument, StoreArgument, LoadLocal, StoreLocal, Duplicate, Pop, Binary, Unary, Shift, Compare, ConvertInt32, ConvertInt64, Branch, Switch, LoadField, StoreField, LoadStaticField, StoreStaticField, NewArray, LoadLength, LoadElement, StoreElement, CastClass, IsInstance, Call, CallVirtual, NewObject, Return}
 use Rattle.cil_model.specs.declared.trees.Method.{Method}
 use Rattle.cil_model.specs.declared.trees.Tree.{Tree}
 use Rattle.cil_model.specs.declared.limits.Limits.{Limits}
@@ -322,10 +324,10 @@ module _ {G : State → Type 0} {B : Type 0} (here : Setting) (s : State) (f : F
   instruction_ok (Compare op) waits = two_ok f.stack (λ v w rest. given_ok (compare_values op v w) (λ holds e. onward_ok _))
   instruction_ok ConvertInt32 waits = one_ok f.stack (λ v rest. given_ok (convert_32 v) (λ u e. onward_ok _))
   instruction_ok ConvertInt64 waits = one_ok f.stack (λ v rest. given_ok (convert_64 v) (λ u e. onward_ok _))
-  instruction_ok (Branch label) waits = jump_ok label f.stack
-  instruction_ok (BranchTrue label) waits = one_ok f.stack (λ v rest. given_ok (is_set v) (λ holds e. branch_ok holds label rest))
-  instruction_ok (BranchFalse label) waits = one_ok f.stack (λ v rest. given_ok (not_option (is_set v)) (λ holds e. branch_ok holds label rest))
-  instruction_ok (BranchCompare op label) waits = two_ok f.stack (λ v w rest. given_ok (branch_values op v w) (λ holds e. branch_ok holds label rest))
+  instruction_ok (Branch conditions.Always label) waits = jump_ok label f.stack
+  instruction_ok (Branch conditions.IfTrue label) waits = one_ok f.stack (λ v rest. given_ok (is_set v) (λ holds e. branch_ok holds label rest))
+  instruction_ok (Branch conditions.IfFalse label) waits = one_ok f.stack (λ v rest. given_ok (not_option (is_set v)) (λ holds e. branch_ok holds label rest))
+  instruction_ok (Branch (conditions.Compare op) label) waits = two_ok f.stack (λ v w rest. given_ok (branch_values op v w) (λ holds e. branch_ok holds label rest))
   instruction_ok (Switch labels) waits = one_ok f.stack (switch_ok labels)
   instruction_ok (LoadField r) waits = one_ok f.stack (λ object rest. given_ok (find_field here.tree false r) (λ found e.
       null_ok object NullReference (itself _ _ (0, lit< tt, refl)) (λ n is. given_ok (field_value s n (key_of found)) (λ v e'. onward_ok _))))
@@ -336,12 +338,9 @@ module _ {G : State → Type 0} {B : Type 0} (here : Setting) (s : State) (f : F
       given_ok (replaced_entry (key_of found) v s.statics) (λ statics e'. goes _ _ (kind.stores_static (key_of found) v statics e'))))
   instruction_ok (NewArray t) waits = one_ok f.stack (λ v rest. given_ok (as_index v) (λ z e. array_ok t z rest (itself _ _ (0, lit< tt, refl)) (λ r. itself _ _ (1, lit< tt, refl))))
   instruction_ok LoadLength waits = one_ok f.stack (λ array rest. null_ok array NullReference (itself _ _ (0, lit< tt, refl)) (λ n is. given_ok (array_at s n) (λ held e. onward_ok _)))
-  instruction_ok LoadElementInt32 waits = load_ok _ (itself _ _ (0, lit< tt, refl)) (itself _ _ (1, lit< tt, refl))
-  instruction_ok LoadElementInt64 waits = load_ok _ (itself _ _ (0, lit< tt, refl)) (itself _ _ (1, lit< tt, refl))
-  instruction_ok LoadElementReference waits = load_ok _ (itself _ _ (0, lit< tt, refl)) (itself _ _ (1, lit< tt, refl))
-  instruction_ok StoreElementInt32 waits = store_ok _ (itself _ _ (0, lit< tt, refl)) (itself _ _ (1, lit< tt, refl))
-  instruction_ok StoreElementInt64 waits = store_ok _ (itself _ _ (0, lit< tt, refl)) (itself _ _ (1, lit< tt, refl))
-  instruction_ok StoreElementReference waits = reference_ok (itself _ _ (0, lit< tt, refl)) (itself _ _ (1, lit< tt, refl)) (itself _ _ (2, lit< tt, refl))
+  instruction_ok (LoadElement _) waits = load_ok _ (itself _ _ (0, lit< tt, refl)) (itself _ _ (1, lit< tt, refl))
+  instruction_ok (StoreElement kinds.Reference) waits = reference_ok (itself _ _ (0, lit< tt, refl)) (itself _ _ (1, lit< tt, refl)) (itself _ _ (2, lit< tt, refl))
+  instruction_ok (StoreElement _) waits = store_ok _ (itself _ _ (0, lit< tt, refl)) (itself _ _ (1, lit< tt, refl))
   instruction_ok (CastClass t) waits = cast_ok t (λ rest. raises InvalidCast (itself _ _ (0, lit< tt, refl)))
   instruction_ok (IsInstance t) waits = cast_ok t (λ rest. onward_ok _)
   instruction_ok (Call is_instance r) waits = given_ok (find_method here.tree is_instance r) (λ found e. operands_ok (reference_operands is_instance r) (λ arguments rest taken.

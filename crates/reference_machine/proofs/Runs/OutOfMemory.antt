@@ -2,8 +2,9 @@
 use Rattle.std.proofs.Common.{◌≡◌, zero, suc, Bool, true, false, List, [], ◌∷◌, Contains, refl, sym, ap, ◌∙◌, arith}
 use Rattle.cil_model.specs.declared.instructions.BinaryOperation.{BinaryOperation}
 use Rattle.cil_model.specs.declared.instructions.BinaryOperation.TheVariants.{AddOverflow, SubtractOverflow, MultiplyOverflow, Divide, Remainder}
+use Rattle.cil_model.specs.declared.instructions.ElementKind.TheVariants as kinds
 use Rattle.cil_model.specs.declared.instructions.Instruction.{Instruction}
-use Rattle.cil_model.specs.declared.instructions.Instruction.TheVariants.{NoOperation, LoadInt32, LoadInt64, LoadNull, LoadString, LoadArgument, StoreArgument, LoadLocal, StoreLocal, Duplicate, Pop, Unary, Shift, Compare, ConvertInt32, ConvertInt64, Branch, BranchTrue, BranchFalse, BranchCompare, Switch, LoadField, StoreField, LoadStaticField, StoreStaticField, LoadLength, LoadElementInt32, LoadElementInt64, LoadElementReference, StoreElementInt32, StoreElementInt64, StoreElementReference, CastClass, IsInstance, Call, CallVirtual, Return, Binary, NewArray, NewObject}
+use Rattle.cil_model.specs.declared.instructions.Instruction.TheVariants.{Binary, LoadField, StoreField, NewArray, LoadLength, LoadElement, StoreElement, CastClass, Call, CallVirtual, NewObject}
 use Rattle.cil_model.specs.declared.reports.Fault.{Fault}
 use Rattle.cil_model.specs.declared.reports.Fault.TheVariants.{Overflow, OutOfMemory, StackOverflow}
 use Rattle.cil_model.specs.Bodies.{constructor_reference}
@@ -74,43 +75,16 @@ module _ (here : Setting) (s : State) (f : Frame) (below : List Frame) where
       operands_ok here s f below (follows_steps here s) parameters (λ arguments rest taken.
       construct_ok here s f below (follows_steps here s) c found arguments rest (other StackOverflow refl) (λ r k. r))))
   listed (Binary op) h = lacks (faults_of_operation op) (without_operation op) h
-  listed NoOperation h = lacks (faults_of NoOperation) tt h
-  listed (LoadInt32 z) h = lacks (faults_of (LoadInt32 z)) tt h
-  listed (LoadInt64 z) h = lacks (faults_of (LoadInt64 z)) tt h
-  listed LoadNull h = lacks (faults_of LoadNull) tt h
-  listed (LoadString characters) h = lacks (faults_of (LoadString characters)) tt h
-  listed (LoadArgument n) h = lacks (faults_of (LoadArgument n)) tt h
-  listed (StoreArgument n) h = lacks (faults_of (StoreArgument n)) tt h
-  listed (LoadLocal n) h = lacks (faults_of (LoadLocal n)) tt h
-  listed (StoreLocal n) h = lacks (faults_of (StoreLocal n)) tt h
-  listed Duplicate h = lacks (faults_of Duplicate) tt h
-  listed Pop h = lacks (faults_of Pop) tt h
-  listed (Unary op) h = lacks (faults_of (Unary op)) tt h
-  listed (Shift op) h = lacks (faults_of (Shift op)) tt h
-  listed (Compare op) h = lacks (faults_of (Compare op)) tt h
-  listed ConvertInt32 h = lacks (faults_of ConvertInt32) tt h
-  listed ConvertInt64 h = lacks (faults_of ConvertInt64) tt h
-  listed (Branch label) h = lacks (faults_of (Branch label)) tt h
-  listed (BranchTrue label) h = lacks (faults_of (BranchTrue label)) tt h
-  listed (BranchFalse label) h = lacks (faults_of (BranchFalse label)) tt h
-  listed (BranchCompare op label) h = lacks (faults_of (BranchCompare op label)) tt h
-  listed (Switch labels) h = lacks (faults_of (Switch labels)) tt h
   listed (LoadField r) h = lacks (faults_of (LoadField r)) (refl, tt) h
   listed (StoreField r) h = lacks (faults_of (StoreField r)) (refl, tt) h
-  listed (LoadStaticField r) h = lacks (faults_of (LoadStaticField r)) tt h
-  listed (StoreStaticField r) h = lacks (faults_of (StoreStaticField r)) tt h
   listed LoadLength h = lacks (faults_of LoadLength) (refl, tt) h
-  listed LoadElementInt32 h = lacks (faults_of LoadElementInt32) (refl, (refl, tt)) h
-  listed LoadElementInt64 h = lacks (faults_of LoadElementInt64) (refl, (refl, tt)) h
-  listed LoadElementReference h = lacks (faults_of LoadElementReference) (refl, (refl, tt)) h
-  listed StoreElementInt32 h = lacks (faults_of StoreElementInt32) (refl, (refl, tt)) h
-  listed StoreElementInt64 h = lacks (faults_of StoreElementInt64) (refl, (refl, tt)) h
-  listed StoreElementReference h = lacks (faults_of StoreElementReference) (refl, (refl, (refl, tt))) h
+  listed (LoadElement kind) h = lacks (faults_of (LoadElement kind)) (refl, (refl, tt)) h
+  listed (StoreElement kinds.Reference) h = lacks (faults_of (StoreElement kinds.Reference)) (refl, (refl, (refl, tt))) h
+  listed (StoreElement _) h = lacks (faults_of (StoreElement kinds.Int32)) (refl, (refl, tt)) h
   listed (CastClass t) h = lacks (faults_of (CastClass t)) (refl, tt) h
-  listed (IsInstance t) h = lacks (faults_of (IsInstance t)) tt h
   listed (Call is_instance r) h = lacks (faults_of (Call is_instance r)) (refl, tt) h
   listed (CallVirtual owner name signature) h = lacks (faults_of (CallVirtual owner name signature)) (refl, (refl, tt)) h
-  listed Return h = lacks (faults_of Return) tt h
+  listed _ h = lacks [] tt h
 
   by_listing : (i : Instruction) → MayRaise here.tree i OutOfMemory → execute here s f below i ≡ Raises OutOfMemory → here.is_refused ≡ true
   by_listing i (itself _ _ h) = listed i h

@@ -1,6 +1,6 @@
 -- Each instruction of an accepted program leaves a typed state, and so no run of one is stuck.
 use Rattle.std.proofs.Common.{◌≡◌, List, Some}
-use Rattle.cil_model.specs.declared.instructions.Instruction.TheVariants.{NoOperation, LoadInt32, LoadInt64, LoadNull, LoadString, LoadArgument, StoreArgument, LoadLocal, StoreLocal, Duplicate, Pop, Binary, Unary, Shift, Compare, ConvertInt32, ConvertInt64, Branch, BranchTrue, BranchFalse, BranchCompare, Switch, LoadField, StoreField, LoadStaticField, StoreStaticField, NewArray, LoadLength, LoadElementInt32, LoadElementInt64, LoadElementReference, StoreElementInt32, StoreElementInt64, StoreElementReference, CastClass, IsInstance, Call, CallVirtual, NewObject, Return}
+use Rattle.cil_model.specs.declared.instructions.Instruction.TheVariants.{NoOperation, LoadInt32, LoadInt64, LoadNull, LoadString, LoadArgument, StoreArgument, LoadLocal, StoreLocal, Duplicate, Pop, Binary, Unary, Shift, Compare, ConvertInt32, ConvertInt64, Branch, Switch, LoadField, StoreField, LoadStaticField, StoreStaticField, NewArray, LoadLength, LoadElement, StoreElement, CastClass, IsInstance, Call, CallVirtual, NewObject, Return}
 use Rattle.cil_model.specs.declared.trees.Tree.{Tree}
 use Rattle.cil_model.specs.declared.limits.Limits.{Limits}
 use Rattle.cil_model.specs.declared.reports.Report.{Report}
@@ -8,8 +8,8 @@ use Rattle.cil_model.specs.Typings.{IsAccepted}
 use Rattle.reference_machine.specs.States.{State}
 use Rattle.reference_machine.specs.Runs.{StepRequest, RunsTo, initial_state, run}
 use Rattle.reference_machine.specs.TypedStates.{IsTyped}
-use Rattle.reference_machine.proofs.TypedSteps.FrameInstructions.{no_operation_typed, load_int32_typed, load_int64_typed, load_null_typed, load_string_typed, load_argument_typed, load_local_typed, store_argument_typed, store_local_typed, duplicate_typed, pop_typed, binary_typed, unary_typed, shift_typed, convert_int32_typed, convert_int64_typed, compare_typed, branch_always_typed, branch_true_typed, branch_false_typed, branch_compare_typed, switch_typed}
-use Rattle.reference_machine.proofs.TypedSteps.ObjectInstructions.{new_array_typed, load_length_typed, load_element_int32_typed, load_element_int64_typed, load_element_reference_typed, store_element_int32_typed, store_element_int64_typed, store_element_reference_typed, cast_class_typed, is_instance_typed, load_field_typed, store_field_typed, load_static_field_typed, store_static_field_typed}
+use Rattle.reference_machine.proofs.TypedSteps.FrameInstructions.{no_operation_typed, load_int32_typed, load_int64_typed, load_null_typed, load_string_typed, load_argument_typed, load_local_typed, store_argument_typed, store_local_typed, duplicate_typed, pop_typed, binary_typed, unary_typed, shift_typed, convert_int32_typed, convert_int64_typed, compare_typed, branch_instruction_typed, switch_typed}
+use Rattle.reference_machine.proofs.TypedSteps.ObjectInstructions.{new_array_typed, load_length_typed, load_element_typed, store_element_typed, cast_class_typed, is_instance_typed, load_field_typed, store_field_typed, load_static_field_typed, store_static_field_typed}
 use Rattle.reference_machine.proofs.TypedSteps.CallsAndReturns.{call_typed, call_virtual_typed, return_typed}
 use Rattle.reference_machine.proofs.TypedSteps.NewObjects.{new_object_typed}
 use Rattle.reference_machine.proofs.TypedSteps.StepsAndRuns.{InstructionsAreTyped, never_stuck}
@@ -33,10 +33,7 @@ instruction_typed here s f below (Shift op) running = shift_typed here s f below
 instruction_typed here s f below (Compare op) running = compare_typed here s f below op running
 instruction_typed here s f below ConvertInt32 running = convert_int32_typed here s f below running
 instruction_typed here s f below ConvertInt64 running = convert_int64_typed here s f below running
-instruction_typed here s f below (Branch label) running = branch_always_typed here s f below label running
-instruction_typed here s f below (BranchTrue label) running = branch_true_typed here s f below label running
-instruction_typed here s f below (BranchFalse label) running = branch_false_typed here s f below label running
-instruction_typed here s f below (BranchCompare op label) running = branch_compare_typed here s f below op label running
+instruction_typed here s f below (Branch condition label) running = branch_instruction_typed here s f below condition label running
 instruction_typed here s f below (Switch labels) running = switch_typed here s f below labels running
 instruction_typed here s f below (LoadField r) running = load_field_typed here s f below r running
 instruction_typed here s f below (StoreField r) running = store_field_typed here s f below r running
@@ -44,12 +41,8 @@ instruction_typed here s f below (LoadStaticField r) running = load_static_field
 instruction_typed here s f below (StoreStaticField r) running = store_static_field_typed here s f below r running
 instruction_typed here s f below (NewArray t) running = new_array_typed here s f below t running
 instruction_typed here s f below LoadLength running = load_length_typed here s f below running
-instruction_typed here s f below LoadElementInt32 running = load_element_int32_typed here s f below running
-instruction_typed here s f below LoadElementInt64 running = load_element_int64_typed here s f below running
-instruction_typed here s f below LoadElementReference running = load_element_reference_typed here s f below running
-instruction_typed here s f below StoreElementInt32 running = store_element_int32_typed here s f below running
-instruction_typed here s f below StoreElementInt64 running = store_element_int64_typed here s f below running
-instruction_typed here s f below StoreElementReference running = store_element_reference_typed here s f below running
+instruction_typed here s f below (LoadElement kind) running = load_element_typed here s f below kind running
+instruction_typed here s f below (StoreElement kind) running = store_element_typed here s f below kind running
 instruction_typed here s f below (CastClass t) running = cast_class_typed here s f below t running
 instruction_typed here s f below (IsInstance t) running = is_instance_typed here s f below t running
 instruction_typed here s f below (Call is_instance r) running = call_typed here s f below is_instance r running

@@ -5,8 +5,10 @@ use Rattle.std.specs.Option.{option_map_or}
 use Rattle.std.specs.Int.{w32, w64, cast_unsigned}
 use Rattle.cil_model.specs.declared.types.DeclaredType.{DeclaredType}
 use Rattle.cil_model.specs.declared.types.Element.TheVariants.{String}
+use Rattle.cil_model.specs.declared.instructions.BranchCondition.{BranchCondition}
+use Rattle.cil_model.specs.declared.instructions.BranchCondition.TheVariants as conditions
 use Rattle.cil_model.specs.declared.instructions.Instruction.{Instruction}
-use Rattle.cil_model.specs.declared.instructions.Instruction.TheVariants.{NoOperation, LoadInt32, LoadInt64, LoadNull, LoadString, LoadArgument, StoreArgument, LoadLocal, StoreLocal, Duplicate, Pop, Binary, Unary, Shift, Compare, ConvertInt32, ConvertInt64, Branch, BranchTrue, BranchFalse, BranchCompare, Switch}
+use Rattle.cil_model.specs.declared.instructions.Instruction.TheVariants.{NoOperation, LoadInt32, LoadInt64, LoadNull, LoadString, LoadArgument, StoreArgument, LoadLocal, StoreLocal, Duplicate, Pop, Binary, Unary, Shift, Compare, ConvertInt32, ConvertInt64, Branch, Switch}
 use Rattle.cil_model.specs.declared.instructions.BinaryOperation.{BinaryOperation}
 use Rattle.cil_model.specs.declared.instructions.UnaryOperation.{UnaryOperation}
 use Rattle.cil_model.specs.declared.instructions.ShiftOperation.{ShiftOperation}
@@ -247,10 +249,6 @@ module _ (here : Setting) (s : State) (f : Frame) (below : List Frame) where
 
   -- ---- branches
 
-  pub branch_always_typed : (label : List ℕ) → At (Branch label) → Fine (execute here s f below (Branch label))
-  branch_always_typed label running =
-      jump_typed here s f below (Branch label) running label (0, lit< tt, refl) f.stack (subst (HaveStackTypes here.tree s f.stack) (same_Some running.stack running.result running.flows) running.values)
-
   -- a test whether a value is set has a result
   set_answers : (legal : IsLegal here.tree) (transition : Option Bool → Option Bool) → ((o : Bool) → (p : Bool) × (transition (Some o) ≡ Some p)) → (v : Value) (a : StackType) → HasStackType here.tree s v a → IsTrue (is_integer a || is_any_reference a) →
       (go : Bool → Effect) → ((holds : Bool) → Fine (go holds)) → Fine (when_some (transition (is_set v)) go)
@@ -263,20 +261,18 @@ module _ (here : Setting) (s : State) (f : Frame) (below : List Frame) where
       by_case (inl j) = from_integer here.tree legal s (λ x. Fine (when_some (transition (is_set x)) go)) v a j h (λ i z. reported _) (λ i z. reported _)
       by_case (inr j) = from_reference here.tree legal s (λ x. Fine (when_some (transition (is_set x)) go)) v a j h (reported _) (λ n. reported _)
 
-  pub branch_true_typed : (label : List ℕ) → At (BranchTrue label) → Fine (execute here s f below (BranchTrue label))
-  branch_true_typed label running = one_typed here.tree s _ _ f.stack running.stack running.result running.values running.flows (λ v a rest types h rest_typed e.
+  pub branch_instruction_typed : (condition : BranchCondition) (label : List ℕ) → At (Branch condition label) → Fine (execute here s f below (Branch condition label))
+  branch_instruction_typed conditions.Always label running =
+      jump_typed here s f below (Branch conditions.Always label) running label (0, lit< tt, refl) f.stack (subst (HaveStackTypes here.tree s f.stack) (same_Some running.stack running.result running.flows) running.values)
+  branch_instruction_typed conditions.IfTrue label running = one_typed here.tree s _ _ f.stack running.stack running.result running.values running.flows (λ v a rest types h rest_typed e.
       let passed = was_allowed (is_integer a || is_any_reference a) types running.result e in
-      set_answers running.accepted.legal (λ o. o) (λ o. (o, refl)) v a h passed.0 _ (λ holds. branches (BranchTrue label) running refl holds label (0, lit< tt, refl) rest types rest_typed passed.1))
-
-  pub branch_false_typed : (label : List ℕ) → At (BranchFalse label) → Fine (execute here s f below (BranchFalse label))
-  branch_false_typed label running = one_typed here.tree s _ _ f.stack running.stack running.result running.values running.flows (λ v a rest types h rest_typed e.
+      set_answers running.accepted.legal (λ o. o) (λ o. (o, refl)) v a h passed.0 _ (λ holds. branches (Branch conditions.IfTrue label) running refl holds label (0, lit< tt, refl) rest types rest_typed passed.1))
+  branch_instruction_typed conditions.IfFalse label running = one_typed here.tree s _ _ f.stack running.stack running.result running.values running.flows (λ v a rest types h rest_typed e.
       let passed = was_allowed (is_integer a || is_any_reference a) types running.result e in
-      set_answers running.accepted.legal not_option (λ o. (not o, refl)) v a h passed.0 _ (λ holds. branches (BranchFalse label) running refl holds label (0, lit< tt, refl) rest types rest_typed passed.1))
-
-  pub branch_compare_typed : (op : BranchComparison) (label : List ℕ) → At (BranchCompare op label) → Fine (execute here s f below (BranchCompare op label))
-  branch_compare_typed op label running = two_typed here.tree s _ _ f.stack running.stack running.result running.values running.flows (λ v w a b rest types h k rest_typed e.
+      set_answers running.accepted.legal not_option (λ o. (not o, refl)) v a h passed.0 _ (λ holds. branches (Branch conditions.IfFalse label) running refl holds label (0, lit< tt, refl) rest types rest_typed passed.1))
+  branch_instruction_typed (conditions.Compare op) label running = two_typed here.tree s _ _ f.stack running.stack running.result running.values running.flows (λ v w a b rest types h k rest_typed e.
       let passed = was_allowed (may_branch op a b) types running.result e in
-      branch_answers running.accepted.legal v w a b h k _ (λ holds. branches (BranchCompare op label) running refl holds label (0, lit< tt, refl) rest types rest_typed passed.1) op passed.0)
+      branch_answers running.accepted.legal v w a b h k _ (λ holds. branches (Branch (conditions.Compare op) label) running refl holds label (0, lit< tt, refl) rest types rest_typed passed.1) op passed.0)
 
   pub switch_typed : (labels : List (List ℕ)) → At (Switch labels) → Fine (execute here s f below (Switch labels))
   switch_typed labels running = one_typed here.tree s _ _ f.stack running.stack running.result running.values running.flows (λ v a rest types h rest_typed e.

@@ -6,8 +6,10 @@ use Rattle.cil_model.specs.declared.types.ClassName.{ClassName}
 use Rattle.cil_model.specs.declared.types.DeclaredType.{DeclaredType}
 use Rattle.cil_model.specs.declared.types.Element.{Element}
 use Rattle.cil_model.specs.declared.types.Element.TheVariants.{Int32 as Int32Element, Int64 as Int64Element, String}
+use Rattle.cil_model.specs.declared.instructions.ElementKind.{ElementKind}
+use Rattle.cil_model.specs.declared.instructions.ElementKind.TheVariants as kinds
 use Rattle.cil_model.specs.declared.instructions.Instruction.{Instruction}
-use Rattle.cil_model.specs.declared.instructions.Instruction.TheVariants.{LoadField, StoreField, LoadStaticField, StoreStaticField, NewArray, LoadLength, LoadElementInt32, LoadElementInt64, LoadElementReference, StoreElementInt32, StoreElementInt64, StoreElementReference, CastClass, IsInstance}
+use Rattle.cil_model.specs.declared.instructions.Instruction.TheVariants.{LoadField, StoreField, LoadStaticField, StoreStaticField, NewArray, LoadLength, LoadElement, StoreElement, CastClass, IsInstance}
 use Rattle.cil_model.specs.declared.instructions.FieldReference.{FieldReference}
 use Rattle.cil_model.specs.declared.trees.Field.{Field}
 use Rattle.cil_model.specs.declared.reports.Fault.TheVariants.{NullReference, IndexOutOfRange, ArrayTypeMismatch, InvalidCast, OutOfMemory}
@@ -258,16 +260,16 @@ module _ (here : Setting) (s : State) (f : Frame) (below : List Frame) where
     -- ---- elements of one type
 
     -- an integer's tests hold of an array of that integer alone
-    integer_tests : (integer : DeclaredType) → is_reference integer ≡ false → (t w : DeclaredType) → IsHeldAs here.tree t w → IsTrue (same_type w integer) → IsTrue (same_type integer t)
+    integer_tests : (integer : DeclaredType) → is_reference integer ≡ false → (t w : DeclaredType) → IsHeldAs here.tree t w → IsTrue (same_type w integer) → IsTrue (same_type t integer)
     integer_tests integer no_reference t w held_type_of passed =
-        subst (λ x. IsTrue (same_type integer x)) (sym (held_alone here.tree running.accepted.legal s t w integer no_reference held_type_of passed)) (same_type_itself integer)
+        subst (λ x. IsTrue (same_type x integer)) (sym (held_alone here.tree running.accepted.legal s t w integer no_reference held_type_of passed)) (same_type_itself integer)
 
     -- an element of an array of that integer is that integer
     load_integer : (integer : DeclaredType) → is_reference integer ≡ false → take_two None running.stack (λ a b rest. if_allowed (is_array_of (λ t. same_type t integer) a && is_index b) (Declared integer ∷ rest)) ≡ Some running.result →
-        Fine (load_element here s f below (same_type integer))
+        Fine (load_element here s f below (λ t. same_type t integer))
     load_integer integer no_reference flows = two_typed here.tree s _ _ f.stack running.stack running.result running.values flows (λ array index a b rest types h k rest_typed e.
         let passed = was_allowed (is_array_of (λ t. same_type t integer) a && is_index b) (Declared integer ∷ types) running.result e in
-        array_element (λ t. same_type t integer) (same_type integer) (integer_tests integer no_reference) (λ n t m v. next here s f below (v ∷ rest)) array index a b (both_first _ _ passed.0) (both_second (is_array_of (λ t. same_type t integer) a) _ passed.0) h k (λ n t w elements m v there held_type_of same on_stack is.
+        array_element (λ t. same_type t integer) (λ t. same_type t integer) (integer_tests integer no_reference) (λ n t m v. next here s f below (v ∷ rest)) array index a b (both_first _ _ passed.0) (both_second (is_array_of (λ t. same_type t integer) a) _ passed.0) h k (λ n t w elements m v there held_type_of same on_stack is.
         let own : HasType here.tree s v t = element_typed here.tree running.accepted.legal s t elements m v (array_typed here.tree running.accepted.legal s running.typed n t elements there) is in
         on (v ∷ rest) (Declared integer ∷ types) (subst (λ x. HasType here.tree s v x) (held_alone here.tree running.accepted.legal s t w integer no_reference held_type_of same) own, rest_typed) passed.1))
 
@@ -281,11 +283,11 @@ module _ (here : Setting) (s : State) (f : Frame) (below : List Frame) where
 
     -- and only that integer is stored in it
     store_integer : (integer : DeclaredType) → is_reference integer ≡ false → (known : StackType → Bool) → ((v : Value) (c : StackType) → IsTrue (known c) → HasStackType here.tree s v c → HasType here.tree s v integer) →
-        take_three None running.stack (λ a b c rest. if_allowed (is_array_of (λ t. same_type t integer) a && is_index b && known c) rest) ≡ Some running.result → Fine (store_element here s f below (same_type integer))
+        take_three None running.stack (λ a b c rest. if_allowed (is_array_of (λ t. same_type t integer) a && is_index b && known c) rest) ≡ Some running.result → Fine (store_element here s f below (λ t. same_type t integer))
     store_integer integer no_reference known known_typed flows = three_typed here.tree s _ _ f.stack running.stack running.result running.values flows (λ array index value a b c rest types h k l rest_typed e.
         let passed = was_allowed (is_array_of (λ t. same_type t integer) a && is_index b && known c) types running.result e in
         let first : IsTrue (is_array_of (λ t. same_type t integer) a && is_index b) = both_first _ (known c) passed.0 in
-        array_element (λ t. same_type t integer) (same_type integer) (integer_tests integer no_reference) (λ n t m old. when_some (with_element s n m value) (λ s'. onward f below s' rest)) array index a b (both_first _ _ first) (both_second (is_array_of (λ t. same_type t integer) a) _ first) h k (λ n t w elements m old there held_type_of same on_stack is.
+        array_element (λ t. same_type t integer) (λ t. same_type t integer) (integer_tests integer no_reference) (λ n t m old. when_some (with_element s n m value) (λ s'. onward f below s' rest)) array index a b (both_first _ _ first) (both_second (is_array_of (λ t. same_type t integer) a) _ first) h k (λ n t w elements m old there held_type_of same on_stack is.
         let own : HasType here.tree s value t = subst (λ x. HasType here.tree s value x) (sym (held_alone here.tree running.accepted.legal s t w integer no_reference held_type_of same)) (known_typed value c (both_second (is_array_of (λ t. same_type t integer) a && is_index b) _ passed.0) l) in
         stored_on rest types rest_typed passed.1 n t elements m value old there is own))
 
@@ -350,23 +352,15 @@ module _ (here : Setting) (s : State) (f : Frame) (below : List Frame) where
       from_array here.tree running.accepted.legal s (λ x. Fine (not_null x NullReference (λ n. when_some (array_at s n) go))) any_type v a passed.0 h tt (λ n t w elements there held_type_of any on_stack.
       from_given go (array_at s n) (t, elements) there (on LoadLength running refl (Native (pos (length elements)) ∷ rest) (NativeInt ∷ types) (tt, rest_typed) passed.1)))
 
-  pub load_element_int32_typed : At LoadElementInt32 → Fine (execute here s f below LoadElementInt32)
-  load_element_int32_typed running = load_integer LoadElementInt32 running refl (plain Int32Element) refl running.flows
+  pub load_element_typed : (kind : ElementKind) → At (LoadElement kind) → Fine (execute here s f below (LoadElement kind))
+  load_element_typed kinds.Int32 running = load_integer (LoadElement kinds.Int32) running refl (plain Int32Element) refl running.flows
+  load_element_typed kinds.Int64 running = load_integer (LoadElement kinds.Int64) running refl (plain Int64Element) refl running.flows
+  load_element_typed kinds.Reference running = load_reference (LoadElement kinds.Reference) running refl running.flows
 
-  pub load_element_int64_typed : At LoadElementInt64 → Fine (execute here s f below LoadElementInt64)
-  load_element_int64_typed running = load_integer LoadElementInt64 running refl (plain Int64Element) refl running.flows
-
-  pub load_element_reference_typed : At LoadElementReference → Fine (execute here s f below LoadElementReference)
-  load_element_reference_typed running = load_reference LoadElementReference running refl running.flows
-
-  pub store_element_int32_typed : At StoreElementInt32 → Fine (execute here s f below StoreElementInt32)
-  store_element_int32_typed running = store_integer StoreElementInt32 running refl (plain Int32Element) refl is_int32 (λ v c is h. from_int32 here.tree running.accepted.legal s (λ x. HasType here.tree s x (plain Int32Element)) v c is h (λ z. refl)) running.flows
-
-  pub store_element_int64_typed : At StoreElementInt64 → Fine (execute here s f below StoreElementInt64)
-  store_element_int64_typed running = store_integer StoreElementInt64 running refl (plain Int64Element) refl is_int64 (λ v c is h. from_int64 here.tree running.accepted.legal s (λ x. HasType here.tree s x (plain Int64Element)) v c is h (λ z. refl)) running.flows
-
-  pub store_element_reference_typed : At StoreElementReference → Fine (execute here s f below StoreElementReference)
-  store_element_reference_typed running = store_reference_typed StoreElementReference running refl running.flows
+  pub store_element_typed : (kind : ElementKind) → At (StoreElement kind) → Fine (execute here s f below (StoreElement kind))
+  store_element_typed kinds.Int32 running = store_integer (StoreElement kinds.Int32) running refl (plain Int32Element) refl is_int32 (λ v c is h. from_int32 here.tree running.accepted.legal s (λ x. HasType here.tree s x (plain Int32Element)) v c is h (λ z. refl)) running.flows
+  store_element_typed kinds.Int64 running = store_integer (StoreElement kinds.Int64) running refl (plain Int64Element) refl is_int64 (λ v c is h. from_int64 here.tree running.accepted.legal s (λ x. HasType here.tree s x (plain Int64Element)) v c is h (λ z. refl)) running.flows
+  store_element_typed kinds.Reference running = store_reference_typed (StoreElement kinds.Reference) running refl running.flows
 
   -- ---- casts
 

@@ -3,7 +3,7 @@ use Rattle.std.proofs.Common.{◌≡◌, ℕ, Bool, List, None, refl}
 use Rattle.cil_model.specs.declared.types.ClassName.{ClassName}
 use Rattle.cil_model.specs.declared.types.DeclaredType.{DeclaredType}
 use Rattle.cil_model.specs.declared.types.Signature.{Signature}
-use Rattle.cil_model.specs.declared.instructions.BranchComparison.{BranchComparison}
+use Rattle.cil_model.specs.declared.instructions.BranchCondition.{BranchCondition}
 use Rattle.cil_model.specs.declared.instructions.FieldReference.{FieldReference}
 use Rattle.cil_model.specs.declared.instructions.MethodReference.{MethodReference}
 use Rattle.cil_model.specs.declared.instructions.Instruction.{Instruction}
@@ -32,10 +32,7 @@ no_literal (Named.Shift op) h = refl
 no_literal (Named.Compare op) h = refl
 no_literal Named.ConvertInt32 h = refl
 no_literal Named.ConvertInt64 h = refl
-no_literal (Named.Branch l) h = refl
-no_literal (Named.BranchTrue l) h = refl
-no_literal (Named.BranchFalse l) h = refl
-no_literal (Named.BranchCompare op l) h = refl
+no_literal (Named.Branch condition l) h = refl
 no_literal (Named.Switch ls) h = refl
 no_literal (Named.LoadField r) h = refl
 no_literal (Named.StoreField r) h = refl
@@ -43,12 +40,8 @@ no_literal (Named.LoadStaticField r) h = refl
 no_literal (Named.StoreStaticField r) h = refl
 no_literal (Named.NewArray t) h = refl
 no_literal Named.LoadLength h = refl
-no_literal Named.LoadElementInt32 h = refl
-no_literal Named.LoadElementInt64 h = refl
-no_literal Named.LoadElementReference h = refl
-no_literal Named.StoreElementInt32 h = refl
-no_literal Named.StoreElementInt64 h = refl
-no_literal Named.StoreElementReference h = refl
+no_literal (Named.LoadElement kind) h = refl
+no_literal (Named.StoreElement kind) h = refl
 no_literal (Named.CastClass t) h = refl
 no_literal (Named.IsInstance t) h = refl
 no_literal (Named.Call b r) h = refl
@@ -59,10 +52,7 @@ no_literal Named.Return h = refl
 -- what is in none of the groups names nothing
 pub named_nothing : (tree : Tree) (lines : List Line) (i : Instruction) →
     ((s : List ℕ) → i ≡ Named.LoadString s → ⊥) →
-    ((l : List ℕ) → i ≡ Named.Branch l → ⊥) →
-    ((l : List ℕ) → i ≡ Named.BranchTrue l → ⊥) →
-    ((l : List ℕ) → i ≡ Named.BranchFalse l → ⊥) →
-    ((op : BranchComparison) (l : List ℕ) → i ≡ Named.BranchCompare op l → ⊥) →
+    ((condition : BranchCondition) (l : List ℕ) → i ≡ Named.Branch condition l → ⊥) →
     ((ls : List (List ℕ)) → i ≡ Named.Switch ls → ⊥) →
     ((r : FieldReference) → i ≡ Named.LoadField r → ⊥) →
     ((r : FieldReference) → i ≡ Named.StoreField r → ⊥) →
@@ -75,43 +65,36 @@ pub named_nothing : (tree : Tree) (lines : List Line) (i : Instruction) →
     ((c : ClassName) (n : List ℕ) (g : Signature) → i ≡ Named.CallVirtual c n g → ⊥) →
     ((c : ClassName) (ps : List DeclaredType) → i ≡ Named.NewObject c ps → ⊥) →
     plain_rule i ≡ operation_rule tree lines i
-named_nothing tree lines Named.NoOperation _ _ _ _ _ _ _ _ _ _ _ _ _ _ _ _ = refl
-named_nothing tree lines (Named.LoadInt32 v) _ _ _ _ _ _ _ _ _ _ _ _ _ _ _ _ = refl
-named_nothing tree lines (Named.LoadInt64 v) _ _ _ _ _ _ _ _ _ _ _ _ _ _ _ _ = refl
-named_nothing tree lines Named.LoadNull _ _ _ _ _ _ _ _ _ _ _ _ _ _ _ _ = refl
-named_nothing tree lines (Named.LoadString s) absent _ _ _ _ _ _ _ _ _ _ _ _ _ _ _ = absurd (absent s refl)
-named_nothing tree lines (Named.LoadArgument n) _ _ _ _ _ _ _ _ _ _ _ _ _ _ _ _ = refl
-named_nothing tree lines (Named.StoreArgument n) _ _ _ _ _ _ _ _ _ _ _ _ _ _ _ _ = refl
-named_nothing tree lines (Named.LoadLocal n) _ _ _ _ _ _ _ _ _ _ _ _ _ _ _ _ = refl
-named_nothing tree lines (Named.StoreLocal n) _ _ _ _ _ _ _ _ _ _ _ _ _ _ _ _ = refl
-named_nothing tree lines Named.Duplicate _ _ _ _ _ _ _ _ _ _ _ _ _ _ _ _ = refl
-named_nothing tree lines Named.Pop _ _ _ _ _ _ _ _ _ _ _ _ _ _ _ _ = refl
-named_nothing tree lines (Named.Binary op) _ _ _ _ _ _ _ _ _ _ _ _ _ _ _ _ = refl
-named_nothing tree lines (Named.Unary op) _ _ _ _ _ _ _ _ _ _ _ _ _ _ _ _ = refl
-named_nothing tree lines (Named.Shift op) _ _ _ _ _ _ _ _ _ _ _ _ _ _ _ _ = refl
-named_nothing tree lines (Named.Compare op) _ _ _ _ _ _ _ _ _ _ _ _ _ _ _ _ = refl
-named_nothing tree lines Named.ConvertInt32 _ _ _ _ _ _ _ _ _ _ _ _ _ _ _ _ = refl
-named_nothing tree lines Named.ConvertInt64 _ _ _ _ _ _ _ _ _ _ _ _ _ _ _ _ = refl
-named_nothing tree lines (Named.Branch l) _ absent _ _ _ _ _ _ _ _ _ _ _ _ _ _ = absurd (absent l refl)
-named_nothing tree lines (Named.BranchTrue l) _ _ absent _ _ _ _ _ _ _ _ _ _ _ _ _ = absurd (absent l refl)
-named_nothing tree lines (Named.BranchFalse l) _ _ _ absent _ _ _ _ _ _ _ _ _ _ _ _ = absurd (absent l refl)
-named_nothing tree lines (Named.BranchCompare op l) _ _ _ _ absent _ _ _ _ _ _ _ _ _ _ _ = absurd (absent op l refl)
-named_nothing tree lines (Named.Switch ls) _ _ _ _ _ absent _ _ _ _ _ _ _ _ _ _ = absurd (absent ls refl)
-named_nothing tree lines (Named.LoadField r) _ _ _ _ _ _ absent _ _ _ _ _ _ _ _ _ = absurd (absent r refl)
-named_nothing tree lines (Named.StoreField r) _ _ _ _ _ _ _ absent _ _ _ _ _ _ _ _ = absurd (absent r refl)
-named_nothing tree lines (Named.LoadStaticField r) _ _ _ _ _ _ _ _ absent _ _ _ _ _ _ _ = absurd (absent r refl)
-named_nothing tree lines (Named.StoreStaticField r) _ _ _ _ _ _ _ _ _ absent _ _ _ _ _ _ = absurd (absent r refl)
-named_nothing tree lines (Named.NewArray t) _ _ _ _ _ _ _ _ _ _ absent _ _ _ _ _ = absurd (absent t refl)
-named_nothing tree lines Named.LoadLength _ _ _ _ _ _ _ _ _ _ _ _ _ _ _ _ = refl
-named_nothing tree lines Named.LoadElementInt32 _ _ _ _ _ _ _ _ _ _ _ _ _ _ _ _ = refl
-named_nothing tree lines Named.LoadElementInt64 _ _ _ _ _ _ _ _ _ _ _ _ _ _ _ _ = refl
-named_nothing tree lines Named.LoadElementReference _ _ _ _ _ _ _ _ _ _ _ _ _ _ _ _ = refl
-named_nothing tree lines Named.StoreElementInt32 _ _ _ _ _ _ _ _ _ _ _ _ _ _ _ _ = refl
-named_nothing tree lines Named.StoreElementInt64 _ _ _ _ _ _ _ _ _ _ _ _ _ _ _ _ = refl
-named_nothing tree lines Named.StoreElementReference _ _ _ _ _ _ _ _ _ _ _ _ _ _ _ _ = refl
-named_nothing tree lines (Named.CastClass t) _ _ _ _ _ _ _ _ _ _ _ absent _ _ _ _ = absurd (absent t refl)
-named_nothing tree lines (Named.IsInstance t) _ _ _ _ _ _ _ _ _ _ _ _ absent _ _ _ = absurd (absent t refl)
-named_nothing tree lines (Named.Call b r) _ _ _ _ _ _ _ _ _ _ _ _ _ absent _ _ = absurd (absent b r refl)
-named_nothing tree lines (Named.CallVirtual c n g) _ _ _ _ _ _ _ _ _ _ _ _ _ _ absent _ = absurd (absent c n g refl)
-named_nothing tree lines (Named.NewObject c ps) _ _ _ _ _ _ _ _ _ _ _ _ _ _ _ absent = absurd (absent c ps refl)
-named_nothing tree lines Named.Return _ _ _ _ _ _ _ _ _ _ _ _ _ _ _ _ = refl
+named_nothing tree lines Named.NoOperation _ _ _ _ _ _ _ _ _ _ _ _ _ = refl
+named_nothing tree lines (Named.LoadInt32 v) _ _ _ _ _ _ _ _ _ _ _ _ _ = refl
+named_nothing tree lines (Named.LoadInt64 v) _ _ _ _ _ _ _ _ _ _ _ _ _ = refl
+named_nothing tree lines Named.LoadNull _ _ _ _ _ _ _ _ _ _ _ _ _ = refl
+named_nothing tree lines (Named.LoadString s) absent _ _ _ _ _ _ _ _ _ _ _ _ = absurd (absent s refl)
+named_nothing tree lines (Named.LoadArgument n) _ _ _ _ _ _ _ _ _ _ _ _ _ = refl
+named_nothing tree lines (Named.StoreArgument n) _ _ _ _ _ _ _ _ _ _ _ _ _ = refl
+named_nothing tree lines (Named.LoadLocal n) _ _ _ _ _ _ _ _ _ _ _ _ _ = refl
+named_nothing tree lines (Named.StoreLocal n) _ _ _ _ _ _ _ _ _ _ _ _ _ = refl
+named_nothing tree lines Named.Duplicate _ _ _ _ _ _ _ _ _ _ _ _ _ = refl
+named_nothing tree lines Named.Pop _ _ _ _ _ _ _ _ _ _ _ _ _ = refl
+named_nothing tree lines (Named.Binary op) _ _ _ _ _ _ _ _ _ _ _ _ _ = refl
+named_nothing tree lines (Named.Unary op) _ _ _ _ _ _ _ _ _ _ _ _ _ = refl
+named_nothing tree lines (Named.Shift op) _ _ _ _ _ _ _ _ _ _ _ _ _ = refl
+named_nothing tree lines (Named.Compare op) _ _ _ _ _ _ _ _ _ _ _ _ _ = refl
+named_nothing tree lines Named.ConvertInt32 _ _ _ _ _ _ _ _ _ _ _ _ _ = refl
+named_nothing tree lines Named.ConvertInt64 _ _ _ _ _ _ _ _ _ _ _ _ _ = refl
+named_nothing tree lines (Named.Branch condition l) _ absent _ _ _ _ _ _ _ _ _ _ _ = absurd (absent condition l refl)
+named_nothing tree lines (Named.Switch ls) _ _ absent _ _ _ _ _ _ _ _ _ _ = absurd (absent ls refl)
+named_nothing tree lines (Named.LoadField r) _ _ _ absent _ _ _ _ _ _ _ _ _ = absurd (absent r refl)
+named_nothing tree lines (Named.StoreField r) _ _ _ _ absent _ _ _ _ _ _ _ _ = absurd (absent r refl)
+named_nothing tree lines (Named.LoadStaticField r) _ _ _ _ _ absent _ _ _ _ _ _ _ = absurd (absent r refl)
+named_nothing tree lines (Named.StoreStaticField r) _ _ _ _ _ _ absent _ _ _ _ _ _ = absurd (absent r refl)
+named_nothing tree lines (Named.NewArray t) _ _ _ _ _ _ _ absent _ _ _ _ _ = absurd (absent t refl)
+named_nothing tree lines Named.LoadLength _ _ _ _ _ _ _ _ _ _ _ _ _ = refl
+named_nothing tree lines (Named.LoadElement kind) _ _ _ _ _ _ _ _ _ _ _ _ _ = refl
+named_nothing tree lines (Named.StoreElement kind) _ _ _ _ _ _ _ _ _ _ _ _ _ = refl
+named_nothing tree lines (Named.CastClass t) _ _ _ _ _ _ _ _ absent _ _ _ _ = absurd (absent t refl)
+named_nothing tree lines (Named.IsInstance t) _ _ _ _ _ _ _ _ _ absent _ _ _ = absurd (absent t refl)
+named_nothing tree lines (Named.Call b r) _ _ _ _ _ _ _ _ _ _ absent _ _ = absurd (absent b r refl)
+named_nothing tree lines (Named.CallVirtual c n g) _ _ _ _ _ _ _ _ _ _ _ absent _ = absurd (absent c n g refl)
+named_nothing tree lines (Named.NewObject c ps) _ _ _ _ _ _ _ _ _ _ _ _ absent = absurd (absent c ps refl)
+named_nothing tree lines Named.Return _ _ _ _ _ _ _ _ _ _ _ _ _ = refl

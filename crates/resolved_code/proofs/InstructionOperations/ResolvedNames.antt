@@ -153,10 +153,7 @@ module _ (tree : Tree) where
     operation_refines (Named.Compare op) o h = given (IsOperation tree lines _) _ o h (IsOperation.compare op)
     operation_refines Named.ConvertInt32 o h = given (IsOperation tree lines _) _ o h IsOperation.convert_int32
     operation_refines Named.ConvertInt64 o h = given (IsOperation tree lines _) _ o h IsOperation.convert_int64
-    operation_refines (Named.Branch l) o h = mapped (IsOperation tree lines _) Resolved.Branch _ o h (λ p e. IsOperation.branch l p e)
-    operation_refines (Named.BranchTrue l) o h = mapped (IsOperation tree lines _) Resolved.BranchTrue _ o h (λ p e. IsOperation.branch_true l p e)
-    operation_refines (Named.BranchFalse l) o h = mapped (IsOperation tree lines _) Resolved.BranchFalse _ o h (λ p e. IsOperation.branch_false l p e)
-    operation_refines (Named.BranchCompare op l) o h = mapped (IsOperation tree lines _) (Resolved.BranchCompare op) _ o h (λ p e. IsOperation.branch_compare op l p e)
+    operation_refines (Named.Branch condition l) o h = mapped (IsOperation tree lines _) (Resolved.Branch condition) _ o h (λ p e. IsOperation.branch condition l p e)
     operation_refines (Named.Switch ls) o h = mapped (IsOperation tree lines _) Resolved.Switch _ o h (λ ps e. IsOperation.switch ls ps (all_there _ ps e))
     operation_refines (Named.LoadField r) o h = owned (IsOperation tree lines _) r.owner Resolved.LoadField _ o h (λ n m e g. IsOperation.load_field r n m e (field_refines false r m g))
     operation_refines (Named.StoreField r) o h = owned (IsOperation tree lines _) r.owner Resolved.StoreField _ o h (λ n m e g. IsOperation.store_field r n m e (field_refines false r m g))
@@ -164,12 +161,8 @@ module _ (tree : Tree) where
     operation_refines (Named.StoreStaticField r) o h = mapped (IsOperation tree lines _) Resolved.StoreStaticField _ o h (λ m g. IsOperation.store_static_field r m (field_refines true r m g))
     operation_refines (Named.NewArray t) o h = mapped (IsOperation tree lines _) Resolved.NewArray _ o h (λ n e. IsOperation.new_array t n (type_refines t n e))
     operation_refines Named.LoadLength o h = given (IsOperation tree lines _) _ o h IsOperation.load_length
-    operation_refines Named.LoadElementInt32 o h = given (IsOperation tree lines _) _ o h IsOperation.load_element_int32
-    operation_refines Named.LoadElementInt64 o h = given (IsOperation tree lines _) _ o h IsOperation.load_element_int64
-    operation_refines Named.LoadElementReference o h = given (IsOperation tree lines _) _ o h IsOperation.load_element_reference
-    operation_refines Named.StoreElementInt32 o h = given (IsOperation tree lines _) _ o h IsOperation.store_element_int32
-    operation_refines Named.StoreElementInt64 o h = given (IsOperation tree lines _) _ o h IsOperation.store_element_int64
-    operation_refines Named.StoreElementReference o h = given (IsOperation tree lines _) _ o h IsOperation.store_element_reference
+    operation_refines (Named.LoadElement kind) o h = given (IsOperation tree lines _) _ o h (IsOperation.load_element kind)
+    operation_refines (Named.StoreElement kind) o h = given (IsOperation tree lines _) _ o h (IsOperation.store_element kind)
     operation_refines (Named.CastClass t) o h = mapped (IsOperation tree lines _) Resolved.CastClass _ o h (λ n e. IsOperation.cast_class t n (type_refines t n e))
     operation_refines (Named.IsInstance t) o h = mapped (IsOperation tree lines _) Resolved.IsInstance _ o h (λ n e. IsOperation.is_instance t n (type_refines t n e))
     operation_refines (Named.Call i r) o h = owned (IsOperation tree lines _) r.owner (Resolved.Call i) _ o h (λ n m e g. IsOperation.call i r n m e (method_refines i r m g))

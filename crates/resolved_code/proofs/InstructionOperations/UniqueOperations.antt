@@ -188,12 +188,6 @@ module _ (tree : Tree) (legal : IsLegal tree) where
     operation_is _ _ IsOperation.convert_int32 = refl
     operation_is _ _ IsOperation.convert_int64 = refl
     operation_is _ _ IsOperation.load_length = refl
-    operation_is _ _ IsOperation.load_element_int32 = refl
-    operation_is _ _ IsOperation.load_element_int64 = refl
-    operation_is _ _ IsOperation.load_element_reference = refl
-    operation_is _ _ IsOperation.store_element_int32 = refl
-    operation_is _ _ IsOperation.store_element_int64 = refl
-    operation_is _ _ IsOperation.store_element_reference = refl
     operation_is _ _ IsOperation.return = refl
     operation_is _ _ (IsOperation.load_int32 x) = refl
     operation_is _ _ (IsOperation.load_int64 x) = refl
@@ -205,11 +199,10 @@ module _ (tree : Tree) (legal : IsLegal tree) where
     operation_is _ _ (IsOperation.unary x) = refl
     operation_is _ _ (IsOperation.shift x) = refl
     operation_is _ _ (IsOperation.compare x) = refl
+    operation_is _ _ (IsOperation.load_element x) = refl
+    operation_is _ _ (IsOperation.store_element x) = refl
     operation_is _ _ (IsOperation.load_string s n there) = ap (option_map Resolved.LoadString) (literal_is s n there)
-    operation_is _ _ (IsOperation.branch label index is) = ap (option_map Resolved.Branch) is
-    operation_is _ _ (IsOperation.branch_true label index is) = ap (option_map Resolved.BranchTrue) is
-    operation_is _ _ (IsOperation.branch_false label index is) = ap (option_map Resolved.BranchFalse) is
-    operation_is _ _ (IsOperation.branch_compare op label index is) = ap (option_map (Resolved.BranchCompare op)) is
+    operation_is _ _ (IsOperation.branch condition label index is) = ap (option_map (Resolved.Branch condition)) is
     operation_is _ _ (IsOperation.switch labels indices are) = ap (option_map Resolved.Switch) (ap all_some are ∙ all_there indices)
     operation_is _ _ (IsOperation.load_field r owner field named f) = with_owner_is r.owner Resolved.LoadField (field_rule tree false r) owner field named (field_is false r field f)
     operation_is _ _ (IsOperation.store_field r owner field named f) = with_owner_is r.owner Resolved.StoreField (field_rule tree false r) owner field named (field_is false r field f)

@@ -218,10 +218,7 @@ module _ (tree : Tree) where
     operation_found (Named.Compare op) t l m s = refl
     operation_found Named.ConvertInt32 t l m s = refl
     operation_found Named.ConvertInt64 t l m s = refl
-    operation_found (Named.Branch label) t l m s = kept _ (pc_of label lines) (both_first _ _ l)
-    operation_found (Named.BranchTrue label) t l m s = kept _ (pc_of label lines) (both_first _ _ l)
-    operation_found (Named.BranchFalse label) t l m s = kept _ (pc_of label lines) (both_first _ _ l)
-    operation_found (Named.BranchCompare op label) t l m s = kept _ (pc_of label lines) (both_first _ _ l)
+    operation_found (Named.Branch condition label) t l m s = kept _ (pc_of label lines) (both_first _ _ l)
     operation_found (Named.Switch labels) t l m s = kept _ (all_some (map (λ label. pc_of label lines) labels)) (all_there (λ label. pc_of label lines) labels l)
     operation_found (Named.LoadField r) t l m s = on_field lines _ r false m
     operation_found (Named.StoreField r) t l m s = on_field lines _ r false m
@@ -229,12 +226,8 @@ module _ (tree : Tree) where
     operation_found (Named.StoreStaticField r) t l m s = kept _ (option_map member_of (field_number tree true r)) (kept _ (field_number tree true r) (field_there true r m))
     operation_found (Named.NewArray d) t l m s = kept _ (type_rule tree d) (both_first _ _ t)
     operation_found Named.LoadLength t l m s = refl
-    operation_found Named.LoadElementInt32 t l m s = refl
-    operation_found Named.LoadElementInt64 t l m s = refl
-    operation_found Named.LoadElementReference t l m s = refl
-    operation_found Named.StoreElementInt32 t l m s = refl
-    operation_found Named.StoreElementInt64 t l m s = refl
-    operation_found Named.StoreElementReference t l m s = refl
+    operation_found (Named.LoadElement kind) t l m s = refl
+    operation_found (Named.StoreElement kind) t l m s = refl
     operation_found (Named.CastClass d) t l m s = kept _ (type_rule tree d) (both_first _ _ t)
     operation_found (Named.IsInstance d) t l m s = kept _ (type_rule tree d) (both_first _ _ t)
     operation_found (Named.Call i r) t l m s = on_method _ r i m

@@ -1,10 +1,13 @@
 -- Loads of array elements and stores to them do the same on both machines.
 use Rattle.std.proofs.Common.{◌≡◌, ◌≤◌, ℕ, zero, Bool, true, false, if◌then◌else◌, List, ◌∷◌, length, Option, Some, None, option_map, option_and_then, slice_get, slice_set, refl, sym, ap, ◌∙◌, subst, arith, IsTrue, suc}
 use Rattle.std.proofs.lemmas.Option.{same_Some}
+use Rattle.interpreter.specs.cil_model.declared.instructions.ElementKind.{ElementKind}
+use Rattle.interpreter.specs.cil_model.declared.instructions.ElementKind.TheVariants as kinds
 use Rattle.interpreter.specs.cil_model.declared.instructions.Instruction.TheVariants as Named
 use Rattle.interpreter.specs.cil_model.declared.reports.Fault.TheVariants.{ArrayTypeMismatch}
 use Rattle.interpreter.specs.cil_model.declared.types.DeclaredType.{DeclaredType}
 use Rattle.interpreter.specs.cil_model.Assignable.{is_reference, is_reference_element}
+use Rattle.interpreter.specs.cil_model.FlowRules.{is_of_element_kind}
 use Rattle.interpreter.specs.reference_machine.Values.{ObjectName, Born, Value as StateValue, same_kind}
 use Rattle.interpreter.specs.reference_machine.States.{Array as IsArray, HeapObject, Frame as StateFrame, State, array_at, elements_of_contents, replaced_at, same_kind_or_none, with_element, with_object}
 use Rattle.interpreter.specs.reference_machine.Effects.{Setting, Effect as StateEffect, Raises as StateRaises, onward as onward_frame, when_some as state_given}
@@ -40,9 +43,9 @@ use Rattle.interpreter.specs.cil_model.declared.types.Element.{Element}
 use Rattle.interpreter.specs.cil_model.Same.{same_type}
 use Rattle.interpreter.specs.cil_model.Declarations.{plain}
 use Rattle.interpreter.specs.resolved_code.declared.operations.Operation.{Operation}
-use Rattle.interpreter.specs.object_memory.declared.values.ValueKind.{ValueKind}
-use Rattle.interpreter.specs.object_memory.declared.values.ValueKind.TheVariants as Kind
-use Rattle.interpreter.specs.loaded_program.Prepared.{kind_at, kind_of_type}
+use Rattle.interpreter.specs.cil_model.declared.values.ValueKind.{ValueKind}
+use Rattle.interpreter.specs.cil_model.declared.values.ValueKind.TheVariants as Kind
+use Rattle.interpreter.specs.cil_model.ValueKinds.{kind_at, kind_of_elements, kind_of_type}
 use Rattle.simulation.proofs.Memory.ObjectsAtAddresses.{IsArrayThere, there_is_linked}
 use Rattle.simulation.proofs.Instructions.ObjectInstructionParts.{alike_transition, given_alike, raised_alike, loaded_alike, replaced_alike, element_alike}
 
@@ -73,8 +76,8 @@ element_stored s k object t elements n v s' there holds is =
 -- ---- kinds of elements
 
 -- the kind of an element that is an integer of the type
-of_integer : (t : DeclaredType) (e : Element) → IsTrue (same_type (plain e) t) → kind_at e 0 ≡ kind_of_type t
-of_integer t e same = ap kind_of_type (same_type_equal (plain e) t same)
+of_integer : (t : DeclaredType) (e : Element) → IsTrue (same_type t (plain e)) → kind_at e 0 ≡ kind_of_type t
+of_integer t e same = ap kind_of_type (sym (same_type_equal t (plain e) same))
 
 -- the kind of a reference
 reference_kind : (e : Element) (n : ℕ) → IsTrue (is_reference_element e n) → Kind.Ref ≡ kind_at e n
@@ -84,6 +87,12 @@ reference_kind Int64Element zero h = never h
 reference_kind Object zero h = refl
 reference_kind String zero h = refl
 reference_kind (Class c) zero h = refl
+
+-- the kind of the elements that ldelem takes
+elements_kind : (kind : ElementKind) (t : DeclaredType) → IsTrue (is_of_element_kind kind t) → kind_of_elements kind ≡ kind_of_type t
+elements_kind kinds.Int32 t h = of_integer t Int32Element h
+elements_kind kinds.Int64 t h = of_integer t Int64Element h
+elements_kind kinds.Reference t h = reference_kind t.element t.brackets h
 
 module _ (here : Setting) (model : MemoryModel here.tree) (name : Names) (m : Frames) (o : Objects) (statics : List Value) (printed : List ℕ) (s : State) (f : StateFrame) (below : List StateFrame) where
   module _ (i : Instruction) (operation : Operation) (at : IsSetting here model name m o statics printed s f below i operation) where
@@ -219,20 +228,13 @@ module _ (here : Setting) (model : MemoryModel here.tree) (name : Names) (m : Fr
   abbrev IsAlike : Instruction → Operation → Type 0
   IsAlike i operation = DoesAlike here model name m o statics printed s f below (operation_transition here.tree (mutator_in here model) operation m o statics printed) (execute here s f below i)
 
-  pub load_element_int32_alike : At Named.LoadElementInt32 Resolved.LoadElementInt32 → IsAlike Named.LoadElementInt32 Resolved.LoadElementInt32
-  load_element_int32_alike at = load_alike Named.LoadElementInt32 Resolved.LoadElementInt32 at (same_type (plain Int32Element)) Kind.Int32 (λ t. of_integer t Int32Element) (fine here model name m o statics printed s f below Named.LoadElementInt32 Resolved.LoadElementInt32 at)
+  pub load_element_alike : (kind : ElementKind) → At (Named.LoadElement kind) (Resolved.LoadElement kind) → IsAlike (Named.LoadElement kind) (Resolved.LoadElement kind)
+  load_element_alike kind at = load_alike (Named.LoadElement kind) (Resolved.LoadElement kind) at (is_of_element_kind kind) (kind_of_elements kind) (elements_kind kind) (fine here model name m o statics printed s f below (Named.LoadElement kind) (Resolved.LoadElement kind) at)
 
-  pub load_element_int64_alike : At Named.LoadElementInt64 Resolved.LoadElementInt64 → IsAlike Named.LoadElementInt64 Resolved.LoadElementInt64
-  load_element_int64_alike at = load_alike Named.LoadElementInt64 Resolved.LoadElementInt64 at (same_type (plain Int64Element)) Kind.Int64 (λ t. of_integer t Int64Element) (fine here model name m o statics printed s f below Named.LoadElementInt64 Resolved.LoadElementInt64 at)
-
-  pub load_element_reference_alike : At Named.LoadElementReference Resolved.LoadElementReference → IsAlike Named.LoadElementReference Resolved.LoadElementReference
-  load_element_reference_alike at = load_alike Named.LoadElementReference Resolved.LoadElementReference at is_reference Kind.Ref (λ t. reference_kind t.element t.brackets) (fine here model name m o statics printed s f below Named.LoadElementReference Resolved.LoadElementReference at)
-
-  pub store_element_int32_alike : At Named.StoreElementInt32 Resolved.StoreElementInt32 → IsAlike Named.StoreElementInt32 Resolved.StoreElementInt32
-  store_element_int32_alike at = store_alike Named.StoreElementInt32 Resolved.StoreElementInt32 at (same_type (plain Int32Element)) (fine here model name m o statics printed s f below Named.StoreElementInt32 Resolved.StoreElementInt32 at)
-
-  pub store_element_int64_alike : At Named.StoreElementInt64 Resolved.StoreElementInt64 → IsAlike Named.StoreElementInt64 Resolved.StoreElementInt64
-  store_element_int64_alike at = store_alike Named.StoreElementInt64 Resolved.StoreElementInt64 at (same_type (plain Int64Element)) (fine here model name m o statics printed s f below Named.StoreElementInt64 Resolved.StoreElementInt64 at)
-
-  pub store_element_reference_alike : At Named.StoreElementReference Resolved.StoreElementReference → IsAlike Named.StoreElementReference Resolved.StoreElementReference
-  store_element_reference_alike at = reference_alike Named.StoreElementReference Resolved.StoreElementReference at (fine here model name m o statics printed s f below Named.StoreElementReference Resolved.StoreElementReference at)
+  pub store_element_alike : (kind : ElementKind) → At (Named.StoreElement kind) (Resolved.StoreElement kind) → IsAlike (Named.StoreElement kind) (Resolved.StoreElement kind)
+  store_element_alike kinds.Reference at =
+      reference_alike (Named.StoreElement kinds.Reference) (Resolved.StoreElement kinds.Reference) at (fine here model name m o statics printed s f below (Named.StoreElement kinds.Reference) (Resolved.StoreElement kinds.Reference) at)
+  store_element_alike kinds.Int32 at =
+      store_alike (Named.StoreElement kinds.Int32) (Resolved.StoreElement kinds.Int32) at (is_of_element_kind kinds.Int32) (fine here model name m o statics printed s f below (Named.StoreElement kinds.Int32) (Resolved.StoreElement kinds.Int32) at)
+  store_element_alike kinds.Int64 at =
+      store_alike (Named.StoreElement kinds.Int64) (Resolved.StoreElement kinds.Int64) at (is_of_element_kind kinds.Int64) (fine here model name m o statics printed s f below (Named.StoreElement kinds.Int64) (Resolved.StoreElement kinds.Int64) at)

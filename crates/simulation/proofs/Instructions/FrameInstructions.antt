@@ -10,7 +10,8 @@ use Rattle.interpreter.specs.cil_model.declared.instructions.BinaryOperation.{Bi
 use Rattle.interpreter.specs.cil_model.declared.instructions.UnaryOperation.{UnaryOperation}
 use Rattle.interpreter.specs.cil_model.declared.instructions.ShiftOperation.{ShiftOperation}
 use Rattle.interpreter.specs.cil_model.declared.instructions.Comparison.{Comparison}
-use Rattle.interpreter.specs.cil_model.declared.instructions.BranchComparison.{BranchComparison}
+use Rattle.interpreter.specs.cil_model.declared.instructions.BranchCondition.{BranchCondition}
+use Rattle.interpreter.specs.cil_model.declared.instructions.BranchCondition.TheVariants as conditions
 use Rattle.interpreter.specs.cil_model.Bodies.{lines_of, pc_of, at_index}
 use Rattle.interpreter.specs.cil_model.Mentions.{literals_of}
 use Rattle.interpreter.specs.reference_machine.Values.{Literal, Reference, Value as StateValue, same_kind}
@@ -340,23 +341,16 @@ module _ (here : Setting) (model : MemoryModel here.tree) (name : Names) (m : Fr
 
   -- ---- branches
 
-  pub branch_alike : (label : List ℕ) (pc : ℕ) → pc_of label (lines_of f.method) ≡ Some pc → At (Named.Branch label) (Resolved.Branch pc) → Does (Named.Branch label) (Resolved.Branch pc)
-  branch_alike label pc is at = jump_does here model name m o statics printed s f below _ _ at label pc is m.running.stack f.stack (own_frame here model name m o statics printed s f below _ _ at).stack
-
-  pub branch_true_alike : (label : List ℕ) (pc : ℕ) → pc_of label (lines_of f.method) ≡ Some pc → At (Named.BranchTrue label) (Resolved.BranchTrue pc) → Does (Named.BranchTrue label) (Resolved.BranchTrue pc)
-  branch_true_alike label pc is at =
+  pub branch_alike : (condition : BranchCondition) (label : List ℕ) (pc : ℕ) → pc_of label (lines_of f.method) ≡ Some pc → At (Named.Branch condition label) (Resolved.Branch condition pc) → Does (Named.Branch condition label) (Resolved.Branch condition pc)
+  branch_alike conditions.Always label pc is at = jump_does here model name m o statics printed s f below _ _ at label pc is m.running.stack f.stack (own_frame here model name m o statics printed s f below _ _ at).stack
+  branch_alike conditions.IfTrue label pc is at =
       one_given here model name m o statics printed s f below _ _ at Same is_set is_set_value (λ holds n. branch_if holds pc n) (λ holds rest. branch_to here s f below holds label rest)
       (is_set_meets here.tree model name o statics s at.memory.fits at.running.typed) (fine here model name m o statics printed s f below _ _ at) (λ a b e rest rest' k shorter t. branch_does here model name m o statics printed s f below _ _ at label pc is a b e rest rest' k)
-
-  pub branch_false_alike : (label : List ℕ) (pc : ℕ) → pc_of label (lines_of f.method) ≡ Some pc → At (Named.BranchFalse label) (Resolved.BranchFalse pc) → Does (Named.BranchFalse label) (Resolved.BranchFalse pc)
-  branch_false_alike label pc is at =
+  branch_alike conditions.IfFalse label pc is at =
       one_given here model name m o statics printed s f below _ _ at Opposite is_set (λ u. not_option (is_set_value u)) (λ holds n. branch_if (not holds) pc n) (λ holds rest. branch_to here s f below holds label rest)
       (λ v u h. meets_opposite (is_set v) (is_set_value u) (is_set_meets here.tree model name o statics s at.memory.fits at.running.typed v u h)) (fine here model name m o statics printed s f below _ _ at)
       (λ a b e rest rest' k shorter t. branch_does here model name m o statics printed s f below _ _ at label pc is (not a) b e rest rest' k)
-
-  pub branch_compare_alike : (op : BranchComparison) (label : List ℕ) (pc : ℕ) → pc_of label (lines_of f.method) ≡ Some pc →
-      At (Named.BranchCompare op label) (Resolved.BranchCompare op pc) → Does (Named.BranchCompare op label) (Resolved.BranchCompare op pc)
-  branch_compare_alike op label pc is at =
+  branch_alike (conditions.Compare op) label pc is at =
       two_given here model name m o statics printed s f below _ _ at Same (branch_test model.phase o op) (branch_values op) (λ holds n. branch_if holds pc n) (λ holds rest. branch_to here s f below holds label rest)
       (branch_test_meets here.tree model name o statics s at.memory.fits op) (fine here model name m o statics printed s f below _ _ at) (λ a b e rest rest' k shorter t. branch_does here model name m o statics printed s f below _ _ at label pc is a b e rest rest' k)
 

@@ -23,12 +23,12 @@ use Rattle.interpreter.specs.object_memory.declared.addresses.Addr.{Addr}
 use Rattle.interpreter.specs.object_memory.declared.kinds.Kind.TheVariants.{Instance}
 use Rattle.interpreter.specs.object_memory.declared.values.Value.{Value}
 use Rattle.collector.specs.References.{holds_reference, is_reference_value}
-use Rattle.interpreter.specs.object_memory.declared.values.ValueKind.{ValueKind}
+use Rattle.interpreter.specs.cil_model.declared.values.ValueKind.{ValueKind}
 use Rattle.interpreter.specs.object_memory.Cells.{store_slot as with_cell_slot}
 use Rattle.interpreter.specs.object_memory.Objects.{Objects}
 use Rattle.interpreter.specs.object_memory.Values.{value_word}
 use Rattle.interpreter.specs.threads_monitors.Frames.{Frames, with_stack}
-use Rattle.interpreter.specs.loaded_program.Prepared.{kind_of_type}
+use Rattle.interpreter.specs.cil_model.ValueKinds.{kind_of_type}
 use Rattle.interpreter.specs.instructions.ObjectTransitions.{object_of, load_slot, store_slot, load_field_transition, store_field_transition}
 use Rattle.interpreter.specs.loaded_program.declared.instructions.LinkedInstruction.TheVariants as Linked
 use Rattle.interpreter.specs.Instructions.{operation_transition, of_objects}

@@ -17,7 +17,7 @@ use Rattle.interpreter.proofs.reference_machine.TypedStates.RunningFrames.{IsTyp
 use Rattle.interpreter.specs.resolved_code.declared.operations.Operation.{Operation}
 use Rattle.interpreter.specs.object_memory.declared.addresses.Addr.{Addr}
 use Rattle.interpreter.specs.object_memory.declared.values.Value.{Value}
-use Rattle.interpreter.specs.object_memory.declared.values.ValueKind.{ValueKind}
+use Rattle.interpreter.specs.cil_model.declared.values.ValueKind.{ValueKind}
 use Rattle.interpreter.specs.object_memory.Cells.{Cell, store_slot as with_cell_slot}
 use Rattle.interpreter.specs.object_memory.Values.{value_word, value_in}
 use Rattle.interpreter.specs.object_memory.Objects.{Objects, object_cell}

@@ -26,7 +26,7 @@ use Rattle.interpreter.proofs.reference_machine.TypedStates.StateChanges.{entry_
 use Rattle.simulation.proofs.ProgramSizes.ClassesAndFields.{instance_slot_small}
 use Rattle.interpreter.specs.resolved_code.ById.{class_name}
 use Rattle.interpreter.specs.resolved_code.Resolved.{IsField}
-use Rattle.interpreter.specs.loaded_program.Prepared.{kind_of_type}
+use Rattle.interpreter.specs.cil_model.ValueKinds.{kind_of_type}
 use Rattle.interpreter.specs.loaded_program.Operands.{small, slot_in, slot_at, held_at}
 use Rattle.simulation.proofs.Memory.InheritedFields.{has_key, entry_of_first, chain_of_field, among_own, no_field_of_object, fields_begin, same_thread}
 use Rattle.simulation.proofs.Memory.FieldPositions.{IsPlaced, placed, position_there, type_there}

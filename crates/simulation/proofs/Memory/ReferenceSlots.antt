@@ -18,9 +18,10 @@ use Rattle.reference_machine.proofs.TypedStates.InitialStates.{zero_typed}
 use Rattle.interpreter.specs.object_memory.declared.addresses.TheConstants.{ADDRESSES}
 use Rattle.interpreter.specs.object_memory.declared.values.Value.{Value}
 use Rattle.interpreter.specs.object_memory.declared.values.Value.TheVariants.{Int32, Int64, Native, Ref}
-use Rattle.interpreter.specs.object_memory.declared.values.ValueKind.{ValueKind}
+use Rattle.interpreter.specs.cil_model.declared.values.ValueKind.{ValueKind}
 use Rattle.interpreter.specs.object_memory.Values.{value_word, value_in}
-use Rattle.interpreter.specs.loaded_program.Prepared.{kind_at, kind_of_type}
+use Rattle.interpreter.specs.cil_model.ValueKinds.{kind_at, kind_of_type}
+pub use Rattle.interpreter.specs.cil_model.ValueKinds.{is_reference_kind}
 use Rattle.simulation.specs.Refines.{Names, IsValue, int32, int64, native, null_reference, reference, IsWord, IsOfContents}
 use Rattle.interpreter.proofs.cil_model.SameLaws.{never}
 use Rattle.std.specs.Option.{option_map_or}
@@ -35,7 +36,7 @@ use Rattle.interpreter.specs.object_memory.declared.kinds.ElementType.{ElementTy
 use Rattle.interpreter.specs.object_memory.declared.kinds.ElementType.TheVariants.{Int32 as Int32Type, Int64 as Int64Type, Object as ObjectType, String as StringType, Class as ClassType}
 use Rattle.interpreter.specs.object_memory.declared.kinds.Kind.{Kind}
 use Rattle.interpreter.specs.object_memory.declared.kinds.Kind.TheVariants.{Array, Instance}
-use Rattle.interpreter.specs.object_memory.declared.values.ValueKind.TheVariants as Kinds
+use Rattle.interpreter.specs.cil_model.declared.values.ValueKind.TheVariants as Kinds
 use Rattle.collector.specs.References.{holds_reference, is_reference_value, is_reference_element as is_reference_type}
 use Rattle.interpreter.specs.instructions.TypeTransitions.{held_type, resolved_element}
 use Rattle.collector.proofs.PhaseChanges.StaticFlips.{set_here_or_there}
@@ -107,21 +108,6 @@ kind_fits tree legal s u t h = kind_by t.element t.brackets u (kinds_agree tree 
 
 -- ---- kinds
 
--- whether a kind is that of references
-abbrev pub is_reference_kind : ValueKind → Bool
-is_reference_kind Kinds.Ref = true
-is_reference_kind Kinds.Int32 = false
-is_reference_kind Kinds.Int64 = false
-is_reference_kind Kinds.Native = false
-
-kind_says : (e : Element) (n : ℕ) → is_reference_element e n ≡ is_reference_kind (kind_at e n)
-kind_says e (suc n) = refl
-kind_says Int32Element zero = refl
-kind_says Int64Element zero = refl
-kind_says Object zero = refl
-kind_says String zero = refl
-kind_says (Class c) zero = refl
-
 -- a value of the machine is a reference where the state's is
 pub value_says : (name : Names) (v : Value) (u : StateValue) → IsValue name v u → is_reference_value v ≡ is_reference_kind (kind_of_state u)
 value_says name v u (int32 z fits) = refl
@@ -178,7 +164,6 @@ module _ (tree : Tree) (legal : IsLegal tree) (s : State) where
       let slot : slice_get (slot_types tree c) (length (hidden_slots tree c) + p) ≡ Some (Some at.0.1) = following (hidden_slots tree c) (map (λ (f : FieldKey × DeclaredType). Some f.1) (instance_fields tree c)) p (Some at.0.1) (mapped_at (instance_fields tree c) p at.0 at.1) in
       ap (λ x. option_map_or (λ c'. is_reference_slot tree c' (length (hidden_slots tree c) + p)) x false) is ∙
       ap (λ x. option_map_or (λ o. option_map_or is_reference o false) x false) slot ∙
-      kind_says at.0.1.element at.0.1.brackets ∙
       ap is_reference_kind (kind_fits tree legal s e.1 at.0.1 at.2)
 
 -- the hidden slot of an object of a class of threads holds none

@@ -3,8 +3,10 @@ use Rattle.std.proofs.Common.{◌≡◌, ◌≤◌, ◌+◌, ◌==◌, ◌-◌, 
 use Rattle.std.specs.Option.{option_map_or}
 use Rattle.interpreter.specs.cil_model.declared.types.ClassName.{ClassName}
 use Rattle.interpreter.specs.cil_model.declared.types.DeclaredType.{DeclaredType}
+use Rattle.interpreter.specs.cil_model.declared.instructions.BranchCondition.TheVariants as conditions
+use Rattle.interpreter.specs.cil_model.declared.instructions.ElementKind.TheVariants as kinds
 use Rattle.interpreter.specs.cil_model.declared.instructions.Instruction.{Instruction}
-use Rattle.interpreter.specs.cil_model.declared.instructions.Instruction.TheVariants.{NoOperation, LoadArgument, StoreArgument, LoadLocal, StoreLocal, Duplicate, Pop, Binary, Unary, Shift, Compare, ConvertInt32, ConvertInt64, Branch, BranchTrue, BranchFalse, BranchCompare, Switch, LoadField, StoreField, LoadStaticField, StoreStaticField, NewArray, LoadLength, LoadElementInt32, LoadElementInt64, LoadElementReference, StoreElementInt32, StoreElementInt64, StoreElementReference, CastClass, IsInstance, Call, CallVirtual, NewObject, Return}
+use Rattle.interpreter.specs.cil_model.declared.instructions.Instruction.TheVariants.{NoOperation, LoadArgument, StoreArgument, LoadLocal, StoreLocal, Duplicate, Pop, Binary, Unary, Shift, Compare, ConvertInt32, ConvertInt64, Branch, Switch, LoadField, StoreField, LoadStaticField, StoreStaticField, NewArray, LoadLength, LoadElement, StoreElement, CastClass, IsInstance, Call, CallVirtual, NewObject, Return}
 use Rattle.interpreter.specs.cil_model.declared.trees.Method.{Method}
 use Rattle.interpreter.specs.cil_model.declared.limits.TheConstants.{MOST_THREADS}
 use Rattle.interpreter.specs.cil_model.declared.reports.Fault.{Fault}
@@ -255,10 +257,10 @@ module _ (here : Setting) (s : State) (left : ℕ) where
     instruction_keeps (Compare op) = two_keeps f.stack (λ v w rest. given_keeps (compare_values op v w) (λ holds e. onward_keeps _))
     instruction_keeps ConvertInt32 = one_keeps f.stack (λ v rest. given_keeps (convert_32 v) (λ u e. onward_keeps _))
     instruction_keeps ConvertInt64 = one_keeps f.stack (λ v rest. given_keeps (convert_64 v) (λ u e. onward_keeps _))
-    instruction_keeps (Branch label) = jump_keeps label f.stack
-    instruction_keeps (BranchTrue label) = one_keeps f.stack (λ v rest. given_keeps (is_set v) (λ holds e. branch_keeps holds label rest))
-    instruction_keeps (BranchFalse label) = one_keeps f.stack (λ v rest. given_keeps (not_option (is_set v)) (λ holds e. branch_keeps holds label rest))
-    instruction_keeps (BranchCompare op label) = two_keeps f.stack (λ v w rest. given_keeps (branch_values op v w) (λ holds e. branch_keeps holds label rest))
+    instruction_keeps (Branch conditions.Always label) = jump_keeps label f.stack
+    instruction_keeps (Branch conditions.IfTrue label) = one_keeps f.stack (λ v rest. given_keeps (is_set v) (λ holds e. branch_keeps holds label rest))
+    instruction_keeps (Branch conditions.IfFalse label) = one_keeps f.stack (λ v rest. given_keeps (not_option (is_set v)) (λ holds e. branch_keeps holds label rest))
+    instruction_keeps (Branch (conditions.Compare op) label) = two_keeps f.stack (λ v w rest. given_keeps (branch_values op v w) (λ holds e. branch_keeps holds label rest))
     instruction_keeps (Switch labels) = one_keeps f.stack (switch_keeps labels)
     instruction_keeps (LoadField r) = one_keeps f.stack (λ object rest. given_keeps (find_field here.tree false r) (λ found e. null_keeps object NullReference (λ n. given_keeps (field_value s n (key_of found)) (λ v e'. onward_keeps _))))
     instruction_keeps (StoreField r) = two_keeps f.stack (λ object v rest. given_keeps (find_field here.tree false r) (λ found e.
@@ -267,12 +269,9 @@ module _ (here : Setting) (s : State) (left : ℕ) where
     instruction_keeps (StoreStaticField r) = one_keeps f.stack (λ v rest. given_keeps (find_field here.tree true r) (λ found e. given_keeps (replaced_entry (key_of found) v s.statics) (λ statics e'. goes _ _ (aside_keeps here s left stepping _ _))))
     instruction_keeps (NewArray t) = one_keeps f.stack (λ v rest. given_keeps (as_index v) (λ z e. array_keeps t z rest))
     instruction_keeps LoadLength = one_keeps f.stack (λ array rest. null_keeps array NullReference (λ n. given_keeps (array_at s n) (λ held e. onward_keeps _)))
-    instruction_keeps LoadElementInt32 = load_keeps _
-    instruction_keeps LoadElementInt64 = load_keeps _
-    instruction_keeps LoadElementReference = load_keeps _
-    instruction_keeps StoreElementInt32 = store_keeps _
-    instruction_keeps StoreElementInt64 = store_keeps _
-    instruction_keeps StoreElementReference = reference_keeps
+    instruction_keeps (LoadElement _) = load_keeps _
+    instruction_keeps (StoreElement kinds.Reference) = reference_keeps
+    instruction_keeps (StoreElement _) = store_keeps _
     instruction_keeps (CastClass t) = cast_keeps t (λ rest. raises InvalidCast)
     instruction_keeps (IsInstance t) = cast_keeps t (λ rest. onward_keeps _)
     instruction_keeps (Call is_instance r) = given_keeps (find_method here.tree is_instance r) (λ found e. operands_keep (reference_operands is_instance r) (run_keeps found))

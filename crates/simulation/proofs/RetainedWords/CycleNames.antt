@@ -5,6 +5,7 @@ use Rattle.std.specs.Prelude.{◌||◌, unwrap_or}
 use Rattle.std.proofs.lemmas.Bool.{or_right}
 use Rattle.interpreter.specs.cil_model.declared.phases.Phase.{Phase}
 use Rattle.interpreter.specs.cil_model.declared.phases.Phase.TheVariants.{Idle, Mark, Allocate, Copy, PreFlip, HeapFlip, ThreadFlip, Reclaim}
+use Rattle.interpreter.specs.cil_model.PhaseOrder.{is_between}
 use Rattle.interpreter.specs.reference_machine.Values.{ObjectName}
 use Rattle.interpreter.specs.object_memory.declared.addresses.Addr.{Addr}
 use Rattle.interpreter.specs.object_memory.declared.kinds.Kind.{Kind}
@@ -78,14 +79,7 @@ kept_cases _ m a h marked new = new h (λ n. refl)
 
 -- while objects get their copies
 abbrev pub is_copying : Phase → Bool
-is_copying Idle = false
-is_copying Mark = false
-is_copying Allocate = true
-is_copying Copy = true
-is_copying PreFlip = false
-is_copying HeapFlip = false
-is_copying ThreadFlip = false
-is_copying Reclaim = false
+is_copying p = is_between Allocate Copy p
 
 -- the address is that of the copy of a marked object
 pub record IsCopyOfMarked (m : Spaces) (y : Addr) : Type 0 where

@@ -12,7 +12,7 @@ use Rattle.interpreter.specs.reference_machine.Steps.{Answers, execute, step}
 use Rattle.interpreter.specs.reference_machine.Runs.{is_refusal, initial_state}
 use Rattle.interpreter.specs.cil_model.declared.events.Event.TheVariants.{Step, Ack, Gc}
 use Rattle.interpreter.specs.cil_model.declared.reports.Report.{Report}
-use Rattle.interpreter.specs.resolved_code.Resolved.{IsOperation, no_operation, load_int32, load_int64, load_null, load_string, load_argument, store_argument, load_local, store_local, duplicate, pop, binary, unary, shift, compare, convert_int32, convert_int64, branch, branch_true, branch_false, branch_compare, switch, load_field, store_field, load_static_field, store_static_field, new_array, load_length, load_element_int32, load_element_int64, load_element_reference, store_element_int32, store_element_int64, store_element_reference, cast_class, is_instance, call, call_virtual, new_object, return}
+use Rattle.interpreter.specs.resolved_code.Resolved.{IsOperation, no_operation, load_int32, load_int64, load_null, load_string, load_argument, store_argument, load_local, store_local, duplicate, pop, binary, unary, shift, compare, convert_int32, convert_int64, branch, switch, load_field, store_field, load_static_field, store_static_field, new_array, load_length, load_element, store_element, cast_class, is_instance, call, call_virtual, new_object, return}
 use Rattle.interpreter.specs.resolved_code.declared.operations.Operation.{Operation}
 use Rattle.interpreter.specs.object_memory.declared.values.Value.{Value}
 use Rattle.interpreter.specs.object_memory.Objects.{Objects}
@@ -27,11 +27,11 @@ use Rattle.simulation.proofs.Instructions.Correspondence.{IsSetting, DoesAlike, 
 use Rattle.simulation.proofs.CollectorEvents.AcknowledgementNames.{acknowledgement_represents}
 use Rattle.simulation.proofs.CollectorEvents.UnchangedState.{collected_represents}
 use Rattle.simulation.proofs.Threads.LiveThreads.{normally}
-use Rattle.simulation.proofs.Instructions.FrameInstructions.{no_operation_alike, load_int32_alike, load_int64_alike, load_null_alike, load_string_alike, load_argument_alike, store_argument_alike, load_local_alike, store_local_alike, duplicate_alike, pop_alike, binary_alike, unary_alike, shift_alike, compare_alike, convert_int32_alike, convert_int64_alike, branch_alike, branch_true_alike, branch_false_alike, branch_compare_alike, switch_alike}
+use Rattle.simulation.proofs.Instructions.FrameInstructions.{no_operation_alike, load_int32_alike, load_int64_alike, load_null_alike, load_string_alike, load_argument_alike, store_argument_alike, load_local_alike, store_local_alike, duplicate_alike, pop_alike, binary_alike, unary_alike, shift_alike, compare_alike, convert_int32_alike, convert_int64_alike, branch_alike, switch_alike}
 use Rattle.simulation.proofs.Instructions.InstanceFields.{load_field_alike, store_field_alike}
 use Rattle.simulation.proofs.Instructions.StaticFields.{load_static_field_alike, store_static_field_alike}
 use Rattle.simulation.proofs.Instructions.ArraysAndLengths.{new_array_alike, load_length_alike}
-use Rattle.simulation.proofs.Instructions.ArrayElements.{load_element_int32_alike, load_element_int64_alike, load_element_reference_alike, store_element_int32_alike, store_element_int64_alike, store_element_reference_alike}
+use Rattle.simulation.proofs.Instructions.ArrayElements.{load_element_alike, store_element_alike}
 use Rattle.simulation.proofs.Instructions.Casts.{cast_class_alike, is_instance_alike}
 use Rattle.simulation.proofs.Instructions.Calls.MethodExecution.{methods_run_alike, return_alike}
 use Rattle.simulation.proofs.Instructions.Calls.MethodCalls.{call_alike, call_virtual_alike}
@@ -62,10 +62,7 @@ module _ (here : Setting) (model : MemoryModel here.tree) (name : Names) (m : Fr
   by_operation _ _ (compare op) at = compare_alike here model name m o statics printed s f below op at
   by_operation _ _ convert_int32 at = convert_int32_alike here model name m o statics printed s f below at
   by_operation _ _ convert_int64 at = convert_int64_alike here model name m o statics printed s f below at
-  by_operation _ _ (branch label index is) at = branch_alike here model name m o statics printed s f below label index is at
-  by_operation _ _ (branch_true label index is) at = branch_true_alike here model name m o statics printed s f below label index is at
-  by_operation _ _ (branch_false label index is) at = branch_false_alike here model name m o statics printed s f below label index is at
-  by_operation _ _ (branch_compare op label index is) at = branch_compare_alike here model name m o statics printed s f below op label index is at
+  by_operation _ _ (branch condition label index is) at = branch_alike here model name m o statics printed s f below condition label index is at
   by_operation _ _ (switch labels indices are) at = switch_alike here model name m o statics printed s f below labels indices are at
   by_operation _ _ (load_field r owner field named finds) at = load_field_alike here model name m o statics printed s f below r owner field named finds at
   by_operation _ _ (store_field r owner field named finds) at = store_field_alike here model name m o statics printed s f below r owner field named finds at
@@ -73,12 +70,8 @@ module _ (here : Setting) (model : MemoryModel here.tree) (name : Names) (m : Fr
   by_operation _ _ (store_static_field r field finds) at = store_static_field_alike here model name m o statics printed s f below r field finds at
   by_operation _ _ (new_array t n is) at = new_array_alike here model name m o statics printed s f below t n is at
   by_operation _ _ load_length at = load_length_alike here model name m o statics printed s f below at
-  by_operation _ _ load_element_int32 at = load_element_int32_alike here model name m o statics printed s f below at
-  by_operation _ _ load_element_int64 at = load_element_int64_alike here model name m o statics printed s f below at
-  by_operation _ _ load_element_reference at = load_element_reference_alike here model name m o statics printed s f below at
-  by_operation _ _ store_element_int32 at = store_element_int32_alike here model name m o statics printed s f below at
-  by_operation _ _ store_element_int64 at = store_element_int64_alike here model name m o statics printed s f below at
-  by_operation _ _ store_element_reference at = store_element_reference_alike here model name m o statics printed s f below at
+  by_operation _ _ (load_element kind) at = load_element_alike here model name m o statics printed s f below kind at
+  by_operation _ _ (store_element kind) at = store_element_alike here model name m o statics printed s f below kind at
   by_operation _ _ (cast_class t n is) at = cast_class_alike here model name m o statics printed s f below t n is at
   by_operation _ _ (is_instance t n is) at = is_instance_alike here model name m o statics printed s f below t n is at
   by_operation _ _ (call flag r owner method named finds) at = call_alike here model name m o statics printed s f below flag r owner method named finds at

@@ -2,7 +2,7 @@ use Rattle.std.proofs.Common.{◌≡◌, ◌<◌, ◌+◌, ◌++◌, ◌∷◌, 
 use Rattle.std.specs.Prelude.{filter_map}
 use Rattle.std.proofs.lemmas.List.{take_all}
 use Rattle.std.proofs.lemmas.Option.{slice_get-get_or, get_or_from_slice_get}
-use Rattle.class_layout.specs.ResolvedKinds.{resolved_kind}
+use Rattle.class_layout.specs.Kinds.{resolved_kind}
 use Rattle.class_layout.proofs.Indices.{filter_skips, filter_takes}
 use Rattle.class_layout.proofs.fields.instance_kinds.Goals as goal
 
@@ -16,12 +16,12 @@ takes : {X Y : Type 0} (h : X → Option Y) (xs : List X) (i : ℕ) (d : X) (ys 
 takes h xs i d ys zs y l before some after = filter_takes h xs i (get_or xs i d) ys zs y l (read xs i d l) before some after
 
 pub loop-field-preserved-in_default : goal.loop-field-preserved-in_default
-loop-field-preserved-in_default c =
-    skips resolved_kind c.args.fields.now c.loop-field.field-index _ c.loop-field.kinds.items (omega arith) c.loop-field.invariant (sym c.instance_kind.ensures ∙ c.in_default.is)
+loop-field-preserved-in_default c = λ tree.
+    skips (resolved_kind tree) c.args.fields.now c.loop-field.field-index _ c.loop-field.kinds.items (omega arith) (c.loop-field.invariant tree) (sym (c.instance_kind.ensures tree) ∙ c.in_default.is)
 
 pub loop-field-preserved : goal.loop-field-preserved
-loop-field-preserved c =
-    takes resolved_kind c.args.fields.now c.loop-field.field-index _ c.loop-field.kinds.items c.push.new.self.items c.in-Some.kind (omega arith) c.loop-field.invariant (sym c.instance_kind.ensures ∙ c.in-Some.is) c.in_ok-push.ensures.items
+loop-field-preserved c = λ tree.
+    takes (resolved_kind tree) c.args.fields.now c.loop-field.field-index _ c.loop-field.kinds.items c.push.new.self.items c.in-Some.kind (omega arith) (c.loop-field.invariant tree) (sym (c.instance_kind.ensures tree) ∙ c.in-Some.is) c.in_ok-push.ensures.items
 
 pub returns : goal.returns
-returns c = c.loop-field.invariant ∙ ap (filter_map resolved_kind) (take_all c.loop-field.field-index c.args.fields.now c.loop-field-test.false)
+returns c = λ tree. c.loop-field.invariant tree ∙ ap (filter_map (resolved_kind tree)) (take_all c.loop-field.field-index c.args.fields.now c.loop-field-test.false)

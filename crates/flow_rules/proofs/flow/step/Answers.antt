@@ -20,20 +20,10 @@ returns-in-Shift c =
     subst (λ (op : Operation). OfEach c.args.method.now.types.now (λ (i : Instruction). IsAfter c.args.method.now.types.now c.shift.result c.shift.new.stack (flow_of c.args.method.now i c.args.stack.now)) op)
     (sym c.in-Shift.is) (c.shift.ensures c.args.method.now c.in-Shift.field-0)
 
-pub returns-in-BranchTrue : goal.returns-in-BranchTrue
-returns-in-BranchTrue c =
-    subst (λ (op : Operation). OfEach c.args.method.now.types.now (λ (i : Instruction). IsAfter c.args.method.now.types.now c.branch_true.result c.branch_true.new.stack (flow_of c.args.method.now i c.args.stack.now)) op)
-    (sym c.in-BranchTrue.is) (λ label. c.branch_true.ensures c.args.method.now label)
-
-pub returns-in-BranchFalse : goal.returns-in-BranchFalse
-returns-in-BranchFalse c =
-    subst (λ (op : Operation). OfEach c.args.method.now.types.now (λ (i : Instruction). IsAfter c.args.method.now.types.now c.branch_false.result c.branch_false.new.stack (flow_of c.args.method.now i c.args.stack.now)) op)
-    (sym c.in-BranchFalse.is) (λ label. c.branch_false.ensures c.args.method.now label)
-
-pub returns-in-BranchCompare : goal.returns-in-BranchCompare
-returns-in-BranchCompare c =
-    subst (λ (op : Operation). OfEach c.args.method.now.types.now (λ (i : Instruction). IsAfter c.args.method.now.types.now c.branch_compare.result c.branch_compare.new.stack (flow_of c.args.method.now i c.args.stack.now)) op)
-    (sym c.in-BranchCompare.is) (λ label. c.branch_compare.ensures c.args.method.now label)
+pub returns-in-Branch : goal.returns-in-Branch
+returns-in-Branch c =
+    subst (λ (op : Operation). OfEach c.args.method.now.types.now (λ (i : Instruction). IsAfter c.args.method.now.types.now c.branch_on_condition.result c.branch_on_condition.new.stack (flow_of c.args.method.now i c.args.stack.now)) op)
+    (sym c.in-Branch.is) (λ label. c.branch_on_condition.ensures c.args.method.now label)
 
 pub returns-in-Switch : goal.returns-in-Switch
 returns-in-Switch c =

@@ -13,7 +13,7 @@ loop-field-preserved c =
     let old = c.args.statics.now.items in
     elim c.if-field.branch [
       | then-field+in_ok-push w ↦ ap (λ v. v.items) w.statics-is ∙ static_more (λ f. f.now) fields i c.field-item.result c.loop-field-test.true c.field-item.is old c.loop-field.statics.items c.loop-field.invariant w.push.new.self.items w.if-field.true
-          (w.in_ok-push.ensures.items ∙ ap (λ zero. c.loop-field.statics.items ++ zero ∷ []) (w.zero_value.ensures ∙ ap zero_value w.value_kind.ensures))
+          (w.in_ok-push.ensures.items ∙ ap (λ zero. c.loop-field.statics.items ++ zero ∷ []) (w.zero_value.ensures ∙ ap zero_value w.kind.ensures))
       | else-field w ↦ ap (λ v. v.items) w.statics-is ∙ static_no_more (λ f. f.now) fields i c.field-item.result c.loop-field-test.true c.field-item.is old c.loop-field.statics.items c.loop-field.invariant w.if-field.false
     ]
 

@@ -18,4 +18,4 @@ method-requires c =
 pub returns-clause-action : goal.returns-clause-action
 returns-clause-action c =
     let acting = member_acts c.args.program.now c.args.frames.now c.operation_at-operation.result.now c.operation_at-operation.ensures c.in_ok-method.method (sym c.called_member.ensures ∙ c.in_ok-method.was) in
-    (c.method.ensures.entry acting.0 (c.number.ensures acting.0 acting.1)).action ∙ sym acting.2
+    (c.method.ensures.loaded acting.0 (c.number.ensures acting.0 acting.1)).action ∙ sym acting.2

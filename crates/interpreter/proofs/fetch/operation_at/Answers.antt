@@ -4,7 +4,7 @@ use Rattle.std.specs.Prelude.{slice_get, is_some}
 use Rattle.resolved_code.specs.Resolved.{IsResolvedMethod}
 use Rattle.resolved_code.specs.declared.classes.Body.{Body}
 use Rattle.loaded_program.specs.AllMethods.{all_methods}
-use Rattle.loaded_program.specs.Prepared.{IsTableMethod}
+use Rattle.loaded_program.specs.Loaded.{IsLoadedMethod}
 use Rattle.loaded_program.proofs.OperandLaws.{map_some}
 use Rattle.interpreter.specs.Instructions.{IsAt}
 use Rattle.interpreter.proofs.Placing.{Lined, lined, Placed, placed, method_is_there, method_is_resolved}
@@ -18,13 +18,13 @@ method-requires-2 c =
 pub unreachable-requires : goal.unreachable-requires
 unreachable-requires c =
     let here : Lined c.args.program.now c.args.frames.now = lined c.args.program.now c.args.frames.now c.requires in
-    let known : IsTableMethod c.args.program.now here.found c.method-2.result.now = c.method-2.ensures.entry here.found (ap (slice_get (all_methods c.args.program.now)) c.method.ensures ∙ here.found_is) in
+    let known : IsLoadedMethod c.args.program.now here.found c.method-2.result.now = c.method-2.ensures.loaded here.found (ap (slice_get (all_methods c.args.program.now)) c.method.ensures ∙ here.found_is) in
     method_is_there c.args.program.now c.program.result.now c.program.ensures c.method-2.result.now.member here.found known.member c.method-3.result c.method-3.ensures c.in_default.is
 
 pub unreachable-requires-in_default-body_of : goal.unreachable-requires-in_default-body_of
 unreachable-requires-in_default-body_of c =
     let here : Lined c.args.program.now c.args.frames.now = lined c.args.program.now c.args.frames.now c.requires in
-    let known : IsTableMethod c.args.program.now here.found c.method-2.result.now = c.method-2.ensures.entry here.found (ap (slice_get (all_methods c.args.program.now)) c.method.ensures ∙ here.found_is) in
+    let known : IsLoadedMethod c.args.program.now here.found c.method-2.result.now = c.method-2.ensures.loaded here.found (ap (slice_get (all_methods c.args.program.now)) c.method.ensures ∙ here.found_is) in
     let resolved : IsResolvedMethod c.args.program.now here.found.1 c.in-Some.method.now =
     method_is_resolved c.args.program.now c.program.result.now c.program.ensures c.method-2.result.now.member here.found known.member c.method-3.result c.method-3.ensures c.in-Some.method c.in-Some.is in
     let pc : Placed c.args.program.now c.args.frames.now (option_map (λ (b : Bor Body). b.now) c.body_of.result) =
@@ -35,7 +35,7 @@ unreachable-requires-in_default-body_of c =
 pub bounds-as_slice-pc : goal.bounds-as_slice-pc
 bounds-as_slice-pc c =
     let here : Lined c.args.program.now c.args.frames.now = lined c.args.program.now c.args.frames.now c.requires in
-    let known : IsTableMethod c.args.program.now here.found c.method-2.result.now = c.method-2.ensures.entry here.found (ap (slice_get (all_methods c.args.program.now)) c.method.ensures ∙ here.found_is) in
+    let known : IsLoadedMethod c.args.program.now here.found c.method-2.result.now = c.method-2.ensures.loaded here.found (ap (slice_get (all_methods c.args.program.now)) c.method.ensures ∙ here.found_is) in
     let resolved : IsResolvedMethod c.args.program.now here.found.1 c.in-Some.method.now =
     method_is_resolved c.args.program.now c.program.result.now c.program.ensures c.method-2.result.now.member here.found known.member c.method-3.result c.method-3.ensures c.in-Some.method c.in-Some.is in
     let pc : Placed c.args.program.now c.args.frames.now (option_map (λ (b : Bor Body). b.now) c.body_of.result) =
@@ -50,7 +50,7 @@ bounds-as_slice-pc c =
 pub returns : goal.returns
 returns c =
     let here : Lined c.args.program.now c.args.frames.now = lined c.args.program.now c.args.frames.now c.requires in
-    let known : IsTableMethod c.args.program.now here.found c.method-2.result.now = c.method-2.ensures.entry here.found (ap (slice_get (all_methods c.args.program.now)) c.method.ensures ∙ here.found_is) in
+    let known : IsLoadedMethod c.args.program.now here.found c.method-2.result.now = c.method-2.ensures.loaded here.found (ap (slice_get (all_methods c.args.program.now)) c.method.ensures ∙ here.found_is) in
     let resolved : IsResolvedMethod c.args.program.now here.found.1 c.in-Some.method.now =
     method_is_resolved c.args.program.now c.program.result.now c.program.ensures c.method-2.result.now.member here.found known.member c.method-3.result c.method-3.ensures c.in-Some.method c.in-Some.is in
     let pc : Placed c.args.program.now c.args.frames.now (option_map (λ (b : Bor Body). b.now) c.body_of.result) =

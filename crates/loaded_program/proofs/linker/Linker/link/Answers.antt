@@ -71,35 +71,14 @@ returns-in-ConvertInt64 c required e = same_Some _ required (sym (ap (link c.arg
 pub returns-in-Branch : goal.returns-in-Branch
 returns-in-Branch c required e = same_Some _ required (sym (ap (link c.args.self.now.program.now c.args.has_value) c.in-Branch.is) ∙ e)
 
-pub returns-in-BranchTrue : goal.returns-in-BranchTrue
-returns-in-BranchTrue c required e = same_Some _ required (sym (ap (link c.args.self.now.program.now c.args.has_value) c.in-BranchTrue.is) ∙ e)
-
-pub returns-in-BranchFalse : goal.returns-in-BranchFalse
-returns-in-BranchFalse c required e = same_Some _ required (sym (ap (link c.args.self.now.program.now c.args.has_value) c.in-BranchFalse.is) ∙ e)
-
-pub returns-in-BranchCompare : goal.returns-in-BranchCompare
-returns-in-BranchCompare c required e = same_Some _ required (sym (ap (link c.args.self.now.program.now c.args.has_value) c.in-BranchCompare.is) ∙ e)
-
 pub returns-in-LoadLength : goal.returns-in-LoadLength
 returns-in-LoadLength c required e = same_Some _ required (sym (ap (link c.args.self.now.program.now c.args.has_value) c.in-LoadLength.is) ∙ e)
 
-pub returns-in-LoadElementInt32 : goal.returns-in-LoadElementInt32
-returns-in-LoadElementInt32 c required e = same_Some _ required (sym (ap (link c.args.self.now.program.now c.args.has_value) c.in-LoadElementInt32.is) ∙ e)
+pub returns-in-LoadElement : goal.returns-in-LoadElement
+returns-in-LoadElement c required e = same_Some _ required (sym (ap (link c.args.self.now.program.now c.args.has_value) c.in-LoadElement.is) ∙ e)
 
-pub returns-in-LoadElementInt64 : goal.returns-in-LoadElementInt64
-returns-in-LoadElementInt64 c required e = same_Some _ required (sym (ap (link c.args.self.now.program.now c.args.has_value) c.in-LoadElementInt64.is) ∙ e)
-
-pub returns-in-LoadElementReference : goal.returns-in-LoadElementReference
-returns-in-LoadElementReference c required e = same_Some _ required (sym (ap (link c.args.self.now.program.now c.args.has_value) c.in-LoadElementReference.is) ∙ e)
-
-pub returns-in-StoreElementInt32 : goal.returns-in-StoreElementInt32
-returns-in-StoreElementInt32 c required e = same_Some _ required (sym (ap (link c.args.self.now.program.now c.args.has_value) c.in-StoreElementInt32.is) ∙ e)
-
-pub returns-in-StoreElementInt64 : goal.returns-in-StoreElementInt64
-returns-in-StoreElementInt64 c required e = same_Some _ required (sym (ap (link c.args.self.now.program.now c.args.has_value) c.in-StoreElementInt64.is) ∙ e)
-
-pub returns-in-StoreElementReference : goal.returns-in-StoreElementReference
-returns-in-StoreElementReference c required e = same_Some _ required (sym (ap (link c.args.self.now.program.now c.args.has_value) c.in-StoreElementReference.is) ∙ e)
+pub returns-in-StoreElement : goal.returns-in-StoreElement
+returns-in-StoreElement c required e = same_Some _ required (sym (ap (link c.args.self.now.program.now c.args.has_value) c.in-StoreElement.is) ∙ e)
 
 pub returns-in-CastClass : goal.returns-in-CastClass
 returns-in-CastClass c required e = same_Some _ required (sym (ap (link c.args.self.now.program.now c.args.has_value) c.in-CastClass.is) ∙ e)

@@ -1,4 +1,4 @@
-use Rattle.std.proofs.Common.{◌≡◌, ap, ◌∙◌, length}
+use Rattle.std.proofs.Common.{ap, ◌∙◌, length, option_map}
 use Rattle.cil_model.specs.Bodies.{argument_types}
 use Rattle.cil_model.specs.declared.types.ClassName.{ClassName}
 use Rattle.cil_model.specs.declared.trees.Method.{Method}
@@ -11,7 +11,7 @@ use Rattle.loaded_program.proofs.linker.Linker.virtual_call.Goals as goal
 pub returns : goal.returns
 returns c required e =
     let tree = c.args.self.now.program.now in
-    let known = map_some (λ (found : ClassName × Method). CallVirtual (flat_number tree c.args.member.class c.args.member.index) (length (argument_types found.1 found.0))) (method_at tree (c.args.member.class, c.args.member.index)) required e in
-    let counted : c.number-method.result ≡ flat_number tree c.args.member.class c.args.member.index = c.number-method.ensures.counted tree c.requires.has_id known.0.0 known.0.1 known.1 in
-    let operands : c.operands.result ≡ length (argument_types known.0.1 known.0.0) = c.operands.ensures known.0 (c.number-method.ensures.found tree c.requires.has_id known.0.0 known.0.1 known.1) in
-    ap (λ n. CallVirtual n c.operands.result) counted ∙ ap (λ k. CallVirtual (flat_number tree c.args.member.class c.args.member.index) k) operands ∙ known.2
+    let member = c.args.member in
+    let known = map_some (λ (found : ClassName × Method). CallVirtual (flat_number tree member.class member.index) (length (argument_types found.1 found.0))) (method_at tree (member.class, member.index)) required e in
+    let number = c.number.ensures (flat_number tree member.class member.index) (ap (option_map (λ (found : ClassName × Method). flat_number tree member.class member.index)) known.1) in
+    ap (λ n. CallVirtual n c.operands.result) number ∙ ap (λ k. CallVirtual (flat_number tree member.class member.index) k) (c.operands.ensures known.0 known.1) ∙ known.2

@@ -2,13 +2,13 @@ use Rattle.std.proofs.Common.{◌≡◌, Some, slice_get, ◌∙◌, subst, sym}
 use Rattle.cil_model.specs.declared.trees.Tree.{Tree}
 use Rattle.loaded_program.specs.AllMethods.{all_methods}
 use Rattle.loaded_program.specs.MethodNumbers.{number_of}
-use Rattle.loaded_program.specs.Prepared.{IsTableMethod}
+use Rattle.loaded_program.specs.Loaded.{IsLoadedMethod}
 use Rattle.loaded_program.proofs.loaded.LoadedProgram.method.Goals as goal
 
-pub returns-clause-entry : goal.returns-clause-entry
-returns-clause-entry c found at =
+pub returns-clause-loaded : goal.returns-clause-loaded
+returns-clause-loaded c found at =
     let same = c.deref.ensures ∙ c.self.view_is in
-    subst (λ (tree : Tree). IsTableMethod tree found c.method.result.now) same (c.method.ensures.entry found (subst (λ (tree : Tree). slice_get (all_methods tree) c.args.number ≡ Some found) (sym same) at))
+    subst (λ (tree : Tree). IsLoadedMethod tree found c.method.result.now) same (c.method.ensures.loaded found (subst (λ (tree : Tree). slice_get (all_methods tree) c.args.number ≡ Some found) (sym same) at))
 
 pub returns-clause-number : goal.returns-clause-number
 returns-clause-number c found at =

@@ -32,10 +32,10 @@ returns c =
       | in_default w ↦
           let none = w.in_default in
           w.operation-is ∙ w.plain_operation-operation.ensures ∙
-          named_nothing t lines i none.not-LoadString none.not-Branch none.not-BranchTrue none.not-BranchFalse none.not-BranchCompare none.not-Switch none.not-LoadField none.not-StoreField none.not-LoadStaticField none.not-StoreStaticField none.not-NewArray none.not-CastClass none.not-IsInstance none.not-Call none.not-CallVirtual none.not-NewObject
+          named_nothing t lines i none.not-LoadString none.not-Branch none.not-Switch none.not-LoadField none.not-StoreField none.not-LoadStaticField none.not-StoreStaticField none.not-NewArray none.not-CastClass none.not-IsInstance none.not-Call none.not-CallVirtual none.not-NewObject
       | in-Call w ↦ w.operation-is ∙ w.call_operation-operation.ensures ∙ search (rules, w.in-Call.is)
       | in-LoadField w ↦ w.operation-is ∙ w.field_operation-operation.ensures ∙ search (rules, w.in-LoadField.is)
       | in-NewArray w ↦ w.operation-is ∙ w.type_operation-operation.ensures ∙ search (rules, w.in-NewArray.is)
-      | in-Branch w ↦ w.operation-is ∙ w.branch-operation.ensures ∙ search (rules, w.in-Branch.is)
+      | in-Branch w ↦ w.operation-is ∙ w.branch-operation.ensures ∙ ap (operation_rule t lines) (sym w.in-Branch.is)
     ] in
     found c.ok_or.result c.match-instruction.operation _ c.ok_or.ensures.value same
