@@ -58,15 +58,15 @@ impl Rule {
 impl fmt::Display for Rule {
     fn fmt<W: fmt::Write>(&self, f: &mut fmt::Formatter<W>) -> fmt::Result {
         f.write_str(match self {
-            Rule::NamesOccurOnce => "a name stands twice",
-            Rule::NamesAreKnown => "a name stands for nothing of the kind needed",
-            Rule::BasesEnd => "a class stands in the chain of its base",
+            Rule::NamesOccurOnce => "a name is declared twice",
+            Rule::NamesAreKnown => "unresolved name",
+            Rule::BasesEnd => "cyclic inheritance",
             Rule::InterfacesAreImplemented => {
                 "a method of an interface that the class lists is absent"
             }
             Rule::KindsFit => "the kind of a method does not fit",
             Rule::OneEntryPoint => "not exactly one entry point",
-            Rule::LimitsAreKept => "a limit is passed",
+            Rule::LimitsAreKept => "a limit is exceeded",
         })
     }
 }
