@@ -70,7 +70,10 @@ impl Drop for Nodes {
 
 /// The index of the next element of a list of this length. `NoMemory` if there is no such index.
 pub fn next_index(length: usize) -> Result<u32, NoMemory> {
-    u32::try_from(length).map_err(|_| NoMemory)
+    match u32::try_from(length) {
+        Ok(index) => Ok(index),
+        Err(_) => Err(NoMemory),
+    }
 }
 
 impl Nodes {
@@ -122,22 +125,30 @@ impl Nodes {
         self.all.get(index as usize).copied()
     }
 
+    /// The previous node of a node. None for the first node.
+    fn parent(&self, node: Node) -> Option<Node> {
+        self.get(node.parent?)
+    }
+
     /// The number of steps of the schedule of a node; 0 if there is no such node.
     fn steps(&self, index: u32) -> usize {
-        self.get(index).map_or(0, |node| node.steps as usize)
+        match self.get(index) {
+            Some(node) => node.steps as usize,
+            None => 0,
+        }
     }
 
     /// The moves of the schedule of a node, the last one first.
     // Each move but the first one has a step at least.
     fn moves(&self, alloc: Global, index: u32) -> Result<Vec<Move>, NoMemory> {
         let mut moves = Vec::with_capacity(alloc, self.steps(index).saturating_add(1))?;
-        let mut next = Some(index);
+        let mut next = self.get(index);
         for _node in 0..self.all.len() {
-            let Some(node) = next.and_then(|index| self.get(index)) else {
+            let Some(node) = next else {
                 break;
             };
             moves.push(node.last)?;
-            next = node.parent;
+            next = self.parent(node);
         }
         Ok(moves)
     }

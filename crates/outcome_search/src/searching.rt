@@ -100,6 +100,15 @@ fn start<M: First>(
     Ok(searching)
 }
 
+/// Whether an outcome is of this kind, given the first outcome.
+fn is_of_kind(goal: Goal, found: &Found, first: &Found) -> bool {
+    match goal {
+        Goal::Fault => found.has_fault(),
+        Goal::Deadlock => found.has_deadlock(),
+        Goal::Output => !found.prints_same(first),
+    }
+}
+
 impl Searching {
     /// The path of each state, by its index. None of them if the search stopped early, since the check needs all states.
     fn paths(&self, alloc: Global) -> Result<Vec<Path>, NoMemory> {
@@ -305,16 +314,15 @@ impl Searching {
 
     /// Whether an outcome of this kind is found.
     fn has_reached(&self, goal: Goal) -> bool {
-        match goal {
-            Goal::Fault => self.found.iter().any(Found::has_fault),
-            Goal::Deadlock => self.found.iter().any(Found::has_deadlock),
-            Goal::Output => {
-                match self.found.first() {
-                    Some(first) => self.found.iter().any(|found| !found.prints_same(first)),
-                    None => false,
-                }
+        let Some(first) = self.found.first() else {
+            return false;
+        };
+        for found in &self.found {
+            if is_of_kind(goal, found, first) {
+                return true;
             }
         }
+        false
     }
 
     /// Adds the nodes after a node whose state is expanded, except those that would not be visited.
@@ -355,8 +363,9 @@ impl Searching {
 
     /// Whether a schedule has more preemptions than the bound.
     fn is_beyond(&self, preemptions: u32) -> bool {
-        self.bounds
-            .preemptions
-            .is_some_and(|most| preemptions as usize > most)
+        match self.bounds.preemptions {
+            Some(most) => preemptions as usize > most,
+            None => false,
+        }
     }
 }

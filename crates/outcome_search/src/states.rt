@@ -103,9 +103,10 @@ impl States {
 
     /// Whether a state is found; true if there is no such state.
     pub fn is_found(&self, index: u32) -> bool {
-        self.all
-            .get(index as usize)
-            .is_none_or(|state| state.is_found)
+        match self.all.get(index as usize) {
+            Some(state) => state.is_found,
+            None => true,
+        }
     }
 
     /// Marks a state as found that is not found yet.
@@ -144,7 +145,8 @@ impl States {
             Some(state) => state
                 .visited
                 .get(usize::from(thread))
-                .is_some_and(|visited| *visited),
+                .copied()
+                .unwrap_or(false),
             None => false,
         }
     }
@@ -215,7 +217,12 @@ impl States {
         if self.is_unknown(index, thread) {
             return Some(thread);
         }
-        (0..self.threads(index)).find(|other| self.is_unknown(index, *other))
+        for other in 0..self.threads(index) {
+            if self.is_unknown(index, other) {
+                return Some(other);
+            }
+        }
+        None
     }
 
     /// Whether a state has edges, and all of them are known.
@@ -225,10 +232,13 @@ impl States {
 
     /// Whether no thread can make a step from a state with edges.
     pub fn is_terminal(&self, index: u32) -> bool {
-        (0..self.threads(index)).all(|thread| match self.edge(index, thread) {
-            Some(Edge::Ended) | Some(Edge::Blocked) | None => true,
-            _ => false,
-        })
+        for thread in 0..self.threads(index) {
+            match self.edge(index, thread) {
+                Some(Edge::Ended) | Some(Edge::Blocked) | None => {}
+                _ => return false,
+            }
+        }
+        true
     }
 
     /// The path of each state, by its index; it has no events if the state was not visited.

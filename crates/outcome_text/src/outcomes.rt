@@ -24,17 +24,9 @@ pub fn add_outcome(
 ) -> Result<(), NoMemory>
     ensures { OnOk result (string_bytes text.new ≡ string_bytes text.old ++ outcome_line number ends.now printed.now) }
 {
-    add_number(text, number)?;
+    write!(text, "outcome {number}: ")?;
     add_ends(text, ends)?;
     add_printed(text, printed)
-}
-
-/// Appends the number of an outcome.
-fn add_number(text: &mut String, number: usize) -> Result<(), NoMemory>
-    ensures { OnOk result (string_bytes text.new ≡ string_bytes text.old ++ (codes "outcome " ++ decimal number ++ codes ": ")) }
-{
-    write!(text, "outcome {number}: ")?;
-    Ok(())
 }
 
 /// Appends the printed bytes of an outcome.

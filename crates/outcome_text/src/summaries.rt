@@ -52,15 +52,15 @@ impl fmt::Display for Cause {
     ghost output = { λ cause. Some (cause_text cause) };
 
     fn fmt<W: fmt::Write>(&self, f: &mut fmt::Formatter<W>) -> fmt::Result {
-        match *self {
-            Cause::States => f.write_str("the limit of --states"),
-            Cause::Budget(thread) => write!(f, "thread {thread} used up its budget"),
-            Cause::Memory(thread) => write!(f, "thread {thread} was refused memory"),
-            Cause::Fault => f.write_str("fault"),
-            Cause::Deadlock => f.write_str("deadlock"),
-            Cause::Output => f.write_str("output"),
-            Cause::Unconfirmed => f.write_str("the check failed"),
-        }
+        f.write_str(match *self {
+            Cause::Budget(thread) => return write!(f, "thread {thread} used up its budget"),
+            Cause::Memory(thread) => return write!(f, "thread {thread} was refused memory"),
+            Cause::States => "the limit of --states",
+            Cause::Fault => "fault",
+            Cause::Deadlock => "deadlock",
+            Cause::Output => "output",
+            Cause::Unconfirmed => "the check failed",
+        })
     }
 }
 
