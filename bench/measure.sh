@@ -3,23 +3,23 @@
 # bench/README.md says what they measure.
 #
 # A program is copied to a temporary folder, where `tools/build --program` proves it on this repository's own crates, which it names in its
-# file `uses`, and builds it as `./cilvm --prove` builds cilvm. So the figures are of what is shipped, and no crate of the
-# repository is there for them alone. Crates that `./cilvm --prove` has proved are not proved again. The program's files end in `.txt` here,
+# file `uses`, and builds it as `./cilvm --prove` builds cilvm. So the figures are of the shipped code, and no crate of the
+# repository exists only for them. Crates that `./cilvm --prove` has proved are not proved again. The program's files end in `.txt` here,
 # since the gate asks that every source belongs to a crate.
 #
-# What a program prints is lines `NAME: FIGURE UNIT (WHAT WAS DONE)`, the last part where there is something to say.
+# A program prints lines `NAME: FIGURE UNIT (WHAT WAS DONE)`; the last part is optional.
 #
-# Beside some programs stands a `baseline.rs`, a plain program in Rust that does the same and prints the same lines. It is built by
-# `rustc -O`, and both run in turns, five times each, so that other work on the machine slows both alike. The table has the best
-# figure of each line's name, and the ratio of the speeds, ours by the baseline's. What was done has to be the same in all lines of
-# a name. A program without a baseline runs once.
+# Some programs have a `baseline.rs`, a program in plain Rust that does the same and prints the same lines. It is built by `rustc -O`, and
+# both run alternately, five times each, so that other work on the machine slows both alike. The table has the best figure for each
+# name, and the ratio of the speeds, ours by the baseline's. What was done has to be the same in all lines with the same name. A program
+# without a baseline runs once.
 set -eu
 : "${1:?usage: bench/measure.sh NAME.., folders of bench/programs}"
 top=$(cd "$(dirname "$0")/.." && pwd)
 work=$(mktemp -d)
 trap 'rm -rf "$work"' EXIT
 
-# Builds the program of a folder and runs it, with its baseline where it has one: their lines are in `ours` and `theirs`.
+# Builds the program of a folder and runs it, with its baseline if it has one. Their lines are in `ours` and `theirs`.
 run() {
     rm -rf "$work/measured"
     cp -r "$1" "$work/measured"
@@ -31,29 +31,29 @@ run() {
     if [ -f "$1/baseline.rs" ]; then
         rustc -O --edition 2024 -o "$work/baseline" "$1/baseline.rs"
         : > "$work/ours"
-        for turn in 1 2 3 4 5; do
+        for round in 1 2 3 4 5; do
             "$work/program" >> "$work/ours" < /dev/null
             "$work/baseline" >> "$work/theirs"
         done
     fi
 }
 
-# Prints the rows of a program by the lines in `ours` and `theirs`.
+# Prints the rows of a program from the lines in `ours` and `theirs`.
 print_rows() {
     awk '
         # The better of two figures, the first of which may be missing.
-        function better(one, other, is_time) {
-            if (one == "") return other
-            return (is_time ? other + 0 < one + 0 : other + 0 > one + 0) ? other : one
+        function better(first, second, is_time) {
+            if (first == "") return second
+            return (is_time ? second + 0 < first + 0 : second + 0 > first + 0) ? second : first
         }
         {
-            place = index($0, ": ")
-            name = substr($0, 1, place - 1)
-            rest = substr($0, place + 2)
+            colon = index($0, ": ")
+            name = substr($0, 1, colon - 1)
+            rest = substr($0, colon + 2)
             space = index(rest, " ")
             figure = substr(rest, 1, space - 1)
             rest_of_line = substr(rest, space + 1)
-            if (!place || figure !~ /^[0-9]+(\.[0-9]+)?$/) {
+            if (!colon || figure !~ /^[0-9]+(\.[0-9]+)?$/) {
                 print "  " $0
                 is_bad = 1
                 next

@@ -1,20 +1,20 @@
-// A machine whose heap is collected while its threads run, by the design of the proved one, in Rust and without proofs. It stands on
+// A machine in plain Rust whose heap is collected while its threads run, of the same design as the proved one but without proofs. It needs
 // `plain_machine.rs`, which a `baseline.rs` includes before it.
 //
-// It has a heap of two blocks of words during a cycle, objects whose second header word tells a mark and the other copy, a grey list
-// that is taken whole when a cycle opens, and barriers by the phase that a thread has acknowledged. `Collected::step` does one event:
-// a step of a thread, an acknowledgement, or one small step of the collector.
+// It has a heap of two blocks of words during a cycle, objects whose second header word has the mark and the other copy, a grey list
+// that is allocated at its full length when a cycle opens, and barriers by the phase that a thread has acknowledged. `CollectedMachine::step`
+// does one event: a step of a thread, an acknowledgement, or one small step of the collector.
 
 include!("plain_spaces.rs");
 
-/// What a live thread has acknowledged.
+/// The phase that a live thread has acknowledged, and whether it has answered the posted round.
 #[derive(Clone, Copy, Debug)]
 struct Seat {
     phase: Phase,
     answered: bool,
 }
 
-/// The most checks of one word that fail: after them it is copied in one event.
+/// The most failed checks of one word: after them it is copied in one event.
 const MOST_FAILED_CHECKS: u32 = 3;
 
 #[derive(Clone, Copy, Debug, Default)]
@@ -38,14 +38,15 @@ struct Attempt {
 struct Progress {
     scanned_statics: bool,
     scanned_slots: u32,
-    place: usize,
+    /// The offset of the next object, in words.
+    cursor: usize,
     copied_words: u32,
     attempt: Attempt,
     flipped_statics: usize,
 }
 
 /// A machine whose heap is collected.
-struct Collected {
+struct CollectedMachine {
     program: Program,
     threads: Vec<Thread>,
     seats: Vec<Option<Seat>>,
@@ -55,25 +56,25 @@ struct Collected {
     spaces: Spaces,
     statics: Vec<Value>,
     console: Vec<u8>,
-    /// The block of zeros and the empty grey list that the cycle before left.
+    /// The block of zeros and the empty grey list of the previous cycle.
     spare: Option<(Vec<u64>, Vec<Address>)>,
 }
 
 fn holds_reference(classes: &[Class], kind: Kind, slot: u32) -> bool {
     match kind {
         Kind::Instance(class) => classes[usize::from(class)].references[slot as usize],
-        Kind::Array(element) => matches!(element, Element::Class(_)),
+        Kind::Array(element) => matches!(element, ElementType::Class(_)),
     }
 }
 
-impl Collected {
-    fn new(program: Program, limits: Limits) -> Collected {
+impl CollectedMachine {
+    fn new(program: Program, limits: Limits) -> CollectedMachine {
         let locals = &program.methods[MAIN as usize].locals;
         let frames = Frames::new(limits.depth, MAIN, locals);
-        Collected {
+        CollectedMachine {
             program,
             threads: vec![Thread {
-                standing: Standing::Live(frames),
+                thread_status: ThreadStatus::Live(frames),
                 steps_left: limits.budget,
             }],
             seats: vec![Some(Seat {
@@ -95,7 +96,7 @@ impl Collected {
         self.seats.get(usize::from(number))?.map(|seat| seat.phase)
     }
 
-    /// What an event does. It is inlined, as `Machine::step` is, so that a loop of events is one piece.
+    /// Does an event, and returns its report. It is inlined, as `Machine::step` is, so that a loop of events has no calls of it.
     #[inline(always)]
     fn step(&mut self, event: Event) -> Report {
         match event {
@@ -110,7 +111,8 @@ impl Collected {
         let Some(thread) = self.threads.get_mut(number) else {
             return Report::Absent;
         };
-        let (Standing::Live(frames), Some(seat)) = (&mut thread.standing, self.seats[number])
+        let (ThreadStatus::Live(frames), Some(seat)) =
+            (&mut thread.thread_status, self.seats[number])
         else {
             return Report::Absent;
         };
@@ -118,14 +120,14 @@ impl Collected {
             spaces: &mut self.spaces,
             phase: seat.phase,
         };
-        let effect = instruct(
+        let effect = execute(
             &self.program,
             frames,
             &mut mutator,
             &mut self.statics,
             &mut self.console,
         );
-        let report = thread.settle(effect);
+        let report = thread.charge_step(effect);
         if let Report::Ended(_) = report {
             self.seats[number] = None;
         }
@@ -137,7 +139,7 @@ impl Collected {
         let Some(Some(seat)) = self.seats.get_mut(number) else {
             return Report::Absent;
         };
-        let Standing::Live(frames) = &mut self.threads[number].standing else {
+        let ThreadStatus::Live(frames) = &mut self.threads[number].thread_status else {
             return Report::Absent;
         };
         if seat.phase != self.posted {
@@ -157,7 +159,7 @@ impl Collected {
         Report::Acked
     }
 
-    /// One step of the work of the posted phase, or the next post.
+    /// Does one step of the posted phase, or posts the next one.
     fn collect(&mut self) -> Report {
         let posted = self.posted;
         if !self.live_seats().all(|seat| seat.phase == posted) {
@@ -165,13 +167,13 @@ impl Collected {
         }
         match posted {
             Phase::Idle => self.open_cycle(),
-            Phase::Mark => self.mark_on(),
-            Phase::Allocate => self.shell_on(),
-            Phase::Copy => self.copy_on(),
+            Phase::Mark => self.mark_step(),
+            Phase::Allocate => self.shell_step(),
+            Phase::Copy => self.copy_step(),
             Phase::PreFlip => self.post(Phase::HeapFlip),
-            Phase::HeapFlip => self.flip_on(),
+            Phase::HeapFlip => self.flip_static_step(),
             Phase::ThreadFlip => self.post(Phase::Reclaim),
-            Phase::Reclaim => self.clear_on(),
+            Phase::Reclaim => self.clear_step(),
         }
     }
 
@@ -185,7 +187,7 @@ impl Collected {
         Report::Worked
     }
 
-    fn take_answers_back(&mut self) {
+    fn reset_answers(&mut self) {
         for seat in self.seats.iter_mut().flatten() {
             seat.answered = false;
         }
@@ -209,11 +211,11 @@ impl Collected {
             has_marked: false,
         });
         self.has_round = false;
-        self.take_answers_back();
+        self.reset_answers();
         self.post(Phase::Mark)
     }
 
-    fn mark_on(&mut self) -> Report {
+    fn mark_step(&mut self) -> Report {
         if !self.progress.scanned_statics {
             for value in &self.statics {
                 self.spaces.mark_value(*value);
@@ -228,7 +230,7 @@ impl Collected {
         }
     }
 
-    /// Scans the next slot of the oldest grey object. Behind its last slot it goes off the list.
+    /// Scans the next slot of the oldest grey object. After its last slot the object is taken off the list.
     fn scan(&mut self, object: Address) -> Report {
         let header = self.spaces.old.header(object);
         let slot = self.progress.scanned_slots;
@@ -237,7 +239,7 @@ impl Collected {
             self.progress.scanned_slots = 0;
             return Report::Worked;
         }
-        if holds_reference(&self.program.classes, Kind::decoded(header), slot) {
+        if holds_reference(&self.program.classes, Kind::from_header(header), slot) {
             let address = Address(self.spaces.old.slot(object, slot) as u32);
             self.spaces.mark(address);
         }
@@ -245,7 +247,7 @@ impl Collected {
         Report::Worked
     }
 
-    /// Nothing is grey: marking is closed, a round waits for its answers, or the next one is posted.
+    /// No object is grey: marking is closed, a round waits for its answers, or the next one is posted.
     fn end_round(&mut self) -> Report {
         if self.has_round {
             if !self.live_seats().all(|seat| seat.answered) {
@@ -256,49 +258,49 @@ impl Collected {
             }
         }
         self.has_round = true;
-        self.take_answers_back();
+        self.reset_answers();
         self.spaces.cycle().has_marked = false;
         Report::Worked
     }
 
-    /// Looks at the next old object, which gets its shell where it is marked and has none.
-    fn shell_on(&mut self) -> Report {
+    /// Makes the shell of the next old object if it is marked and has none.
+    fn shell_step(&mut self) -> Report {
         let Spaces { old, cycle } = &mut self.spaces;
-        let Some(object) = old.at(self.progress.place) else {
+        let Some(object) = old.at(self.progress.cursor) else {
             return self.post(Phase::Copy);
         };
         let header = old.header(object);
-        let note = old.note(object);
-        self.progress.place += HEADER_WORDS + header as u32 as usize;
-        if note.is_marked && note.other.is_none() {
-            let shell = Note {
+        let copies = old.copies(object);
+        self.progress.cursor += HEADER_WORDS + header as u32 as usize;
+        if copies.is_marked && copies.other.is_none() {
+            let shell = Copies {
                 is_marked: false,
                 other: Some(object),
             };
             let copy = cycle.as_mut().unwrap().new.append(header, shell);
             let other = Some(copy);
-            old.set_note(object, Note { other, ..note });
+            old.set_copies(object, Copies { other, ..copies });
         }
         Report::Worked
     }
 
-    /// One step at the next word of an object with two copies, its monitor and then its slots: a load, a store or a check.
-    fn copy_on(&mut self) -> Report {
+    /// One step of copying the next word of an object with two copies, its monitor first and then its slots: a load, a store or a check.
+    fn copy_step(&mut self) -> Report {
         let old = &self.spaces.old;
-        let mut place = self.progress.place;
+        let mut offset = self.progress.cursor;
         let (object, copy) = loop {
-            let Some(object) = old.at(place) else {
+            let Some(object) = old.at(offset) else {
                 return self.post(Phase::PreFlip);
             };
-            if let Some(copy) = old.note(object).other {
+            if let Some(copy) = old.copies(object).other {
                 break (object, copy);
             }
-            place += old.size(object);
+            offset += old.size(object);
         };
         let header = old.header(object);
         let word = self.progress.copied_words;
         let attempt = self.progress.attempt;
-        self.progress.place = place;
+        self.progress.cursor = offset;
         match attempt.stage {
             Stage::Begins => {
                 let loaded = load_word(old, object, word);
@@ -307,7 +309,7 @@ impl Collected {
                     self.progress.attempt.loaded = loaded;
                 } else {
                     self.store_word(header, copy, word, loaded);
-                    self.pass_word(place, header);
+                    self.pass_word(offset, header);
                 }
             }
             Stage::Loaded => {
@@ -315,7 +317,7 @@ impl Collected {
                 self.progress.attempt.stage = Stage::Stored;
             }
             Stage::Stored if load_word(old, object, word) == attempt.loaded => {
-                self.pass_word(place, header);
+                self.pass_word(offset, header);
             }
             Stage::Stored => {
                 self.progress.attempt = Attempt {
@@ -327,7 +329,7 @@ impl Collected {
         Report::Worked
     }
 
-    /// Stores what was loaded of a word in the new copy, a reference by its forward.
+    /// Stores a loaded word to the new copy, a reference as its forward.
     fn store_word(&mut self, header: u64, copy: Address, word: u32, loaded: u64) {
         if word == 0 {
             self.spaces.cycle().new.set_monitor(copy, loaded);
@@ -335,43 +337,43 @@ impl Collected {
         }
         let slot = word - 1;
         let mut value = loaded;
-        if holds_reference(&self.program.classes, Kind::decoded(header), slot) {
+        if holds_reference(&self.program.classes, Kind::from_header(header), slot) {
             value = u64::from(self.spaces.forward(Address(value as u32)).0);
         }
         self.spaces.cycle().new.set_slot(copy, slot, value);
     }
 
-    /// Goes on to the next word of the object, or past the object where this was its last word.
-    fn pass_word(&mut self, place: usize, header: u64) {
+    /// Advances to the next word of the object, or past the object after its last word.
+    fn pass_word(&mut self, offset: usize, header: u64) {
         let word = self.progress.copied_words;
         self.progress.attempt = Attempt::default();
         if word == header as u32 {
-            self.progress.place = place + HEADER_WORDS + word as usize;
+            self.progress.cursor = offset + HEADER_WORDS + word as usize;
             self.progress.copied_words = 0;
         } else {
             self.progress.copied_words = word + 1;
         }
     }
 
-    fn flip_on(&mut self) -> Report {
+    fn flip_static_step(&mut self) -> Report {
         let Some(value) = self.statics.get_mut(self.progress.flipped_statics) else {
             return self.post(Phase::ThreadFlip);
         };
-        *value = self.spaces.forwarded(*value);
+        *value = self.spaces.forward_value(*value);
         self.progress.flipped_statics += 1;
         Report::Worked
     }
 
-    /// Takes mark and other copy off the next new object that has either. After the last one the old block is cleared and kept.
-    fn clear_on(&mut self) -> Report {
+    /// Clears the mark and the other copy of the next new object that has either. After the last one the old block is cleared and kept.
+    fn clear_step(&mut self) -> Report {
         let new = &mut self.spaces.cycle.as_mut().unwrap().new;
-        let mut place = self.progress.place;
-        while let Some(object) = new.at(place) {
-            place += new.size(object);
-            let note = new.note(object);
-            if note.is_marked || note.other.is_some() {
-                new.set_note(object, Note::default());
-                self.progress.place = place;
+        let mut offset = self.progress.cursor;
+        while let Some(object) = new.at(offset) {
+            offset += new.size(object);
+            let copies = new.copies(object);
+            if copies.is_marked || copies.other.is_some() {
+                new.set_copies(object, Copies::default());
+                self.progress.cursor = offset;
                 return Report::Worked;
             }
         }
@@ -411,7 +413,7 @@ fn mark_frames(spaces: &mut Spaces, frames: &Frames) {
 
 fn flip_frames(spaces: &Spaces, frames: &mut Frames) {
     for value in &mut frames.values {
-        *value = spaces.forwarded(*value);
+        *value = spaces.forward_value(*value);
     }
     for activation in frames.below.iter_mut().chain([&mut frames.running]) {
         activation.constructed = activation.constructed.map(|object| spaces.forward(object));

@@ -1,6 +1,6 @@
-// What each instruction of `plain_machine.rs` does, which includes this.
+// The instructions of `plain_machine.rs`, which includes this file.
 
-macro_rules! divided {
+macro_rules! quotient {
     ($x:expr, $y:expr, $least:expr, $result:expr) => {
         if $y == 0 {
             Err(Fault::DivideByZero)
@@ -21,8 +21,8 @@ macro_rules! binary_result {
             BinaryOperation::AddOverflow => $x.checked_add($y).ok_or(Fault::Overflow),
             BinaryOperation::SubtractOverflow => $x.checked_sub($y).ok_or(Fault::Overflow),
             BinaryOperation::MultiplyOverflow => $x.checked_mul($y).ok_or(Fault::Overflow),
-            BinaryOperation::Divide => divided!($x, $y, $least, $x / $y),
-            BinaryOperation::Remainder => divided!($x, $y, $least, $x % $y),
+            BinaryOperation::Divide => quotient!($x, $y, $least, $x / $y),
+            BinaryOperation::Remainder => quotient!($x, $y, $least, $x % $y),
             BinaryOperation::And => Ok($x & $y),
             BinaryOperation::Or => Ok($x | $y),
             BinaryOperation::ExclusiveOr => Ok($x ^ $y),
@@ -42,7 +42,7 @@ fn binary(frames: &mut Frames, operation: BinaryOperation) -> Effect {
         }
         _ => unreachable!(),
     };
-    frames.leave_result(result)
+    frames.push_and_advance_result(result)
 }
 
 fn unary(frames: &mut Frames, operation: UnaryOperation) -> Effect {
@@ -53,10 +53,10 @@ fn unary(frames: &mut Frames, operation: UnaryOperation) -> Effect {
         (UnaryOperation::Complement, Value::Int64(x)) => Value::Int64(!x),
         _ => unreachable!(),
     };
-    frames.leave(result)
+    frames.push_and_advance(result)
 }
 
-macro_rules! shifted {
+macro_rules! shift_result {
     ($operation:expr, $x:expr, $amount:expr, $unsigned:ty) => {
         match $operation {
             ShiftOperation::Left => $x.wrapping_shl($amount as u32),
@@ -69,14 +69,14 @@ macro_rules! shifted {
 fn shift(frames: &mut Frames, operation: ShiftOperation) -> Effect {
     let amount = frames.pop();
     let result = match (frames.pop(), amount) {
-        (Value::Int32(x), Value::Int32(y)) => Value::Int32(shifted!(operation, x, y, u32)),
-        (Value::Int64(x), Value::Int32(y)) => Value::Int64(shifted!(operation, x, y, u64)),
+        (Value::Int32(x), Value::Int32(y)) => Value::Int32(shift_result!(operation, x, y, u32)),
+        (Value::Int64(x), Value::Int32(y)) => Value::Int64(shift_result!(operation, x, y, u64)),
         _ => unreachable!(),
     };
-    frames.leave(result)
+    frames.push_and_advance(result)
 }
 
-fn compared<T: Ord>(operation: Comparison, x: T, y: T) -> bool {
+fn comparison_holds<T: Ord>(operation: Comparison, x: T, y: T) -> bool {
     match operation {
         Comparison::Equal => x == y,
         Comparison::Greater => x > y,
@@ -84,17 +84,17 @@ fn compared<T: Ord>(operation: Comparison, x: T, y: T) -> bool {
     }
 }
 
-/// A comparison of references is one of equality.
+/// References are compared for equality only.
 fn compare(frames: &mut Frames, heap: &impl Objects, operation: Comparison) -> Effect {
     let second = frames.pop();
     let first = frames.pop();
     let holds = match (first, second) {
-        (Value::Int32(x), Value::Int32(y)) => compared(operation, x, y),
-        (Value::Int64(x), Value::Int64(y)) => compared(operation, x, y),
+        (Value::Int32(x), Value::Int32(y)) => comparison_holds(operation, x, y),
+        (Value::Int64(x), Value::Int64(y)) => comparison_holds(operation, x, y),
         (Value::Ref(x), Value::Ref(y)) => heap.are_same(x, y),
         _ => unreachable!(),
     };
-    frames.leave(Value::Int32(i32::from(holds)))
+    frames.push_and_advance(Value::Int32(i32::from(holds)))
 }
 
 fn is_taken<T: Ord>(operation: BranchComparison, x: T, y: T) -> bool {
@@ -112,7 +112,7 @@ fn branch_compare(
     frames: &mut Frames,
     heap: &impl Objects,
     operation: BranchComparison,
-    place: u32,
+    pc: u32,
 ) -> Effect {
     let second = frames.pop();
     let first = frames.pop();
@@ -122,14 +122,14 @@ fn branch_compare(
         (Value::Ref(x), Value::Ref(y)) => is_taken(operation, heap.are_same(x, y), true),
         _ => unreachable!(),
     };
-    frames.branch_if(holds, place)
+    frames.branch_if(holds, pc)
 }
 
-fn switch(frames: &mut Frames, places: &[u32]) -> Effect {
+fn switch(frames: &mut Frames, targets: &[u32]) -> Effect {
     match frames.pop() {
-        Value::Int32(number) => match places.get(number as u32 as usize) {
-            Some(place) => frames.jump(*place),
-            None => frames.go_on(),
+        Value::Int32(number) => match targets.get(number as u32 as usize) {
+            Some(pc) => frames.jump(*pc),
+            None => frames.advance(),
         },
         _ => unreachable!(),
     }
@@ -151,12 +151,12 @@ fn convert_64(value: Value) -> Value {
     }
 }
 
-fn load_field(frames: &mut Frames, heap: &impl Objects, slot: u32, held: ValueKind) -> Effect {
+fn load_field(frames: &mut Frames, heap: &impl Objects, slot: u32, kind: ValueKind) -> Effect {
     let object = frames.pop().reference();
     if object == NULL {
         return Effect::Raises(Fault::NullReference);
     }
-    frames.leave(Value::held(held, heap.slot(object, slot)))
+    frames.push_and_advance(Value::of_word(kind, heap.slot(object, slot)))
 }
 
 fn store_field(frames: &mut Frames, heap: &mut impl Objects, slot: u32) -> Effect {
@@ -166,7 +166,7 @@ fn store_field(frames: &mut Frames, heap: &mut impl Objects, slot: u32) -> Effec
         return Effect::Raises(Fault::NullReference);
     }
     heap.store(object, slot, value);
-    frames.go_on()
+    frames.advance()
 }
 
 fn load_length(frames: &mut Frames, heap: &impl Objects) -> Effect {
@@ -174,11 +174,11 @@ fn load_length(frames: &mut Frames, heap: &impl Objects) -> Effect {
     if array == NULL {
         return Effect::Raises(Fault::NullReference);
     }
-    frames.leave(Value::Native(i64::from(heap.slots(array))))
+    frames.push_and_advance(Value::Native(i64::from(heap.slots(array))))
 }
 
-/// The place of an element, or why there is none.
-fn element(heap: &impl Objects, array: Address, index: Value) -> Result<u32, Fault> {
+/// The slot of an element, or the fault if there is none.
+fn element_slot(heap: &impl Objects, array: Address, index: Value) -> Result<u32, Fault> {
     if array == NULL {
         return Err(Fault::NullReference);
     }
@@ -190,11 +190,11 @@ fn element(heap: &impl Objects, array: Address, index: Value) -> Result<u32, Fau
     }
 }
 
-fn load_element(frames: &mut Frames, heap: &impl Objects, held: ValueKind) -> Effect {
+fn load_element(frames: &mut Frames, heap: &impl Objects, kind: ValueKind) -> Effect {
     let index = frames.pop();
     let array = frames.pop().reference();
-    match element(heap, array, index) {
-        Ok(place) => frames.leave(Value::held(held, heap.slot(array, place))),
+    match element_slot(heap, array, index) {
+        Ok(slot) => frames.push_and_advance(Value::of_word(kind, heap.slot(array, slot))),
         Err(fault) => Effect::Raises(fault),
     }
 }
@@ -203,23 +203,23 @@ fn store_element(frames: &mut Frames, heap: &mut impl Objects) -> Effect {
     let value = frames.pop();
     let index = frames.pop();
     let array = frames.pop().reference();
-    match element(heap, array, index) {
-        Ok(place) => {
-            heap.store(array, place, value);
-            frames.go_on()
+    match element_slot(heap, array, index) {
+        Ok(slot) => {
+            heap.store(array, slot, value);
+            frames.advance()
         }
         Err(fault) => Effect::Raises(fault),
     }
 }
 
-/// Whether an object may be an element of an array. The measured programs store objects of classes alone, so arrays are not looked at.
-fn is_admitted(classes: &[Class], heap: &impl Objects, object: Address, array: Address) -> bool {
+/// Whether an object may be an element of an array. False for arrays in arrays, which the measured programs don't have.
+fn is_storable(classes: &[Class], heap: &impl Objects, object: Address, array: Address) -> bool {
     if object == NULL {
         return true;
     }
     match (heap.kind(object), heap.kind(array)) {
-        (Kind::Instance(from), Kind::Array(Element::Class(to))) => {
-            classes[usize::from(from)].stands_for[usize::from(to)]
+        (Kind::Instance(from), Kind::Array(ElementType::Class(to))) => {
+            classes[usize::from(from)].is_assignable_to[usize::from(to)]
         }
         _ => false,
     }
@@ -233,27 +233,27 @@ fn store_element_reference(
     let value = frames.pop();
     let index = frames.pop();
     let array = frames.pop().reference();
-    match element(heap, array, index) {
-        Ok(place) if is_admitted(classes, heap, value.reference(), array) => {
-            heap.store(array, place, value);
-            frames.go_on()
+    match element_slot(heap, array, index) {
+        Ok(slot) if is_storable(classes, heap, value.reference(), array) => {
+            heap.store(array, slot, value);
+            frames.advance()
         }
         Ok(_) => Effect::Raises(Fault::ArrayTypeMismatch),
         Err(fault) => Effect::Raises(fault),
     }
 }
 
-fn new_array(frames: &mut Frames, heap: &mut impl Objects, element: Element) -> Effect {
+fn new_array(frames: &mut Frames, heap: &mut impl Objects, element: ElementType) -> Effect {
     let length = frames.pop().index();
     if length < 0 {
         return Effect::Raises(Fault::Overflow);
     }
-    let born = match u32::try_from(length) {
+    let array = match u32::try_from(length) {
         Ok(length) => heap.birth(Kind::Array(element), length),
         Err(_) => None,
     };
-    match born {
-        Some(array) => frames.leave(Value::Ref(array)),
+    match array {
+        Some(array) => frames.push_and_advance(Value::Ref(array)),
         None => Effect::Raises(Fault::OutOfMemory),
     }
 }
@@ -264,7 +264,7 @@ fn write(frames: &mut Frames, console: &mut Vec<u8>) -> Effect {
         Value::Int64(number) => writeln!(console, "{number}").unwrap(),
         _ => unreachable!(),
     }
-    frames.go_on()
+    frames.advance()
 }
 
 fn call(methods: &[Method], number: u32, frames: &mut Frames, console: &mut Vec<u8>) -> Effect {
@@ -272,16 +272,16 @@ fn call(methods: &[Method], number: u32, frames: &mut Frames, console: &mut Vec<
     match method.action {
         Some(Action::Construct) => {
             frames.pop();
-            frames.go_on()
+            frames.advance()
         }
         Some(Action::Write) => write(frames, console),
         None => {
             if frames.is_full() {
                 return Effect::Raises(Fault::StackOverflow);
             }
-            frames.running.place += 1;
+            frames.running.pc += 1;
             frames.push_frame(number, method, None);
-            Effect::GoesOn
+            Effect::Continues
         }
     }
 }
@@ -301,13 +301,13 @@ fn new_object(
         return Effect::Raises(Fault::OutOfMemory);
     };
     if is_built_in {
-        return frames.leave(Value::Ref(object));
+        return frames.push_and_advance(Value::Ref(object));
     }
-    let first = frames.values.len() + 1 - method.arguments;
-    frames.values.insert(first, Value::Ref(object));
-    frames.running.place += 1;
+    let arguments = frames.values.len() + 1 - method.arguments;
+    frames.values.insert(arguments, Value::Ref(object));
+    frames.running.pc += 1;
     frames.push_frame(number, method, Some(object));
-    Effect::GoesOn
+    Effect::Continues
 }
 
 fn return_from(methods: &[Method], frames: &mut Frames) -> Effect {
@@ -323,35 +323,35 @@ fn return_from(methods: &[Method], frames: &mut Frames) -> Effect {
     if let Some(value) = value {
         frames.push(value);
     }
-    Effect::GoesOn
+    Effect::Continues
 }
 
 fn load_local(frames: &mut Frames, index: u16) -> Effect {
     let value = *frames.local(index);
-    frames.leave(value)
+    frames.push_and_advance(value)
 }
 
 fn store_local(frames: &mut Frames, index: u16) -> Effect {
     let value = frames.pop();
     *frames.local(index) = value;
-    frames.go_on()
+    frames.advance()
 }
 
 fn load_argument(frames: &mut Frames, index: u16) -> Effect {
     let value = *frames.argument(index);
-    frames.leave(value)
+    frames.push_and_advance(value)
 }
 
 fn store_argument(frames: &mut Frames, index: u16) -> Effect {
     let value = frames.pop();
     *frames.argument(index) = value;
-    frames.go_on()
+    frames.advance()
 }
 
 fn duplicate(frames: &mut Frames) -> Effect {
     let value = frames.pop();
     frames.push(value);
-    frames.leave(value)
+    frames.push_and_advance(value)
 }
 
 fn store_static(
@@ -362,11 +362,11 @@ fn store_static(
 ) -> Effect {
     let value = frames.pop();
     heap.store_static(statics, number, value);
-    frames.go_on()
+    frames.advance()
 }
 
-/// Does the instruction at the running frame's place.
-fn instruct(
+/// Executes the instruction at the pc of the running frame.
+fn execute(
     program: &Program,
     frames: &mut Frames,
     heap: &mut impl Objects,
@@ -375,11 +375,11 @@ fn instruct(
 ) -> Effect {
     let methods = &program.methods;
     let running = &frames.running;
-    match &methods[running.method as usize].operations[running.place as usize] {
-        NoOperation => frames.go_on(),
-        LoadInt32(number) => frames.leave(Value::Int32(*number)),
-        LoadInt64(number) => frames.leave(Value::Int64(*number)),
-        LoadNull => frames.leave(Value::Ref(NULL)),
+    match &methods[running.method as usize].operations[running.pc as usize] {
+        NoOperation => frames.advance(),
+        LoadInt32(number) => frames.push_and_advance(Value::Int32(*number)),
+        LoadInt64(number) => frames.push_and_advance(Value::Int64(*number)),
+        LoadNull => frames.push_and_advance(Value::Ref(NULL)),
         LoadArgument(index) => load_argument(frames, *index),
         StoreArgument(index) => store_argument(frames, *index),
         LoadLocal(index) => load_local(frames, *index),
@@ -387,7 +387,7 @@ fn instruct(
         Duplicate => duplicate(frames),
         Pop => {
             frames.pop();
-            frames.go_on()
+            frames.advance()
         }
         Binary(operation) => binary(frames, *operation),
         Unary(operation) => unary(frames, *operation),
@@ -395,30 +395,30 @@ fn instruct(
         Compare(operation) => compare(frames, heap, *operation),
         ConvertInt32 => {
             let value = frames.pop();
-            frames.leave(convert_32(value))
+            frames.push_and_advance(convert_32(value))
         }
         ConvertInt64 => {
             let value = frames.pop();
-            frames.leave(convert_64(value))
+            frames.push_and_advance(convert_64(value))
         }
-        Branch(place) => frames.jump(*place),
-        BranchTrue(place) => {
+        Branch(pc) => frames.jump(*pc),
+        BranchTrue(pc) => {
             let holds = frames.pop().is_set();
-            frames.branch_if(holds, *place)
+            frames.branch_if(holds, *pc)
         }
-        BranchFalse(place) => {
+        BranchFalse(pc) => {
             let holds = !frames.pop().is_set();
-            frames.branch_if(holds, *place)
+            frames.branch_if(holds, *pc)
         }
-        BranchCompare(operation, place) => branch_compare(frames, heap, *operation, *place),
-        Switch(places) => switch(frames, places),
-        LoadField { slot, held } => load_field(frames, heap, *slot, *held),
+        BranchCompare(operation, pc) => branch_compare(frames, heap, *operation, *pc),
+        Switch(targets) => switch(frames, targets),
+        LoadField { slot, kind } => load_field(frames, heap, *slot, *kind),
         StoreField { slot } => store_field(frames, heap, *slot),
-        LoadStaticField(number) => frames.leave(statics[*number as usize]),
+        LoadStaticField(number) => frames.push_and_advance(statics[*number as usize]),
         StoreStaticField(number) => store_static(frames, heap, statics, *number),
         NewArray(element) => new_array(frames, heap, *element),
         LoadLength => load_length(frames, heap),
-        LoadElement(held) => load_element(frames, heap, *held),
+        LoadElement(kind) => load_element(frames, heap, *kind),
         StoreElement => store_element(frames, heap),
         StoreElementReference => store_element_reference(&program.classes, frames, heap),
         Call(number) => call(methods, *number, frames, console),

@@ -1,9 +1,9 @@
-// A plain machine by the design of the proved one, in Rust and without proofs: what the speed of that is held against. A `baseline.rs`
-// includes it, so that all is one module and the compiler builds it as one piece.
+// A machine in plain Rust, of the same design as the proved one but without proofs: the baseline for its speed. Each `baseline.rs` includes
+// this file, so that everything is one module, which the compiler optimizes as a whole.
 //
-// It has resolved instructions, values of four kinds, all frames of a thread in one row of values with a record for each, objects of
-// three header words and their slots in one row of words, and a budget that is counted at each step; `Machine::step` does one event
-// and reports it. Instructions reach objects by `Objects` alone: `plain_collector.rs` has a machine whose heap is collected.
+// It has resolved instructions, values of four kinds, the values of all frames of a thread in one list with a record for each frame,
+// objects of three header words and their slots in one list of words, and a budget that each step is charged to. `Machine::step` does one
+// event and returns its report. Instructions access objects only through `Objects`: `plain_collector.rs` has a machine with a collected heap.
 
 use std::io::Write;
 
@@ -19,7 +19,8 @@ struct Address(u32);
 const NULL: Address = Address(0);
 
 impl Address {
-    fn place(self) -> usize {
+    /// The index of its first word in the heap.
+    fn offset(self) -> usize {
         self.0 as usize - 1
     }
 }
@@ -41,7 +42,7 @@ enum ValueKind {
 
 impl Value {
     fn zero(kind: ValueKind) -> Value {
-        Value::held(kind, 0)
+        Value::of_word(kind, 0)
     }
 
     fn word(self) -> u64 {
@@ -52,7 +53,7 @@ impl Value {
         }
     }
 
-    fn held(kind: ValueKind, word: u64) -> Value {
+    fn of_word(kind: ValueKind, word: u64) -> Value {
         match kind {
             ValueKind::Int32 => Value::Int32(word as i32),
             ValueKind::Int64 => Value::Int64(word as i64),
@@ -85,28 +86,28 @@ impl Value {
     }
 }
 
-/// What the elements of an array are. A class has its number.
+/// The element type of an array. A class is given by its number.
 #[derive(Clone, Copy, Debug, PartialEq, Eq)]
-enum Element {
+enum ElementType {
     Int32,
     Int64,
     Class(u16),
 }
 
-impl Element {
+impl ElementType {
     fn number(self) -> u64 {
         match self {
-            Element::Int32 => 0,
-            Element::Int64 => 1,
-            Element::Class(class) => 4 + u64::from(class),
+            ElementType::Int32 => 0,
+            ElementType::Int64 => 1,
+            ElementType::Class(class) => 4 + u64::from(class),
         }
     }
 
-    fn numbered(number: u64) -> Element {
+    fn from_number(number: u64) -> ElementType {
         match number {
-            0 => Element::Int32,
-            1 => Element::Int64,
-            _ => Element::Class((number - 4) as u16),
+            0 => ElementType::Int32,
+            1 => ElementType::Int64,
+            _ => ElementType::Class((number - 4) as u16),
         }
     }
 }
@@ -114,7 +115,7 @@ impl Element {
 #[derive(Clone, Copy, Debug, PartialEq, Eq)]
 enum Kind {
     Instance(u16),
-    Array(Element),
+    Array(ElementType),
 }
 
 impl Kind {
@@ -126,20 +127,20 @@ impl Kind {
         u64::from(slots) + (number << 32)
     }
 
-    fn decoded(header: u64) -> Kind {
+    fn from_header(header: u64) -> Kind {
         let number = header >> 32;
         if number < 65_536 {
             Kind::Instance(number as u16)
         } else {
-            Kind::Array(Element::numbered((number - 65_536) / 256))
+            Kind::Array(ElementType::from_number((number - 65_536) / 256))
         }
     }
 }
 
-/// The words before an object's slots: what it is, what a collector notes at it, and its monitor.
+/// The number of words before an object's slots: its kind and size, its mark and other copy for the collector, and its monitor.
 const HEADER_WORDS: usize = 3;
 
-/// What instructions ask of the objects.
+/// The operations of instructions on objects.
 trait Objects {
     fn birth(&mut self, kind: Kind, slots: u32) -> Option<Address>;
 
@@ -162,7 +163,7 @@ struct Heap {
 }
 
 impl Heap {
-    /// A heap of so many words, without objects. Each word is written here, so that no page is taken from the system later.
+    /// An empty heap of this number of words. It writes each word, so that the system maps no page later.
     fn new(words: usize) -> Heap {
         let mut words = vec![1; words];
         words.fill(0);
@@ -176,26 +177,26 @@ impl Objects for Heap {
         if self.words.len() - self.used < size {
             return None;
         }
-        let place = self.used;
-        self.words[place] = kind.header(slots);
+        let offset = self.used;
+        self.words[offset] = kind.header(slots);
         self.used += size;
-        Some(Address(place as u32 + 1))
+        Some(Address(offset as u32 + 1))
     }
 
     fn kind(&self, object: Address) -> Kind {
-        Kind::decoded(self.words[object.place()])
+        Kind::from_header(self.words[object.offset()])
     }
 
     fn slots(&self, object: Address) -> u32 {
-        self.words[object.place()] as u32
+        self.words[object.offset()] as u32
     }
 
     fn slot(&self, object: Address, index: u32) -> u64 {
-        self.words[object.place() + HEADER_WORDS + index as usize]
+        self.words[object.offset() + HEADER_WORDS + index as usize]
     }
 
     fn store(&mut self, object: Address, index: u32, value: Value) {
-        self.words[object.place() + HEADER_WORDS + index as usize] = value.word();
+        self.words[object.offset() + HEADER_WORDS + index as usize] = value.word();
     }
 
     fn store_static(&mut self, statics: &mut [Value], number: u32, value: Value) {
@@ -254,7 +255,7 @@ enum BranchComparison {
     Less,
 }
 
-/// Instructions, with slots and numbers of methods in place of names. Left out are casts, virtual calls and strings.
+/// Resolved instructions: slots and numbers of methods instead of names. Casts, virtual calls and strings are not supported.
 #[derive(Debug)]
 enum Operation {
     NoOperation,
@@ -278,11 +279,11 @@ enum Operation {
     BranchFalse(u32),
     BranchCompare(BranchComparison, u32),
     Switch(Box<[u32]>),
-    LoadField { slot: u32, held: ValueKind },
+    LoadField { slot: u32, kind: ValueKind },
     StoreField { slot: u32 },
     LoadStaticField(u32),
     StoreStaticField(u32),
-    NewArray(Element),
+    NewArray(ElementType),
     LoadLength,
     LoadElement(ValueKind),
     StoreElement,
@@ -306,9 +307,9 @@ struct Method {
     operations: Vec<Operation>,
 }
 
-/// A class: for each class whether it may stand for that, and for each slot of its objects whether it holds a reference.
+/// A class: for each class whether this one is assignable to it, and for each slot of its objects whether it holds a reference.
 struct Class {
-    stands_for: Vec<bool>,
+    is_assignable_to: Vec<bool>,
     references: Vec<bool>,
 }
 
@@ -338,10 +339,10 @@ enum End {
     Fault(Fault),
 }
 
-/// What an instruction comes to for its thread. None of these instructions blocks.
+/// The outcome of an instruction for its thread. None of these instructions blocks.
 #[derive(Clone, Copy, Debug, PartialEq, Eq)]
 enum Effect {
-    GoesOn,
+    Continues,
     Returns,
     Raises(Fault),
 }
@@ -365,11 +366,12 @@ enum Report {
     CycleDone,
 }
 
-/// Where the values of a frame begin. Beside them what it runs, and the object to push at the end of a constructor.
+/// Where the values of a frame begin in the list of all values. Beside them its method, the pc of the next instruction, and the object
+/// to push at the end of a constructor.
 #[derive(Clone, Copy, Debug)]
 struct Activation {
     method: u32,
-    place: u32,
+    pc: u32,
     constructed: Option<Address>,
     arguments: usize,
     locals: usize,
@@ -383,7 +385,7 @@ struct Frames {
     depth: usize,
 }
 
-/// How many values a frame may hold: 16 arguments, 64 locals, 64 on the stack, and one more.
+/// The most values of a frame: 16 arguments, 64 locals, 64 on the stack, and one more.
 const FRAME_ROOM: usize = 145;
 
 impl Frames {
@@ -392,7 +394,7 @@ impl Frames {
         values.extend(locals.iter().map(|kind| Value::zero(*kind)));
         let running = Activation {
             method,
-            place: 0,
+            pc: 0,
             constructed: None,
             arguments: 0,
             locals: 0,
@@ -435,7 +437,7 @@ impl Frames {
         self.below.push(self.running);
         self.running = Activation {
             method: number,
-            place: 0,
+            pc: 0,
             constructed,
             arguments,
             locals,
@@ -448,65 +450,61 @@ impl Frames {
         self.running = self.below.pop().unwrap();
     }
 
-    fn go_on(&mut self) -> Effect {
-        self.running.place += 1;
-        Effect::GoesOn
+    fn advance(&mut self) -> Effect {
+        self.running.pc += 1;
+        Effect::Continues
     }
 
-    fn jump(&mut self, place: u32) -> Effect {
-        self.running.place = place;
-        Effect::GoesOn
+    fn jump(&mut self, pc: u32) -> Effect {
+        self.running.pc = pc;
+        Effect::Continues
     }
 
-    fn branch_if(&mut self, holds: bool, place: u32) -> Effect {
-        if holds {
-            self.jump(place)
-        } else {
-            self.go_on()
-        }
+    fn branch_if(&mut self, holds: bool, pc: u32) -> Effect {
+        if holds { self.jump(pc) } else { self.advance() }
     }
 
-    fn leave(&mut self, value: Value) -> Effect {
+    fn push_and_advance(&mut self, value: Value) -> Effect {
         self.push(value);
-        self.go_on()
+        self.advance()
     }
 
-    fn leave_result(&mut self, result: Result<Value, Fault>) -> Effect {
+    fn push_and_advance_result(&mut self, result: Result<Value, Fault>) -> Effect {
         match result {
-            Ok(value) => self.leave(value),
+            Ok(value) => self.push_and_advance(value),
             Err(fault) => Effect::Raises(fault),
         }
     }
 }
 
-enum Standing {
+enum ThreadStatus {
     Live(Frames),
     Ended(End),
 }
 
 struct Thread {
-    standing: Standing,
+    thread_status: ThreadStatus,
     steps_left: u32,
 }
 
 impl Thread {
-    /// Counts a step by what its instruction came to, and reports it.
-    fn settle(&mut self, effect: Effect) -> Report {
+    /// Charges a step to the budget, and returns its report by the outcome of its instruction.
+    fn charge_step(&mut self, effect: Effect) -> Report {
         self.steps_left = self.steps_left.saturating_sub(1);
         let end = match effect {
             Effect::Returns => End::Done,
             Effect::Raises(fault) => End::Fault(fault),
-            Effect::GoesOn if self.steps_left == 0 => End::Budget,
-            Effect::GoesOn => return Report::Ran,
+            Effect::Continues if self.steps_left == 0 => End::Budget,
+            Effect::Continues => return Report::Ran,
         };
-        self.standing = Standing::Ended(end);
+        self.thread_status = ThreadStatus::Ended(end);
         Report::Ended(end)
     }
 }
 
 // ---- machines
 
-/// The limits of a run: the words of the heap, the steps that a thread may make, and its frames.
+/// The limits of a run: the words of the heap, the most steps of a thread, and its most frames.
 #[derive(Clone, Copy, Debug)]
 struct Limits {
     words: usize,
@@ -531,7 +529,7 @@ impl Machine {
                 classes: Vec::new(),
             },
             threads: vec![Thread {
-                standing: Standing::Live(frames),
+                thread_status: ThreadStatus::Live(frames),
                 steps_left: limits.budget,
             }],
             heap: Heap::new(limits.words),
@@ -540,12 +538,12 @@ impl Machine {
         }
     }
 
-    /// What an event does.
+    /// Does an event, and returns its report.
     fn step(&mut self, event: Event) -> Report {
         match event {
             Event::Step(number) => self.step_thread(number),
             Event::Ack(number) => match self.threads.get(usize::from(number)) {
-                Some(thread) if matches!(thread.standing, Standing::Live(_)) => {
+                Some(thread) if matches!(thread.thread_status, ThreadStatus::Live(_)) => {
                     Report::NothingPosted
                 }
                 _ => Report::Absent,
@@ -558,25 +556,25 @@ impl Machine {
         let Some(thread) = self.threads.get_mut(usize::from(number)) else {
             return Report::Absent;
         };
-        let Standing::Live(frames) = &mut thread.standing else {
+        let ThreadStatus::Live(frames) = &mut thread.thread_status else {
             return Report::Absent;
         };
-        let effect = instruct(
+        let effect = execute(
             &self.program,
             frames,
             &mut self.heap,
             &mut self.statics,
             &mut self.console,
         );
-        thread.settle(effect)
+        thread.charge_step(effect)
     }
 
     fn end_name(&self) -> &'static str {
-        match self.threads[0].standing {
-            Standing::Live(_) => "live",
-            Standing::Ended(End::Done) => "done",
-            Standing::Ended(End::Budget) => "budget",
-            Standing::Ended(End::Fault(_)) => "fault",
+        match self.threads[0].thread_status {
+            ThreadStatus::Live(_) => "live",
+            ThreadStatus::Ended(End::Done) => "done",
+            ThreadStatus::Ended(End::Budget) => "budget",
+            ThreadStatus::Ended(End::Fault(_)) => "fault",
         }
     }
 }

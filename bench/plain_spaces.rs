@@ -1,4 +1,4 @@
-// The heap of `plain_collector.rs`, which includes this: two blocks of words during a cycle, and what a thread in each phase does to them.
+// The heap of `plain_collector.rs`, which includes this file: two blocks of words during a cycle, and the barriers of each phase.
 
 // ---- phases
 
@@ -22,27 +22,27 @@ const MOST_WORDS: u32 = 1_048_576;
 /// The addresses of the first objects of the two blocks.
 const STARTS: [u32; 2] = [1, 1 + MOST_WORDS];
 
-/// Which header word tells the mark and the other copy, and which one the monitor.
-const NOTE_WORD: usize = 1;
+/// The header word with the mark and the other copy, and the one with the monitor.
+const COPIES_WORD: usize = 1;
 
 const MONITOR_WORD: usize = 2;
 
-/// What the collector notes at an object.
+/// Whether an object is marked, and the address of its other copy.
 #[derive(Clone, Copy, Debug, Default)]
-struct Note {
+struct Copies {
     is_marked: bool,
     other: Option<Address>,
 }
 
-impl Note {
+impl Copies {
     fn word(self) -> u64 {
         let other = self.other.map_or(0, |address| address.0);
         u64::from(self.is_marked) | u64::from(other) << 1
     }
 
-    fn decoded(word: u64) -> Note {
+    fn from_word(word: u64) -> Copies {
         let other = Address((word >> 1) as u32);
-        Note {
+        Copies {
             is_marked: word & 1 == 1,
             other: (other != NULL).then_some(other),
         }
@@ -69,7 +69,7 @@ impl Space {
         object.0.wrapping_sub(self.start) < MOST_WORDS
     }
 
-    fn place(&self, object: Address) -> usize {
+    fn offset(&self, object: Address) -> usize {
         (object.0 - self.start) as usize
     }
 
@@ -77,21 +77,21 @@ impl Space {
         self.words.len() - self.used
     }
 
-    fn append(&mut self, header: u64, note: Note) -> Address {
-        let place = self.used;
-        self.words[place] = header;
-        self.words[place + NOTE_WORD] = note.word();
+    fn append(&mut self, header: u64, copies: Copies) -> Address {
+        let offset = self.used;
+        self.words[offset] = header;
+        self.words[offset + COPIES_WORD] = copies.word();
         self.used += HEADER_WORDS + header as u32 as usize;
-        Address(self.start + place as u32)
+        Address(self.start + offset as u32)
     }
 
-    /// The object that begins at a place. None behind the last one.
-    fn at(&self, place: usize) -> Option<Address> {
-        (place < self.used).then_some(Address(self.start + place as u32))
+    /// The object at an offset. None after the last one.
+    fn at(&self, offset: usize) -> Option<Address> {
+        (offset < self.used).then_some(Address(self.start + offset as u32))
     }
 
     fn header(&self, object: Address) -> u64 {
-        self.words[self.place(object)]
+        self.words[self.offset(object)]
     }
 
     fn slots(&self, object: Address) -> u32 {
@@ -102,35 +102,35 @@ impl Space {
         HEADER_WORDS + self.slots(object) as usize
     }
 
-    fn note(&self, object: Address) -> Note {
-        Note::decoded(self.words[self.place(object) + NOTE_WORD])
+    fn copies(&self, object: Address) -> Copies {
+        Copies::from_word(self.words[self.offset(object) + COPIES_WORD])
     }
 
-    fn set_note(&mut self, object: Address, note: Note) {
-        let place = self.place(object);
-        self.words[place + NOTE_WORD] = note.word();
+    fn set_copies(&mut self, object: Address, copies: Copies) {
+        let offset = self.offset(object);
+        self.words[offset + COPIES_WORD] = copies.word();
     }
 
     fn monitor(&self, object: Address) -> u64 {
-        self.words[self.place(object) + MONITOR_WORD]
+        self.words[self.offset(object) + MONITOR_WORD]
     }
 
     fn set_monitor(&mut self, object: Address, monitor: u64) {
-        let place = self.place(object);
-        self.words[place + MONITOR_WORD] = monitor;
+        let offset = self.offset(object);
+        self.words[offset + MONITOR_WORD] = monitor;
     }
 
     fn slot(&self, object: Address, index: u32) -> u64 {
-        self.words[self.place(object) + HEADER_WORDS + index as usize]
+        self.words[self.offset(object) + HEADER_WORDS + index as usize]
     }
 
     fn set_slot(&mut self, object: Address, index: u32, word: u64) {
-        let place = self.place(object);
-        self.words[place + HEADER_WORDS + index as usize] = word;
+        let offset = self.offset(object);
+        self.words[offset + HEADER_WORDS + index as usize] = word;
     }
 }
 
-/// What there is beside the old block while a cycle is open. Objects before the place in the grey list are black.
+/// The new block and the grey list of an open cycle. The first `scanned` objects of the list are black.
 struct Cycle {
     new: Space,
     grey: Vec<Address>,
@@ -145,7 +145,7 @@ struct Spaces {
 }
 
 impl Spaces {
-    /// Each word is written here, so that no page is taken from the system later.
+    /// It writes each word of the block, so that the system maps no page later.
     fn new(words: usize) -> Spaces {
         let mut old = Space::new(words, STARTS[0]);
         old.words.fill(1);
@@ -178,14 +178,14 @@ impl Spaces {
 
     fn forward(&self, address: Address) -> Address {
         if self.old.spans(address) {
-            self.old.note(address).other.unwrap_or(address)
+            self.old.copies(address).other.unwrap_or(address)
         } else {
             address
         }
     }
 
     #[inline(always)]
-    fn forwarded(&self, value: Value) -> Value {
+    fn forward_value(&self, value: Value) -> Value {
         match value {
             Value::Ref(address) => Value::Ref(self.forward(address)),
             _ => value,
@@ -197,13 +197,19 @@ impl Spaces {
         if !self.old.spans(address) {
             return;
         }
-        let note = self.old.note(address);
-        if note.is_marked {
+        let copies = self.old.copies(address);
+        if copies.is_marked {
             return;
         }
         let cycle = self.cycle.as_mut().unwrap();
         let is_marked = true;
-        self.old.set_note(address, Note { is_marked, ..note });
+        self.old.set_copies(
+            address,
+            Copies {
+                is_marked,
+                ..copies
+            },
+        );
         cycle.grey.push(address);
         cycle.has_marked = true;
     }
@@ -224,7 +230,7 @@ impl Spaces {
         };
         let space = self.space_mut(object);
         space.set_slot(object, index, first);
-        if let Some(other) = space.note(object).other {
+        if let Some(other) = space.copies(object).other {
             self.space_mut(other).set_slot(other, index, second);
         }
     }
@@ -232,7 +238,7 @@ impl Spaces {
 
 // ---- barriers
 
-/// The heap as a thread sees it that has acknowledged a phase.
+/// The heap for a thread that has acknowledged this phase.
 struct Mutator<'h> {
     spaces: &'h mut Spaces,
     phase: Phase,
@@ -249,9 +255,9 @@ impl Mutator<'_> {
         let copy = Address(new.start + new.used as u32);
         let is_marked = true;
         let other = Some(copy);
-        let object = old.append(header, Note { is_marked, other });
+        let object = old.append(header, Copies { is_marked, other });
         let other = Some(object);
-        new.append(header, Note { is_marked, other });
+        new.append(header, Copies { is_marked, other });
         Some(object)
     }
 }
@@ -275,7 +281,7 @@ impl Objects for Mutator<'_> {
         }
         let is_marked = self.phase == Phase::Mark;
         let other = None;
-        let object = space.append(header, Note { is_marked, other });
+        let object = space.append(header, Copies { is_marked, other });
         if is_marked {
             self.spaces.cycle().grey.push(object);
         }
@@ -283,7 +289,7 @@ impl Objects for Mutator<'_> {
     }
 
     fn kind(&self, object: Address) -> Kind {
-        Kind::decoded(self.spaces.space(object).header(object))
+        Kind::from_header(self.spaces.space(object).header(object))
     }
 
     fn slots(&self, object: Address) -> u32 {
@@ -306,8 +312,8 @@ impl Objects for Mutator<'_> {
                 self.spaces.space_mut(object).set_slot(object, index, word);
             }
             Phase::Copy | Phase::PreFlip | Phase::HeapFlip => {
-                let copied = self.spaces.forwarded(value).word();
-                self.spaces.set_both(object, index, word, copied);
+                let forwarded = self.spaces.forward_value(value).word();
+                self.spaces.set_both(object, index, word, forwarded);
             }
             Phase::ThreadFlip => self.spaces.set_both(object, index, word, word),
         }
@@ -319,7 +325,7 @@ impl Objects for Mutator<'_> {
                 self.spaces.mark_value(value);
                 value
             }
-            Phase::PreFlip | Phase::HeapFlip => self.spaces.forwarded(value),
+            Phase::PreFlip | Phase::HeapFlip => self.spaces.forward_value(value),
             _ => value,
         };
     }

@@ -1,7 +1,7 @@
-//! The cycles and the stores of the program beside it on a plain collector in Rust, `plain_collector.rs`, with programs written as
-//! resolved instructions. It runs as many machines, takes the time by the same clock, and prints the same lines.
+//! The baseline of `src/main.rt.txt`: the same cycles and stores by a collector in plain Rust, `plain_collector.rs`, with programs written
+//! as resolved instructions. It runs the same number of machines, measures by the same clock, and prints the same lines.
 
-// The programs don't use each instruction.
+// The programs don't use all instructions.
 #![allow(dead_code)]
 
 include!("../../plain_machine.rs");
@@ -26,7 +26,7 @@ const PHASES: [Phase; 8] = [
     Phase::Reclaim,
 ];
 
-/// A program, the words of its heap, and steps by which thread 0 is in its last loop.
+/// A program, the words of its heap, and the number of steps after which thread 0 is in its last loop.
 struct Kernel {
     name: &'static str,
     program: fn() -> Program,
@@ -34,13 +34,13 @@ struct Kernel {
     first_steps: u32,
 }
 
-/// A kernel whose cycles are timed, so many in a row.
-struct Cycles {
+/// A kernel whose cycles are timed, and how many of them in a row.
+struct CycleKernel {
     kernel: Kernel,
     count: u32,
 }
 
-const LISTS: Cycles = Cycles {
+const LIST_CYCLES: CycleKernel = CycleKernel {
     kernel: Kernel {
         name: "list",
         program: list,
@@ -50,8 +50,8 @@ const LISTS: Cycles = Cycles {
     count: 20,
 };
 
-const ARRAYS: [Cycles; 2] = [
-    Cycles {
+const ARRAY_CYCLES: [CycleKernel; 2] = [
+    CycleKernel {
         kernel: Kernel {
             name: "array in 64 words",
             program: array,
@@ -60,7 +60,7 @@ const ARRAYS: [Cycles; 2] = [
         },
         count: 20_000,
     },
-    Cycles {
+    CycleKernel {
         kernel: Kernel {
             name: "array in 65536 words",
             program: array,
@@ -72,7 +72,7 @@ const ARRAYS: [Cycles; 2] = [
 ];
 
 /// The kernels whose stores are timed.
-const STORING: [Kernel; 2] = [
+const STORE_KERNELS: [Kernel; 2] = [
     Kernel {
         name: "references",
         program: references,
@@ -89,10 +89,10 @@ const STORING: [Kernel; 2] = [
 
 // ---- the programs
 
-/// The number of the constructor behind `Main`.
+/// The number of the constructor, which is after `Main`.
 const CONSTRUCTOR: u32 = 3;
 
-/// A program of `Main`, a class without a base of the source, and its constructor, which does no more than call that of its base.
+/// A program of `Main`, one class, and its constructor, which only calls that of `System.Object`.
 fn program(locals: Vec<ValueKind>, main: Vec<Operation>, references: Vec<bool>) -> Program {
     let constructor = Method {
         arguments: 1,
@@ -102,7 +102,7 @@ fn program(locals: Vec<ValueKind>, main: Vec<Operation>, references: Vec<bool>) 
         operations: vec![LoadArgument(0), Call(OBJECT), Return],
     };
     let class = Class {
-        stands_for: vec![true],
+        is_assignable_to: vec![true],
         references,
     };
     Program {
@@ -137,7 +137,7 @@ fn list() -> Program {
 #[rustfmt::skip]
 fn array() -> Program {
     let main = vec![
-        LoadInt32(4), NewArray(Element::Int32), StoreLocal(0),
+        LoadInt32(4), NewArray(ElementType::Int32), StoreLocal(0),
         Branch(3),
     ];
     program(vec![ValueKind::Ref], main, Vec::new())
@@ -146,7 +146,7 @@ fn array() -> Program {
 #[rustfmt::skip]
 fn references() -> Program {
     let main = vec![
-        LoadInt32(4), NewArray(Element::Class(0)), StoreLocal(0),
+        LoadInt32(4), NewArray(ElementType::Class(0)), StoreLocal(0),
         new_node(0), StoreLocal(1),
         LoadLocal(0), LoadInt32(0), LoadLocal(1), StoreElementReference,
         LoadLocal(0), LoadInt32(1), LoadLocal(1), StoreElementReference,
@@ -178,7 +178,7 @@ struct Timespec {
     nanoseconds: i64,
 }
 
-/// The clock of a process's own processor time, on Linux.
+/// The clock of the processor time of this process, on Linux.
 const PROCESS_CLOCK: i32 = 2;
 
 unsafe extern "C" {
@@ -195,9 +195,9 @@ fn processor_nanoseconds() -> i64 {
     time.seconds * 1_000_000_000 + time.nanoseconds
 }
 
-/// Steps thread 0 so many times, and answers how often it ran.
+/// Steps thread 0 this number of times, and returns the number of steps before it ended.
 #[inline(never)]
-fn run(machine: &mut Collected, steps: u32) -> u32 {
+fn run(machine: &mut CollectedMachine, steps: u32) -> u32 {
     for ran in 0..steps {
         if machine.step(Event::Step(0)) != Report::Ran {
             return ran;
@@ -207,18 +207,18 @@ fn run(machine: &mut Collected, steps: u32) -> u32 {
 }
 
 /// A machine whose thread is in its last loop.
-fn looping_machine(kernel: &Kernel) -> Collected {
+fn looping_machine(kernel: &Kernel) -> CollectedMachine {
     let limits = Limits {
         words: kernel.words,
         budget: 1_000_000,
         depth: 64,
     };
-    let mut machine = Collected::new((kernel.program)(), limits);
+    let mut machine = CollectedMachine::new((kernel.program)(), limits);
     run(&mut machine, kernel.first_steps);
     machine
 }
 
-/// The event behind one with this report.
+/// The event after one with this report.
 fn next_event(report: Report) -> Event {
     match report {
         Report::Waiting => Event::Ack(0),
@@ -226,9 +226,9 @@ fn next_event(report: Report) -> Event {
     }
 }
 
-/// Does a cycle, and answers how many events that took.
+/// Does a cycle, and returns the number of its events.
 #[inline(never)]
-fn collect(machine: &mut Collected) -> u64 {
+fn collect(machine: &mut CollectedMachine) -> u64 {
     let mut event = Event::Gc;
     let mut events = 1;
     loop {
@@ -240,8 +240,8 @@ fn collect(machine: &mut Collected) -> u64 {
     }
 }
 
-/// Goes on with a cycle until thread 0 has acknowledged a phase, and answers how many events that took.
-fn reach(machine: &mut Collected, phase: Phase) -> u64 {
+/// Continues a cycle until thread 0 has acknowledged a phase, and returns the number of events.
+fn reach(machine: &mut CollectedMachine, phase: Phase) -> u64 {
     let mut event = Event::Gc;
     let mut events = 0;
     while machine.phase_of(0) != Some(phase) {
@@ -251,15 +251,15 @@ fn reach(machine: &mut Collected, phase: Phase) -> u64 {
     events
 }
 
-/// How many there were in so much time, of a count in all the nanoseconds.
-fn rate(count: u64, time: f64, nanoseconds: i64) -> f64 {
-    count as f64 * time / nanoseconds as f64
+/// The rate of a count in these nanoseconds, for a unit of time that is also given in nanoseconds.
+fn rate(count: u64, unit: f64, nanoseconds: i64) -> f64 {
+    count as f64 * unit / nanoseconds as f64
 }
 
 // ---- cycles
 
-/// How long the cycles of a new machine took, how many events they had, and the words that they carried over.
-fn time_cycles(cycles: &Cycles) -> (i64, u64, u64) {
+/// The nanoseconds of the cycles of a new machine, their events, and the words that they copied to the new space.
+fn time_cycles(cycles: &CycleKernel) -> (i64, u64, u64) {
     let mut machine = looping_machine(&cycles.kernel);
     let mut events = 0;
     let mut words = 0;
@@ -271,15 +271,15 @@ fn time_cycles(cycles: &Cycles) -> (i64, u64, u64) {
     (processor_nanoseconds() - start, events, words)
 }
 
-/// The middle one of some runs of these cycles.
-fn measure_cycles(cycles: &Cycles) -> (i64, u64, u64) {
+/// The median of some runs of these cycles.
+fn measure_cycles(cycles: &CycleKernel) -> (i64, u64, u64) {
     let mut runs: Vec<_> = (0..RUNS).map(|_| time_cycles(cycles)).collect();
     runs.sort();
     runs[RUNS / 2]
 }
 
-fn tell_cycles(cycles: &Cycles, (nanoseconds, events, words): (i64, u64, u64)) {
-    let Cycles { kernel, count } = cycles;
+fn print_cycles(cycles: &CycleKernel, (nanoseconds, events, words): (i64, u64, u64)) {
+    let CycleKernel { kernel, count } = cycles;
     let speed = rate(u64::from(*count), 1e9, nanoseconds);
     println!(
         "{}, cycles: {speed:.0} cycles a second ({count} cycles, {events} events, {words} words)",
@@ -288,9 +288,9 @@ fn tell_cycles(cycles: &Cycles, (nanoseconds, events, words): (i64, u64, u64)) {
 }
 
 fn measure_list() {
-    let done = measure_cycles(&LISTS);
+    let done = measure_cycles(&LIST_CYCLES);
     let (nanoseconds, events, words) = done;
-    let Cycles { kernel, count } = &LISTS;
+    let CycleKernel { kernel, count } = &LIST_CYCLES;
     let name = kernel.name;
     let speed = rate(events, 1000.0, nanoseconds);
     println!(
@@ -298,13 +298,13 @@ fn measure_list() {
     );
     let speed = rate(words, 1000.0, nanoseconds);
     println!("{name}, words: {speed:.2} million words a second ({words} words in {count} cycles)");
-    tell_cycles(&LISTS, done);
+    print_cycles(&LIST_CYCLES, done);
 }
 
 // ---- stores
 
-/// How long the steps took of a new machine whose thread is in this phase, and what it did: the steps, the events before, and the words
-/// of both spaces then.
+/// The nanoseconds of the steps of a new machine whose thread is in this phase, the number of steps, the events before them, and the used
+/// words of both spaces at their start.
 fn time_stores(kernel: &Kernel, phase: Phase) -> (i64, u32, u64, (usize, usize)) {
     let mut machine = looping_machine(kernel);
     let before = reach(&mut machine, phase);
@@ -327,10 +327,10 @@ fn measure_stores(kernel: &Kernel, phase: Phase) {
 
 fn main() {
     measure_list();
-    for cycles in &ARRAYS {
-        tell_cycles(cycles, measure_cycles(cycles));
+    for cycles in &ARRAY_CYCLES {
+        print_cycles(cycles, measure_cycles(cycles));
     }
-    for kernel in &STORING {
+    for kernel in &STORE_KERNELS {
         for phase in PHASES {
             measure_stores(kernel, phase);
         }

@@ -1,7 +1,7 @@
-//! The five programs on a plain machine in Rust, `plain_machine.rs`, written as resolved instructions. It runs as many machines and
-//! runs as the program beside it, takes the time by the same clock, and prints the same lines.
+//! The baseline of `src/main.rt.txt`: the same five programs, written as resolved instructions, on a machine in plain Rust,
+//! `plain_machine.rs`. It has the same number of machines and runs, measures by the same clock, and prints the same lines.
 
-// The five programs don't use each instruction.
+// The five programs don't use all instructions.
 #![allow(dead_code)]
 
 include!("../../plain_machine.rs");
@@ -14,10 +14,10 @@ const LIMITS: Limits = Limits {
 
 // ---- the five programs
 
-/// The number of the method behind it.
+/// The number of the method after `Main`.
 const OTHER: u32 = 3;
 
-/// A constructor of a class below `System.Object` that does no more than call its constructor.
+/// The constructor of a class that extends `System.Object`, which only calls the constructor of that.
 fn constructor() -> Method {
     Method {
         arguments: 1,
@@ -40,7 +40,7 @@ fn new_pair() -> Operation {
 fn load(slot: u32) -> Operation {
     LoadField {
         slot,
-        held: ValueKind::Int32,
+        kind: ValueKind::Int32,
     }
 }
 
@@ -87,7 +87,7 @@ fn fields() -> Vec<Method> {
 #[rustfmt::skip]
 fn elements() -> Vec<Method> {
     let main = vec![
-        LoadInt32(1000), NewArray(Element::Int32), StoreLocal(0),
+        LoadInt32(1000), NewArray(ElementType::Int32), StoreLocal(0),
         LoadInt32(0), StoreLocal(1),
         LoadLocal(0), LoadLocal(1), LoadLocal(0), LoadLocal(1), LoadElement(ValueKind::Int32),
         LoadLocal(1), Binary(BinaryOperation::Add), StoreElement,
@@ -105,7 +105,7 @@ fn elements() -> Vec<Method> {
 fn births() -> Vec<Method> {
     let main = vec![
         new_pair(), StoreLocal(0),
-        LoadInt32(4), NewArray(Element::Int32), StoreLocal(1),
+        LoadInt32(4), NewArray(ElementType::Int32), StoreLocal(1),
         Branch(0),
     ];
     methods(vec![ValueKind::Ref; 2], main, vec![constructor()])
@@ -123,7 +123,7 @@ struct Timespec {
     nanoseconds: i64,
 }
 
-/// The clock of a process's own processor time, on Linux.
+/// The clock of the processor time of this process, on Linux.
 const PROCESS_CLOCK: i32 = 2;
 
 unsafe extern "C" {
@@ -140,7 +140,7 @@ fn processor_nanoseconds() -> i64 {
     time.seconds * 1_000_000_000 + time.nanoseconds
 }
 
-/// Steps thread 0 until it ends, and answers how many events that took.
+/// Steps thread 0 until it ends, and returns the number of events.
 #[inline(never)]
 fn finish(machine: &mut Machine) -> u32 {
     for events in 0..LIMITS.budget {
@@ -151,7 +151,7 @@ fn finish(machine: &mut Machine) -> u32 {
     LIMITS.budget
 }
 
-/// How long the events of a run took, in nanoseconds, and how many its last machine did.
+/// The nanoseconds of the events of a run, the number of events of one machine, and the last machine.
 fn run(program: fn() -> Vec<Method>) -> (i64, u32, Machine) {
     let mut nanoseconds = 0;
     let mut events = 0;
@@ -165,7 +165,7 @@ fn run(program: fn() -> Vec<Method>) -> (i64, u32, Machine) {
     (nanoseconds, events, last)
 }
 
-fn tell(name: &str, program: fn() -> Vec<Method>) {
+fn measure(name: &str, program: fn() -> Vec<Method>) {
     let mut runs: Vec<_> = (0..RUNS).map(|_| run(program)).collect();
     runs.sort_by_key(|run| run.0);
     let (nanoseconds, events, machine) = &runs[RUNS / 2];
@@ -180,9 +180,9 @@ fn tell(name: &str, program: fn() -> Vec<Method>) {
 }
 
 fn main() {
-    tell("numbers", numbers);
-    tell("calls", calls);
-    tell("fields", fields);
-    tell("elements", elements);
-    tell("births", births);
+    measure("numbers", numbers);
+    measure("calls", calls);
+    measure("fields", fields);
+    measure("elements", elements);
+    measure("births", births);
 }

@@ -1,8 +1,8 @@
-//! The replay of the program beside it on a plain machine in Rust, `plain_machine.rs`, under a `Mutex` of Rust's library: an event takes
-//! the lock, does the step, adds an entry to the history, which is kept as runs of equal entries, and gives the lock back. It prints
-//! the same lines. Counts of the workers' events are left out, since those of the proved machine stand in its proofs alone.
+//! The baseline of `src/main.rt.txt`: the same replay on a machine in plain Rust, `plain_machine.rs`, under a `Mutex` of Rust's library. An
+//! event takes the lock, does the step, adds an entry to the history, which is stored as runs of equal entries, and releases the lock. It
+//! prints the same lines. It does not count the workers' events: the proved machine has these counts only in its proofs.
 
-// The replay doesn't use each instruction.
+// The replay doesn't use all instructions.
 #![allow(dead_code)]
 
 use std::sync::Mutex;
@@ -29,7 +29,7 @@ struct Entry {
     report: Report,
 }
 
-/// An entry, so many times in a row.
+/// An entry, and how many times in a row it was added.
 struct Run {
     entry: Entry,
     times: u64,
@@ -83,7 +83,7 @@ impl Shared {
         (Shared { world }, Ticket { worker: 0 })
     }
 
-    /// Takes the lock, does an event for the ticket's worker, and gives the lock and the ticket back.
+    /// Takes the lock, does an event for the ticket's worker, releases the lock, and returns the report and the ticket.
     fn act(&self, mut ticket: Ticket, event: Event) -> (Report, Ticket) {
         let mut world = self.world.lock().unwrap();
         let report = world.perform(&mut ticket, event);
@@ -95,7 +95,7 @@ impl Shared {
     }
 }
 
-/// Does the events in order, each under a lock of its own, and answers what is left.
+/// Does the events in order, taking the lock for each of them, and returns the machine and the history.
 #[inline(never)]
 fn run_alone(machine: Machine, events: &[Event]) -> World {
     let (shared, mut ticket) = Shared::new(machine);
@@ -118,7 +118,7 @@ fn endless() -> Vec<Method> {
     methods(vec![ValueKind::Int32; 2], main, Vec::new())
 }
 
-/// Does the events on a new machine, and answers how long they took, and what is left.
+/// Does the events on a new machine, and returns how long they took, and the final world.
 fn do_events(events: &[Event]) -> (Duration, World) {
     let machine = Machine::new(endless(), LIMITS);
     let start = Instant::now();
@@ -126,7 +126,7 @@ fn do_events(events: &[Event]) -> (Duration, World) {
     (start.elapsed(), world)
 }
 
-/// Makes a machine and the events, does these, and answers how long that took, and what is left.
+/// Makes a machine and the events, does these, and returns how long all that took, and the final world.
 fn do_whole() -> (Duration, World) {
     let start = Instant::now();
     let machine = Machine::new(endless(), LIMITS);
@@ -135,18 +135,18 @@ fn do_whole() -> (Duration, World) {
     (start.elapsed(), world)
 }
 
-/// The least time of some runs, and what the last one left.
+/// The least time of some runs, and the final world of the last one.
 fn best_of(run: impl Fn() -> (Duration, World)) -> (Duration, World) {
-    let (mut best, mut left) = run();
+    let (mut best, mut last) = run();
     for _ in 1..RUNS {
         let (time, world) = run();
         best = best.min(time);
-        left = world;
+        last = world;
     }
-    (best, left)
+    (best, last)
 }
 
-fn tell(name: &str, figure: f64, unit: &str, world: &World) {
+fn print_figure(name: &str, figure: f64, unit: &str, world: &World) {
     let runs = world.history.runs.len();
     let end = world.machine.end_name();
     println!("{name}: {figure:.2} {unit} ({EVENTS} events, {runs} runs in the history, {end})");
@@ -156,8 +156,8 @@ fn main() {
     let events = vec![Event::Step(0); EVENTS];
     let (time, world) = best_of(|| do_events(&events));
     let speed = EVENTS as f64 / 1e6 / time.as_secs_f64();
-    tell("events", speed, "million events a second", &world);
+    print_figure("events", speed, "million events a second", &world);
     let (time, world) = best_of(do_whole);
     let milliseconds = time.as_secs_f64() * 1000.0;
-    tell("whole replay", milliseconds, "milliseconds", &world);
+    print_figure("whole replay", milliseconds, "milliseconds", &world);
 }
