@@ -1,6 +1,6 @@
 // The instructions of `plain_machine.rs`, which includes this file.
 
-macro_rules! quotient {
+macro_rules! division_result {
     ($x:expr, $y:expr, $least:expr, $result:expr) => {
         if $y == 0 {
             Err(Fault::DivideByZero)
@@ -21,8 +21,8 @@ macro_rules! binary_result {
             BinaryOperation::AddOverflow => $x.checked_add($y).ok_or(Fault::Overflow),
             BinaryOperation::SubtractOverflow => $x.checked_sub($y).ok_or(Fault::Overflow),
             BinaryOperation::MultiplyOverflow => $x.checked_mul($y).ok_or(Fault::Overflow),
-            BinaryOperation::Divide => quotient!($x, $y, $least, $x / $y),
-            BinaryOperation::Remainder => quotient!($x, $y, $least, $x % $y),
+            BinaryOperation::Divide => division_result!($x, $y, $least, $x / $y),
+            BinaryOperation::Remainder => division_result!($x, $y, $least, $x % $y),
             BinaryOperation::And => Ok($x & $y),
             BinaryOperation::Or => Ok($x | $y),
             BinaryOperation::ExclusiveOr => Ok($x ^ $y),

@@ -37,14 +37,14 @@ _MEMBERS = [
     ("System.DateTime", "leave it out: a program can't measure its time"),
     ("System.Delegate.", "keep the delegates in a list and call each"),
     ("System.IO.", "write the input into the program as an array"),
-    ("System.Exception", "return a value that tells the failure: a fault ends its thread"),
+    ("System.Exception", "return a value that reports the failure: a fault ends its thread"),
 ]
 _CONVERSIONS = {
     ".ToString": "print the value itself by `Console.WriteLine`",
-    ".GetType": "write a virtual method that tells the class",
+    ".GetType": "write a virtual method that returns the class",
     ".Parse": "write the number into the program",
     ".CompareTo": "write `<` and `>`",
-    "Exception..ctor": "return a value that tells the failure: a fault ends its thread",
+    "Exception..ctor": "return a value that reports the failure: a fault ends its thread",
 }
 
 # What a member of the importer's library means beyond .NET's, by the beginning of its name.

@@ -31,8 +31,8 @@ class Cursor:
 
     def peek(self, distance: int = 1) -> str:
         """Returns the text of a later token, empty at the end."""
-        place = min(self.position + distance, len(self.tokens) - 1)
-        return self.tokens[place].text
+        index = min(self.position + distance, len(self.tokens) - 1)
+        return self.tokens[index].text
 
     def at(self, *texts: str) -> bool:
         """Whether the next token is one of these, unquoted."""

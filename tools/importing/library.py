@@ -45,7 +45,7 @@ def load() -> dict[str, ClassDef]:
     classes: dict[str, ClassDef] = {}
     for path in sorted(_FOLDER.glob("*.il")):
         for made in read(path.read_text(encoding="ascii"), Report()).classes:
-            made.is_library = made.is_behind = True
+            made.is_library = made.is_after_listing = True
             classes[made.type.name] = made
     return classes
 
@@ -137,17 +137,17 @@ class Binder:
             if not self._has_member(owner.name, wanted):
                 self.program.report.refuse(line, f"`{wanted}`", advice.for_member(wanted))
                 return wanted
-            self._tell(wanted, line)
+            self._check_meaning(wanted, line)
             owner = self._use(owner)
         bound = map_operand(wanted, lambda kind: self._part(kind, line))
         return MethodRef(
             map_type(owner, lambda kind: self._part(kind, line)), bound.name, bound.returned, bound.parameters, bound.is_instance, bound.arguments
         )
 
-    def _tell(self, wanted: MethodRef, line: int) -> None:
-        """Tells where the library's member means something else than .NET's, and refuses keys that it can't compare."""
+    def _check_meaning(self, wanted: MethodRef, line: int) -> None:
+        """Reports if the meaning of the library's member differs from .NET's, and refuses keys that it can't compare."""
         if str(wanted.owner).startswith("System.Collections.Generic.Dictionary`2<") and self.program.is_struct(wanted.owner.arguments[0]):
-            remedy = "use an `int` or a string that stands for it"
+            remedy = "use an `int` or a string that represents it"
             self.program.report.refuse(line, f"a `Dictionary` with the struct `{wanted.owner.arguments[0]}` as its key", remedy)
         found = advice.meaning(wanted)
         if found is not None and not self.is_in_library:

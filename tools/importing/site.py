@@ -36,14 +36,14 @@ class Code:
 class Site:
     """An instruction of a method, with the stack before it."""
 
-    def __init__(self, code: Code, place: int):
+    def __init__(self, code: Code, index: int):
         self.code = code
         self.program = code.program
         self.analysis = code.analysis
         self.method = code.method
-        self.place = place
-        self.part: Instruction = code.analysis.code[place]
-        self.stack: Stack = code.analysis.stacks[place] or ()
+        self.index = index
+        self.part: Instruction = code.analysis.code[index]
+        self.stack: Stack = code.analysis.stacks[index] or ()
 
     @property
     def operand(self):
@@ -53,7 +53,7 @@ class Site:
     def next_op(self) -> str:
         """The name of the next instruction, empty at the end."""
         code = self.analysis.code
-        return code[self.place + 1].op if self.place + 1 < len(code) else ""
+        return code[self.index + 1].op if self.index + 1 < len(code) else ""
 
     def entry(self, depth: int = 0) -> Entry:
         """Returns a value on the stack, 0 for the top."""
@@ -85,7 +85,7 @@ class Site:
             self.program.report.count(kind)
 
     def note(self, kind: str, text: str) -> None:
-        """Tells a change that means more than spelling."""
+        """Reports a change that means more than spelling."""
         if not self.code.owner.is_library:
             self.program.report.note(self.part.line, kind, text)
 

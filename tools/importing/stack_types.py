@@ -83,7 +83,7 @@ class Analysis:
         self.owner = owner
         self.method = method
         self.code: list[Instruction] = method.code
-        self.labels = {label: place for place, part in enumerate(self.code) for label in part.labels}
+        self.labels = {label: index for index, part in enumerate(self.code) for label in part.labels}
         self.shared: set[tuple] = set()
         self.loaded: set[int] = set()
         self.stacks: list[Stack | None] = []
@@ -99,15 +99,15 @@ class Analysis:
         if self.code:
             self.stacks[0] = ()
         while pending:
-            place = pending.pop()
-            after = self._effect(place, self.stacks[place] or ())
-            for target in self._targets(place):
-                if self._reach(target, after, self.code[place].line):
+            index = pending.pop()
+            after = self._effect(index, self.stacks[index] or ())
+            for target in self._targets(index):
+                if self._reach(target, after, self.code[index].line):
                     pending.append(target)
 
-    def _targets(self, place: int) -> list[int]:
-        part = self.code[place]
-        found = [] if part.op in _ENDS else [place + 1]
+    def _targets(self, index: int) -> list[int]:
+        part = self.code[index]
+        found = [] if part.op in _ENDS else [index + 1]
         if part.op == "switch":
             found += [self._label(label, part.line) for label in part.operand]
         elif part.op in ("leave", "br", "brtrue", "brfalse") or part.op in _BRANCHES_OF_TWO:
@@ -119,18 +119,18 @@ class Analysis:
             raise ListingError(line, f"no instruction has the label `{label}`")
         return self.labels[label]
 
-    def _reach(self, place: int, stack: Stack, line: int) -> bool:
+    def _reach(self, index: int, stack: Stack, line: int) -> bool:
         """Records that control arrives with this stack; says whether that is news."""
-        if place >= len(self.code):
+        if index >= len(self.code):
             raise ListingError(line, "the code continues after its end")
-        known = self.stacks[place]
+        known = self.stacks[index]
         if known is None:
-            self.stacks[place] = stack
+            self.stacks[index] = stack
             return True
         if len(known) != len(stack):
-            raise ListingError(self.code[place].line, "paths meet with stacks of different heights")
+            raise ListingError(self.code[index].line, "paths meet with stacks of different heights")
         merged = tuple(map(self._merge, known, stack))
-        self.stacks[place] = merged
+        self.stacks[index] = merged
         return merged != known
 
     def _merge(self, one: Entry, other: Entry) -> Entry:
@@ -173,12 +173,12 @@ class Analysis:
         if isinstance(kind, Address) and kind.kind in ("local", "argument"):
             self.shared.add((kind.kind, kind.detail))
         elif isinstance(kind, Address):
-            self.shared |= {("at", place) for place in entry.producers}
+            self.shared |= {("at", index) for index in entry.producers}
 
-    def _effect(self, place: int, stack: Stack) -> Stack:
+    def _effect(self, index: int, stack: Stack) -> Stack:
         """Returns the stack after an instruction."""
-        part = self.code[place]
-        count, pushed = self._pops_and_pushes(part, stack, place)
+        part = self.code[index]
+        count, pushed = self._pops_and_pushes(part, stack, index)
         if count > len(stack):
             raise ListingError(part.line, f"`{part.op}` takes more values than the stack holds")
         if part.op == "dup":
@@ -189,12 +189,12 @@ class Analysis:
             return rest
         constant = part.operand if part.op == "ldc.i4" else None
         self.height = max(self.height, len(rest) + 1)
-        return rest + (Entry(pushed, frozenset((place,)), constant),)
+        return rest + (Entry(pushed, frozenset((index,)), constant),)
 
-    def _pops_and_pushes(self, part: Instruction, stack: Stack, place: int) -> tuple[int, Type | None]:
+    def _pops_and_pushes(self, part: Instruction, stack: Stack, index: int) -> tuple[int, Type | None]:
         op = part.op
         if op in ("call", "callvirt", "newobj"):
-            return self._call(part, stack, place)
+            return self._call(part, stack, index)
         if op in _NONE or op == "dup":
             return (1 if op == "dup" else 0), None
         if op in _BINARY and len(stack) > 1:
@@ -211,7 +211,7 @@ class Analysis:
             return 1, conversion_target(op)
         found = _SIMPLE.get(op)
         if found is None:
-            found = _OF_OPERAND[op](self, part, stack, place) if op in _OF_OPERAND else self._unknown(part)
+            found = _OF_OPERAND[op](self, part, stack, index) if op in _OF_OPERAND else self._unknown(part)
         if op in _GIVES_AWAY and stack:
             self._give_away(stack[-1])
         return found
@@ -219,10 +219,10 @@ class Analysis:
     def _unknown(self, part: Instruction) -> tuple[int, None]:
         raise ListingError(part.line, f"`{part.op}` is not an instruction that C# compilers write for safe code")
 
-    def _call(self, part: Instruction, stack: Stack, place: int) -> tuple[int, Type | None]:
+    def _call(self, part: Instruction, stack: Stack, index: int) -> tuple[int, Type | None]:
         wanted: MethodRef = part.operand
         count = len(wanted.parameters) + (wanted.is_instance and part.op != "newobj")
-        if place and self.code[place - 1].op == "constrained." and self.program.is_reference(self.code[place - 1].operand):
+        if index and self.code[index - 1].op == "constrained." and self.program.is_reference(self.code[index - 1].operand):
             self.loaded |= stack[-count].producers
             return count, None if wanted.returned == VOID else wanted.returned
         if not takes_addresses(wanted):
@@ -231,12 +231,12 @@ class Analysis:
         if part.op == "newobj":
             return count, wanted.owner
         if isinstance(wanted.owner, Array) and wanted.name == "Address":
-            return count, self._rectangle_address(wanted.owner.element, place)
+            return count, self._rectangle_address(wanted.owner.element, index)
         return count, None if wanted.returned == VOID else wanted.returned
 
-    def _rectangle_address(self, element: Type, place: int) -> Type:
+    def _rectangle_address(self, element: Type, index: int) -> Type:
         """Returns the address that the method `Address` of an array of two dimensions pushes."""
-        if self.program.is_struct(element) or ("at", place) in self.shared:
+        if self.program.is_struct(element) or ("at", index) in self.shared:
             return Pointer(element)
         return Address("element", element)
 
@@ -273,35 +273,35 @@ class Analysis:
             return int(digits)
         raise ListingError(part.line, f"no variable is named `{part.operand}`")
 
-    def _load(self, part: Instruction, stack: Stack, place: int):
+    def _load(self, part: Instruction, stack: Stack, index: int):
         return 0, self.variable(part)[2]
 
-    def _address(self, part: Instruction, stack: Stack, place: int):
+    def _address(self, part: Instruction, stack: Stack, index: int):
         """The address of a variable: of a struct, that of its object; of others, the variable's or, where it is given away, a cell's."""
         kind, number, target = self.variable(part)
-        if place in self.loaded:
+        if index in self.loaded:
             return 0, target
         if self.program.is_struct(target) or (kind, number) in self.shared:
             return 0, Pointer(target)
         return 0, Address(kind, target, number)
 
-    def _field_address(self, part: Instruction, stack: Stack, place: int):
+    def _field_address(self, part: Instruction, stack: Stack, index: int):
         wanted: FieldRef = part.operand
         count = int(part.op == "ldflda")
-        if place in self.loaded:
+        if index in self.loaded:
             return count, wanted.type
-        if self.program.is_struct(wanted.type) or ("at", place) in self.shared:
+        if self.program.is_struct(wanted.type) or ("at", index) in self.shared:
             return count, Pointer(wanted.type)
         return count, Address("field" if count else "static", wanted.type, wanted)
 
-    def _element_address(self, part: Instruction, stack: Stack, place: int):
-        if place in self.loaded:
+    def _element_address(self, part: Instruction, stack: Stack, index: int):
+        if index in self.loaded:
             return 2, part.operand
-        if self.program.is_struct(part.operand) or ("at", place) in self.shared:
+        if self.program.is_struct(part.operand) or ("at", index) in self.shared:
             return 2, Pointer(part.operand)
         return 2, Address("element", part.operand)
 
-    def _element(self, part: Instruction, stack: Stack, place: int):
+    def _element(self, part: Instruction, stack: Stack, index: int):
         """The type of a loaded element: that of the array if it is known."""
         array = stack[-2].type if len(stack) > 1 else NULL
         named = _INDIRECT.get(part.op.removeprefix("ldelem."))
@@ -310,7 +310,7 @@ class Analysis:
         known = array.element if isinstance(array, Array) else None
         return 2, known if known is not None else named or OBJECT
 
-    def _indirect(self, part: Instruction, stack: Stack, place: int):
+    def _indirect(self, part: Instruction, stack: Stack, index: int):
         kind = stack[-1].type if stack else NULL
         if isinstance(kind, (Address, Pointer)):
             return 1, kind.target
@@ -328,20 +328,20 @@ _SIMPLE |= {f"stelem{kind}": (3, None) for kind in ("", ".ref", ".i", ".i1", ".i
 _SIMPLE |= {f"stind.{kind}": (2, None) for kind in ("ref", "i", "i1", "i2", "i4", "i8", "r4", "r8")}
 _OF_OPERAND = {
     "ldarg": Analysis._load, "ldloc": Analysis._load, "ldarga": Analysis._address, "ldloca": Analysis._address,
-    "ldfld": lambda self, part, stack, place: (1, part.operand.type),
-    "ldsfld": lambda self, part, stack, place: (0, part.operand.type),
+    "ldfld": lambda self, part, stack, index: (1, part.operand.type),
+    "ldsfld": lambda self, part, stack, index: (0, part.operand.type),
     "ldflda": Analysis._field_address, "ldsflda": Analysis._field_address, "ldelema": Analysis._element_address,
-    "newarr": lambda self, part, stack, place: (1, Array(part.operand)),
-    "castclass": lambda self, part, stack, place: (1, part.operand),
-    "isinst": lambda self, part, stack, place: (1, part.operand),
-    "box": lambda self, part, stack, place: (1, part.operand if self.program.is_reference(part.operand) else OBJECT),
-    "unbox.any": lambda self, part, stack, place: (1, part.operand),
-    "unbox": lambda self, part, stack, place: (1, Pointer(part.operand)),
+    "newarr": lambda self, part, stack, index: (1, Array(part.operand)),
+    "castclass": lambda self, part, stack, index: (1, part.operand),
+    "isinst": lambda self, part, stack, index: (1, part.operand),
+    "box": lambda self, part, stack, index: (1, part.operand if self.program.is_reference(part.operand) else OBJECT),
+    "unbox.any": lambda self, part, stack, index: (1, part.operand),
+    "unbox": lambda self, part, stack, index: (1, Pointer(part.operand)),
     "ldobj": Analysis._indirect,
-    "ldftn": lambda self, part, stack, place: (0, Function(part.operand, False)),
-    "ldvirtftn": lambda self, part, stack, place: (1, Function(part.operand, True)),
-    "ldtoken": lambda self, part, stack, place: (0, Data(part.operand) if isinstance(part.operand, FieldRef) else OBJECT),
-    "ret": lambda self, part, stack, place: (len(stack), None),
+    "ldftn": lambda self, part, stack, index: (0, Function(part.operand, False)),
+    "ldvirtftn": lambda self, part, stack, index: (1, Function(part.operand, True)),
+    "ldtoken": lambda self, part, stack, index: (0, Data(part.operand) if isinstance(part.operand, FieldRef) else OBJECT),
+    "ret": lambda self, part, stack, index: (len(stack), None),
 }
 _OF_OPERAND |= {f"ldelem{kind}": Analysis._element for kind in ("", ".ref", ".i", ".r4", ".r8", *(f".{w}{n}" for w in "iu" for n in "1248"))}
 _OF_OPERAND |= {f"ldind.{kind}": Analysis._indirect for kind in ("ref", "i", "r4", "r8", *(f"{w}{n}" for w in "iu" for n in "1248"))}

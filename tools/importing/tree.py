@@ -84,7 +84,7 @@ class Method:
         return "abstract" in self.flags
 
     def signature(self) -> tuple:
-        """What tells this method from others of its class."""
+        """What distinguishes this method from others of its class."""
         return (self.name, self.returned, tuple(part.type for part in self.parameters), self.is_static)
 
 
@@ -104,7 +104,7 @@ class ClassDef:
     end_line: int = 0
     outer: "ClassDef | None" = None
     is_library: bool = False
-    is_behind: bool = False  # stands after the last line of the listing
+    is_after_listing: bool = False  # is written after the last line of the listing
 
     @property
     def is_interface(self) -> bool:

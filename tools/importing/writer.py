@@ -15,7 +15,7 @@ _SHORT_VARIABLES = frozenset(("ldarg", "ldloc", "stloc"))
 
 
 class Lines:
-    """Text by lines. What comes late for its line stands on the last one."""
+    """Text by lines. What comes too late for its line is put on the last one."""
 
     def __init__(self) -> None:
         self.lines = [""]
@@ -43,19 +43,19 @@ class Writer:
         self.program = program
         self.spelling = spelling
         self.lines = Lines()
-        self.is_behind = False
+        self.is_after_listing = False
         self.outer = {id(made.outer) for made in program.listing.classes if made.outer is not None}
 
     def write(self) -> str:
         """Returns the whole source."""
         self._assemblies()
         for made in self._order():
-            if made.is_behind and not self.is_behind:
+            if made.is_after_listing and not self.is_after_listing:
                 self._tell_notes()
                 self.lines.put(len(self.lines.lines) + 1, "// import: classes that the program needs beside its own")
-            self.is_behind = made.is_behind
+            self.is_after_listing = made.is_after_listing
             self._guarded(made.line, lambda made=made: self._class(made))
-        if not self.is_behind:
+        if not self.is_after_listing:
             self._tell_notes()
         return self._without_unused_extern(self.lines.text())
 
@@ -71,12 +71,12 @@ class Writer:
 
     def _order(self) -> list[ClassDef]:
         """Returns the classes in the order of their lines, nested ones after or before the class around them, those after the listing last."""
-        own = [made for made in self.program.listing.classes if not made.is_behind]
+        own = [made for made in self.program.listing.classes if not made.is_after_listing]
         own.sort(key=self._first_line)
-        return own + [made for made in self.program.listing.classes if made.is_behind]
+        return own + [made for made in self.program.listing.classes if made.is_after_listing]
 
     def _first_line(self, made: ClassDef) -> tuple[int, int]:
-        """The line of a class's first member, since nested classes may stand between its head and its members."""
+        """The line of a class's first member, since nested classes may be between its head and its members."""
         lines = [part.line for part in [*made.fields, *made.methods] if part.line >= made.line]
         return (min(lines, default=made.line), made.line)
 
@@ -92,13 +92,13 @@ class Writer:
 
     def _put(self, line: int, text: str) -> None:
         """Puts text on its line; after the listing's lines, on the last one while it is short."""
-        if self.is_behind and len(self.lines.lines[-1]) + len(text) > WIDTH:
+        if self.is_after_listing and len(self.lines.lines[-1]) + len(text) > WIDTH:
             self.lines.put(len(self.lines.lines) + 1, f"    {text.lstrip()}")
         else:
-            self.lines.put(0 if self.is_behind else line, text)
+            self.lines.put(0 if self.is_after_listing else line, text)
 
     def _put_new(self, line: int, text: str) -> None:
-        self.lines.put(len(self.lines.lines) + 1 if self.is_behind else line, text)
+        self.lines.put(len(self.lines.lines) + 1 if self.is_after_listing else line, text)
 
     def _assemblies(self) -> None:
         """Writes the external assemblies, of which a translation needs two and no other, and then the listing's own."""
@@ -119,7 +119,7 @@ class Writer:
             self._guarded(part.line, lambda part=part: self._field(part))
         for method in made.methods if self.spelling.is_strict else sorted(made.methods, key=lambda method: (method.is_copy, method.line)):
             self._guarded(method.line, lambda method=method: self._method(made, method))
-        if self.is_behind:
+        if self.is_after_listing:
             self._put_new(0, "}")
         else:
             self._put(self._close_line(made), "}")

@@ -18,15 +18,15 @@ def prologue(code: Code, line: int) -> list[Instruction]:
     made: list[Instruction] = []
     for kind, number in sorted(part for part in code.analysis.shared if part[0] != "at"):
         target = code.method.locals[number].type if kind == "local" else code.analysis.argument_type(number)
-        place = number if kind == "local" else code.add_local(target)
+        local = number if kind == "local" else code.add_local(target)
         code.program.use("Importer.Variable`1", target)
         cell = variable_field(target).owner
-        made += [Instruction("newobj", MethodRef(cell, ".ctor", VOID, (), True), line), Instruction("stloc", place, line)]
+        made += [Instruction("newobj", MethodRef(cell, ".ctor", VOID, (), True), line), Instruction("stloc", local, line)]
         if kind == "argument":
-            code.cells[number] = place
-            load = [Instruction("ldloc", place, line), Instruction("ldarg", number, line)]
+            code.cells[number] = local
+            load = [Instruction("ldloc", local, line), Instruction("ldarg", number, line)]
             made += [*load, Instruction("stfld", variable_field(target), line)]
-        code.method.locals[place].type = cell
+        code.method.locals[local].type = cell
     return made
 
 
@@ -35,8 +35,8 @@ def _cell(site: Site) -> tuple[int, Type] | None:
     kind, number, _ = site.analysis.variable(site.part)
     if (kind, number) not in site.analysis.shared:
         return None
-    place = number if kind == "local" else site.code.cells[number]
-    return place, site.code.method.locals[place].type.arguments[0]
+    local = number if kind == "local" else site.code.cells[number]
+    return local, site.code.method.locals[local].type.arguments[0]
 
 
 def load(site: Site) -> list[Instruction] | None:
@@ -59,7 +59,7 @@ def variable(site: Site) -> list[Instruction] | None:
     kind, number, target = site.analysis.variable(site.part)
     if site.program.is_struct(target):
         return None
-    if site.place in site.analysis.loaded:
+    if site.index in site.analysis.loaded:
         found = _cell(site)
         name = "ldloc" if kind == "local" else "ldarg"
         return site.makes(("ldloc", found[0]), ("ldfld", variable_field(found[1]))) if found else site.makes((name, number))
@@ -73,9 +73,9 @@ def field(site: Site) -> list[Instruction] | None:
     is_static = site.part.op == "ldsflda"
     if site.program.is_struct(wanted.type):
         return None
-    if site.place in site.analysis.loaded:
+    if site.index in site.analysis.loaded:
         return site.makes(("ldsfld" if is_static else "ldfld", wanted))
-    if ("at", site.place) not in site.analysis.shared:
+    if ("at", site.index) not in site.analysis.shared:
         return []
     kind = _field_class(site, wanted, is_static)
     parameters = () if is_static else (wanted.owner,)
@@ -87,9 +87,9 @@ def element(site: Site) -> list[Instruction] | None:
     kind: Type = site.operand
     if site.program.is_struct(kind):
         return None
-    if site.place in site.analysis.loaded:
+    if site.index in site.analysis.loaded:
         return [site.load_element(kind)]
-    if ("at", site.place) not in site.analysis.shared:
+    if ("at", site.index) not in site.analysis.shared:
         return []
     site.count("addresses given away")
     site.program.use("Importer.Element`1", kind)
@@ -109,7 +109,7 @@ def _field_class(site: Site, wanted: FieldRef, is_static: bool) -> Class:
 def _field_reference(kind: Class, wanted: FieldRef, is_static: bool, line: int) -> ClassDef:
     base = reference_of(wanted.type)
     target = FieldRef(kind, "target", wanted.owner)
-    made = ClassDef(kind, frozenset(("public",)), line, base, is_behind=True)
+    made = ClassDef(kind, frozenset(("public",)), line, base, is_after_listing=True)
 
     def code(*parts) -> list[Instruction]:
         return [Instruction(*part, line=line) if isinstance(part, tuple) else Instruction(part, line=line) for part in parts]

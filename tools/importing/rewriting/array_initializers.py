@@ -15,7 +15,7 @@ def token(site: Site) -> list[Instruction]:
     """`ldtoken field` pushes nothing: the call that follows knows the field."""
     if isinstance(site.operand, FieldRef) and site.next_op == "call":
         return []
-    return site.refuse("`typeof`", "write a virtual method that tells the class")
+    return site.refuse("`typeof`", "write a virtual method that returns the class")
 
 
 def initialize(site: Site) -> list[Instruction] | None:

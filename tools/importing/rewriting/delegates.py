@@ -75,7 +75,7 @@ def _class_of(site: Site, delegate: Type, function_type: Function) -> Class:
 def _delegate_of(program: Program, kind: Class, delegate: Type, function_type: Function, line: int) -> ClassDef:
     method = function_type.method
     target = FieldRef(kind, "target", method.owner)
-    made = ClassDef(kind, _PUBLIC, line, delegate, is_behind=True)
+    made = ClassDef(kind, _PUBLIC, line, delegate, is_after_listing=True)
     start = [Instruction("ldarg", 0), Instruction("call", MethodRef(delegate, ".ctor", VOID, (), True))]
     if method.is_instance:
         made.fields.append(Field("target", method.owner, _PUBLIC, line))

@@ -28,7 +28,7 @@ def rewrite(program: Program, first: list[Instruction]) -> None:
     if [part.type for part in method.parameters] not in ([], [Array(STRING)]) or method.returned not in (VOID, INT32):
         program.report.refuse(method.line, "this form of `Main`", "write `static void Main()`")
         return
-    _tell(program, method)
+    _report_meaning(program, method)
     program.add(_class(wanted, [*first], method))
     method.is_entry = False
 
@@ -37,7 +37,7 @@ def _at(part: Instruction, line: int) -> Instruction:
     return Instruction(part.op, part.operand, line)
 
 
-def _tell(program: Program, method: Method) -> None:
+def _report_meaning(program: Program, method: Method) -> None:
     if method.parameters:
         program.report.note(method.line, "`Main` with arguments", "`Main(string[])`: called with an empty array")
     if method.returned != VOID:
@@ -54,7 +54,7 @@ def _class(wanted: MethodRef, first: list[Instruction], method: Method) -> Class
     if wanted.returned != VOID:
         code.append(Instruction("pop", None, line))
     code.append(Instruction("ret", None, line))
-    made = ClassDef(_CLASS, frozenset(("public",)), line, OBJECT, is_behind=True)
+    made = ClassDef(_CLASS, frozenset(("public",)), line, OBJECT, is_after_listing=True)
     main = Method("Main", VOID, [], frozenset(("public", "hidebysig", "static")), line, code=code, is_entry=True)
     made.methods.append(main)
     return made

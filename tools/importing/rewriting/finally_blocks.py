@@ -1,7 +1,7 @@
-"""`try .. finally`: the `finally` code at each way out of the block (ECMA-335 II.19, III.3.47 `leave`, III.3.35 `endfinally`).
+"""`try .. finally`: the `finally` code at each exit of the block (ECMA-335 II.19, III.3.47 `leave`, III.3.35 `endfinally`).
 
 More than spelling: a fault in the block ends its thread, so the code of `finally` does not run then, and `lock` keeps the monitor. `catch`
-has no counterpart. Where the block ends with `leave`, that copy of the code stands in the lines of `finally`; other copies in those of
+has no counterpart. Where the block ends with `leave`, that copy of the code is on the lines of `finally`; other copies are on those of
 their `leave`.
 """
 
@@ -42,14 +42,14 @@ class _Flattening:
         body = self.flat(block.body)
         for kind, line, handler in block.handlers:
             if kind == "finally":
-                self._tell(handler, block.line, line)
+                self._report_meaning(handler, block.line, line)
                 body = self._with_copies(body, self.flat(handler), line)
             else:
                 self.program.report.refuse(line, f"`{kind}`", _REMEDIES[kind])
         return body
 
-    def _tell(self, handler: list, line: int, finally_line: int) -> None:
-        """Tells what a fault means: of a `lock`, whose `finally` only exits a monitor, or of any other code."""
+    def _report_meaning(self, handler: list, line: int, finally_line: int) -> None:
+        """Reports the meaning of a fault: of a `lock`, whose `finally` only exits a monitor, or of any other code."""
         calls = [str(part.operand) for part in handler if isinstance(part, Instruction) and part.op in ("call", "callvirt", "newobj")]
         if calls and all(name.startswith("System.Threading.Monitor.Exit") for name in calls):
             self.program.report.note(line, "`lock`", "`lock`: a fault inside keeps the monitor")
@@ -61,9 +61,9 @@ class _Flattening:
     def _with_copies(self, body: list[Instruction], handler: list[Instruction], line: int) -> list[Instruction]:
         inside = {label for part in body for label in part.labels}
         found: list[Instruction] = []
-        for place, part in enumerate(body):
+        for index, part in enumerate(body):
             if part.op == "leave" and part.operand not in inside:
-                at_end = place == len(body) - 1
+                at_end = index == len(body) - 1
                 found += self._copy(part, handler, None if at_end else part.line)
             else:
                 found.append(part)

@@ -1,6 +1,6 @@
 """Generic classes and methods: one class, or method, for each instance (ECMA-335 II.9).
 
-The first instance stands in the lines of the definition, others of a class after the last line and others of a method at the end of
+The first instance is on the lines of the definition, others of a class are after the last line and others of a method at the end of
 its class. An instance has static fields of its own, as in .NET.
 """
 
@@ -66,7 +66,7 @@ def _change_class(made: ClassDef, change) -> None:
 
 
 def _relabel(method: Method, suffix: str) -> None:
-    """Gives a further copy of a method labels of its own, since they don't stand in the lines of the listing."""
+    """Gives a further copy of a method labels of its own, since they are not on the lines of the listing."""
     for part in instructions(method.code):
         part.labels = [label + suffix for label in part.labels]
         if part.op == "switch":
@@ -169,8 +169,8 @@ class _Instances:
         made = deepcopy(replace(definition, outer=None))
         made.type, made.generics = kind, []
         _change_class(made, _substitute(kind.arguments, False))
-        made.is_behind = definition.is_behind
-        definition.is_behind = True
+        made.is_after_listing = definition.is_after_listing
+        definition.is_after_listing = True
         self.program.report.count("instances of generic classes")
         self.program.add(made)
         self._take_generic_methods(made)

@@ -40,9 +40,9 @@ def _rewrite_method(program: Program, owner: ClassDef, method: Method) -> None:
     line = method.code[0].line
     made = structs.prologue(code, line) + addresses.prologue(code, line)
     after: dict[int, list[Instruction]] = {}
-    parts = [_one(Site(code, place), after) for place in range(len(method.code)) if code.analysis.stacks[place] is not None]
-    reached = [place for place, stack in enumerate(code.analysis.stacks) if stack is not None]
-    method.code = _joined(made, [(method.code[place], part + after.get(place, [])) for place, part in zip(reached, parts)])
+    parts = [_one(Site(code, index), after) for index in range(len(method.code)) if code.analysis.stacks[index] is not None]
+    reached = [index for index, stack in enumerate(code.analysis.stacks) if stack is not None]
+    method.code = _joined(made, [(method.code[index], part + after.get(index, [])) for index, part in zip(reached, parts)])
 
 
 def _one(site: Site, after: dict[int, list[Instruction]]) -> list[Instruction]:
@@ -86,10 +86,10 @@ def _deeper(site: Site, entry, kind: Type, after: dict[int, list[Instruction]]) 
         extra = small_integers.cut(site, site.program.underlying(kind))
     else:
         return
-    for place in entry.producers:
-        if (place, kind) not in site.code.converted:
-            site.code.converted.add((place, kind))
-            after.setdefault(place, []).extend(deepcopy(extra))
+    for index in entry.producers:
+        if (index, kind) not in site.code.converted:
+            site.code.converted.add((index, kind))
+            after.setdefault(index, []).extend(deepcopy(extra))
 
 
 def _joined(first: list[Instruction], groups: list[tuple[Instruction, list[Instruction]]]) -> list[Instruction]:

@@ -6,8 +6,8 @@ from ..tree import Instruction
 from ..types import OBJECT, STRING, VOID, core
 
 _REMEDIES = {
-    "throw": "return a value that tells the failure: a fault ends its thread",
-    "rethrow": "return a value that tells the failure: a fault ends its thread",
+    "throw": "return a value that reports the failure: a fault ends its thread",
+    "rethrow": "return a value that reports the failure: a fault ends its thread",
     "ldc.r4": "compute with `int` or `long`, and scale",
     "ldc.r8": "compute with `int` or `long`, and scale",
     "sizeof": "write the number",

@@ -29,7 +29,7 @@ def call(site: Site) -> list[Instruction] | None:
     site.count("arrays of two dimensions")
     site.program.use(_NAME, kind.element)
     if wanted.name == "Address":
-        if ("at", site.place) in site.analysis.shared:
+        if ("at", site.index) in site.analysis.shared:
             return site.refuse(f"an element of `{kind}` by `ref`", "use a local variable, and store it after the call")
         return _address(site, kind)
     return [site.make(site.part.op, MethodRef(class_of(kind), wanted.name, wanted.returned, wanted.parameters, True))]

@@ -21,8 +21,8 @@ def compare(site: Site) -> list[Instruction]:
     site.count("unsigned comparisons")
     kind = INT64 if site.is_long() else INT32
     flip = (("ldc.i8" if kind == INT64 else "ldc.i4", _LEAST[kind]), "xor")
-    place = site.temporary(kind)
-    return site.makes(*flip, ("stloc", place), *flip, ("ldloc", place), (site.part.op.removesuffix(".un"), site.operand))
+    local = site.temporary(kind)
+    return site.makes(*flip, ("stloc", local), *flip, ("ldloc", local), (site.part.op.removesuffix(".un"), site.operand))
 
 
 def divide(site: Site) -> list[Instruction]:
@@ -31,10 +31,10 @@ def divide(site: Site) -> list[Instruction]:
     if site.is_long():
         site.program.use(_HELPER.name)
         return [site.call(_HELPER, "Divide" if site.part.op == "div.un" else "Remainder", INT64, INT64, INT64)]
-    place = site.temporary(INT64)
+    local = site.temporary(INT64)
     widen = ["conv.i8", ("ldc.i8", _MASK), "and"]
     op = site.part.op.removesuffix(".un")
-    return site.makes(*widen, ("stloc", place), *widen, ("ldloc", place), op, "conv.i4")
+    return site.makes(*widen, ("stloc", local), *widen, ("ldloc", local), op, "conv.i4")
 
 
 def checked(site: Site) -> list[Instruction]:
