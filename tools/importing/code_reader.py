@@ -80,7 +80,7 @@ def _header(reader, method: Method, token) -> None:
         reader.parameter_constant()
     elif token.text == ".override":
         cursor.accept("method")
-        method.overrides.append(_overridden(cursor))
+        method.overrides.append(_read_override(cursor))
     elif token.text == ".line":
         while cursor.line == token.line:
             cursor.next()
@@ -88,7 +88,7 @@ def _header(reader, method: Method, token) -> None:
         raise ListingError(token.line, f"`{token.text}` where an instruction is expected")
 
 
-def _overridden(cursor):
+def _read_override(cursor):
     """Reads the method after `.override`: whole, or `type::name` alone (II.10.3.2)."""
     start = cursor.position
     owner = cursor.type()
@@ -117,7 +117,7 @@ def _instruction(reader, token) -> Instruction:
         raise ListingError(token.line, f"`{op}` where an instruction is expected")
     numbered = _NUMBERED.fullmatch(op)
     if numbered:
-        return _numbered(token, numbered)
+        return _numbered_variable(token, numbered)
     if op.endswith(".s"):
         report.count("short forms `.s`")
         op = op[:-2]
@@ -148,7 +148,7 @@ def _instruction(reader, token) -> Instruction:
     return made
 
 
-def _numbered(token, match: re.Match) -> Instruction:
+def _numbered_variable(token, match: re.Match) -> Instruction:
     if match[1]:
         return Instruction(match[1], int(match[2]), token.line, written=token.text)
     number = -1 if match[3] in ("m1", "M1") else int(match[3])

@@ -1,7 +1,8 @@
 """The importer's library: classes of .NET written in CIL, in the folder `library`, read by the importer's own reader.
 
-A class of the core library that has a namesake there becomes that class, without brackets: `[mscorlib]System.Math` becomes `System.Math`.
-The profile's own members (`docs/PROFILE.md`, "Built-in classes") stay as they are. What is in neither is refused, each use by its line.
+A class of the core library becomes the class of the same name there, if there is one, without brackets: `[mscorlib]System.Math` becomes
+`System.Math`. The profile's own members (`docs/PROFILE.md`, "Built-in classes") stay as they are. What is in neither is refused, each use by
+its line.
 """
 
 from pathlib import Path

@@ -67,7 +67,7 @@ def import_listing(listing: bytes, report: Report) -> bytes | None:
     try:
         if listing.isascii() and is_profile(text):
             return listing
-        result = _translated(text, report)
+        result = _translate(text, report)
     except ListingError as error:
         report.refuse(error.line, error.message, "hand over the whole listing that `monodis` prints")
         return None
@@ -84,7 +84,7 @@ def is_profile(text: str) -> bool:
     return [token.text for token in tokenize(written)] == [token.text for token in tokenize(text)]
 
 
-def _translated(text: str, report: Report) -> str:
+def _translate(text: str, report: Report) -> str:
     program = Program(read(text, report), report)
     iterators.rewrite(program)
     delegates.drop_asynchronous(program)

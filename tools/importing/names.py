@@ -44,13 +44,13 @@ class Names:
     def of(self, text: str) -> str:
         """Returns the name for this text."""
         if text not in self._names:
-            made = text if is_name(text) else _spelled(text)
+            made = text if is_name(text) else _spell(text)
             self.changed += made != text
-            self._names[text] = self._unused(made)
+            self._names[text] = self._unused_name(made)
             self._used.add(self._names[text])
         return self._names[text]
 
-    def _unused(self, made: str) -> str:
+    def _unused_name(self, made: str) -> str:
         number, found = 2, made
         while found in self._used:
             found = f"{made}_{number}"
@@ -58,7 +58,7 @@ class Names:
         return found
 
 
-def _spelled(text: str) -> str:
+def _spell(text: str) -> str:
     """Returns a name made of the letters and digits of a text."""
     parts = [re.sub(r"[^A-Za-z0-9]+", "_", part).strip("_") for part in text.split(".")]
     parts = [part if part[:1].isalpha() else f"_{part}" for part in parts if part]

@@ -15,7 +15,7 @@ def shake(program: Program) -> None:
     pending = [method for owner, method in program.listing.methods() if not owner.is_library or _is_kept(method)]
     reached = {id(method) for method in pending}
     while pending:
-        found = [method for part in instructions(pending.pop().code) for method in _called(program, part.operand)]
+        found = [method for part in instructions(pending.pop().code) for method in _called_methods(program, part.operand)]
         pending += [method for method in found if id(method) not in reached]
         reached |= {id(method) for method in found}
     for owner in program.listing.classes:
@@ -26,7 +26,7 @@ def _is_kept(method: Method) -> bool:
     return method.is_virtual or method.name in _KEPT
 
 
-def _called(program: Program, operand: object) -> list[Method]:
+def _called_methods(program: Program, operand: object) -> list[Method]:
     """Returns the methods of the library that an operand may name, by name and number of parameters."""
     if not isinstance(operand, MethodRef):
         return []
@@ -43,7 +43,7 @@ def drop_unused(program: Program, lower: Callable[[Type], Type]) -> None:
     pending = [made for made in program.listing.classes if not made.is_library]
     kept = {id(made) for made in pending}
     while pending:
-        for kind in _named(pending.pop(), lower):
+        for kind in _named_types(pending.pop(), lower):
             made = program.find(kind)
             if made is not None and id(made) not in kept:
                 kept.add(id(made))
@@ -51,7 +51,7 @@ def drop_unused(program: Program, lower: Callable[[Type], Type]) -> None:
     program.listing.classes = [made for made in program.listing.classes if id(made) in kept]
 
 
-def _named(made: ClassDef, lower: Callable[[Type], Type]) -> set[Type]:
+def _named_types(made: ClassDef, lower: Callable[[Type], Type]) -> set[Type]:
     """Returns the types that a class names, as the writer spells them."""
     found: set[Type] = set()
 

@@ -42,7 +42,7 @@ class Spelling:
         """Gives methods other names whose parameters become the same: `F(bool)` beside `F(int)` becomes `F_bool`."""
         signatures: dict[tuple, set[tuple]] = defaultdict(set)
         for owner, method in self.program.listing.methods():
-            alike = signatures[owner.type, method.name, *self._lowered(method)]
+            alike = signatures[owner.type, method.name, *self._lower_signature(method)]
             alike.add((method.name, method.returned, tuple(part.type for part in method.parameters)))
             if method.name == ".ctor" and len(alike) > 1:
                 remedy = "write a static method that makes the object"
@@ -55,7 +55,7 @@ class Spelling:
         if name != ".ctor" and any(self.lower(kind) != kind for kind in (returned, *kinds)):
             self._renamed[name, returned, kinds] = f"{name}_{'_'.join(map(class_text, kinds or (returned,)))}"
 
-    def _lowered(self, method: Method) -> tuple:
+    def _lower_signature(self, method: Method) -> tuple:
         return self.lower(method.returned), tuple(self.lower(part.type) for part in method.parameters)
 
     def lower(self, kind: Type) -> Type:

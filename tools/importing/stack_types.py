@@ -254,14 +254,14 @@ class Analysis:
         """Returns the kind, number and type of the variable of `ldloc`, `starg` and others."""
         number = part.operand
         if isinstance(number, str):
-            number = self._named(part)
+            number = self._variable_number(part)
         if part.op in ("ldarg", "starg", "ldarga"):
             return "argument", number, self.argument_type(number)
         if not 0 <= number < len(self.method.locals):
             raise ListingError(part.line, f"the method has no local {number}")
         return "local", number, self.method.locals[number].type
 
-    def _named(self, part: Instruction) -> int:
+    def _variable_number(self, part: Instruction) -> int:
         """Returns the number of a variable that is named."""
         of_arguments = part.op in ("ldarg", "starg", "ldarga")
         variables = self.method.parameters if of_arguments else self.method.locals

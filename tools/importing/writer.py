@@ -54,7 +54,7 @@ class Writer:
                 self._tell_notes()
                 self.lines.put(len(self.lines.lines) + 1, "// import: classes that the program needs beside its own")
             self.is_after_listing = made.is_after_listing
-            self._guarded(made.line, lambda made=made: self._class(made))
+            self._write_or_refuse(made.line, lambda made=made: self._class(made))
         if not self.is_after_listing:
             self._tell_notes()
         return self._without_unused_extern(self.lines.text())
@@ -80,7 +80,7 @@ class Writer:
         lines = [part.line for part in [*made.fields, *made.methods] if part.line >= made.line]
         return (min(lines, default=made.line), made.line)
 
-    def _guarded(self, line: int, write) -> None:
+    def _write_or_refuse(self, line: int, write) -> None:
         """Writes a part; what can't be spelled is a refusal."""
         try:
             write()
@@ -116,9 +116,9 @@ class Writer:
     def _class(self, made: ClassDef) -> None:
         self._put_new(made.line, self._head(made) + " {")
         for part in made.fields:
-            self._guarded(part.line, lambda part=part: self._field(part))
+            self._write_or_refuse(part.line, lambda part=part: self._field(part))
         for method in made.methods if self.spelling.is_strict else sorted(made.methods, key=lambda method: (method.is_copy, method.line)):
-            self._guarded(method.line, lambda method=method: self._method(made, method))
+            self._write_or_refuse(method.line, lambda method=method: self._method(made, method))
         if self.is_after_listing:
             self._put_new(0, "}")
         else:
@@ -189,7 +189,7 @@ class Writer:
                 end = ")" if number == len(method.locals) - 1 else ","
                 self._put(part.line, f"      {self._variable(part)}{end}")
         for part in method.code:
-            self._guarded(part.line, lambda part=part: self._instruction(part))
+            self._write_or_refuse(part.line, lambda part=part: self._instruction(part))
 
     def _height(self, made: ClassDef, method: Method) -> str:
         """Returns the height of the stack that the method declares, or what it needs now if that is more."""

@@ -24,7 +24,7 @@ def rewrite(program: Program, binder: Binder) -> None:
     program.helpers = lambda kind: instances.add_helper(binder, kind)
 
 
-def _numbered(names: list[str], of_method: bool):
+def _number_parameters(names: list[str], of_method: bool):
     """Returns a change that gives generic parameters their numbers."""
 
     def number(kind: Type) -> Type:
@@ -119,9 +119,9 @@ class _Instances:
             self.program.remove(made)
 
     def _number(self, made: ClassDef) -> None:
-        _change_class(made, _numbered(made.generics, False))
+        _change_class(made, _number_parameters(made.generics, False))
         for method in made.methods:
-            change_method(method, _numbered(method.generics, True))
+            change_method(method, _number_parameters(method.generics, True))
 
     def _take_generic_methods(self, made: ClassDef) -> None:
         self.generic_methods[made.type] = [method for method in made.methods if method.generics]

@@ -42,7 +42,7 @@ def _rewrite_method(program: Program, owner: ClassDef, method: Method) -> None:
     after: dict[int, list[Instruction]] = {}
     parts = [_one(Site(code, index), after) for index in range(len(method.code)) if code.analysis.stacks[index] is not None]
     reached = [index for index, stack in enumerate(code.analysis.stacks) if stack is not None]
-    method.code = _joined(made, [(method.code[index], part + after.get(index, [])) for index, part in zip(reached, parts)])
+    method.code = _join(made, [(method.code[index], part + after.get(index, [])) for index, part in zip(reached, parts)])
 
 
 def _one(site: Site, after: dict[int, list[Instruction]]) -> list[Instruction]:
@@ -92,7 +92,7 @@ def _deeper(site: Site, entry, kind: Type, after: dict[int, list[Instruction]]) 
             after.setdefault(index, []).extend(deepcopy(extra))
 
 
-def _joined(first: list[Instruction], groups: list[tuple[Instruction, list[Instruction]]]) -> list[Instruction]:
+def _join(first: list[Instruction], groups: list[tuple[Instruction, list[Instruction]]]) -> list[Instruction]:
     """Joins the rewritten instructions; the labels of one that became nothing go to the next."""
     code, labels = list(first), []
     for old, new in groups:

@@ -13,7 +13,7 @@ from ..types import MethodRef, Type
 
 def rewrite(program: Program) -> None:
     """Rewrites the explicit implementations; the writer lists all interfaces of a class."""
-    wanted = _overridden(program)
+    wanted = _explicit_implementations(program)
     if not wanted:
         return
     for owner in list(program.listing.classes):
@@ -25,7 +25,7 @@ def rewrite(program: Program) -> None:
         _rename_calls(method, wanted)
 
 
-def _overridden(program: Program) -> set[tuple[Type, str]]:
+def _explicit_implementations(program: Program) -> set[tuple[Type, str]]:
     """Returns the interface methods that some class implements explicitly."""
     found: set[tuple[Type, str]] = set()
     for _, method in program.listing.methods():

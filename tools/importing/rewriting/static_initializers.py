@@ -34,7 +34,7 @@ def _visit(program: Program, kind: Class, found: dict[Class, Method], order: lis
     seen.add(("class", kind))
     pending = [found[kind]]
     while pending:
-        for used, method in _used(program, pending.pop()):
+        for used, method in _used_classes(program, pending.pop()):
             if method is not None and id(method) not in seen:
                 seen.add(id(method))
                 pending.append(method)
@@ -43,7 +43,7 @@ def _visit(program: Program, kind: Class, found: dict[Class, Method], order: lis
     order.append(kind)
 
 
-def _used(program: Program, method: Method):
+def _used_classes(program: Program, method: Method):
     """Yields the classes that the code of a method names, each with the method that it calls there, if it does."""
     for part in instructions(method.code):
         owner = getattr(part.operand, "owner", None)

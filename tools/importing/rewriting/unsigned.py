@@ -37,11 +37,11 @@ def divide(site: Site) -> list[Instruction]:
     return site.makes(*widen, ("stloc", local), *widen, ("ldloc", local), op, "conv.i4")
 
 
-def checked(site: Site) -> list[Instruction]:
+def refuse_checked(site: Site) -> list[Instruction]:
     """Refuses `add.ovf.un` and others."""
     return site.refuse(f"`checked` arithmetic of unsigned numbers (`{site.part.op}`)", "compute with `long`")
 
 
 RULES = {f"{name}.un": compare for name in ("bge", "bgt", "ble", "blt", "cgt", "clt")}
 RULES |= {"div.un": divide, "rem.un": divide}
-RULES |= {f"{name}.ovf.un": checked for name in ("add", "sub", "mul")}
+RULES |= {f"{name}.ovf.un": refuse_checked for name in ("add", "sub", "mul")}
