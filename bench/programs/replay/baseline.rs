@@ -29,10 +29,10 @@ struct Entry {
     report: Report,
 }
 
-/// An entry, and how many times in a row it was added.
+/// An entry, and how many times in a row it was added, at most 65,535 times.
 struct Run {
     entry: Entry,
-    times: u64,
+    times: u16,
 }
 
 #[derive(Default)]
@@ -43,7 +43,7 @@ struct History {
 impl History {
     fn add(&mut self, entry: Entry) {
         match self.runs.last_mut() {
-            Some(run) if run.entry == entry => run.times += 1,
+            Some(run) if run.entry == entry && run.times < u16::MAX => run.times += 1,
             _ => self.runs.push(Run { entry, times: 1 }),
         }
     }
